@@ -1,0 +1,6 @@
+-- Vocabularies and names of a request, item by item.
+use Rattle.std.proofs.Common.{◌≡◌, Bool, true, false, ◌||◌, Option, Some, None, option_map, List, ℕ, [], ◌∷◌, ◌++◌, refl, ap}
+use Rattle.jskw_report.specs.declared.settings.VocabularySet.{VocabularySet}
+
+abbrev pub joined : VocabularySet → VocabularySet → VocabularySet
+joined a b = record { core = a.core || b.core; applicator = a.applicator || b.applicator; validation = a.validation || b.validation }

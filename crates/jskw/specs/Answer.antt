@@ -1,0 +1,93 @@
+-- What is answered to a request, and how it is written.
+use Rattle.std.specs.Prelude.{ℕ, List, [], ◌∷◌, ◌++◌, codes, Bool, true, false, Option, Some, None, Result, Ok, Err}
+use Rattle.jskw_value.specs.FirstFloat.{first_float}
+use Rattle.jskw_value.specs.Pointer.{Pointer}
+use Rattle.jskw_value.specs.Serde.{tree_of}
+use Rattle.jskw_value.specs.Tree.{Tree}
+use Rattle.jskw_report.specs.Fail.{Failure, fail}
+use Rattle.jskw_report.specs.Fault.{Fault}
+use Rattle.jskw_report.specs.Kind.{keyword_of}
+use Rattle.jskw_report.specs.Read.{Reading, read}
+use Rattle.jskw_report.specs.declared.keyword.KeywordName.{KeywordName}
+use Rattle.jskw_report.specs.declared.keyword.KeywordName.TheVariants.{TypeKeyword, MinItems, MaxItems, Const, MinProperties, MaxProperties}
+use Rattle.jskw.specs.Request.{Request, request_in}
+use Rattle.jskw.specs.declared.service.Verdict.{Verdict}
+use Rattle.jskw.specs.declared.service.Verdict.TheVariants.{Valid, Invalid, Refused}
+
+-- the keywords that the program has so far, in the order in which a schema is read; the others assert nothing here
+abbrev pub program_keywords : List KeywordName
+program_keywords = TypeKeyword ∷ MinItems ∷ MaxItems ∷ Const ∷ MinProperties ∷ MaxProperties ∷ []
+
+-- one of them
+abbrev pub is_built : KeywordName → Bool
+is_built TypeKeyword = true
+is_built MinItems = true
+is_built MaxItems = true
+is_built Const = true
+is_built MinProperties = true
+is_built MaxProperties = true
+is_built _ = false
+
+-- one of the bounds on sizes
+abbrev pub is_size : KeywordName → Bool
+is_size MinItems = true
+is_size MaxItems = true
+is_size MinProperties = true
+is_size MaxProperties = true
+is_size _ = false
+
+pub data Answer : Type 0 where
+  -- the input is no request
+  no_request : Answer
+  -- the schema does not compile
+  bad_schema : Fault → Answer
+  -- the instance holds a float, first at this location
+  float_at : Pointer → Answer
+  -- the errors of the instance, none where it is valid
+  errors : List Failure → Answer
+
+abbrev judged : Reading → Option Pointer → Tree → Answer
+judged (Err e) found t = bad_schema e
+judged (Ok s) (Some p) t = float_at p
+judged (Ok s) None t = errors (fail s t [])
+
+-- the schema first, then the floats of the instance, then its errors
+abbrev pub answer : Option Request → Answer
+answer None = no_request
+answer (Some r) = judged (read program_keywords r.schema r.setting []) (first_float (tree_of r.instance)) (tree_of r.instance)
+
+abbrev pub verdict_of : Answer → Verdict
+verdict_of (errors []) = Valid
+verdict_of (errors (f ∷ fs)) = Invalid
+verdict_of _ = Refused
+
+-- ---- as text: a tab between two words of a line, and a line feed behind it
+
+abbrev pub line : List (List ℕ) → List ℕ
+line [] = codes "\n"
+line (w ∷ []) = w ++ codes "\n"
+line (w ∷ x ∷ ws) = w ++ (codes "\t" ++ line (x ∷ ws))
+
+-- the keyword, the instance location and the keyword location of each error
+abbrev pub error_lines : List Failure → List ℕ
+error_lines [] = []
+error_lines (f ∷ fs) = line (keyword_of f.kind ∷ f.instance_location ∷ f.keyword_location ∷ []) ++ error_lines fs
+
+abbrev pub output_of : Answer → List ℕ
+output_of no_request = line (codes "refused: request" ∷ [])
+output_of (bad_schema e) = line (codes "refused: schema" ∷ keyword_of e.kind ∷ e.location ∷ [])
+output_of (float_at p) = line (codes "refused: float" ∷ p ∷ [])
+output_of (errors []) = line (codes "valid" ∷ [])
+output_of (errors (f ∷ fs)) = error_lines (f ∷ fs)
+
+-- what is written where memory is wanting
+abbrev pub memory_line : List ℕ
+memory_line = line (codes "refused: memory" ∷ [])
+
+-- ---- of the whole input
+
+abbrev pub output : List ℕ → List ℕ
+output bytes = output_of (answer (request_in bytes))
+
+abbrev pub verdict : List ℕ → Verdict
+verdict bytes = verdict_of (answer (request_in bytes))

@@ -1,0 +1,6 @@
+pub mod Request
+pub mod RequestView
+pub mod Answer
+pub mod Node
+pub mod Reply
+pub mod Run

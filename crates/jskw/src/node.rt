@@ -1,0 +1,296 @@
+//! A compiled schema: the validators of its keywords, in the order in which a schema is read.
+ghost use Rattle.std.specs.Prelude.{◌≡◌, ◌++◌, OnOk, OnErr, IsTrue, true};
+ghost use Rattle.serde_json.specs.View.{view, members_view};
+ghost use Rattle.jskw_value.specs.Tree.{is_lawful};
+ghost use Rattle.jskw_report.specs.Compile.{Compiles, Makes, reading};
+ghost use Rattle.jskw_report.specs.Errors.{failures_of};
+ghost use Rattle.jskw_report.specs.Fail.{all_fail, fail};
+ghost use Rattle.jskw_report.specs.Holds.{all_hold, holds};
+ghost use Rattle.jskw_report.specs.Observe.{AppendsBeginning, IsFirst};
+ghost use Rattle.jskw_report.specs.Paths.{path_of};
+ghost use Rattle.jskw_report.specs.Read.{Asserts, part_named, read, read_word, read_words};
+ghost use Rattle.jskw_report.specs.Setting.{name_of};
+ghost use Rattle.jskw_number.specs.Meaning.{number_keyword};
+ghost use Rattle.jskw_leaf.specs.Meaning.{leaf_keyword};
+ghost use Rattle.jskw.specs.Answer.{is_built, is_size, program_keywords};
+ghost use Rattle.jskw.specs.Node.{keywords_of, node_schema};
+
+use jskw_leaf::boolean::FalseValidator;
+use jskw_leaf::legacy::type_draft_4;
+use jskw_leaf::{LeafValidator, const_, type_};
+use jskw_number::{NumberValidator, max_items, max_properties, min_items, min_properties};
+use jskw_report::compiler::member_of;
+use jskw_report::{
+    CompilationResult, CompileFault, Context, Draft, Fault, KeywordName, LazyLocation, Location,
+    LocationSegment, TypeKind, Validate, ValidationContext, ValidationError, ValidationErrorKind,
+};
+use jskw_value::{Json, JsonType, JsonTypeSet};
+use serde_json::{Map, Value};
+use std::alloc::{AllocError, Global};
+
+/// A compiled schema over the representation `F`, with its keyword location.
+#[derive(Drop)]
+pub(crate) struct SchemaNode<F: Json> {
+    location: Location,
+    assertions: Assertions<F>,
+}
+
+#[derive(Drop)]
+enum Assertions<F: Json> {
+    /// The schema `false`.
+    Never(FalseValidator),
+    /// The keywords of an object, none for `true`.
+    Keywords(Vec<Unit<F>>),
+}
+
+/// A keyword's validator, with its keyword location.
+#[derive(Drop)]
+struct Unit<F: Json> {
+    location: Location,
+    validator: LeafValidator<F>,
+}
+
+const KEYWORDS: [KeywordName; 6] = [
+    KeywordName::TypeKeyword,
+    KeywordName::MinItems,
+    KeywordName::MaxItems,
+    KeywordName::Const,
+    KeywordName::MinProperties,
+    KeywordName::MaxProperties,
+];
+
+/// Compiles a schema: a boolean, or an object by its keywords in their order. The first value that a keyword does not take
+/// is the error.
+pub(crate) fn compile<'a, F: Json>(
+    alloc: Global,
+    ctx: &Context<'_, F>,
+    schema: &'a Value,
+) -> CompilationResult<'a, SchemaNode<F>>
+    ensures { Makes node_schema result (read program_keywords (view schema.now) ctx.now.setting ctx.now.location) }
+{
+    let location = ctx.location().copy(alloc)?;
+    match schema {
+        Value::Bool(true) => Ok(SchemaNode {
+            location,
+            assertions: Assertions::Keywords(Vec::new(alloc)),
+        }),
+        Value::Bool(false) => Ok(SchemaNode {
+            location: Location::new(alloc),
+            assertions: Assertions::Never(FalseValidator::new(location)),
+        }),
+        Value::Object(parent) => Ok(SchemaNode {
+            location,
+            assertions: Assertions::Keywords(compile_keywords(alloc, ctx, parent)?),
+        }),
+        _ => {
+            let types = JsonTypeSet::empty()
+                .insert(JsonType::Object)
+                .insert(JsonType::Boolean);
+            let kind = ValidationErrorKind::WrongType {
+                kind: TypeKind::Multiple(types),
+            };
+            Err(CompileFault::Bad(ValidationError::refused(alloc, kind, location, schema)))
+        }
+    }
+}
+
+#[tactic(auto, using(crate::proofs::Built::built_at))]
+fn compile_keywords<'a, F: Json>(
+    alloc: Global,
+    ctx: &Context<'_, F>,
+    parent: &'a Map<String, Value>,
+) -> CompilationResult<'a, Vec<Unit<F>>>
+    ensures { let ms = members_view parent.now.entries in Makes (λ units. keywords_of units.items) result
+        (read_words program_keywords ctx.now.setting ctx.now.location ms (λ name. part_named program_keywords name ms)) }
+{
+    let mut units = Vec::new(alloc);
+    for keyword in KEYWORDS {
+        match compile_keyword(alloc, ctx, parent, keyword) {
+            None => {}
+            Some(Ok(validator)) => {
+                let segment = LocationSegment::Name(keyword.as_str());
+                let location = ctx.location().join(alloc, segment)?;
+                units.push(Unit {
+                    location,
+                    validator,
+                })?;
+            }
+            Some(Err(fault)) => return Err(fault),
+        }
+    }
+    Ok(units)
+}
+
+#[tactic(auto, using(jskw_report::proofs::Reading::read_absent, jskw_report::proofs::Reading::read_not_standing, crate::proofs::Built::read_built))]
+fn compile_keyword<'a, F: Json>(
+    alloc: Global,
+    ctx: &Context<'_, F>,
+    parent: &'a Map<String, Value>,
+    keyword: KeywordName,
+) -> Option<CompilationResult<'a, LeafValidator<F>>>
+    requires { is_built keyword ≡ true }
+    ensures { let ms = members_view parent.now.entries in Compiles leaf_keyword result
+        (read_word keyword ctx.now.setting ctx.now.location ms (part_named program_keywords (name_of keyword) ms)) }
+{
+    let schema = member_of(parent, keyword.as_str())?;
+    if !keyword.stands(ctx) {
+        return None;
+    }
+    match keyword {
+        KeywordName::TypeKeyword => match ctx.draft() {
+            Draft::Draft4 => type_draft_4::compile(alloc, ctx, parent, schema),
+            _ => type_::compile(alloc, ctx, parent, schema),
+        },
+        KeywordName::Const => const_::compile(alloc, ctx, parent, schema),
+        _ => of_number(compile_size(alloc, ctx, parent, keyword, schema)),
+    }
+}
+
+/// Compiles one of the bounds on sizes.
+fn compile_size<'a, F: Json>(
+    alloc: Global,
+    ctx: &Context<'_, F>,
+    parent: &'a Map<String, Value>,
+    keyword: KeywordName,
+    schema: &'a Value,
+) -> Option<CompilationResult<'a, NumberValidator>>
+    requires { is_size keyword ≡ true }
+    ensures { Compiles number_keyword result (reading keyword ctx.now (members_view parent.now.entries) (view schema.now)) }
+{
+    match keyword {
+        KeywordName::MinItems => min_items::compile(alloc, ctx, parent, schema),
+        KeywordName::MaxItems => max_items::compile(alloc, ctx, parent, schema),
+        KeywordName::MinProperties => min_properties::compile(alloc, ctx, parent, schema),
+        KeywordName::MaxProperties => max_properties::compile(alloc, ctx, parent, schema),
+        _ => unreachable!(),
+    }
+}
+
+/// The same as a validator of any keyword.
+fn of_number<'a, F: Json>(
+    compiled: Option<CompilationResult<'a, NumberValidator>>,
+) -> Option<CompilationResult<'a, LeafValidator<F>>>
+    ensures { (read : Asserts) → Compiles number_keyword compiled.entry read → Compiles leaf_keyword result read }
+{
+    match compiled {
+        None => None,
+        Some(Ok(validator)) => Some(Ok(LeafValidator::Number(validator))),
+        Some(Err(fault)) => Some(Err(fault)),
+    }
+}
+
+impl<F: Json> SchemaNode<F> {
+    /// Whether the schema holds of the instance. Takes no memory, and looks no further than the first failure.
+    pub(crate) fn is_valid(&self, instance: &F::Node, ctx: &mut ValidationContext) -> bool
+        requires { IsTrue (is_lawful (F.Node.tree instance.now)) }
+        ensures { result ≡ holds (node_schema self.now) (F.Node.tree instance.now) }
+    {
+        match &self.assertions {
+            Assertions::Never(_) => false,
+            Assertions::Keywords(units) => all_valid(units.as_slice(), instance, ctx),
+        }
+    }
+
+    /// Ok where the schema holds, and else the first error. `location` is the instance's, and at every return it is as at
+    /// the call.
+    pub(crate) fn validate<'i>(
+        &'i self,
+        instance: &'i F::Node,
+        location: &mut LazyLocation,
+        ctx: &mut ValidationContext,
+    ) -> Result<(), Fault<'i, F>>
+        requires { IsTrue (is_lawful (F.Node.tree instance.now)) }
+        ensures first { IsFirst F.Node.tree
+            (fail (node_schema self.now) (F.Node.tree instance.now) (path_of location.old)) result }
+        ensures location { location.new ≡ location.old }
+    {
+        match &self.assertions {
+            Assertions::Never(validator) => validator.validate(instance, location, ctx),
+            Assertions::Keywords(units) => validate_all(units.as_slice(), instance, location, ctx),
+        }
+    }
+
+    /// Appends every error of the instance, in order. After want of memory the list is as it was, followed by a beginning
+    /// of them. `location` is the instance's, and at every return it is as at the call.
+    pub(crate) fn collect_errors<'i>(
+        &'i self,
+        instance: &'i F::Node,
+        location: &mut LazyLocation,
+        ctx: &mut ValidationContext,
+        errors: &mut Vec<ValidationError<'i, F>>,
+    ) -> Result<(), AllocError>
+        requires { IsTrue (is_lawful (F.Node.tree instance.now)) }
+        ensures appended { OnOk result (failures_of F.Node.tree errors.new.items
+            ≡ failures_of F.Node.tree errors.old.items
+            ++ fail (node_schema self.now) (F.Node.tree instance.now) (path_of location.old)) }
+        ensures begun { OnErr result (AppendsBeginning (failures_of F.Node.tree errors.old.items)
+            (failures_of F.Node.tree errors.new.items)
+            (fail (node_schema self.now) (F.Node.tree instance.now) (path_of location.old))) }
+        ensures location { location.new ≡ location.old }
+    {
+        match &self.assertions {
+            Assertions::Never(validator) => validator.collect_errors(
+                instance, location, ctx, errors,
+            ),
+            Assertions::Keywords(units) => collect_all(
+                units.as_slice(),
+                instance,
+                location,
+                ctx,
+                errors,
+            ),
+        }
+    }
+}
+
+fn all_valid<F: Json>(units: &[Unit<F>], instance: &F::Node, ctx: &mut ValidationContext) -> bool
+    requires { IsTrue (is_lawful (F.Node.tree instance.now)) }
+    ensures { result ≡ all_hold (keywords_of units.now) (F.Node.tree instance.now) }
+{
+    for unit in units {
+        if !unit.validator.is_valid(instance, ctx) {
+            return false;
+        }
+    }
+    true
+}
+
+fn validate_all<'i, F: Json>(
+    units: &'i [Unit<F>],
+    instance: &'i F::Node,
+    location: &mut LazyLocation,
+    ctx: &mut ValidationContext,
+) -> Result<(), Fault<'i, F>>
+    requires { IsTrue (is_lawful (F.Node.tree instance.now)) }
+    ensures first { IsFirst F.Node.tree
+        (all_fail (keywords_of units.now) (F.Node.tree instance.now) (path_of location.old)) result }
+    ensures location { location.new ≡ location.old }
+{
+    for unit in units {
+        unit.validator.validate(instance, location, ctx)?;
+    }
+    Ok(())
+}
+
+fn collect_all<'i, F: Json>(
+    units: &'i [Unit<F>],
+    instance: &'i F::Node,
+    location: &mut LazyLocation,
+    ctx: &mut ValidationContext,
+    errors: &mut Vec<ValidationError<'i, F>>,
+) -> Result<(), AllocError>
+    requires { IsTrue (is_lawful (F.Node.tree instance.now)) }
+    ensures appended { OnOk result (failures_of F.Node.tree errors.new.items
+        ≡ failures_of F.Node.tree errors.old.items
+        ++ all_fail (keywords_of units.now) (F.Node.tree instance.now) (path_of location.old)) }
+    ensures begun { OnErr result (AppendsBeginning (failures_of F.Node.tree errors.old.items)
+        (failures_of F.Node.tree errors.new.items)
+        (all_fail (keywords_of units.now) (F.Node.tree instance.now) (path_of location.old))) }
+    ensures location { location.new ≡ location.old }
+{
+    for unit in units {
+        unit.validator
+            .collect_errors(instance, location, ctx, errors)?;
+    }
+    Ok(())
+}

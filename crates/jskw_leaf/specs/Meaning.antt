@@ -1,0 +1,115 @@
+-- The keyword that each validator stands for.
+use Rattle.serde_json.specs.View.{view}
+use Rattle.serde_json.specs.declared.value.Value.{Value}
+use Rattle.jskw_value.specs.Pointer.{Pointer}
+use Rattle.jskw_value.specs.declared.types.JsonType.{JsonType}
+use Rattle.jskw_value.specs.declared.types.JsonType.TheVariants.{Array, Boolean, Integer, Null, Number, Object, String}
+use Rattle.jskw_report.specs.declared.error.TypeKind.TheVariants.{Single, Multiple}
+use Rattle.jskw_report.specs.Read.{integers_of}
+use Rattle.jskw_report.specs.declared.settings.Draft.TheVariants.{Draft4}
+use Rattle.jskw_report.specs.Keyword.{Keyword, assertion, constant, never, type_is, Integers, by_value, as_written}
+use Rattle.jskw_number.specs.Meaning.{number_keyword}
+use Rattle.jskw_leaf.specs.declared.boolean.FalseValidator.{FalseValidator}
+use Rattle.jskw_leaf.specs.declared.type_.MultipleTypesValidator.{MultipleTypesValidator}
+use Rattle.jskw_leaf.specs.declared.type_.ArrayTypeValidator.{ArrayTypeValidator}
+use Rattle.jskw_leaf.specs.declared.type_.BooleanTypeValidator.{BooleanTypeValidator}
+use Rattle.jskw_leaf.specs.declared.type_.IntegerTypeValidator.{IntegerTypeValidator}
+use Rattle.jskw_leaf.specs.declared.type_.NullTypeValidator.{NullTypeValidator}
+use Rattle.jskw_leaf.specs.declared.type_.NumberTypeValidator.{NumberTypeValidator}
+use Rattle.jskw_leaf.specs.declared.type_.ObjectTypeValidator.{ObjectTypeValidator}
+use Rattle.jskw_leaf.specs.declared.type_.StringTypeValidator.{StringTypeValidator}
+use Rattle.jskw_leaf.specs.declared.legacy.type_draft_4.MultipleTypesValidator as multiple_draft_4
+use Rattle.jskw_leaf.specs.declared.legacy.type_draft_4.IntegerTypeValidator as integer_draft_4
+use Rattle.jskw_leaf.specs.declared.const_.ConstArrayValidator.{ConstArrayValidator}
+use Rattle.jskw_leaf.specs.declared.const_.ConstBooleanValidator.{ConstBooleanValidator}
+use Rattle.jskw_leaf.specs.declared.const_.ConstNullValidator.{ConstNullValidator}
+use Rattle.jskw_leaf.specs.declared.const_.ConstNumberValidator.{ConstNumberValidator}
+use Rattle.jskw_leaf.specs.declared.const_.ConstObjectValidator.{ConstObjectValidator}
+use Rattle.jskw_leaf.specs.declared.const_.ConstStringValidator.{ConstStringValidator}
+use Rattle.jskw_leaf.specs.declared.leaf.LeafValidator.{LeafValidator}
+use Rattle.jskw_leaf.specs.declared.leaf.LeafValidator.TheVariants.{False, Number as number, MultipleTypes, ArrayType, BooleanType, IntegerType, NullType, NumberType, ObjectType, StringType, MultipleTypesDraft4, IntegerTypeDraft4, ConstArray, ConstBoolean, ConstNull, ConstNumber, ConstObject, ConstString}
+
+abbrev pub false_keyword : FalseValidator → Keyword
+false_keyword v = assertion v.location never
+
+-- ---- `type`
+
+-- one type, failing at the location
+abbrev pub single_type : JsonType → Integers → Pointer → Keyword
+single_type j rule q = assertion q (type_is (Single j) rule)
+
+abbrev pub multiple_types : MultipleTypesValidator → Keyword
+multiple_types v = assertion v.location (type_is (Multiple v.types) by_value)
+
+abbrev pub array_type : ArrayTypeValidator → Keyword
+array_type v = single_type Array by_value v.location
+
+abbrev pub boolean_type : BooleanTypeValidator → Keyword
+boolean_type v = single_type Boolean by_value v.location
+
+abbrev pub integer_type : IntegerTypeValidator → Keyword
+integer_type v = single_type Integer by_value v.location
+
+abbrev pub null_type : NullTypeValidator → Keyword
+null_type v = single_type Null by_value v.location
+
+abbrev pub number_type : NumberTypeValidator → Keyword
+number_type v = single_type Number by_value v.location
+
+abbrev pub object_type : ObjectTypeValidator → Keyword
+object_type v = single_type Object by_value v.location
+
+abbrev pub string_type : StringTypeValidator → Keyword
+string_type v = single_type String by_value v.location
+
+abbrev pub multiple_types_draft_4 : multiple_draft_4.MultipleTypesValidator → Keyword
+multiple_types_draft_4 v = assertion v.location (type_is (Multiple v.types) (integers_of Draft4 (Multiple v.types)))
+
+abbrev pub integer_type_draft_4 : integer_draft_4.IntegerTypeValidator → Keyword
+integer_type_draft_4 v = single_type Integer as_written v.location
+
+-- ---- `const`
+
+-- the expected value, failing at the location
+abbrev pub constant_at : Pointer → Value → Keyword
+constant_at q v = assertion q (constant (view v))
+
+abbrev pub const_array : ConstArrayValidator → Keyword
+const_array v = constant_at v.location v.value
+
+abbrev pub const_boolean : ConstBooleanValidator → Keyword
+const_boolean v = constant_at v.location v.value
+
+abbrev pub const_null : ConstNullValidator → Keyword
+const_null v = constant_at v.location v.value
+
+abbrev pub const_number : ConstNumberValidator → Keyword
+const_number v = constant_at v.location v.value
+
+abbrev pub const_object : ConstObjectValidator → Keyword
+const_object v = constant_at v.location v.value
+
+abbrev pub const_string : ConstStringValidator → Keyword
+const_string v = constant_at v.location v.value
+
+-- ---- any of them; F, N, O and P are the types of a representation
+
+abbrev pub leaf_keyword : {F N O P : Type 0} → LeafValidator F N O P → Keyword
+leaf_keyword (False v marker) = false_keyword v
+leaf_keyword (number v) = number_keyword v
+leaf_keyword (MultipleTypes v) = multiple_types v
+leaf_keyword (ArrayType v) = array_type v
+leaf_keyword (BooleanType v) = boolean_type v
+leaf_keyword (IntegerType v) = integer_type v
+leaf_keyword (NullType v) = null_type v
+leaf_keyword (NumberType v) = number_type v
+leaf_keyword (ObjectType v) = object_type v
+leaf_keyword (StringType v) = string_type v
+leaf_keyword (MultipleTypesDraft4 v) = multiple_types_draft_4 v
+leaf_keyword (IntegerTypeDraft4 v) = integer_type_draft_4 v
+leaf_keyword (ConstArray v) = const_array v
+leaf_keyword (ConstBoolean v) = const_boolean v
+leaf_keyword (ConstNull v) = const_null v
+leaf_keyword (ConstNumber v) = const_number v
+leaf_keyword (ConstObject v) = const_object v
+leaf_keyword (ConstString v) = const_string v

@@ -1,0 +1,66 @@
+//! Floats in a schema's value, which an expected value or an option may not hold.
+ghost use Rattle.std.specs.Prelude.{◌≡◌, option_map};
+ghost use Rattle.serde_json.specs.View.{view, items_view, members_view};
+ghost use Rattle.jskw_report.specs.Compile.{Makes};
+ghost use Rattle.jskw_report.specs.Fault.{const_value, first_float, first_float_item, first_float_member};
+
+use jskw_report::{
+    CompilationResult, CompileFault, Location, ValidationError, ValidationErrorKind,
+};
+use serde_json::{Map, Value};
+use std::alloc::Global;
+
+/// The first float of a value: depth first, items by index, members in the order of their names' bytes.
+#[cycle(first_float)]
+pub fn first_float(value: &Value) -> Option<&Value>
+    ensures { option_map (λ v. view v.now) result ≡ first_float (view value.now) }
+{
+    match value {
+        Value::Null | Value::Bool(_) | Value::String(_) => None,
+        Value::Number(number) => { if number.is_f64() { Some(value) } else { None } }
+        Value::Array(items) => float_in_items(items),
+        Value::Object(members) => float_in_members(members),
+    }
+}
+
+#[cycle(first_float)]
+fn float_in_items(items: &Vec<Value>) -> Option<&Value>
+    ensures { option_map (λ v. view v.now) result ≡ first_float_item (items_view items.now.items) }
+{
+    for item in items {
+        if let Some(float) = first_float(item) {
+            return Some(float);
+        }
+    }
+    None
+}
+
+#[cycle(first_float)]
+fn float_in_members(members: &Map<String, Value>) -> Option<&Value>
+    ensures { option_map (λ v. view v.now) result ≡ first_float_member (members_view members.now.entries) }
+{
+    for (_, member) in members.iter() {
+        if let Some(float) = first_float(member) {
+            return Some(float);
+        }
+    }
+    None
+}
+
+/// Ok where the value, that of the keyword at the location, holds no float, and else the compile error of the first one.
+pub fn refuse_floats<'a>(
+    alloc: Global,
+    location: &Location,
+    value: &'a Value,
+) -> CompilationResult<'a, ()>
+    ensures { Makes (λ _. view value.now) result (const_value location.now (view value.now)) }
+{
+    let Some(float) = first_float(value) else {
+        return Ok(());
+    };
+    let kind = ValidationErrorKind::CompileError {
+        message: "Not a whole number of 64 bits",
+    };
+    let location = location.copy(alloc)?;
+    Err(CompileFault::Bad(ValidationError::refused(alloc, kind, location, float)))
+}

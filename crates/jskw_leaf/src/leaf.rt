@@ -1,0 +1,106 @@
+//! The validators of the keywords without subschemas, as one type.
+ghost use Rattle.jskw_leaf.specs.Meaning.{leaf_keyword};
+
+use crate::boolean::FalseValidator;
+use crate::const_::{
+    ConstArrayValidator, ConstBooleanValidator, ConstNullValidator, ConstNumberValidator,
+    ConstObjectValidator, ConstStringValidator,
+};
+use crate::legacy::type_draft_4;
+use crate::type_::{
+    ArrayTypeValidator, BooleanTypeValidator, IntegerTypeValidator, MultipleTypesValidator,
+    NullTypeValidator, NumberTypeValidator, ObjectTypeValidator, StringTypeValidator,
+};
+use jskw_number::NumberValidator;
+use jskw_report::{
+    EvaluationResult, Fault, LazyLocation, Validate, ValidationContext, ValidationError,
+};
+use jskw_value::Json;
+use std::alloc::{AllocError, Global};
+use std::marker::PhantomData;
+
+/// A validator of one keyword without subschemas, over the representation `F`.
+#[derive(Drop)]
+pub enum LeafValidator<F: Json> {
+    False(FalseValidator, PhantomData<F>),
+    Number(NumberValidator),
+    MultipleTypes(MultipleTypesValidator),
+    ArrayType(ArrayTypeValidator),
+    BooleanType(BooleanTypeValidator),
+    IntegerType(IntegerTypeValidator),
+    NullType(NullTypeValidator),
+    NumberType(NumberTypeValidator),
+    ObjectType(ObjectTypeValidator),
+    StringType(StringTypeValidator),
+    MultipleTypesDraft4(type_draft_4::MultipleTypesValidator),
+    IntegerTypeDraft4(type_draft_4::IntegerTypeValidator),
+    ConstArray(ConstArrayValidator),
+    ConstBoolean(ConstBooleanValidator),
+    ConstNull(ConstNullValidator),
+    ConstNumber(ConstNumberValidator),
+    ConstObject(ConstObjectValidator),
+    ConstString(ConstStringValidator),
+}
+
+/// What is said of the validator, whichever it is.
+macro_rules! whichever {
+    ($leaf:expr, $validator:ident => $answer:expr) => {
+        match $leaf {
+            LeafValidator::False($validator, _) => $answer,
+            LeafValidator::Number($validator) => $answer,
+            LeafValidator::MultipleTypes($validator) => $answer,
+            LeafValidator::ArrayType($validator) => $answer,
+            LeafValidator::BooleanType($validator) => $answer,
+            LeafValidator::IntegerType($validator) => $answer,
+            LeafValidator::NullType($validator) => $answer,
+            LeafValidator::NumberType($validator) => $answer,
+            LeafValidator::ObjectType($validator) => $answer,
+            LeafValidator::StringType($validator) => $answer,
+            LeafValidator::MultipleTypesDraft4($validator) => $answer,
+            LeafValidator::IntegerTypeDraft4($validator) => $answer,
+            LeafValidator::ConstArray($validator) => $answer,
+            LeafValidator::ConstBoolean($validator) => $answer,
+            LeafValidator::ConstNull($validator) => $answer,
+            LeafValidator::ConstNumber($validator) => $answer,
+            LeafValidator::ConstObject($validator) => $answer,
+            LeafValidator::ConstString($validator) => $answer,
+        }
+    };
+}
+
+impl<F: Json> Validate<F> for LeafValidator<F> {
+    ghost keyword = { leaf_keyword };
+
+    fn is_valid(&self, instance: &F::Node, ctx: &mut ValidationContext) -> bool {
+        whichever!(self, validator => Validate::<F>::is_valid(validator, instance, ctx))
+    }
+
+    fn validate<'i>(
+        &'i self,
+        instance: &'i F::Node,
+        location: &mut LazyLocation,
+        ctx: &mut ValidationContext,
+    ) -> Result<(), Fault<'i, F>> {
+        whichever!(self, validator => validator.validate(instance, location, ctx))
+    }
+
+    fn collect_errors<'i>(
+        &'i self,
+        instance: &'i F::Node,
+        location: &mut LazyLocation,
+        ctx: &mut ValidationContext,
+        errors: &mut Vec<ValidationError<'i, F>>,
+    ) -> Result<(), AllocError> {
+        whichever!(self, validator => validator.collect_errors(instance, location, ctx, errors))
+    }
+
+    fn evaluate(
+        &self,
+        alloc: Global,
+        instance: &F::Node,
+        location: &mut LazyLocation,
+        ctx: &mut ValidationContext,
+    ) -> Result<EvaluationResult, AllocError> {
+        whichever!(self, validator => Validate::<F>::evaluate(validator, alloc, instance, location, ctx))
+    }
+}

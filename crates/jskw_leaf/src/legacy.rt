@@ -1,0 +1,2 @@
+//! Keywords as Draft 4 has them.
+pub mod type_draft_4;

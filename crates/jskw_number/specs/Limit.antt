@@ -1,0 +1,16 @@
+-- Limits on numbers.
+use Rattle.std.specs.Prelude.{ℤ, pos, Option, Some, None}
+use Rattle.std.specs.declared.cmp.Ordering.{Ordering}
+use Rattle.jskw_value.specs.Number.{exact, cmp_whole}
+use Rattle.jskw_value.specs.Tree.{Tree, number}
+use Rattle.jskw_number.specs.declared.helpers.WholeNumber.{WholeNumber}
+use Rattle.jskw_number.specs.declared.helpers.WholeNumber.TheVariants.{Unsigned, Signed}
+
+abbrev pub whole_of : WholeNumber → ℤ
+whole_of (Unsigned n) = pos n
+whole_of (Signed z) = z
+
+-- how a number stands to a whole number; nothing else stands to one
+abbrev pub stands_to : ℤ → Tree → Option Ordering
+stands_to z (number (exact c k)) = Some (cmp_whole c k z)
+stands_to z _ = None

@@ -1,0 +1,172 @@
+// Relations and divisors around the ends of the ranges, and around 2^53, where a double starts to lose digits.
+use super::{decimal_of, said, settings};
+use jskw_report::{Draft, Settings};
+use jskw_value::{DecimalJson, SerdeJson};
+use serde_json::Value;
+use std::alloc::Global;
+use std::process::Abort;
+use std::test::Fail;
+
+const LIMITS: [&str; 11] = [
+    "-9223372036854775808",
+    "-1",
+    "0",
+    "1",
+    "9007199254740991",
+    "9007199254740992",
+    "9007199254740993",
+    "9223372036854775807",
+    "9223372036854775808",
+    "9223372036854775809",
+    "18446744073709551615",
+];
+
+const DIVISORS: [&str; 6] = [
+    "1",
+    "2",
+    "3",
+    "10",
+    "9007199254740993",
+    "18446744073709551615",
+];
+
+// Each keyword, and how a number may stand to its limit.
+const RELATIONS: [(&str, &str); 4] = [
+    ("minimum", "=>"),
+    ("maximum", "<="),
+    ("exclusiveMinimum", ">"),
+    ("exclusiveMaximum", "<"),
+];
+
+// Coefficient and scale; how the number stands to each of `LIMITS`; whether it is a multiple of each of `DIVISORS`. The
+// table was made by Python's `fractions.Fraction`, with no code of this crate.
+const NUMBERS: &str = r#"-9223372036854775808 0:=<<<<<<<<<< yynnnn
+-1 0:>=<<<<<<<<< ynnnnn
+0 0:>>=<<<<<<<< yyyyyy
+1 0:>>>=<<<<<<< ynnnnn
+9007199254740991 0:>>>>=<<<<<< ynnnnn
+9007199254740992 0:>>>>>=<<<<< yynnnn
+9007199254740993 0:>>>>>>=<<<< ynynyn
+9223372036854775807 0:>>>>>>>=<<< ynnnnn
+9223372036854775808 0:>>>>>>>>=<< yynnnn
+9223372036854775809 0:>>>>>>>>>=< ynynnn
+18446744073709551615 0:>>>>>>>>>>= ynynny
+-9223372036854775808 1:><<<<<<<<<< nnnnnn
+-1 1:>><<<<<<<<< nnnnnn
+0 1:>>=<<<<<<<< yyyyyy
+1 1:>>><<<<<<<< nnnnnn
+9007199254740991 1:>>>><<<<<<< nnnnnn
+9007199254740992 1:>>>><<<<<<< nnnnnn
+9007199254740993 1:>>>><<<<<<< nnnnnn
+9223372036854775807 1:>>>>>>><<<< nnnnnn
+9223372036854775808 1:>>>>>>><<<< nnnnnn
+9223372036854775809 1:>>>>>>><<<< nnnnnn
+18446744073709551615 1:>>>>>>><<<< nnnnnn
+-9223372036854775808 18:><<<<<<<<<< nnnnnn
+-1 18:>><<<<<<<<< nnnnnn
+0 18:>>=<<<<<<<< yyyyyy
+1 18:>>><<<<<<<< nnnnnn
+9007199254740991 18:>>><<<<<<<< nnnnnn
+9007199254740992 18:>>><<<<<<<< nnnnnn
+9007199254740993 18:>>><<<<<<<< nnnnnn
+9223372036854775807 18:>>>><<<<<<< nnnnnn
+9223372036854775808 18:>>>><<<<<<< nnnnnn
+9223372036854775809 18:>>>><<<<<<< nnnnnn
+18446744073709551615 18:>>>><<<<<<< nnnnnn
+10 1:>>>=<<<<<<< ynnnnn
+-30 1:><<<<<<<<<< ynynnn
+90071992547409930 1:>>>>>>=<<<< ynynyn
+-9223372036854775800 1:><<<<<<<<<< yyyynn
+1000000000000000000 18:>>>=<<<<<<< ynnnnn
+3000000000000000000 18:>>>><<<<<<< ynynnn
+18000000000000000000 18:>>>><<<<<<< yyynnn
+-9000000000000000000 18:><<<<<<<<<< ynynnn
+9 1:>>><<<<<<<< nnnnnn
+-15 1:><<<<<<<<<< nnnnnn
+300 2:>>>><<<<<<< ynynnn
+5 1:>>><<<<<<<< nnnnnn
+90071992547409920 1:>>>>>=<<<<< yynnnn"#;
+
+// A keyword with a bound, asked of a number; over both representations, where the number is whole.
+fn check(
+    rt: &impl Abort,
+    alloc: Global,
+    settings: &Settings,
+    keyword: &str,
+    bound: &str,
+    number: &str,
+    holds: bool,
+) -> Result<(), Fail> {
+    let schema = format!(in alloc; "{{\"{keyword}\":{bound}}}")?;
+    let wanted = if holds {
+        String::from_str(alloc, "valid")?
+    } else {
+        format!(in alloc; "{keyword} {bound} at /7 by /items/{keyword}")?
+    };
+    let tree = decimal_of(number)?;
+    let found = said::<DecimalJson>(rt, alloc, settings, schema.as_str(), keyword, &tree)?;
+    assert_eq!(rt; found.as_str(), wanted.as_str(), "{number}");
+    if let Some(whole) = number.strip_suffix(" 0") {
+        let value = Value::from_str(alloc, whole)?;
+        let found = said::<SerdeJson>(rt, alloc, settings, schema.as_str(), keyword, &value)?;
+        assert_eq!(rt; found.as_str(), wanted.as_str(), "{whole}");
+    }
+    Ok(())
+}
+
+fn check_limits(
+    rt: &impl Abort,
+    alloc: Global,
+    settings: &Settings,
+    number: &str,
+    stands: &str,
+) -> Result<(), Fail> {
+    for (limit, symbol) in LIMITS.iter().zip(stands.chars()) {
+        for (keyword, allowed) in RELATIONS {
+            check(
+                rt,
+                alloc,
+                settings,
+                keyword,
+                limit,
+                number,
+                allowed.contains(symbol),
+            )?;
+        }
+    }
+    Ok(())
+}
+
+fn check_divisors(
+    rt: &impl Abort,
+    alloc: Global,
+    settings: &Settings,
+    number: &str,
+    divides: &str,
+) -> Result<(), Fail> {
+    for (divisor, letter) in DIVISORS.iter().zip(divides.chars()) {
+        check(
+            rt,
+            alloc,
+            settings,
+            "multipleOf",
+            divisor,
+            number,
+            letter == 'y',
+        )?;
+    }
+    Ok(())
+}
+
+#[test]
+fn numbers_around_boundaries(rt: HostRuntime) -> Result<(), Fail> {
+    let settings = settings(rt.alloc(), Draft::Draft202012);
+    for line in NUMBERS.lines() {
+        let (number, rest) = line.split_once(':').ok_or("no relations")?;
+        let (stands, divides) = rest.split_once(' ').ok_or("no divisors")?;
+        assert!(rt; stands.len() == LIMITS.len() && divides.len() == DIVISORS.len());
+        check_limits(&rt, rt.alloc(), &settings, number, stands)?;
+        check_divisors(&rt, rt.alloc(), &settings, number, divides)?;
+    }
+    Ok(())
+}

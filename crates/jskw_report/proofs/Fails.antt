@@ -1,0 +1,137 @@
+-- `holds` says what `fail` says.
+use Rattle.std.specs.Prelude.{◌≡◌, ℕ, suc, ◌&&◌, ◌||◌, not, nat_le, nat_lt, List, [], ◌∷◌, ◌++◌, map, filter, drop, count_by, Bool, true, false, Option, Some, None, ◌⊎◌, ◌<◌, ◌≤◌, if◌then◌else◌}
+use Rattle.std.specs.List.{list_all}
+use Rattle.std.proofs.Common.{refl, sym, ◌∙◌, ap, inl, inr, arith}
+use Rattle.std.proofs.lemmas.Bool.Decides.{leb_tells}
+use Rattle.jskw_value.specs.Pointer.{Pointer, item_location}
+use Rattle.jskw_value.specs.Tree.{Tree, items, is_array, is_object, has_name}
+use Rattle.jskw_report.specs.Kind.{ErrorKind}
+use Rattle.jskw_report.specs.Kind as kind
+use Rattle.jskw_report.specs.Keyword.{Schema, false_schema, schema_object, Keywords, no_keywords, keyword, Keyword, assertion, contains, items_list, prefix_items, items_from, additional_items, Schemas, no_schemas, schema, Assertion, never, type_is, size, constant, among, limit, multiple_of, unique, required, at_most, Bounds}
+use Rattle.jskw_report.specs.Holds.{assertion_holds, required_holds, within, count_holds, holds, all_hold, keyword_holds, each_holds}
+use Rattle.jskw_report.specs.Fail.{Failure, unless, missing, faults, passes, count_fault, contains_fails, each_item, fail, all_fail, keyword_fail, each_fails, is_empty}
+
+-- ---- empty lists
+
+-- both parts are empty
+is_empty-append : {A : Type 0} (xs ys : List A) → is_empty (xs ++ ys) ≡ (is_empty xs && is_empty ys)
+is_empty-append [] ys = refl
+is_empty-append (x ∷ xs) ys = refl
+
+-- a list that is made item by item
+is_empty-map : {A B : Type 0} (f : A → B) (xs : List A) → is_empty (map f xs) ≡ is_empty xs
+is_empty-map f [] = refl
+is_empty-map f (x ∷ xs) = refl
+
+-- both parts have nothing
+joined : {A : Type 0} {a b : Bool} (xs ys : List A) → a ≡ is_empty xs → b ≡ is_empty ys → (a && b) ≡ is_empty (xs ++ ys)
+joined {b} xs ys e f = ap (λ a. a && b) e ∙ ap (λ b. is_empty xs && b) f ∙ sym (is_empty-append xs ys)
+
+-- ---- assertions
+
+-- no error where it holds
+unless_empty : (b : Bool) (k : ErrorKind) → b ≡ is_empty (unless b k)
+unless_empty true k = refl
+unless_empty false k = refl
+
+-- every name is there exactly where none is left
+all_named : (names : List (List ℕ)) (t : Tree) → list_all (has_name t) names ≡ is_empty (filter (λ name. not (has_name t name)) names)
+all_named [] t = refl
+all_named (n ∷ names) t = go (has_name t n) (all_named names t)
+  where
+    go : (b : Bool) → list_all (has_name t) names ≡ is_empty (filter (λ name. not (has_name t name)) names)
+        → (b && list_all (has_name t) names) ≡ is_empty (if not b then n ∷ filter (λ name. not (has_name t name)) names else filter (λ name. not (has_name t name)) names)
+    go true e = e
+    go false e = refl
+
+-- of `required`
+missing_empty : (names : List (List ℕ)) (t : Tree) → required_holds names t ≡ is_empty (missing names t)
+missing_empty names t = go (is_object t)
+  where
+    go : (object : Bool) → (not object || list_all (has_name t) names) ≡ is_empty (if object then map kind.Required (filter (λ name. not (has_name t name)) names) else [])
+    go true = all_named names t ∙ sym (is_empty-map kind.Required (filter (λ name. not (has_name t name)) names))
+    go false = refl
+
+-- of an assertion
+pub faults_empty : (a : Assertion) (t : Tree) → assertion_holds a t ≡ is_empty (faults a t)
+faults_empty never t = refl
+faults_empty (type_is k rule) t = unless_empty (assertion_holds (type_is k rule) t) _
+faults_empty (size which n) t = unless_empty (assertion_holds (size which n) t) _
+faults_empty (constant d) t = unless_empty (assertion_holds (constant d) t) _
+faults_empty (among ds) t = unless_empty (assertion_holds (among ds) t) _
+faults_empty (limit r n) t = unless_empty (assertion_holds (limit r n) t) _
+faults_empty (multiple_of m) t = unless_empty (assertion_holds (multiple_of m) t) _
+faults_empty unique t = unless_empty (assertion_holds unique t) _
+faults_empty (required names) t = missing_empty names t
+faults_empty (at_most n) t = unless_empty (assertion_holds (at_most n) t) _
+
+-- ---- `contains`
+
+-- no more is not fewer
+nat_le-not_lt : (n u : ℕ) → nat_le n u ≡ not (nat_lt u n)
+nat_le-not_lt n u = go (leb_tells n u) (leb_tells (suc u) n)
+  where
+    go : ((nat_le n u ≡ true) × (n ≤ u)) ⊎ ((nat_le n u ≡ false) × (u < n)) → ((nat_lt u n ≡ true) × (suc u ≤ n)) ⊎ ((nat_lt u n ≡ false) × (n < suc u)) → nat_le n u ≡ not (nat_lt u n)
+    go (inl (e, h)) (inl (f, k)) = absurd (omega arith)
+    go (inl (e, h)) (inr (f, k)) = e ∙ sym (ap not f)
+    go (inr (e, h)) (inl (f, k)) = e ∙ sym (ap not f)
+    go (inr (e, h)) (inr (f, k)) = absurd (omega arith)
+
+-- within the upper bound is not past it
+within_passes : (n : ℕ) (upper : Option ℕ) → within n upper ≡ not (passes n upper)
+within_passes n None = refl
+within_passes n (Some u) = nat_le-not_lt n u
+
+-- of the number of items that match
+count_empty : (b : Bounds) (n : ℕ) → count_holds b n ≡ is_empty (count_fault b n)
+count_empty b n = ap (λ w. nat_le b.lower n && w) (within_passes n b.upper) ∙ go (nat_le b.lower n) (passes n b.upper)
+  where
+    go : (low over : Bool) → (low && not over) ≡ is_empty (if over then b.many ∷ [] else (if low then [] else b.few ∷ []))
+    go true true = refl
+    go true false = refl
+    go false true = refl
+    go false false = refl
+
+-- of `contains`
+contains_empty : (b : Bounds) (n : ℕ) (t : Tree) (p : Pointer) → (not (is_array t) || count_holds b n) ≡ is_empty (if is_array t then contains_fails b n t p else [])
+contains_empty b n t p = go (is_array t)
+  where
+    go : (array : Bool) → (not array || count_holds b n) ≡ is_empty (if array then contains_fails b n t p else [])
+    go true = count_empty b n ∙ sym (is_empty-map _ (count_fault b n))
+    go false = refl
+
+-- ---- items
+
+-- of the items in turn
+each_item_empty : (h : Tree → Bool) (f : Tree → Pointer → List Failure) → ((t : Tree) (p : Pointer) → h t ≡ is_empty (f t p))
+    → (i : ℕ) (ts : List Tree) (p : Pointer) → list_all h ts ≡ is_empty (each_item f i ts p)
+each_item_empty h f e i [] p = refl
+each_item_empty h f e i (t ∷ ts) p = joined (f t (item_location p i)) (each_item f (suc i) ts p) (e t (item_location p i)) (each_item_empty h f e (suc i) ts p)
+
+-- ---- schemas
+
+mutual
+  -- of a schema
+  pub holds_empty : (s : Schema) (t : Tree) (p : Pointer) → holds s t ≡ is_empty (fail s t p)
+  holds_empty (false_schema q) t p = refl
+  holds_empty (schema_object q hands_on ks) t p = all_empty ks t p
+
+  -- of keywords
+  pub all_empty : (ks : Keywords) (t : Tree) (p : Pointer) → all_hold ks t ≡ is_empty (all_fail ks t p)
+  all_empty no_keywords t p = refl
+  all_empty (keyword q k ks) t p = joined (keyword_fail k t p) (all_fail ks t p) (keyword_empty k t p) (all_empty ks t p)
+
+  -- of a keyword
+  pub keyword_empty : (k : Keyword) (t : Tree) (p : Pointer) → keyword_holds k t ≡ is_empty (keyword_fail k t p)
+  keyword_empty (assertion q a) t p = faults_empty a t ∙ sym (is_empty-map _ (faults a t))
+  keyword_empty (contains s b) t p = contains_empty b (count_by (holds s) (items t)) t p
+  keyword_empty (items_list ss) t p = each_empty ss 0 (items t) p
+  keyword_empty (prefix_items ss) t p = each_empty ss 0 (items t) p
+  keyword_empty (items_from n s bare) t p = each_item_empty (holds s) (fail s) (λ t p. holds_empty s t p) n (drop n (items t)) p
+  keyword_empty (additional_items n s) t p = each_item_empty (holds s) (fail s) (λ t p. holds_empty s t p) n (drop n (items t)) p
+
+  -- of schemas and the items of their indices
+  pub each_empty : (ss : Schemas) (i : ℕ) (ts : List Tree) (p : Pointer) → each_holds ss ts ≡ is_empty (each_fails ss i ts p)
+  each_empty no_schemas i ts p = refl
+  each_empty (schema s ss) i [] p = refl
+  each_empty (schema s ss) i (t ∷ ts) p = joined (fail s t (item_location p i)) (each_fails ss (suc i) ts p) (holds_empty s t (item_location p i)) (each_empty ss (suc i) ts p)

@@ -1,0 +1,17 @@
+pub mod Appending
+pub mod Below
+pub mod Counts
+pub mod Elsewhere
+pub mod Fails
+pub mod FirstFloats
+pub mod Matches
+pub mod Once
+pub mod OneOption
+pub mod Pointers
+pub mod Reading
+pub mod RowsErrors
+pub mod RowsReading
+pub mod Same
+pub mod TypeReading
+pub mod Valid
+pub mod Worked

@@ -1,0 +1,5 @@
+use Rattle.jskw_report.proofs.Elsewhere.{holds_elsewhere}
+use Rattle.jskw_report.proofs.laws.keywords_hold_elsewhere.Goals as goal
+
+pub returns : goal.returns
+returns c = holds_elsewhere

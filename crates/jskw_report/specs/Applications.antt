@@ -1,0 +1,139 @@
+-- How often a schema and its subschemas meet an instance and its items; one such meeting is an application.
+use Rattle.std.specs.Prelude.{ℕ, zero, suc, ◌+◌, ◌*◌, max, List, [], ◌∷◌, drop, sum_by, Bool, true, false, if◌then◌else◌}
+use Rattle.jskw_value.specs.Tree.{Tree, array, Items, no_items, item, items}
+use Rattle.jskw_report.specs.Keyword.{Schema, false_schema, schema_object, Keywords, no_keywords, keyword, Keyword, assertion, contains, items_list, prefix_items, items_from, additional_items, Schemas, no_schemas, schema}
+use Rattle.jskw_report.specs.Holds.{holds, keyword_holds}
+
+-- ---- all pairs
+
+abbrev mutual
+  -- the pair of the schema and the tree, and those that its keywords make meet
+  pub pairs : Schema → Tree → ℕ
+  pairs (false_schema q) t = 1
+  pairs (schema_object q hands_on ks) t = 1 + all_pairs ks t
+
+  -- those that the keywords make meet
+  pub all_pairs : Keywords → Tree → ℕ
+  all_pairs no_keywords t = 0
+  all_pairs (keyword q k ks) t = keyword_pairs k t + all_pairs ks t
+
+  -- those of the keyword's subschemas and the items: a bare type check of the items makes none meet
+  pub keyword_pairs : Keyword → Tree → ℕ
+  keyword_pairs (assertion q a) t = 0
+  keyword_pairs (contains s b) t = sum_by (pairs s) (items t)
+  keyword_pairs (items_list ss) t = each_pairs ss (items t)
+  keyword_pairs (prefix_items ss) t = each_pairs ss (items t)
+  keyword_pairs (items_from n s true) t = 0
+  keyword_pairs (items_from n s false) t = sum_by (pairs s) (drop n (items t))
+  keyword_pairs (additional_items n s) t = sum_by (pairs s) (drop n (items t))
+
+  -- those of each schema and the item of its index, as far as both go
+  pub each_pairs : Schemas → List Tree → ℕ
+  each_pairs no_schemas ts = 0
+  each_pairs (schema s ss) [] = 0
+  each_pairs (schema s ss) (t ∷ ts) = pairs s t + each_pairs ss ts
+
+-- ---- up to the first failure
+
+-- the sum of the costs of the items up to the first that fails, that one included
+abbrev pub sum_to_failure : (Tree → Bool) → (Tree → ℕ) → List Tree → ℕ
+sum_to_failure passes cost [] = 0
+sum_to_failure passes cost (t ∷ ts) = cost t + (if passes t then sum_to_failure passes cost ts else 0)
+
+abbrev mutual
+  -- the pairs that are left where nothing is applied behind the first failure
+  pub needed : Schema → Tree → ℕ
+  needed (false_schema q) t = 1
+  needed (schema_object q hands_on ks) t = 1 + all_needed ks t
+
+  -- those of the keywords up to the first that fails, that one included
+  pub all_needed : Keywords → Tree → ℕ
+  all_needed no_keywords t = 0
+  all_needed (keyword q k ks) t = keyword_needed k t + (if keyword_holds k t then all_needed ks t else 0)
+
+  -- those of the keyword's subschemas and the items: `contains` asks all of them
+  pub keyword_needed : Keyword → Tree → ℕ
+  keyword_needed (assertion q a) t = 0
+  keyword_needed (contains s b) t = sum_by (needed s) (items t)
+  keyword_needed (items_list ss) t = each_needed ss (items t)
+  keyword_needed (prefix_items ss) t = each_needed ss (items t)
+  keyword_needed (items_from n s true) t = 0
+  keyword_needed (items_from n s false) t = sum_to_failure (holds s) (needed s) (drop n (items t))
+  keyword_needed (additional_items n s) t = sum_to_failure (holds s) (needed s) (drop n (items t))
+
+  -- those of each schema and the item of its index, up to the first that fails
+  pub each_needed : Schemas → List Tree → ℕ
+  each_needed no_schemas ts = 0
+  each_needed (schema s ss) [] = 0
+  each_needed (schema s ss) (t ∷ ts) = needed s t + (if holds s t then each_needed ss ts else 0)
+
+-- ---- depth
+
+abbrev mutual
+  -- the number of schemas that lie d deep: a subschema of a keyword lies one deeper than the schema that has the keyword
+  pub schemas_at : Schema → ℕ → ℕ
+  schemas_at (false_schema q) zero = 1
+  schemas_at (false_schema q) (suc d) = 0
+  schemas_at (schema_object q hands_on ks) zero = 1
+  schemas_at (schema_object q hands_on ks) (suc d) = all_schemas_at ks d
+
+  -- that of the subschemas of the keywords
+  pub all_schemas_at : Keywords → ℕ → ℕ
+  all_schemas_at no_keywords d = 0
+  all_schemas_at (keyword q k ks) d = keyword_schemas_at k d + all_schemas_at ks d
+
+  -- that of the subschemas of the keyword
+  pub keyword_schemas_at : Keyword → ℕ → ℕ
+  keyword_schemas_at (assertion q a) d = 0
+  keyword_schemas_at (contains s b) d = schemas_at s d
+  keyword_schemas_at (items_list ss) d = each_schemas_at ss d
+  keyword_schemas_at (prefix_items ss) d = each_schemas_at ss d
+  keyword_schemas_at (items_from n s bare) d = schemas_at s d
+  keyword_schemas_at (additional_items n s) d = schemas_at s d
+
+  -- that of each schema of the list
+  pub each_schemas_at : Schemas → ℕ → ℕ
+  each_schemas_at no_schemas d = 0
+  each_schemas_at (schema s ss) d = schemas_at s d + each_schemas_at ss d
+
+abbrev mutual
+  -- the number of trees that lie d deep: an item lies one deeper than its array
+  pub trees_at : Tree → ℕ → ℕ
+  trees_at t zero = 1
+  trees_at (array ts) (suc d) = items_at ts d
+  trees_at t (suc d) = 0
+
+  -- that of each item
+  pub items_at : Items → ℕ → ℕ
+  items_at no_items d = 0
+  items_at (item t ts) d = trees_at t d + items_at ts d
+
+abbrev mutual
+  -- the depth below which no subschema lies
+  pub height : Schema → ℕ
+  height (false_schema q) = 1
+  height (schema_object q hands_on ks) = 1 + all_height ks
+
+  -- that of the subschemas of the keywords
+  pub all_height : Keywords → ℕ
+  all_height no_keywords = 0
+  all_height (keyword q k ks) = max (keyword_height k) (all_height ks)
+
+  -- that of the subschemas of the keyword
+  pub keyword_height : Keyword → ℕ
+  keyword_height (assertion q a) = 0
+  keyword_height (contains s b) = height s
+  keyword_height (items_list ss) = each_height ss
+  keyword_height (prefix_items ss) = each_height ss
+  keyword_height (items_from n s bare) = height s
+  keyword_height (additional_items n s) = height s
+
+  -- that of each schema of the list
+  pub each_height : Schemas → ℕ
+  each_height no_schemas = 0
+  each_height (schema s ss) = max (height s) (each_height ss)
+
+-- the sum of f d * g d over the d below n
+abbrev pub sum_of_products : ℕ → (ℕ → ℕ) → (ℕ → ℕ) → ℕ
+sum_of_products zero f g = 0
+sum_of_products (suc n) f g = f 0 * g 0 + sum_of_products n (λ d. f (suc d)) (λ d. g (suc d))

@@ -1,0 +1,34 @@
+-- What a compile owes to the reading of its schema or keyword.
+use Rattle.std.specs.Prelude.{◌≡◌, Option, Some, None, Result, Ok, Err, ⊤}
+use Rattle.serde_json.specs.Data.{Data, Members}
+use Rattle.serde_json.specs.View.{view}
+use Rattle.serde_json.specs.declared.value.Value.{Value}
+use Rattle.jskw_report.specs.Errors.{kind_of, schema_path_of}
+use Rattle.jskw_report.specs.Fault.{Fault}
+use Rattle.jskw_report.specs.Read.{Asserts, asserted, part}
+use Rattle.jskw_report.specs.Setting.{Spot, keywords}
+use Rattle.jskw_report.specs.declared.keyword.KeywordName.{KeywordName}
+use Rattle.jskw_report.specs.declared.error.ValidationError.{ValidationError}
+use Rattle.jskw_report.specs.declared.error.CompileFault.{CompileFault}
+use Rattle.jskw_report.specs.declared.error.CompileFault.TheVariants.{Bad, Memory}
+
+-- a compile error, over the values of `serde_json`: F, O and P are the types of that representation
+abbrev pub fault_of : {F O P : Type 0} → ValidationError F Value O P → Fault
+fault_of e = record { kind = kind_of e.kind; location = schema_path_of e.schema_path; value = view e.instance.now }
+
+-- what the keyword w asserts: the schema that has it stands at the spot, ms are its members, and d is the keyword's value
+abbrev pub reading : KeywordName → Spot → Members → Data → Asserts
+reading w spot ms d = asserted w spot.setting spot.location ms (part keywords d)
+
+-- the fault is the one that is read, or what was made means what is read
+abbrev pub Makes : {V K : Type 0} → (V → K) → Result V CompileFault → Result K Fault → Type 0
+Makes means (Ok v) read = read ≡ Ok (means v)
+Makes means (Err (Bad e)) read = read ≡ Err (fault_of e)
+Makes means (Err (Memory e)) read = ⊤
+
+-- nothing is made exactly where nothing is asserted
+abbrev pub Compiles : {V K : Type 0} → (V → K) → Option (Result V CompileFault) → Option (Result K Fault) → Type 0
+Compiles means None None = ⊤
+Compiles means (Some made) (Some read) = Makes means made read
+Compiles means None (Some read) = ⊥
+Compiles means (Some made) None = ⊥

@@ -1,0 +1,112 @@
+-- What is wrong with an instance: the errors of a schema, in the order of its keywords.
+use Rattle.std.specs.Prelude.{ℕ, ℤ, suc, nat_lt, nat_le, List, [], ◌∷◌, ◌++◌, map, drop, filter, count_by, Bool, true, false, not, Option, Some, None, if◌then◌else◌}
+use Rattle.serde_json.specs.Data as value
+use Rattle.jskw_value.specs.Pointer.{Pointer, item_location}
+use Rattle.jskw_value.specs.Tree.{Tree, items, is_array, is_object, has_name}
+use Rattle.jskw_report.specs.Holds.{assertion_holds, holds}
+use Rattle.jskw_report.specs.Keyword.{Schema, false_schema, schema_object, Keywords, no_keywords, keyword, Keyword, assertion, contains, items_list, prefix_items, items_from, additional_items, Schemas, no_schemas, schema, Assertion, never, type_is, size, constant, among, limit, multiple_of, unique, required, at_most, Bounds, Size, MinItems, MaxItems, MinProperties, MaxProperties, Relation, Minimum, Maximum, ExclusiveMinimum, ExclusiveMaximum}
+use Rattle.jskw_report.specs.Kind.{ErrorKind, Listed, WrongType}
+use Rattle.jskw_report.specs.Kind as kind
+
+-- an error: its kind, the instance location (Core 12.3.3), the keyword location (Core 12.3.1), and the tree at fault, which stands at the first
+pub record Failure : Type 0 where
+  pub kind : ErrorKind
+  pub instance_location : Pointer
+  pub keyword_location : Pointer
+  pub tree : Tree
+
+-- ---- assertions
+
+-- the kind of a bound on a size
+abbrev pub size_kind : Size → ℕ → ErrorKind
+size_kind MinItems n = kind.MinItems n
+size_kind MaxItems n = kind.MaxItems n
+size_kind MinProperties n = kind.MinProperties n
+size_kind MaxProperties n = kind.MaxProperties n
+
+-- the kind of a limit
+abbrev pub limit_kind : Relation → ℤ → ErrorKind
+limit_kind Minimum n = kind.Minimum n
+limit_kind Maximum n = kind.Maximum n
+limit_kind ExclusiveMinimum n = kind.ExclusiveMinimum n
+limit_kind ExclusiveMaximum n = kind.ExclusiveMaximum n
+
+-- one error of the kind, but none where it holds
+abbrev pub unless : Bool → ErrorKind → List ErrorKind
+unless true k = []
+unless false k = k ∷ []
+
+-- one error for each name that an object lacks, in their order
+abbrev pub missing : List (List ℕ) → Tree → List ErrorKind
+missing names t = if is_object t then map kind.Required (filter (λ name. not (has_name t name)) names) else []
+
+-- the kinds of an assertion's errors: none where it holds, else one, but for `required`
+abbrev pub faults : Assertion → Tree → List ErrorKind
+faults never t = kind.FalseSchema ∷ []
+faults (type_is k rule) t = unless (assertion_holds (type_is k rule) t) (WrongType k)
+faults (size which n) t = unless (assertion_holds (size which n) t) (size_kind which n)
+faults (constant d) t = unless (assertion_holds (constant d) t) (kind.Constant d)
+faults (among ds) t = unless (assertion_holds (among ds) t) (kind.Enum (Listed (value.array ds)))
+faults (limit r n) t = unless (assertion_holds (limit r n) t) (limit_kind r n)
+faults (multiple_of m) t = unless (assertion_holds (multiple_of m) t) (kind.MultipleOf m)
+faults unique t = unless (assertion_holds unique t) kind.UniqueItems
+faults (required names) t = missing names t
+faults (at_most n) t = unless (assertion_holds (at_most n) t) (kind.AdditionalItems n)
+
+-- ---- `contains`
+
+-- n is more than the upper bound, where there is one
+abbrev pub passes : ℕ → Option ℕ → Bool
+passes n None = false
+passes n (Some u) = nat_lt u n
+
+-- where `contains` fails if n items match: where too many do, else where too few do
+abbrev pub count_fault : Bounds → ℕ → List Pointer
+count_fault b n = if passes n b.upper then b.many ∷ [] else (if nat_le b.lower n then [] else b.few ∷ [])
+
+-- the error of `contains` of the array t at p, if n of its items match
+abbrev pub contains_fails : Bounds → ℕ → Tree → Pointer → List Failure
+contains_fails b n t p = map (λ q. record { kind = kind.Contains; instance_location = p; keyword_location = q; tree = t }) (count_fault b n)
+
+-- ---- keywords and schemas
+
+-- the errors that f gives of each item in turn, the first being item i of the array at p
+abbrev pub each_item : (Tree → Pointer → List Failure) → ℕ → List Tree → Pointer → List Failure
+each_item f i [] p = []
+each_item f i (t ∷ ts) p = f t (item_location p i) ++ each_item f (suc i) ts p
+
+abbrev mutual
+  -- the errors of the schema over the tree t at p: those of its keywords, or the one of `false`
+  pub fail : Schema → Tree → Pointer → List Failure
+  fail (false_schema q) t p = record { kind = kind.FalseSchema; instance_location = p; keyword_location = q; tree = t } ∷ []
+  fail (schema_object q hands_on ks) t p = all_fail ks t p
+
+  -- those of the keywords in turn
+  pub all_fail : Keywords → Tree → Pointer → List Failure
+  all_fail no_keywords t p = []
+  all_fail (keyword q k ks) t p = keyword_fail k t p ++ all_fail ks t p
+
+  -- those of the keyword: its own, or those of its subschemas over the items in turn
+  pub keyword_fail : Keyword → Tree → Pointer → List Failure
+  keyword_fail (assertion q a) t p = map (λ k. record { kind = k; instance_location = p; keyword_location = q; tree = t }) (faults a t)
+  keyword_fail (contains s b) t p = if is_array t then contains_fails b (count_by (holds s) (items t)) t p else []
+  keyword_fail (items_list ss) t p = each_fails ss 0 (items t) p
+  keyword_fail (prefix_items ss) t p = each_fails ss 0 (items t) p
+  keyword_fail (items_from n s bare) t p = each_item (fail s) n (drop n (items t)) p
+  keyword_fail (additional_items n s) t p = each_item (fail s) n (drop n (items t)) p
+
+  -- those of each schema over the item of its index, as far as both go, the first being item i of the array at p
+  pub each_fails : Schemas → ℕ → List Tree → Pointer → List Failure
+  each_fails no_schemas i ts p = []
+  each_fails (schema s ss) i [] p = []
+  each_fails (schema s ss) i (t ∷ ts) p = fail s t (item_location p i) ++ each_fails ss (suc i) ts p
+
+-- there is no error
+abbrev pub is_empty : {A : Type 0} → List A → Bool
+is_empty [] = true
+is_empty (x ∷ xs) = false
+
+-- the first error, if there is one
+abbrev pub first : List Failure → Option Failure
+first [] = None
+first (f ∷ fs) = Some f

@@ -1,0 +1,109 @@
+-- A schema as its keywords, one by one, in the order in which it is read (Core 4.3).
+use Rattle.std.specs.Prelude.{ℕ, ℤ, List, Bool, false, ◌||◌, Option}
+use Rattle.serde_json.specs.Data.{Data, Items}
+use Rattle.jskw_value.specs.Pointer.{Pointer}
+use Rattle.jskw_report.specs.Kind.{TypeKind}
+
+-- which numbers are integers: those of a zero fraction (Validation 6.1.1), or those that are written without one (Draft 4 Core 3.5)
+pub data Integers : Type 0 where
+  by_value as_written : Integers
+
+-- the bounds on the number of items (Validation 6.4.1, 6.4.2) and of members (6.5.1, 6.5.2)
+pub data Size : Type 0 where
+  MinItems MaxItems MinProperties MaxProperties : Size
+
+-- the limits on a number (Validation 6.2.2 to 6.2.5)
+pub data Relation : Type 0 where
+  Minimum Maximum ExclusiveMinimum ExclusiveMaximum : Relation
+
+-- a keyword without subschemas (Core 7.6)
+pub data Assertion : Type 0 where
+  -- the schema `false`, taken as an assertion (Core 4.3.2)
+  never : Assertion
+  -- `type` (Validation 6.1.1)
+  type_is : TypeKind → Integers → Assertion
+  size : Size → ℕ → Assertion
+  -- `const` (Validation 6.1.3)
+  constant : Data → Assertion
+  -- `enum` (Validation 6.1.2)
+  among : Items → Assertion
+  limit : Relation → ℤ → Assertion
+  -- `multipleOf` (Validation 6.2.1)
+  multiple_of : ℕ → Assertion
+  -- `uniqueItems` (Validation 6.4.3)
+  unique : Assertion
+  -- `required`, each name once (Validation 6.5.3)
+  required : List (List ℕ) → Assertion
+  -- `additionalItems` of `false`, behind so many schemas of `items` (Draft 7 Validation 6.4.2)
+  at_most : ℕ → Assertion
+
+-- how many items are to match `contains`, where it fails with too few and with too many, and whether a bound was read (Validation 6.4.4, 6.4.5)
+pub record Bounds : Type 0 where
+  pub lower : ℕ
+  pub upper : Option ℕ
+  pub few : Pointer
+  pub many : Pointer
+  pub bounded : Bool
+
+mutual
+  -- a boolean or an object (Core 4.3)
+  pub data Schema : Type 0 where
+    -- `false`, with its keyword location (Core 4.3.2)
+    false_schema : Pointer → Schema
+    -- an object, or `true`, which has no keywords: its keyword location, whether its `required` is handed on, and its keywords
+    schema_object : Pointer → Bool → Keywords → Schema
+
+  -- keywords, each with its keyword location
+  pub data Keywords : Type 0 where
+    no_keywords : Keywords
+    keyword : Pointer → Keyword → Keywords → Keywords
+
+  -- what one keyword asks for
+  pub data Keyword : Type 0 where
+    -- with the keyword location of its failures
+    assertion : Pointer → Assertion → Keyword
+    -- `contains` (Core 10.3.1.3)
+    contains : Schema → Bounds → Keyword
+    -- `items` of an array of schemas (Draft 7 Validation 6.4.1)
+    items_list : Schemas → Keyword
+    -- `prefixItems` (Core 10.3.1.1)
+    prefix_items : Schemas → Keyword
+    -- `items` of one schema, from an index on (Core 10.3.1.2); true where that is a bare type check, which is no application
+    items_from : ℕ → Schema → Bool → Keyword
+    -- `additionalItems` of a schema, from an index on (Draft 7 Validation 6.4.2)
+    additional_items : ℕ → Schema → Keyword
+
+  -- a list of schemas
+  pub data Schemas : Type 0 where
+    no_schemas : Schemas
+    schema : Schema → Schemas → Schemas
+
+-- the keyword location of a schema (Core 12.3.1)
+abbrev pub location : Schema → Pointer
+location (false_schema q) = q
+location (schema_object q hands_on ks) = q
+
+abbrev mutual
+  -- the `required` of the schema or of a subschema is handed on to the keywords of objects
+  pub hands_on_required : Schema → Bool
+  hands_on_required (false_schema q) = false
+  hands_on_required (schema_object q hands_on ks) = hands_on || all_hand_on ks
+
+  -- that of a subschema of some keyword
+  pub all_hand_on : Keywords → Bool
+  all_hand_on no_keywords = false
+  all_hand_on (keyword q k ks) = keyword_hands_on k || all_hand_on ks
+
+  -- that of a subschema of the keyword
+  pub keyword_hands_on : Keyword → Bool
+  keyword_hands_on (assertion q a) = false
+  keyword_hands_on (contains s b) = hands_on_required s
+  keyword_hands_on (items_list ss) = each_hands_on ss
+  keyword_hands_on (prefix_items ss) = each_hands_on ss
+  keyword_hands_on (items_from n s bare) = hands_on_required s
+  keyword_hands_on (additional_items n s) = hands_on_required s
+
+  -- that of some schema of the list
+  pub each_hands_on : Schemas → Bool
+  each_hands_on no_schemas = false
+  each_hands_on (schema s ss) = hands_on_required s || each_hands_on ss

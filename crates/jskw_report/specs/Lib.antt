@@ -1,0 +1,17 @@
+pub mod Setting
+pub mod Kind
+pub mod Keyword
+pub mod Fault
+pub mod Sibling
+pub mod Read
+pub mod Holds
+pub mod Fail
+pub mod Evaluation
+pub mod Applications
+pub mod Laws
+pub mod Paths
+pub mod Errors
+pub mod Observe
+pub mod Compile
+pub mod Description
+pub mod EvaluationView

@@ -1,0 +1,30 @@
+-- What an observer owes to the failures of its keyword.
+use Rattle.std.specs.Prelude.{◌≡◌, ℕ, List, [], ◌∷◌, ◌++◌, map, Bool, Result, Ok, Err, ⊤}
+use Rattle.jskw_value.specs.Pointer.{Pointer}
+use Rattle.jskw_value.specs.Tree.{Tree}
+use Rattle.jskw_report.specs.Kind.{ErrorKind}
+use Rattle.jskw_report.specs.Fail.{Failure, unless}
+use Rattle.jskw_report.specs.Errors.{failure_of}
+use Rattle.jskw_report.specs.declared.error.Fault.{Fault}
+use Rattle.jskw_report.specs.declared.error.Fault.TheVariants.{Invalid, Memory}
+
+-- Ok where nothing fails, and else the first failure; want of memory says nothing
+abbrev pub IsFirst : {F N O P : Type 0} → (N → Tree) → List Failure → Result Unit (Fault F N O P) → Type 0
+IsFirst tree fs (Ok u) = fs ≡ []
+IsFirst tree fs (Err (Invalid e)) = (rest : List Failure) × (fs ≡ failure_of tree e ∷ rest)
+IsFirst tree fs (Err (Memory e)) = ⊤
+
+-- from `old` the list came to `now`, and `rest` of `all` is still to come
+pub record Collects (old now rest all : List Failure) : Type 0 where
+  pub so_far : List Failure
+  pub is_now : now ≡ old ++ so_far
+  pub is_all : so_far ++ rest ≡ all
+
+-- `new` is `old` followed by a beginning of `all`
+pub record AppendsBeginning (old new all : List Failure) : Type 0 where
+  pub rest : List Failure
+  pub collects : Collects old new rest all
+
+-- the failure of one kind at the keyword location q, where the assertion does not hold of t, whose instance location is p
+abbrev pub failures_unless : Bool → ErrorKind → Pointer → Tree → Pointer → List Failure
+failures_unless holds kind q t p = map (λ k. record { kind = k; instance_location = p; keyword_location = q; tree = t }) (unless holds kind)

@@ -1,0 +1,100 @@
+//! Where a keyword is compiled.
+ghost use Rattle.std.specs.Prelude.{◌≡◌, [], IfOk, option_map};
+ghost use Rattle.serde_json.specs.Find.{get_member};
+ghost use Rattle.serde_json.specs.View.{view, members_view};
+ghost use Rattle.jskw_report.specs.Setting.{has_vocabulary, is_overridden};
+ghost use Rattle.jskw_report.specs.Paths.{segment_location};
+
+use crate::paths::{Location, LocationSegment};
+use crate::settings::{Draft, Settings, Vocabulary};
+use jskw_value::Json;
+use serde_json::{Map, Value};
+use std::alloc::{AllocError, Global};
+use std::marker::{Model, PhantomData};
+
+/// Where a schema or keyword is compiled: the setting, and the keyword location. `F` is the
+/// representation that the compiled validators will look at.
+#[derive(Drop)]
+pub struct Context<'s, F: Json> {
+    settings: &'s Settings,
+    location: Location,
+    representation: PhantomData<F>,
+}
+
+impl<'s, F: Json> Model for Context<'s, F> {
+    ghost use Rattle.jskw_report.specs.Setting.{Spot};
+
+    ghost Value = { Spot };
+
+    ghost view = { λ c. record { setting = c.settings.now; location = c.location } };
+}
+
+impl<'s, F: Json> Context<'s, F> {
+    /// The context of a whole schema: the keyword location is the empty pointer.
+    pub fn new(alloc: Global, settings: &'s Settings) -> Context<'s, F>
+        ensures { result ≡ record { setting = settings.now; location = [] } }
+    {
+        Context {
+            settings,
+            location: Location::new(alloc),
+            representation: PhantomData,
+        }
+    }
+
+    /// The draft.
+    pub fn draft(&self) -> Draft
+        ensures { result ≡ self.now.setting.draft }
+    {
+        self.settings.draft()
+    }
+
+    /// The keyword location.
+    pub fn location(&self) -> &Location
+        ensures { result.now ≡ self.now.location }
+    {
+        &self.location
+    }
+
+    /// The context one step further down in the schema, under the same setting. Only memory can
+    /// fail.
+    pub fn new_at_location(
+        &self,
+        alloc: Global,
+        segment: LocationSegment,
+    ) -> Result<Context<'s, F>, AllocError>
+        ensures { IfOk result (λ c. c ≡ record {
+          setting = self.now.setting;
+          location = segment_location self.now.location segment.entry;
+        }) }
+    {
+        Ok(Context {
+            settings: self.settings,
+            location: self.location.join(alloc, segment)?,
+            representation: PhantomData,
+        })
+    }
+
+    /// Whether the vocabulary is present: always in Drafts 4, 6 and 7, else where the setting has
+    /// it (Core 8.1.2).
+    pub fn has_vocabulary(&self, vocabulary: Vocabulary) -> bool
+        ensures { result ≡ has_vocabulary self.now.setting vocabulary }
+    {
+        self.settings.has_vocabulary(vocabulary)
+    }
+
+    /// Whether the keyword's name is one of the overridden, letter for letter.
+    pub fn is_keyword_overridden(&self, name: &str) -> bool
+        ensures { result ≡ is_overridden self.now.setting name.now }
+    {
+        self.settings.is_keyword_overridden(name)
+    }
+}
+
+/// The value that a schema's object has at a name, None where it has none. A map of `serde_json`
+/// has each name once.
+pub fn member_of<'v>(parent: &'v Map<String, Value>, name: &str) -> Option<&'v Value>
+    ensures { option_map (λ x. view x.now) result
+        ≡ get_member name.now (members_view parent.now.entries) }
+{
+    parent.get(name)
+}

@@ -1,0 +1,162 @@
+//! What a schema is read under: its draft, the vocabularies, and the overridden names.
+ghost use Rattle.std.specs.Prelude.{◌≡◌, map, string_bytes};
+ghost use Rattle.jskw_report.specs.Setting.{has, with_vocabulary, no_vocabulary, all_vocabularies, has_vocabulary, is_overridden};
+
+use std::marker::Model;
+
+/// A draft of JSON Schema.
+#[derive(Clone, Copy, PartialEq, Eq, Debug)]
+pub enum Draft {
+    /// Draft 4
+    Draft4,
+    /// Draft 6
+    Draft6,
+    /// Draft 7
+    Draft7,
+    /// Draft 2019-09
+    Draft201909,
+    /// Draft 2020-12
+    Draft202012,
+}
+
+/// A vocabulary of Draft 2019-09 and 2020-12 (Core 8.1), as far as this library asks for one.
+#[derive(Clone, Copy, PartialEq, Eq, Debug)]
+pub enum Vocabulary {
+    /// that of `$schema` and the like (Core 8)
+    Core,
+    /// that of the keywords with subschemas (Core 10)
+    Applicator,
+    /// that of the assertions (Validation 6)
+    Validation,
+}
+
+/// A set of vocabularies. Drafts 4, 6 and 7 know none, and have every keyword whatever the set.
+#[derive(Clone, Copy, PartialEq, Eq, Debug)]
+pub struct VocabularySet {
+    core: bool,
+    applicator: bool,
+    validation: bool,
+}
+
+impl VocabularySet {
+    /// The set without any vocabulary.
+    pub fn empty() -> VocabularySet
+        ensures { result ≡ no_vocabulary }
+    {
+        VocabularySet {
+            core: false,
+            applicator: false,
+            validation: false,
+        }
+    }
+
+    /// The set of all three vocabularies.
+    pub fn all() -> VocabularySet
+        ensures { result ≡ all_vocabularies }
+    {
+        VocabularySet {
+            core: true,
+            applicator: true,
+            validation: true,
+        }
+    }
+
+    /// The set with the vocabulary.
+    #[must_use]
+    pub fn insert(self, vocabulary: Vocabulary) -> VocabularySet
+        ensures { result ≡ with_vocabulary vocabulary self }
+    {
+        match vocabulary {
+            Vocabulary::Core => VocabularySet { core: true, ..self },
+            Vocabulary::Applicator => VocabularySet {
+                applicator: true,
+                ..self
+            },
+            Vocabulary::Validation => VocabularySet {
+                validation: true,
+                ..self
+            },
+        }
+    }
+
+    /// Whether the vocabulary is in the set.
+    pub fn contains(&self, vocabulary: Vocabulary) -> bool
+        ensures { result ≡ has self.now vocabulary }
+    {
+        match vocabulary {
+            Vocabulary::Core => self.core,
+            Vocabulary::Applicator => self.applicator,
+            Vocabulary::Validation => self.validation,
+        }
+    }
+}
+
+/// What a schema is read under: the draft, the vocabularies, and the names of the overridden
+/// keywords. A caller overrides a keyword to put one of its own in its place, and this library then
+/// doesn't read it.
+#[derive(Drop)]
+pub struct Settings {
+    draft: Draft,
+    vocabularies: VocabularySet,
+    overridden: Vec<String>,
+}
+
+impl Model for Settings {
+    ghost use Rattle.std.specs.Prelude.{map, string_bytes};
+    ghost use Rattle.jskw_report.specs.Setting.{Setting};
+
+    ghost Value = { Setting };
+
+    ghost view = { λ s. record {
+      draft = s.draft;
+      vocabularies = s.vocabularies;
+      overridden = map string_bytes s.overridden.items;
+    } };
+}
+
+impl Settings {
+    /// The setting of these three. An overridden name may be any text, and may be there twice.
+    pub fn new(draft: Draft, vocabularies: VocabularySet, overridden: Vec<String>) -> Settings
+        ensures { result ≡ record {
+          draft = draft;
+          vocabularies = vocabularies;
+          overridden = map string_bytes overridden.items;
+        } }
+    {
+        Settings {
+            draft,
+            vocabularies,
+            overridden,
+        }
+    }
+
+    /// The draft.
+    pub fn draft(&self) -> Draft
+        ensures { result ≡ self.now.draft }
+    {
+        self.draft
+    }
+
+    /// Whether the vocabulary is present: always in Drafts 4, 6 and 7, else where the set has it
+    /// (Core 8.1.2).
+    pub fn has_vocabulary(&self, vocabulary: Vocabulary) -> bool
+        ensures { result ≡ has_vocabulary self.now vocabulary }
+    {
+        match self.draft {
+            Draft::Draft4 | Draft::Draft6 | Draft::Draft7 => true,
+            Draft::Draft201909 | Draft::Draft202012 => self.vocabularies.contains(vocabulary),
+        }
+    }
+
+    /// Whether the name is one of the overridden, letter for letter.
+    pub fn is_keyword_overridden(&self, name: &str) -> bool
+        ensures { result ≡ is_overridden self.now name.now }
+    {
+        for own in &self.overridden {
+            if name == own.as_str() {
+                return true;
+            }
+        }
+        false
+    }
+}

@@ -1,0 +1,15 @@
+pub mod formers
+pub mod Decimal
+pub mod DecimalTree
+pub mod Equality
+pub mod FirstFloat
+pub mod InsertFault
+pub mod Laws
+pub mod Members
+pub mod Number
+pub mod Pointer
+pub mod Serde
+pub mod Text
+pub mod Tree
+pub mod Types
+pub mod Walk

@@ -1,0 +1,163 @@
+//! Exact decimals.
+ghost use Rattle.std.specs.Prelude.{◌≡◌, ◌≤◌, ◌<◌, ◌^◌, ℤ, pos, negsuc, ◌*ℤ◌, ◌≤ℤ◌, ◌<ℤ◌, option_map, Some, None, if◌then◌else◌};
+ghost use Rattle.jskw_value.specs.Number.{exact, is_decimal, num_equal, cmp_whole, is_multiple_of};
+
+use crate::json::JsonNumber;
+use std::cmp::Ordering;
+
+/// A coefficient over ten to a scale, exactly, as it is written: 1.0 has coefficient 10 and scale
+/// 1. The coefficient lies from -2^63 to 2^64 - 1, the scale from 0 to 18.
+#[derive(Clone, Copy, Debug, Drop)]
+pub struct Decimal {
+    coefficient: i128,
+    scale: u8,
+    ghost low: { negsuc 9223372036854775807 ≤ℤ coefficient },
+    ghost high: { coefficient <ℤ pos 18446744073709551616 },
+    ghost short: { scale ≤ 18 },
+}
+
+impl Decimal {
+    ghost use Rattle.jskw_value.specs.Decimal.{value};
+
+    /// The number of this coefficient and scale, None exactly where one of them is out of range.
+    pub fn new(coefficient: i128, scale: u8) -> Option<Decimal>
+        ensures { option_map value result
+            ≡ (if is_decimal coefficient scale then Some (exact coefficient scale) else None) }
+    {
+        if -(1 << 63) <= coefficient && coefficient < 1 << 64 && scale <= 18 {
+            Some(Decimal { coefficient, scale })
+        } else {
+            None
+        }
+    }
+
+    /// The coefficient, from -2^63 to 2^64 - 1.
+    pub fn coefficient(&self) -> i128
+        ensures value { result ≡ self.now.coefficient }
+        ensures low { negsuc 9223372036854775807 ≤ℤ result }
+        ensures high { result <ℤ pos 18446744073709551616 }
+    {
+        self.coefficient
+    }
+
+    /// The scale: how many digits are written behind the point, from 0 to 18.
+    pub fn scale(&self) -> u8
+        ensures value { result ≡ self.now.scale }
+        ensures short { result ≤ 18 }
+    {
+        self.scale
+    }
+
+    /// Whether the two have the same mathematical value (Core 4.2.2, "Instance Equality").
+    pub fn equals(&self, other: &Decimal) -> bool
+        ensures { result ≡ num_equal (value self.now) (value other.now) }
+    {
+        self.shifted(other.scale) == other.shifted(self.scale)
+    }
+
+    // The coefficient times a power of ten.
+    fn shifted(&self, by: u8) -> i128
+        requires { by ≤ 18 }
+        ensures { result ≡ self.now.coefficient *ℤ pos (10 ^ by) }
+    {
+        self.coefficient * ten_to(by) as i128
+    }
+
+    /// How the number stands to a whole number (Validation 6.2.2 to 6.2.5), which lies from -2^63
+    /// to 2^64 - 1.
+    pub fn cmp_whole(&self, whole: i128) -> Ordering
+        requires low { negsuc 9223372036854775807 ≤ℤ whole }
+        requires high { whole <ℤ pos 18446744073709551616 }
+        ensures { result ≡ cmp_whole self.now.coefficient self.now.scale whole }
+    {
+        self.coefficient.cmp(&(whole * ten_to(self.scale) as i128))
+    }
+
+    /// Whether division by the divisor gives an integer (Validation 6.2.1, "multipleOf"). The
+    /// divisor is above 0.
+    pub fn is_multiple_of(&self, divisor: u64) -> bool
+        requires { 0 < divisor }
+        ensures { result ≡ is_multiple_of self.now.coefficient self.now.scale divisor }
+    {
+        self.coefficient.unsigned_abs() % (divisor as u128 * ten_to(self.scale) as u128) == 0
+    }
+}
+
+impl JsonNumber for Decimal {
+    ghost use Rattle.jskw_value.specs.Decimal.{value};
+
+    ghost number = { value };
+
+    fn is_lawful(&self) -> bool {
+        true
+    }
+
+    fn decimal(&self) -> Decimal {
+        *self
+    }
+
+    fn as_u64(&self) -> Option<u64> {
+        if self.scale == 0 {
+            u64::try_from(self.coefficient).ok()
+        } else {
+            None
+        }
+    }
+
+    fn as_i64(&self) -> Option<i64> {
+        if self.scale == 0 {
+            i64::try_from(self.coefficient).ok()
+        } else {
+            None
+        }
+    }
+
+    fn is_integer(&self) -> bool {
+        self.coefficient.unsigned_abs() % ten_to(self.scale) as u128 == 0
+    }
+
+    fn is_written_as_integer(&self) -> bool {
+        self.scale == 0
+    }
+}
+
+/// The whole number, with scale 0.
+impl From<u64> for Decimal {
+    ghost use Rattle.std.specs.Prelude.{zero};
+    ghost use Rattle.jskw_value.specs.Decimal.{value};
+
+    ghost from_gives = { λ n d. value d ≡ exact (pos n) zero };
+
+    fn from(unsigned: u64) -> Decimal {
+        Decimal {
+            coefficient: unsigned as i128,
+            scale: 0,
+        }
+    }
+}
+
+/// The whole number, with scale 0.
+impl From<i64> for Decimal {
+    ghost use Rattle.std.specs.Prelude.{zero};
+    ghost use Rattle.jskw_value.specs.Decimal.{value};
+
+    ghost from_gives = { λ z d. value d ≡ exact z zero };
+
+    fn from(signed: i64) -> Decimal {
+        Decimal {
+            coefficient: signed as i128,
+            scale: 0,
+        }
+    }
+}
+
+// Ten to a scale.
+#[tactic(auto, using(crate::proofs::Powers::ten_pow_low, crate::proofs::Powers::ten_pow_high))]
+pub(crate) fn ten_to(scale: u8) -> u64
+    requires { scale ≤ 18 }
+    ensures value { result ≡ 10 ^ scale }
+    ensures low { 1 ≤ result }
+    ensures high { result ≤ 10 ^ 18 }
+{
+    10u64.pow(scale as u32)
+}

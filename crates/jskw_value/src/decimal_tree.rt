@@ -1,0 +1,164 @@
+//! JSON values whose numbers are exact decimals.
+ghost use Rattle.std.specs.Prelude.{string_bytes};
+ghost use Rattle.jskw_value.specs.DecimalTree.{decimal_tree};
+
+use crate::decimal::Decimal;
+use crate::json::{Array, Json, Node, Object, Rooted};
+use crate::members::MemberList;
+use crate::types::JsonType;
+use crate::walk::Walk;
+use std::alloc::{AllocError, Global};
+
+/// A JSON value whose numbers are decimals. It is always lawful.
+#[derive(Drop)]
+pub enum DecimalTree {
+    /// null
+    Null,
+    /// a boolean
+    Bool(bool),
+    /// a number
+    Number(Decimal),
+    /// a string
+    Text(String),
+    /// an array
+    Array(Vec<DecimalTree>),
+    /// an object
+    Object(Members),
+}
+
+/// The members of an object, in the order of their insertion: [`MemberList::new`] and
+/// [`MemberList::insert`].
+pub type Members = MemberList<DecimalTree>;
+
+/// The representation whose nodes are trees of decimals.
+pub struct DecimalJson;
+
+impl Rooted for DecimalTree {
+    ghost tree = { decimal_tree };
+}
+
+#[tactic(auto, using(crate::proofs::Decimals::items_of_array, crate::proofs::Decimals::lawful_tree, std::proofs::lemmas::Grind::common_steps))]
+impl Array for DecimalTree {
+    fn len(&self) -> usize {
+        match self {
+            DecimalTree::Array(items) => items.len(),
+            _ => unreachable!(),
+        }
+    }
+
+    fn item(&self, index: usize) -> &DecimalTree {
+        match self {
+            DecimalTree::Array(items) => &items[index],
+            _ => unreachable!(),
+        }
+    }
+}
+
+#[tactic(auto, using(crate::proofs::Decimals::length_values, crate::proofs::Decimals::names_of_object, crate::proofs::Decimals::values_of_object, crate::proofs::Decimals::members_of_object, crate::proofs::Decimals::lawful_tree, crate::proofs::Lawful::lawful_members, crate::proofs::Lawful::lawful_found, std::proofs::lemmas::Grind::common_steps))]
+impl Object for DecimalTree {
+    type PreparedKey = String;
+
+    ghost key_name = { string_bytes };
+
+    fn len(&self) -> usize {
+        match self {
+            DecimalTree::Object(members) => members.len(),
+            _ => unreachable!(),
+        }
+    }
+
+    fn name_at(&self, place: usize) -> &str {
+        match self {
+            DecimalTree::Object(members) => members.name_at(place),
+            _ => unreachable!(),
+        }
+    }
+
+    fn member_at(&self, place: usize) -> &DecimalTree {
+        match self {
+            DecimalTree::Object(members) => members.value_at(place),
+            _ => unreachable!(),
+        }
+    }
+
+    fn walk(&self) -> Walk<'_, DecimalTree> {
+        match self {
+            DecimalTree::Object(members) => Walk::of_list(members.as_slice()),
+            _ => unreachable!(),
+        }
+    }
+
+    fn find(&self, name: &str) -> Option<&DecimalTree> {
+        match self {
+            DecimalTree::Object(members) => members.get(name),
+            _ => unreachable!(),
+        }
+    }
+
+    fn get(&self, key: &String) -> Option<&DecimalTree> {
+        self.find(key.as_str())
+    }
+}
+
+#[tactic(auto, using(crate::proofs::Decimals::lawful_tree))]
+impl Node for DecimalTree {
+    type Number = Decimal;
+
+    fn json_type(&self) -> JsonType {
+        match self {
+            DecimalTree::Null => JsonType::Null,
+            DecimalTree::Bool(_) => JsonType::Boolean,
+            DecimalTree::Number(_) => JsonType::Number,
+            DecimalTree::Text(_) => JsonType::String,
+            DecimalTree::Array(_) => JsonType::Array,
+            DecimalTree::Object(_) => JsonType::Object,
+        }
+    }
+
+    fn is_null(&self) -> bool {
+        matches!(self, DecimalTree::Null)
+    }
+
+    fn is_array(&self) -> bool {
+        matches!(self, DecimalTree::Array(_))
+    }
+
+    fn is_object(&self) -> bool {
+        matches!(self, DecimalTree::Object(_))
+    }
+
+    fn as_boolean(&self) -> Option<bool> {
+        match self {
+            DecimalTree::Bool(boolean) => Some(*boolean),
+            _ => None,
+        }
+    }
+
+    fn as_number(&self) -> Option<&Decimal> {
+        match self {
+            DecimalTree::Number(number) => Some(number),
+            _ => None,
+        }
+    }
+
+    fn as_string(&self) -> Option<&str> {
+        match self {
+            DecimalTree::Text(text) => Some(text.as_str()),
+            _ => None,
+        }
+    }
+
+    fn is_lawful(&self) -> bool {
+        true
+    }
+}
+
+impl Json for DecimalJson {
+    type Node = DecimalTree;
+
+    const KEYS_PER_LOOKUP: usize = 1;
+
+    fn prepare_key(alloc: Global, name: &str) -> Result<String, AllocError> {
+        String::from_str(alloc, name)
+    }
+}

@@ -1,0 +1,158 @@
+//! Equality of nodes, of one representation or two.
+ghost use Rattle.std.specs.Prelude.{◌≡◌, drop, ◌==◌, ◌&&◌, IsTrue, false, length, option_map};
+ghost use Rattle.std.specs.Cmp.Lexicographic.{pointwise};
+ghost use Rattle.std.specs.List.{list_all, list_any, IsDistinct};
+ghost use Rattle.std.specs.Option.{option_map_or};
+ghost use Rattle.std.specs.Str.{bytes_eq};
+ghost use Rattle.jskw_value.specs.Equality.{equal, has_equal, unique, AreMembers};
+ghost use Rattle.jskw_value.specs.Number.{num_equal};
+ghost use Rattle.jskw_value.specs.Tree.{is_array, is_object, items, members, names, get};
+ghost use Rattle.jskw_value.specs.Walk.{left};
+
+use crate::json::{Array, JsonNumber, Node, Object};
+use crate::walk::Walk;
+
+// Whether two nodes are one value.
+#[cycle(equal)]
+#[tactic(auto, using(crate::proofs::Equal::equal_arrays, crate::proofs::Equal::equal_objects))]
+pub(crate) fn equal_nodes<N: Node, M: Node>(left: &N, right: &M) -> bool
+    ensures { result ≡ equal (N.tree left.now) (M.tree right.now) }
+{
+    if left.is_array() {
+        right.is_array() && equal_arrays(left, right)
+    } else if left.is_object() {
+        right.is_object() && equal_objects(left, right)
+    } else {
+        equal_leaves(left, right)
+    }
+}
+
+#[cycle(equal)]
+#[tactic(auto, using(crate::proofs::Equal::pointwise_step, crate::proofs::Equal::pointwise_end, crate::proofs::Equal::pointwise_length, crate::proofs::Depth::item_depth))]
+fn equal_arrays<N: Node, M: Node>(left: &N, right: &M) -> bool
+    requires left { IsTrue (is_array (N.tree left.now)) }
+    requires right { IsTrue (is_array (M.tree right.now)) }
+    ensures { result ≡ pointwise equal (items (N.tree left.now)) (items (M.tree right.now)) }
+{
+    let count = Array::len(left);
+    if count != Array::len(right) {
+        return false;
+    }
+    for i in 0..count {
+        if !equal_nodes(left.item(i), right.item(i)) {
+            return false;
+        }
+    }
+    true
+}
+
+#[cycle(equal)]
+#[tactic(auto, using(crate::proofs::Depth::height_below, crate::proofs::Equal::all_members))]
+fn equal_objects<N: Node, M: Node>(left: &N, right: &M) -> bool
+    requires left { IsTrue (is_object (N.tree left.now)) }
+    requires right { IsTrue (is_object (M.tree right.now)) }
+    ensures left { IsDistinct bytes_eq (names (N.tree left.now)) }
+    ensures right { IsDistinct bytes_eq (names (M.tree right.now)) }
+    ensures value { let ms = members (N.tree left.now) in
+        result ≡ ((length ms == length (members (M.tree right.now)))
+        && list_all (has_equal (M.tree right.now)) ms) }
+{
+    if Object::len(left) != Object::len(right) {
+        return false;
+    }
+    let mut others = right.walk();
+    for (name, member) in left.walk() {
+        if !equals_found(member, next_or_find(right, &mut others, name)) {
+            return false;
+        }
+    }
+    true
+}
+
+// Whether what was found is an equal node.
+#[cycle(equal)]
+fn equals_found<N: Node, M: Node>(member: &N, found: Option<&M>) -> bool
+    ensures { let other = option_map (λ x. M.tree x.now) found.entry in
+        result ≡ option_map_or (equal (N.tree member.now)) other false }
+{
+    match found {
+        Some(other) => equal_nodes(member, other),
+        None => false,
+    }
+}
+
+// The member of a name: the next of a walk over the object, where it has the name, so that two
+// objects in one order need no look-up.
+#[tactic(auto, using(crate::proofs::Equal::next_found))]
+fn next_or_find<'a, M: Node>(object: &'a M, walk: &mut Walk<'a, M>, name: &str) -> Option<&'a M>
+    requires object { IsTrue (is_object (M.tree object.now)) }
+    requires walk { AreMembers (M.tree object.now) (left M.tree walk.old) }
+    ensures value { option_map (λ x. M.tree x.now) result ≡ get name.now (M.tree object.now) }
+    ensures walk { AreMembers (M.tree object.now) (left M.tree walk.new) }
+{
+    if let Some((next, member)) = walk.next() {
+        if next == name {
+            return Some(member);
+        }
+    }
+    object.find(name)
+}
+
+// The same of nodes that hold no others.
+fn equal_leaves<N: Node, M: Node>(left: &N, right: &M) -> bool
+    requires array { is_array (N.tree left.now) ≡ false }
+    requires object { is_object (N.tree left.now) ≡ false }
+    ensures { result ≡ equal (N.tree left.now) (M.tree right.now) }
+{
+    if let Some(a) = left.as_boolean() {
+        return right.as_boolean() == Some(a);
+    }
+    if let Some(a) = left.as_number() {
+        return match right.as_number() {
+            Some(b) => equal_numbers(a, b),
+            None => false,
+        };
+    }
+    if let Some(a) = left.as_string() {
+        return match right.as_string() {
+            Some(b) => a == b,
+            None => false,
+        };
+    }
+    right.is_null()
+}
+
+fn equal_numbers<A: JsonNumber, B: JsonNumber>(left: &A, right: &B) -> bool
+    ensures { result ≡ num_equal (A.number left.now) (B.number right.now) }
+{
+    left.is_lawful() && right.is_lawful() && left.decimal().equals(&right.decimal())
+}
+
+// Whether no two indices of the array hold equal items.
+#[tactic(auto, using(crate::proofs::Equal::unique_step, crate::proofs::Equal::unique_end))]
+pub(crate) fn has_unique_items<N: Node>(array: &N) -> bool
+    requires { IsTrue (is_array (N.tree array.now)) }
+    ensures { result ≡ unique (items (N.tree array.now)) }
+{
+    let count = Array::len(array);
+    for i in 0..count {
+        if occurs_from(array, i + 1, array.item(i)) {
+            return false;
+        }
+    }
+    true
+}
+
+// Whether an item at or past an index is equal to the node.
+#[tactic(auto, using(crate::proofs::Equal::any_step, crate::proofs::Equal::any_end))]
+fn occurs_from<N: Node>(array: &N, start: usize, node: &N) -> bool
+    requires { IsTrue (is_array (N.tree array.now)) }
+    ensures { result ≡ list_any (equal (N.tree node.now)) (drop start (items (N.tree array.now))) }
+{
+    for j in start..Array::len(array) {
+        if equal_nodes(node, array.item(j)) {
+            return true;
+        }
+    }
+    false
+}

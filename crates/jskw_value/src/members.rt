@@ -1,0 +1,140 @@
+//! The members of an object as a list of pairs with distinct names, in the order of their
+//! insertion.
+ghost use Rattle.std.specs.Prelude.{◌≡◌, ◌==◌, length, [], ◌∷◌, ◌++◌, ◌<◌, string_bytes, slice_index_or, OnOk, OnErr, IfErr, option_map, false};
+ghost use Rattle.std.specs.List.{IsDistinct};
+ghost use Rattle.std.specs.Map.{values_of};
+ghost use Rattle.std.specs.Str.{bytes_eq};
+ghost use Rattle.jskw_value.specs.InsertFault.{HandsBack, is_repeated};
+ghost use Rattle.jskw_value.specs.Members.{entries, names, get, has_name};
+
+use std::alloc::Global;
+use std::marker::Model;
+
+/// A value beside its name.
+#[derive(Drop)]
+pub struct Member<V> {
+    pub name: String,
+    pub value: V,
+}
+
+/// Members with distinct names. Contracts see them as a list, each once.
+#[derive(Drop)]
+pub struct MemberList<V> {
+    list: Vec<Member<V>>,
+}
+
+/// Why a member was not inserted, with its name and value.
+#[derive(Drop)]
+pub enum InsertFault<V> {
+    /// The name is there already.
+    Repeated(String, V),
+    /// There is no memory for one member more.
+    Memory(String, V),
+}
+
+impl<V> Model for MemberList<V> {
+    ghost use Rattle.std.specs.Prelude.{List};
+    ghost use Rattle.std.specs.List.{IsDistinct};
+    ghost use Rattle.std.specs.Str.{bytes_eq};
+    ghost use Rattle.jskw_value.specs.declared.members.Member.{Member};
+    ghost use Rattle.jskw_value.specs.Members.{names, members_code};
+
+    ghost Value = { List (Member V) };
+
+    ghost coded = { members_code V.code };
+
+    ghost view = { λ a. a.list.items };
+
+    ghost invariant = { λ a. IsDistinct bytes_eq (names a.list.items) };
+}
+
+#[tactic(auto, using(crate::proofs::MembersByPlace::lemmas))]
+impl<V> MemberList<V> {
+    /// No members. It takes no memory; the list grows by the allocator.
+    pub fn new(alloc: Global) -> MemberList<V>
+        ensures { result ≡ [] }
+    {
+        MemberList {
+            list: Vec::new(alloc),
+        }
+    }
+
+    /// The number of members. Their names are distinct.
+    pub fn len(&self) -> usize
+        ensures value { result ≡ length self.now }
+        ensures distinct { IsDistinct bytes_eq (names self.now) }
+    {
+        self.list.len()
+    }
+
+    /// Whether there is no member.
+    pub fn is_empty(&self) -> bool
+        ensures { result ≡ (length self.now == 0) }
+    {
+        self.list.is_empty()
+    }
+
+    /// The value of a name.
+    pub fn get(&self, name: &str) -> Option<&V>
+        ensures { option_map (λ x. x.now) result ≡ get name.now self.now }
+    {
+        for member in &self.list {
+            if name == member.name.as_str() {
+                return Some(&member.value);
+            }
+        }
+        None
+    }
+
+    /// Adds a member behind the others. `Repeated` comes exactly where the name is there, and
+    /// `Memory` where there is no memory for one more; both hand name and value back, and the
+    /// members are as they were.
+    pub fn insert(&mut self, name: String, value: V) -> Result<(), InsertFault<V>>
+        ensures added { OnOk result
+            (self.new ≡ self.old ++ record { name = name; value = value } ∷ []) }
+        ensures absent { OnOk result (has_name (string_bytes name) self.old ≡ false) }
+        ensures unchanged { OnErr result (self.new ≡ self.old) }
+        ensures handed_back { IfErr result (HandsBack name value) }
+        ensures repeated { IfErr result
+            (λ e. is_repeated e ≡ has_name (string_bytes name) self.old) }
+    {
+        if self.has_name(name.as_str()) {
+            return Err(InsertFault::Repeated(name, value));
+        }
+        if let Err(refused) = self.list.push(Member { name, value }) {
+            let Member { name, value } = refused.value;
+            return Err(InsertFault::Memory(name, value));
+        }
+        Ok(())
+    }
+
+    fn has_name(&self, name: &str) -> bool
+        ensures { result ≡ has_name name.now self.now }
+    {
+        self.get(name).is_some()
+    }
+
+    // The name at a place.
+    pub(crate) fn name_at(&self, place: usize) -> &str
+        requires { place < length self.now }
+        ensures { result.now ≡ slice_index_or (names self.now) place result.now }
+    {
+        self.list[place].name.as_str()
+    }
+
+    // The value at a place.
+    pub(crate) fn value_at(&self, place: usize) -> &V
+        requires { place < length self.now }
+        ensures { result.now ≡ slice_index_or (values_of (entries self.now)) place result.now }
+    {
+        &self.list[place].value
+    }
+
+    // The members in the order of their places.
+    pub(crate) fn as_slice(&self) -> &[Member<V>]
+        ensures value { result.now ≡ self.now }
+        ensures distinct { IsDistinct bytes_eq (names self.now) }
+    {
+        self.list.as_slice()
+    }
+}

@@ -1,0 +1,49 @@
+//! JSON pointers (RFC 6901) as text that grows by one reference token at a time.
+ghost use Rattle.std.specs.Prelude.{◌≡◌, ◌++◌, OnOk, string_bytes};
+ghost use Rattle.std.specs.Char.{encode_utf8};
+ghost use Rattle.jskw_value.specs.Pointer.{escape, name_token, index_token};
+
+use std::alloc::AllocError;
+
+/// Appends the reference token of a member: a slash and the name, with `~` written `~0` and `/`
+/// written `~1` (RFC 6901, section 3). Only memory can fail, and then the text may have a beginning
+/// of the token.
+pub fn push_name(pointer: &mut String, name: &str) -> Result<(), AllocError>
+    ensures { OnOk result
+        (string_bytes pointer.new ≡ string_bytes pointer.old ++ name_token name.now) }
+{
+    pointer.push('/')?;
+    push_escaped(pointer, name)
+}
+
+/// Appends the reference token of an item: a slash and the index in decimal digits (RFC 6901,
+/// section 4). Only memory can fail, and then the text may have a beginning of the token.
+pub fn push_index(pointer: &mut String, index: usize) -> Result<(), AllocError>
+    ensures { OnOk result
+        (string_bytes pointer.new ≡ string_bytes pointer.old ++ index_token index) }
+{
+    write!(pointer, "/{index}")
+}
+
+#[tactic(auto, using(crate::proofs::Pointers::append_escaped, crate::proofs::Pointers::escape_nil, std::proofs::lemmas::Grind::common_steps))]
+fn push_escaped(pointer: &mut String, name: &str) -> Result<(), AllocError>
+    ensures { OnOk result
+        (string_bytes pointer.new ≡ string_bytes pointer.old ++ escape name.now) }
+{
+    for c in name.chars() {
+        push_escaped_char(pointer, c)?;
+    }
+    Ok(())
+}
+
+#[tactic(auto, using(crate::proofs::Pointers::escape_plain))]
+fn push_escaped_char(pointer: &mut String, c: char) -> Result<(), AllocError>
+    ensures { OnOk result
+        (string_bytes pointer.new ≡ string_bytes pointer.old ++ escape (encode_utf8 c)) }
+{
+    match c {
+        '~' => pointer.push_str("~0"),
+        '/' => pointer.push_str("~1"),
+        _ => pointer.push(c),
+    }
+}

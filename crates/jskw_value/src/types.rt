@@ -1,0 +1,165 @@
+//! The types that a schema names, and sets of them.
+ghost use Rattle.std.specs.Prelude.{◌≡◌, IsTrue};
+ghost use Rattle.std.specs.Result.{result_ok};
+ghost use Rattle.jskw_value.specs.Serde.{value_tree};
+ghost use Rattle.jskw_value.specs.Tree.{is_lawful};
+ghost use Rattle.jskw_value.specs.Types.{no_types, insert, contains, has_type_of, json_type, type_named};
+
+use crate::json::{Json, JsonNumber, Node};
+use serde_json::Value;
+use std::str::FromStr;
+
+/// A type that a schema may name (Validation 6.1.1, "type").
+#[derive(Clone, Copy, PartialEq, Eq, Debug)]
+pub enum JsonType {
+    /// an array
+    Array,
+    /// a boolean
+    Boolean,
+    /// a number with a zero fractional part
+    Integer,
+    /// null
+    Null,
+    /// a number
+    Number,
+    /// an object
+    Object,
+    /// a string
+    String,
+}
+
+/// Reads the name of a type. It knows exactly `array`, `boolean`, `integer`, `null`, `number`,
+/// `object` and `string`; of any other text it makes an error.
+impl FromStr for JsonType {
+    type Err = ();
+
+    ghost from_str_gives = { λ name result. result_ok result ≡ type_named name };
+
+    fn from_str(name: &str) -> Result<JsonType, ()> {
+        match name {
+            "array" => Ok(JsonType::Array),
+            "boolean" => Ok(JsonType::Boolean),
+            "integer" => Ok(JsonType::Integer),
+            "null" => Ok(JsonType::Null),
+            "number" => Ok(JsonType::Number),
+            "object" => Ok(JsonType::Object),
+            "string" => Ok(JsonType::String),
+            _ => Err(()),
+        }
+    }
+}
+
+/// The value's type, as [`Node::json_type`] gives it.
+impl From<&Value> for JsonType {
+    ghost from_gives = { λ v t. t ≡ json_type (value_tree v.now) };
+
+    fn from(value: &Value) -> JsonType {
+        value.json_type()
+    }
+}
+
+/// A set of types.
+#[derive(Clone, Copy, PartialEq, Eq, Debug)]
+pub struct JsonTypeSet {
+    arrays: bool,
+    booleans: bool,
+    integers: bool,
+    nulls: bool,
+    numbers: bool,
+    objects: bool,
+    strings: bool,
+}
+
+impl JsonTypeSet {
+    /// The set of no type.
+    pub fn empty() -> JsonTypeSet
+        ensures { result ≡ no_types }
+    {
+        JsonTypeSet {
+            arrays: false,
+            booleans: false,
+            integers: false,
+            nulls: false,
+            numbers: false,
+            objects: false,
+            strings: false,
+        }
+    }
+
+    /// The set with this type too.
+    #[must_use]
+    pub fn insert(self, json_type: JsonType) -> JsonTypeSet
+        ensures { result ≡ insert json_type self }
+    {
+        match json_type {
+            JsonType::Array => JsonTypeSet {
+                arrays: true,
+                ..self
+            },
+            JsonType::Boolean => JsonTypeSet {
+                booleans: true,
+                ..self
+            },
+            JsonType::Integer => JsonTypeSet {
+                integers: true,
+                ..self
+            },
+            JsonType::Null => JsonTypeSet {
+                nulls: true,
+                ..self
+            },
+            JsonType::Number => JsonTypeSet {
+                numbers: true,
+                ..self
+            },
+            JsonType::Object => JsonTypeSet {
+                objects: true,
+                ..self
+            },
+            JsonType::String => JsonTypeSet {
+                strings: true,
+                ..self
+            },
+        }
+    }
+
+    /// Whether the type is one of the set.
+    pub fn contains(self, json_type: JsonType) -> bool
+        ensures { result ≡ contains self json_type }
+    {
+        match json_type {
+            JsonType::Array => self.arrays,
+            JsonType::Boolean => self.booleans,
+            JsonType::Integer => self.integers,
+            JsonType::Null => self.nulls,
+            JsonType::Number => self.numbers,
+            JsonType::Object => self.objects,
+            JsonType::String => self.strings,
+        }
+    }
+
+    /// Whether the value is of a type of the set (Validation 6.1.1, "type"): every number is of
+    /// type `number`, and a number with a zero fractional part is of type `integer` too. The node
+    /// is lawful.
+    pub fn contains_value_type<F: Json>(self, node: &F::Node) -> bool
+        requires { IsTrue (is_lawful (F.Node.tree node.now)) }
+        ensures { result ≡ has_type_of self (F.Node.tree node.now) }
+    {
+        if self.contains(node.json_type()) {
+            return true;
+        }
+        match node.as_number() {
+            Some(number) => self.integers && number.is_integer(),
+            None => false,
+        }
+    }
+}
+
+/// The set of this type alone.
+impl From<JsonType> for JsonTypeSet {
+    ghost from_gives = { λ t s. s ≡ insert t no_types };
+
+    fn from(json_type: JsonType) -> JsonTypeSet {
+        JsonTypeSet::empty().insert(json_type)
+    }
+}

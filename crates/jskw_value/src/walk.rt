@@ -1,0 +1,102 @@
+//! A walk over the members of an object, in the order of their places.
+ghost use Rattle.std.specs.Prelude.{◌≡◌, ◌+◌, ◌<◌, [], ◌∷◌, map, drop, string_bytes, string_cmp, MatchOption, IfSome};
+ghost use Rattle.std.specs.BTreeMap.{IsOrdered};
+ghost use Rattle.std.specs.Iterator.{YieldsFirstBy, item_count};
+ghost use Rattle.jskw_value.specs.Tree.{Tree, members as members_of};
+ghost use Rattle.jskw_value.specs.Walk.{left, seen};
+
+use crate::json::{Node, Object, Rooted};
+use crate::members::Member;
+use std::collections::{BTreeMap, btree_map};
+use std::slice;
+
+/// An iterator over the names and members of an object. [`Object::walk`](crate::json::Object::walk)
+/// makes it.
+#[derive(Drop)]
+pub struct Walk<'a, V> {
+    rest: Rest<'a, V>,
+}
+
+// The members that are left.
+#[derive(Drop)]
+pub(crate) enum Rest<'a, V> {
+    Sorted(btree_map::Iter<'a, String, V>),
+    Listed(slice::Iter<'a, Member<V>>),
+    ByPlace(&'a V, usize),
+}
+
+impl<'a, V> Walk<'a, V> {
+    // The entries of a map, in the order of their names.
+    pub(crate) fn of_map(members: &'a BTreeMap<String, V>) -> Walk<'a, V>
+        ensures value { (tree : V → Tree)
+            → left tree result ≡ map (λ e. (string_bytes e.0, tree e.1)) members.now.entries }
+        ensures ordered { IsOrdered string_cmp members.now }
+    {
+        Walk {
+            rest: Rest::Sorted(members.iter()),
+        }
+    }
+
+    // The members of a list, in its order.
+    pub(crate) fn of_list(list: &'a [Member<V>]) -> Walk<'a, V>
+        ensures { (tree : V → Tree)
+            → left tree result ≡ map (λ m. (string_bytes m.name, tree m.value)) list.now }
+    {
+        Walk {
+            rest: Rest::Listed(list.iter()),
+        }
+    }
+}
+
+impl<'a, V: Rooted> Walk<'a, V> {
+    /// A walk that asks the object for the name and the member at each place in turn, for a
+    /// representation that keeps its members in a shape of its own. Its cost is that of `name_at`
+    /// and `member_at` at every place.
+    pub fn by_place(object: &'a V) -> Walk<'a, V>
+        ensures { left V.tree result ≡ members_of (V.tree object.now) }
+    {
+        Walk {
+            rest: Rest::ByPlace(object, 0),
+        }
+    }
+}
+
+impl<'a, V: Node> Iterator for Walk<'a, V> {
+    type Item = (&'a str, &'a V);
+
+    ghost next_gives = { YieldsFirstBy (seen V.tree) (left V.tree) };
+
+    ghost remaining = { item_count (left V.tree) };
+
+    fn next(&mut self) -> Option<(&'a str, &'a V)> {
+        match &mut self.rest {
+            Rest::Sorted(entries) => {
+                let (name, member) = entries.next()?;
+                Some((name.as_str(), member))
+            }
+            Rest::Listed(members) => {
+                let member = members.next()?;
+                Some((member.name.as_str(), &member.value))
+            }
+            Rest::ByPlace(object, place) => {
+                let member = member_at_place(*object, *place)?;
+                *place += 1;
+                Some(member)
+            }
+        }
+    }
+}
+
+// The name and the member at a place, where there is one.
+#[tactic(auto, using(crate::proofs::Walks::drop_member, crate::proofs::Walks::drop_elsewhere))]
+fn member_at_place<'a, V: Node>(object: &'a V, place: usize) -> Option<(&'a str, &'a V)>
+    ensures value { let all = members_of (V.tree object.now) in
+        MatchOption result (drop place all ≡ [])
+        (λ m. drop place all ≡ seen V.tree m ∷ drop (place + 1) all) }
+    ensures fits { IfSome result (λ _. place < usize.MAX) }
+{
+    if !object.is_object() || Object::len(object) <= place {
+        return None;
+    }
+    Some((object.name_at(place), object.member_at(place)))
+}
