@@ -10,6 +10,7 @@ ghost use Rattle.jskw_number.specs.Limit.{whole_of};
 ghost use Rattle.jskw_number.specs.Size.{size_of};
 ghost use Rattle.jskw_number.specs.Refuses.{Refuses};
 
+use jskw_report::compiler::member_of;
 use jskw_report::{
     CompilationResult, CompileFault, Context, Location, LocationSegment, TypeKind, ValidationError,
     ValidationErrorKind,
@@ -37,15 +38,8 @@ pub fn map_get_u64<'a, F: Json>(
     ensures { Compiles (λ n. n) result (option_map (size_value (member_location ctx.now.location name.now))
         (get_member name.now (members_view parent.now.entries))) }
 {
-    let value = member(parent, name)?;
+    let value = member_of(parent, name)?;
     Some(bound(alloc, ctx.location(), name, value))
-}
-
-/// The member of a name.
-pub(crate) fn member<'v>(map: &'v Map<String, Value>, name: &str) -> Option<&'v Value>
-    ensures { option_map (λ v. view v.now) result ≡ get_member name.now (members_view map.now.entries) }
-{
-    map.get(name)
 }
 
 fn bound<'a>(
@@ -56,11 +50,11 @@ fn bound<'a>(
 ) -> CompilationResult<'a, u64>
     ensures { Makes (λ n. n) result (size_value (member_location parent.now name.now) (view value.now)) }
 {
-    let location = parent.join(alloc, LocationSegment::Name(name))?;
-    match size_limit(value) {
-        Some(limit) => Ok(limit),
-        None => Err(fail_on_non_positive_integer(alloc, value, location)),
+    if let Some(limit) = size_limit(value) {
+        return Ok(limit);
     }
+    let location = parent.join(alloc, LocationSegment::Name(name))?;
+    Err(fail_on_non_positive_integer(alloc, value, location))
 }
 
 /// The compile error of a value that is no bound on a size, as [`size_limit`] tells, at its keyword location: the kind is
@@ -125,5 +119,5 @@ pub(crate) fn whole_number<'a>(
 pub(crate) fn has_true(parent: &Map<String, Value>, name: &str) -> bool
     ensures { result ≡ member_passes is_true name.now (members_view parent.now.entries) }
 {
-    matches!(member(parent, name), Some(Value::Bool(true)))
+    matches!(member_of(parent, name), Some(Value::Bool(true)))
 }
