@@ -9,32 +9,33 @@ use Rattle.jskw_report.specs.Fault.{Fault}
 use Rattle.jskw_report.specs.Kind.{keyword_of}
 use Rattle.jskw_report.specs.Read.{Reading, read}
 use Rattle.jskw_report.specs.declared.keyword.KeywordName.{KeywordName}
-use Rattle.jskw_report.specs.declared.keyword.KeywordName.TheVariants.{TypeKeyword, MinItems, MaxItems, Const, MinProperties, MaxProperties}
+use Rattle.jskw_report.specs.declared.keyword.KeywordName.TheVariants.{TypeKeyword, MinItems, MaxItems, Const, Minimum, Maximum, ExclusiveMinimum, ExclusiveMaximum, MultipleOf, MinProperties, MaxProperties}
 use Rattle.jskw.specs.Request.{Request, request_in}
 use Rattle.jskw.specs.declared.service.Verdict.{Verdict}
 use Rattle.jskw.specs.declared.service.Verdict.TheVariants.{Valid, Invalid, Refused}
 
 -- the keywords that the program has so far, in the order in which a schema is read; the others assert nothing here
 abbrev pub program_keywords : List KeywordName
-program_keywords = TypeKeyword ∷ MinItems ∷ MaxItems ∷ Const ∷ MinProperties ∷ MaxProperties ∷ []
+program_keywords = TypeKeyword ∷ MinItems ∷ MaxItems ∷ Const ∷ Minimum ∷ Maximum ∷ ExclusiveMinimum ∷ ExclusiveMaximum ∷ MultipleOf ∷ MinProperties ∷ MaxProperties ∷ []
 
--- one of them
+-- of numbers and sizes
+abbrev pub is_of_numbers : KeywordName → Bool
+is_of_numbers MinItems = true
+is_of_numbers MaxItems = true
+is_of_numbers Minimum = true
+is_of_numbers Maximum = true
+is_of_numbers ExclusiveMinimum = true
+is_of_numbers ExclusiveMaximum = true
+is_of_numbers MultipleOf = true
+is_of_numbers MinProperties = true
+is_of_numbers MaxProperties = true
+is_of_numbers _ = false
+
+-- one of the program's keywords
 abbrev pub is_built : KeywordName → Bool
 is_built TypeKeyword = true
-is_built MinItems = true
-is_built MaxItems = true
 is_built Const = true
-is_built MinProperties = true
-is_built MaxProperties = true
-is_built _ = false
-
--- one of the bounds on sizes
-abbrev pub is_size : KeywordName → Bool
-is_size MinItems = true
-is_size MaxItems = true
-is_size MinProperties = true
-is_size MaxProperties = true
-is_size _ = false
+is_built w = is_of_numbers w
 
 pub data Answer : Type 0 where
   -- the input is no request

@@ -12,13 +12,16 @@ ghost use Rattle.jskw_report.specs.Read.{Asserts, part_named, read, read_word, r
 ghost use Rattle.jskw_report.specs.Setting.{name_of};
 ghost use Rattle.jskw_number.specs.Meaning.{number_keyword};
 ghost use Rattle.jskw_leaf.specs.Meaning.{leaf_keyword};
-ghost use Rattle.jskw.specs.Answer.{is_built, is_size, program_keywords};
+ghost use Rattle.jskw.specs.Answer.{is_built, is_of_numbers, program_keywords};
 ghost use Rattle.jskw.specs.Node.{keywords_of, node_schema};
 
 use jskw_leaf::boolean::FalseValidator;
 use jskw_leaf::legacy::type_draft_4;
 use jskw_leaf::{LeafValidator, const_, type_};
-use jskw_number::{NumberValidator, max_items, max_properties, min_items, min_properties};
+use jskw_number::legacy::{maximum_draft_4, minimum_draft_4};
+use jskw_number::{
+    NumberValidator, max_items, max_properties, min_items, min_properties, minmax, multiple_of,
+};
 use jskw_report::compiler::member_of;
 use jskw_report::{
     CompilationResult, CompileFault, Context, Draft, Fault, KeywordName, LazyLocation, Location,
@@ -50,11 +53,16 @@ struct Unit<F: Json> {
     validator: LeafValidator<F>,
 }
 
-const KEYWORDS: [KeywordName; 6] = [
+const KEYWORDS: [KeywordName; 11] = [
     KeywordName::TypeKeyword,
     KeywordName::MinItems,
     KeywordName::MaxItems,
     KeywordName::Const,
+    KeywordName::Minimum,
+    KeywordName::Maximum,
+    KeywordName::ExclusiveMinimum,
+    KeywordName::ExclusiveMaximum,
+    KeywordName::MultipleOf,
     KeywordName::MinProperties,
     KeywordName::MaxProperties,
 ];
@@ -142,24 +150,39 @@ fn compile_keyword<'a, F: Json>(
             _ => type_::compile(alloc, ctx, parent, schema),
         },
         KeywordName::Const => const_::compile(alloc, ctx, parent, schema),
-        _ => of_number(compile_size(alloc, ctx, parent, keyword, schema)),
+        _ => of_number(compile_number(alloc, ctx, parent, keyword, schema)),
     }
 }
 
-/// Compiles one of the bounds on sizes.
-fn compile_size<'a, F: Json>(
+/// Compiles a bound on a size, a limit or a divisor.
+fn compile_number<'a, F: Json>(
     alloc: Global,
     ctx: &Context<'_, F>,
     parent: &'a Map<String, Value>,
     keyword: KeywordName,
     schema: &'a Value,
 ) -> Option<CompilationResult<'a, NumberValidator>>
-    requires { is_size keyword ≡ true }
+    requires { is_of_numbers keyword ≡ true }
     ensures { Compiles number_keyword result (reading keyword ctx.now (members_view parent.now.entries) (view schema.now)) }
 {
     match keyword {
         KeywordName::MinItems => min_items::compile(alloc, ctx, parent, schema),
         KeywordName::MaxItems => max_items::compile(alloc, ctx, parent, schema),
+        KeywordName::Minimum => match ctx.draft() {
+            Draft::Draft4 => minimum_draft_4::compile(alloc, ctx, parent, schema),
+            _ => minmax::compile_minimum(alloc, ctx, parent, schema),
+        },
+        KeywordName::Maximum => match ctx.draft() {
+            Draft::Draft4 => maximum_draft_4::compile(alloc, ctx, parent, schema),
+            _ => minmax::compile_maximum(alloc, ctx, parent, schema),
+        },
+        KeywordName::ExclusiveMinimum => {
+            minmax::compile_exclusive_minimum(alloc, ctx, parent, schema)
+        }
+        KeywordName::ExclusiveMaximum => {
+            minmax::compile_exclusive_maximum(alloc, ctx, parent, schema)
+        }
+        KeywordName::MultipleOf => multiple_of::compile(alloc, ctx, parent, schema),
         KeywordName::MinProperties => min_properties::compile(alloc, ctx, parent, schema),
         KeywordName::MaxProperties => max_properties::compile(alloc, ctx, parent, schema),
         _ => unreachable!(),

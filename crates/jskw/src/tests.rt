@@ -3,6 +3,7 @@ ghost use Rattle.std.specs.Prelude.{◌<◌};
 
 mod devices;
 mod node;
+mod numbers;
 mod requests;
 
 use crate::memory::{ArraySink, SliceSource};

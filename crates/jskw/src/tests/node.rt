@@ -78,7 +78,7 @@ fn said<F: Json>(
 }
 
 // Goes through the requests of a table, over both representations.
-fn check_nodes(rt: &impl Abort, alloc: Global, table: &str) -> Result<(), Fail> {
+pub(super) fn check_nodes(rt: &impl Abort, alloc: Global, table: &str) -> Result<(), Fail> {
     for line in table.lines() {
         let (text, answer) = row(line)?;
         let value = Value::from_str(alloc, text)?;
@@ -133,6 +133,72 @@ fn decimal_object(alloc: Global, members: &Map<String, Value>) -> Result<Decimal
         }
     }
     Ok(DecimalTree::Object(trees))
+}
+
+// The number of a text: its coefficient and its scale, with a space between them.
+fn decimal_of(text: &str) -> Result<DecimalTree, Fail> {
+    let (coefficient, scale) = text.split_once(' ').ok_or("no scale")?;
+    let decimal = Decimal::new(coefficient.parse()?, scale.parse()?).ok_or("no decimal")?;
+    Ok(DecimalTree::Number(decimal))
+}
+
+// The number of a text, or the array of those of its texts.
+fn decimals_of(alloc: Global, value: &Value) -> Result<DecimalTree, Fail> {
+    let Value::Array(items) = value else {
+        return decimal_of(value.as_str().ok_or("no number")?);
+    };
+    let mut trees = Vec::new(alloc);
+    for item in items {
+        trees.push(decimal_of(item.as_str().ok_or("no number")?)?)?;
+    }
+    Ok(DecimalTree::Array(trees))
+}
+
+// Goes through the requests of a table, in whose instances each text stands for a number.
+pub(super) fn check_decimals(rt: &impl Abort, alloc: Global, table: &str) -> Result<(), Fail> {
+    for line in table.lines() {
+        let (text, answer) = row(line)?;
+        let value = Value::from_str(alloc, text)?;
+        let request = request_of(alloc, &value)?.ok_or("no request")?;
+        let tree = decimals_of(alloc, request.instance)?;
+        let settings = &request.settings;
+        let found = said::<DecimalJson>(rt, alloc, settings, request.schema, &tree)?;
+        assert_eq!(rt; found.as_str(), answer, "{line}");
+    }
+    Ok(())
+}
+
+// The validators have what they need: with `rt try --test --fail-alloc 1..` each growth is refused in turn, and what
+// is said here is said all the same.
+#[test]
+fn is_valid_needs_no_memory(rt: HostRuntime) -> Result<(), Fail> {
+    let schema =
+        r#"{"type":["array","null"],"minItems":1,"maxItems":9,"const":[1,{"a":"b"}],"minimum":5}"#;
+    let Ok(schema) = Value::from_str(rt.alloc(), schema) else {
+        return Ok(());
+    };
+    let Ok(instance) = Value::from_str(rt.alloc(), r#"[1,{"a":"b"}]"#) else {
+        return Ok(());
+    };
+    let settings = Settings::new(
+        Draft::Draft202012,
+        VocabularySet::all(),
+        Vec::new(rt.alloc()),
+    );
+    let ctx: Context<SerdeJson> = Context::new(rt.alloc(), &settings);
+    let Ok(node) = compile(rt.alloc(), &ctx, &schema) else {
+        return Ok(());
+    };
+    let mut ctx = ValidationContext::new();
+    assert!(rt; instance.is_lawful());
+    assert!(rt; node.is_valid(&instance, &mut ctx));
+    assert!(rt; !node.is_valid(&Value::Null, &mut ctx));
+    let mut location = LazyLocation::new(rt.alloc());
+    let mut errors = Vec::new(rt.alloc());
+    assert!(rt; node.validate(&instance, &mut location, &mut ctx).is_ok());
+    let collected = node.collect_errors(&instance, &mut location, &mut ctx, &mut errors);
+    assert!(rt; collected.is_ok() && errors.is_empty());
+    Ok(())
 }
 
 #[test]
