@@ -1,7 +1,7 @@
 // Walks over the members of an object, among them a walk by place over a representation of the
 // tests.
 ghost use Rattle.std.specs.Prelude.{string_bytes, codes, cond};
-ghost use Rattle.jskw_value.specs.Tree.{object, null, member, no_members};
+ghost use Rattle.jskw_value.specs.Tree.{object, null, member, no_members, array, item, no_items};
 
 use crate::decimal::Decimal;
 use crate::json::{Array, Node, Object, Rooted};
@@ -11,26 +11,31 @@ use serde_json::Value;
 use std::alloc::{AllocError, Global};
 use std::test::Fail;
 
-// Null, or the object with `x` and `y`, both null.
+// Null, the array of a null, or the object with `x` and `y`, both null.
 #[derive(Drop)]
 struct Point {
+    is_array: bool,
     is_object: bool,
 }
 
-const ORIGIN: Point = Point { is_object: false };
+const ORIGIN: Point = Point {
+    is_array: false,
+    is_object: false,
+};
 
 impl Rooted for Point {
     ghost tree = { λ p. cond p.is_object
-        (object (member (codes "x") null (member (codes "y") null no_members))) null };
+        (object (member (codes "x") null (member (codes "y") null no_members)))
+        (cond p.is_array (array (item null no_items)) null) };
 }
 
 impl Array for Point {
     fn len(&self) -> usize {
-        unreachable!()
+        1
     }
 
     fn item(&self, _index: usize) -> &Point {
-        unreachable!()
+        &ORIGIN
     }
 }
 
@@ -75,18 +80,21 @@ impl Node for Point {
 
     fn json_type(&self) -> JsonType {
         if self.is_object {
-            JsonType::Object
+            return JsonType::Object;
+        }
+        if self.is_array {
+            JsonType::Array
         } else {
             JsonType::Null
         }
     }
 
     fn is_null(&self) -> bool {
-        !self.is_object
+        !self.is_object && !self.is_array
     }
 
     fn is_array(&self) -> bool {
-        false
+        self.is_array && !self.is_object
     }
 
     fn is_object(&self) -> bool {
@@ -126,10 +134,19 @@ fn walked<N: Node>(alloc: Global, node: &N) -> Result<String, AllocError> {
 fn walks_give_every_member_once_in_order(rt: HostRuntime) -> Result<(), Fail> {
     let value = Value::from_str(rt.alloc(), "{\"y\":null,\"z\":[1],\"x\":{}}")?;
     assert_eq!(rt; walked(rt.alloc(), &value)?.as_str(), "x{}ynullz[1]");
-    let point = Point { is_object: true };
+    let point = Point {
+        is_array: false,
+        is_object: true,
+    };
     assert_eq!(rt; walked(rt.alloc(), &point)?.as_str(), "xnullynull");
     let same = Value::from_str(rt.alloc(), "{\"y\":null,\"x\":null}")?;
     assert!(rt; point.equals_value(&same));
     assert!(rt; !point.equals_value(&value));
+    let nulls = Point {
+        is_array: true,
+        is_object: false,
+    };
+    assert!(rt; nulls.equals_value(&Value::from_str(rt.alloc(), "[null]")?));
+    assert!(rt; !nulls.equals(&point));
     Ok(())
 }
