@@ -7,7 +7,7 @@ use Rattle.jskw_value.specs.declared.types.JsonType.TheVariants.{Array, Boolean,
 use Rattle.jskw_report.specs.declared.error.TypeKind.TheVariants.{Single, Multiple}
 use Rattle.jskw_report.specs.Read.{integers_of}
 use Rattle.jskw_report.specs.declared.settings.Draft.TheVariants.{Draft4}
-use Rattle.jskw_report.specs.Keyword.{Keyword, assertion, constant, never, type_is, Integers, by_value, as_written}
+use Rattle.jskw_report.specs.Keyword.{Keyword, assertion, constant, among, never, type_is, Integers, by_value, as_written}
 use Rattle.jskw_number.specs.Meaning.{number_keyword}
 use Rattle.jskw_leaf.specs.declared.boolean.FalseValidator.{FalseValidator}
 use Rattle.jskw_leaf.specs.declared.type_.MultipleTypesValidator.{MultipleTypesValidator}
@@ -26,6 +26,9 @@ use Rattle.jskw_leaf.specs.declared.const_.ConstNullValidator.{ConstNullValidato
 use Rattle.jskw_leaf.specs.declared.const_.ConstNumberValidator.{ConstNumberValidator}
 use Rattle.jskw_leaf.specs.declared.const_.ConstObjectValidator.{ConstObjectValidator}
 use Rattle.jskw_leaf.specs.declared.const_.ConstStringValidator.{ConstStringValidator}
+use Rattle.jskw_leaf.specs.declared.enum_.EnumValidator.{EnumValidator}
+use Rattle.jskw_leaf.specs.declared.enum_.SingleValueEnumValidator.{SingleValueEnumValidator}
+use Rattle.jskw_leaf.specs.Options.{options_of}
 use Rattle.jskw_leaf.specs.declared.leaf.LeafValidator.{LeafValidator}
 use Rattle.jskw_leaf.specs.declared.leaf.LeafValidator.TheVariants.{False, Number as number, MultipleTypes, ArrayType, BooleanType, IntegerType, NullType, NumberType, ObjectType, StringType, MultipleTypesDraft4, IntegerTypeDraft4, ConstArray, ConstBoolean, ConstNull, ConstNumber, ConstObject, ConstString}
 
@@ -91,6 +94,18 @@ const_object v = constant_at v.location v.value
 
 abbrev pub const_string : ConstStringValidator → Keyword
 const_string v = constant_at v.location v.value
+
+-- ---- `enum`
+
+-- the options that a value lists, failing at the location
+abbrev pub among_at : Pointer → Value → Keyword
+among_at q v = assertion q (among (options_of (view v)))
+
+abbrev pub enum_any : EnumValidator → Keyword
+enum_any v = among_at v.location v.options
+
+abbrev pub enum_single : SingleValueEnumValidator → Keyword
+enum_single v = among_at v.location v.options
 
 -- ---- any of them; F, N, O and P are the types of a representation
 

@@ -3,6 +3,7 @@
 
 pub mod boolean;
 pub mod const_;
+pub mod enum_;
 mod floats;
 pub mod leaf;
 pub mod legacy;
