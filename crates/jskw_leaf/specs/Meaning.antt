@@ -28,6 +28,9 @@ use Rattle.jskw_leaf.specs.declared.const_.ConstObjectValidator.{ConstObjectVali
 use Rattle.jskw_leaf.specs.declared.const_.ConstStringValidator.{ConstStringValidator}
 use Rattle.jskw_leaf.specs.declared.enum_.EnumValidator.{EnumValidator}
 use Rattle.jskw_leaf.specs.declared.enum_.SingleValueEnumValidator.{SingleValueEnumValidator}
+use Rattle.jskw_leaf.specs.declared.enum_.strings.SmallStringEnumValidator.{SmallStringEnumValidator}
+use Rattle.jskw_leaf.specs.declared.enum_.strings.BigStringEnumValidator.{BigStringEnumValidator}
+use Rattle.jskw_leaf.specs.declared.enum_.integers.IntegerEnumValidator.{IntegerEnumValidator}
 use Rattle.jskw_leaf.specs.Options.{options_of}
 use Rattle.jskw_leaf.specs.declared.leaf.LeafValidator.{LeafValidator}
 use Rattle.jskw_leaf.specs.declared.leaf.LeafValidator.TheVariants.{False, Number as number, MultipleTypes, ArrayType, BooleanType, IntegerType, NullType, NumberType, ObjectType, StringType, MultipleTypesDraft4, IntegerTypeDraft4, ConstArray, ConstBoolean, ConstNull, ConstNumber, ConstObject, ConstString}
@@ -106,6 +109,15 @@ enum_any v = among_at v.location v.options
 
 abbrev pub enum_single : SingleValueEnumValidator → Keyword
 enum_single v = among_at v.location v.options
+
+abbrev pub enum_small_string : {N : Type 0} {g : _} → SmallStringEnumValidator N g → Keyword
+enum_small_string v = among_at v.location v.options
+
+abbrev pub enum_big_string : {N : Type 0} {g : _} → BigStringEnumValidator N g → Keyword
+enum_big_string v = among_at v.location v.options
+
+abbrev pub enum_integer : {N : Type 0} {g : _} → IntegerEnumValidator N g → Keyword
+enum_integer v = among_at v.location v.options
 
 -- ---- any of them; F, N, O and P are the types of a representation
 

@@ -1,8 +1,12 @@
 -- The options of an `enum`, and tables of them.
-use Rattle.std.specs.Prelude.{◌≡◌, ℕ, zero, ℤ, List, [], ◌∷◌, Bool, true, false, ◌&&◌, ◌||◌, Option, is_some}
+use Rattle.std.specs.Prelude.{◌≡◌, ℕ, zero, ◌^◌, ℤ, pos, ◌*ℤ◌, List, [], ◌∷◌, Bool, true, false, ◌&&◌, ◌||◌, Option, is_some, String, string_bytes}
+use Rattle.std.specs.Cmp.Lexicographic.{slice_cmp}
 use Rattle.std.specs.List.{list_any}
 use Rattle.std.specs.Option.{option_map_or}
+use Rattle.std.specs.Ordering.{nat_cmp, int_cmp}
 use Rattle.std.specs.Str.{bytes_eq}
+use Rattle.std.specs.declared.alloc.Global.{Global}
+use Rattle.std.specs.declared.cmp.Ordering.{Ordering}
 use Rattle.serde_json.specs.Data.{Data, array, Items, no_items, item}
 use Rattle.serde_json.specs.Find.{as_null}
 use Rattle.jskw_value.specs.Number.{Num, exact, num_equal}
@@ -48,3 +52,11 @@ only pick (item d ds) = (is_some (pick d) || is_some (as_null d)) && only pick d
 abbrev pub option_types : JsonTypeSet → Items → JsonTypeSet
 option_types s no_items = s
 option_types s (item d ds) = option_types (insert (json_type (tree_of d)) s) ds
+
+-- how an entry of a table of texts stands to s
+abbrev pub text_against : List ℕ → String Global → Ordering
+text_against s entry = slice_cmp nat_cmp (string_bytes entry) s
+
+-- how an entry of a table of integers stands to the number c / 10^k
+abbrev pub integer_against : ℤ → ℕ → ℤ → Ordering
+integer_against c k entry = int_cmp (entry *ℤ pos (10 ^ k)) c

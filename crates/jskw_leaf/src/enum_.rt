@@ -11,9 +11,9 @@ ghost use Rattle.jskw_report.specs.Holds.{is_option};
 ghost use Rattle.jskw_report.specs.Kind.{Enum, Listed};
 ghost use Rattle.jskw_leaf.specs.Options.{options_of, option_types};
 
-//mod integers;
+mod integers;
 //mod make;
-//mod strings;
+mod strings;
 
 use jskw_report::validator::{append_first, evaluate_first, fail_unless};
 use jskw_report::{
@@ -21,12 +21,12 @@ use jskw_report::{
     ValidationError, ValidationErrorKind,
 };
 use jskw_value::{Json, JsonTypeSet, Node, Nullability};
-//pub use integers::IntegerEnumValidator;
+pub use integers::IntegerEnumValidator;
 //pub use make::compile;
 use serde_json::Value;
 use std::alloc::{AllocError, Global};
 use std::marker::PhantomData;
-//pub use strings::{BigStringEnumValidator, SmallStringEnumValidator};
+pub use strings::{BigStringEnumValidator, SmallStringEnumValidator};
 
 /// The validator of options of any types. An instance whose type no option has is compared with none.
 #[derive(Drop)]
