@@ -1,5 +1,5 @@
 -- The options of an `enum`, and tables of them.
-use Rattle.std.specs.Prelude.{◌≡◌, ℕ, zero, ◌^◌, ℤ, pos, ◌*ℤ◌, List, [], ◌∷◌, Bool, true, false, ◌&&◌, ◌||◌, Option, is_some, String, string_bytes}
+use Rattle.std.specs.Prelude.{◌≡◌, ℕ, zero, ◌^◌, ℤ, pos, ◌*ℤ◌, List, [], ◌∷◌, Bool, true, false, ◌&&◌, ◌||◌, Option, is_some, option_and_then, String, string_bytes}
 use Rattle.std.specs.Cmp.Lexicographic.{slice_cmp}
 use Rattle.std.specs.List.{list_any}
 use Rattle.std.specs.Option.{option_map_or}
@@ -8,7 +8,7 @@ use Rattle.std.specs.Str.{bytes_eq}
 use Rattle.std.specs.declared.alloc.Global.{Global}
 use Rattle.std.specs.declared.cmp.Ordering.{Ordering}
 use Rattle.serde_json.specs.Data.{Data, array, Items, no_items, item}
-use Rattle.serde_json.specs.Find.{as_null}
+use Rattle.serde_json.specs.Find.{as_null, as_number, as_i64}
 use Rattle.jskw_value.specs.Number.{Num, exact, num_equal}
 use Rattle.jskw_value.specs.Serde.{tree_of}
 use Rattle.jskw_value.specs.Tree.{Tree, is_null}
@@ -37,6 +37,10 @@ AreOptions kind test null ds = (t : Tree) → is_option ds t ≡ option_map_or t
 abbrev pub picked : {X : Type 0} → (Data → Option X) → Items → List X
 picked pick no_items = []
 picked pick (item d ds) = option_map_or (λ x. x ∷ picked pick ds) (pick d) (picked pick ds)
+
+-- an integer from -2^63 to 2^63 - 1
+abbrev pub integer_of : Data → Option ℤ
+integer_of d = option_and_then as_i64 (as_number d)
 
 -- null is an option
 abbrev pub has_null : Items → Bool

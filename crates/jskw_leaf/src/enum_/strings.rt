@@ -1,11 +1,12 @@
 //! Options that are strings, and perhaps null.
-ghost use Rattle.std.specs.Prelude.{◌≡◌, IsSome, map, string_bytes, string_cmp};
-ghost use Rattle.std.specs.List.Sorted.{IsSorted};
-ghost use Rattle.serde_json.specs.Find.{as_array};
-ghost use Rattle.serde_json.specs.View.{view};
+ghost use Rattle.std.specs.Prelude.{◌≡◌, IsSome, IfOk, true, map, string_bytes, string_cmp};
+ghost use Rattle.std.specs.List.Sorted.{IsSorted, IsPermutation};
+ghost use Rattle.serde_json.specs.Data.{array};
+ghost use Rattle.serde_json.specs.Find.{as_array, as_str};
+ghost use Rattle.serde_json.specs.View.{view, items_view};
 ghost use Rattle.jskw_value.specs.PropertyName.{head_of};
 ghost use Rattle.jskw_value.specs.Tree.{as_string};
-ghost use Rattle.jskw_leaf.specs.Options.{options_of, AreOptions, some_text, text_against};
+ghost use Rattle.jskw_leaf.specs.Options.{options_of, AreOptions, some_text, text_against, picked, only, has_null};
 
 use super::{unlisted, NullOption};
 use jskw_report::validator::{append_first, evaluate_first, fail_unless};
@@ -20,12 +21,37 @@ use std::cmp::Ordering;
 /// The validator of a few strings, and of null where the type says so. A string is compared with each option, by its head first.
 #[derive(Drop)]
 pub struct SmallStringEnumValidator<N: Nullability> {
-    pub(super) options: Value,
-    pub(super) items: Vec<PropertyName>,
-    pub(super) null: NullOption<N>,
-    pub(super) location: Location,
+    options: Value,
+    items: Vec<PropertyName>,
+    null: NullOption<N>,
+    location: Location,
     ghost array: { IsSome (as_array (view options)) },
     ghost listed: { AreOptions as_string (some_text items.items) null.is_there (options_of (view options)) },
+}
+
+impl<N: Nullability> SmallStringEnumValidator<N> {
+    ghost use Rattle.jskw_leaf.specs.Meaning.{among_at, enum_small_string};
+
+    /// The validator of these items of the options, each a string or null, with null among them where the type says so. Only
+    /// memory can fail.
+    pub(super) fn compile(
+        alloc: Global,
+        options: &Value,
+        items: &[Value],
+        location: Location,
+    ) -> Result<SmallStringEnumValidator<N>, AllocError>
+        requires array { view options.now ≡ array (items_view items.now) }
+        requires texts { only as_str (items_view items.now) ≡ true }
+        requires null { N.ACCEPTS_NULL ≡ has_null (items_view items.now) }
+        ensures { IfOk result (λ v. enum_small_string v ≡ among_at location options.now) }
+    {
+        Ok(SmallStringEnumValidator {
+            options: options.clone()?,
+            items: names_of(alloc, items)?,
+            null: NullOption::new(),
+            location,
+        })
+    }
 }
 
 #[tactic(auto, using(jskw_report::proofs::Once::once, crate::proofs::Options::listed))]
@@ -82,13 +108,38 @@ impl<F: Json, N: Nullability> Validate<F> for SmallStringEnumValidator<N> {
 /// The validator of many strings, and of null where the type says so. The strings are sorted, and a string is looked up by halves.
 #[derive(Drop)]
 pub struct BigStringEnumValidator<N: Nullability> {
-    pub(super) options: Value,
-    pub(super) items: Vec<String>,
-    pub(super) null: NullOption<N>,
-    pub(super) location: Location,
+    options: Value,
+    items: Vec<String>,
+    null: NullOption<N>,
+    location: Location,
     ghost array: { IsSome (as_array (view options)) },
     ghost sorted: { IsSorted string_cmp items.items },
     ghost listed: { AreOptions as_string (some_text (map string_bytes items.items)) null.is_there (options_of (view options)) },
+}
+
+impl<N: Nullability> BigStringEnumValidator<N> {
+    ghost use Rattle.jskw_leaf.specs.Meaning.{among_at, enum_big_string};
+
+    /// The validator of these items of the options, each a string or null, with null among them where the type says so. Only
+    /// memory can fail.
+    pub(super) fn compile(
+        alloc: Global,
+        options: &Value,
+        items: &[Value],
+        location: Location,
+    ) -> Result<BigStringEnumValidator<N>, AllocError>
+        requires array { view options.now ≡ array (items_view items.now) }
+        requires texts { only as_str (items_view items.now) ≡ true }
+        requires null { N.ACCEPTS_NULL ≡ has_null (items_view items.now) }
+        ensures { IfOk result (λ v. enum_big_string v ≡ among_at location options.now) }
+    {
+        Ok(BigStringEnumValidator {
+            options: options.clone()?,
+            items: sorted_texts_of(alloc, items)?,
+            null: NullOption::new(),
+            location,
+        })
+    }
 }
 
 #[tactic(auto, using(jskw_report::proofs::Once::once, crate::proofs::Options::listed))]
@@ -167,4 +218,40 @@ fn compare(entry: &String, text: &str) -> Ordering
     ensures { result ≡ text_against text.now entry.now }
 {
     entry.as_str().cmp(text)
+}
+
+/// The strings among the items, as names.
+fn names_of(alloc: Global, items: &[Value]) -> Result<Vec<PropertyName>, AllocError>
+    ensures { IfOk result (λ v. v.items ≡ picked as_str (items_view items.now)) }
+{
+    let mut names = Vec::new(alloc);
+    for item in items {
+        if let Some(text) = item.as_str() {
+            names.push(PropertyName::new(alloc, text)?)?;
+        }
+    }
+    Ok(names)
+}
+
+/// The strings among the items, in rising order.
+fn sorted_texts_of(alloc: Global, items: &[Value]) -> Result<Vec<String>, AllocError>
+    ensures sorted { IfOk result (λ v. IsSorted string_cmp v.items) }
+    ensures same { IfOk result (λ v. IsPermutation (picked as_str (items_view items.now)) (map string_bytes v.items)) }
+{
+    let mut texts = texts_of(alloc, items)?;
+    texts.sort_unstable();
+    Ok(texts)
+}
+
+/// The strings among the items.
+fn texts_of(alloc: Global, items: &[Value]) -> Result<Vec<String>, AllocError>
+    ensures { IfOk result (λ v. map string_bytes v.items ≡ picked as_str (items_view items.now)) }
+{
+    let mut texts = Vec::new(alloc);
+    for item in items {
+        if let Some(text) = item.as_str() {
+            texts.push(String::from_str(alloc, text)?)?;
+        }
+    }
+    Ok(texts)
 }
