@@ -11,7 +11,7 @@ use Rattle.std.specs.Str.{bytes_eq}
 use Rattle.serde_json.specs.Data as json
 use Rattle.serde_json.specs.Data.{Data, array, Items, no_items, item}
 use Rattle.serde_json.specs.Find.{as_array, as_null, as_str, as_i64}
-use Rattle.jskw_value.specs.Equality.{equal}
+use Rattle.jskw_value.specs.Equality.{equal, unique}
 use Rattle.jskw_value.specs.Number.{exact, num_equal}
 use Rattle.jskw_value.specs.Serde.{num_of, tree_of}
 use Rattle.jskw_value.specs.Tree as tree
@@ -20,6 +20,8 @@ use Rattle.jskw_value.specs.Types.{no_types, insert, contains, json_type, has_ty
 use Rattle.jskw_value.specs.declared.types.JsonType.{JsonType}
 use Rattle.jskw_value.specs.declared.types.JsonType.TheVariants.{Array, Boolean, Integer, Null, Number, Object, String}
 use Rattle.jskw_value.specs.declared.types.JsonTypeSet.{JsonTypeSet}
+use Rattle.jskw_value.specs.Pointer.{Pointer}
+use Rattle.jskw_report.specs.Fault.{map_ok, unless_float, const_value, enum_value, first_float_item}
 use Rattle.jskw_report.specs.Holds.{is_option}
 use Rattle.jskw_leaf.specs.Options.{options_of, option_types, AreOptions, some_text, some_integer, picked, only, has_null, integer_of}
 
@@ -75,6 +77,7 @@ type_of_option s (item d ds) t h = go (equal (tree_of d) t) refl h (type_of_opti
   where
     there : contains (option_types s (item d ds)) (json_type (tree_of d)) ≡ true
     there = all_stay (insert (json_type (tree_of d)) s) ds (json_type (tree_of d)) (inserted (json_type (tree_of d)) s)
+
     go : (b : Bool) → equal (tree_of d) t ≡ b → (b || is_option ds t) ≡ true → (is_option ds t ≡ true → contains (option_types s (item d ds)) (json_type t) ≡ true) → contains (option_types s (item d ds)) (json_type t) ≡ true
     go true e h k = subst (λ j. contains (option_types s (item d ds)) j ≡ true) (of_equal (tree_of d) t e) there
     go false e h k = k h
@@ -119,7 +122,6 @@ module _ {X Y : Type 0} (pick : Data → Option X) (kind : Tree → Option Y) (s
     (apart : kind tree.null ≡ None)
     (picks : (d : Data) (x : X) → pick d ≡ Some x → as_null d ≡ None)
     (equals : (d : Data) (x : X) (t : Tree) → pick d ≡ Some x → equal (tree_of d) t ≡ option_map_or (same x) (kind t) false) where
-
   -- a tree of the kind is not null
   not_null : (t : Tree) (y : Y) → kind t ≡ Some y → tree.is_null t ≡ false
   not_null tree.null y e = absurd (none-some y (sym apart ∙ e))
@@ -145,7 +147,7 @@ module _ {X Y : Type 0} (pick : Data → Option X) (kind : Tree → Option Y) (s
   of_picked (item d ds) h t =
       ap (λ b. equal (tree_of d) t || b) (of_picked ds (right_true (is_some (pick d) || is_some (as_null d)) (only pick ds) h) t)
       ∙ one_more (pick d) (as_null d) (kind t) (picked pick ds) (equal (tree_of d) t) (has_null ds) (tree.is_null t)
-          (left_true (is_some (pick d) || is_some (as_null d)) (only pick ds) h) (picks d) (λ x. equals d x t) (null_equal d t) (not_null t)
+      (left_true (is_some (pick d) || is_some (as_null d)) (only pick ds) h) (picks d) (λ x. equals d x t) (null_equal d t) (not_null t)
 
   -- the same of a test and a mark that are known to be theirs
   are_options : (d : Data) (ds : Items) (test : Y → Bool) (n : Bool) → d ≡ array ds → only pick ds ≡ true → ((y : Y) → test y ≡ list_any (λ x. same x y) (picked pick ds)) → n ≡ has_null ds → AreOptions kind test n (options_of d)
@@ -194,3 +196,20 @@ integer_equal d z t e = absurd (none-some z e)
 pub are_sorted_integers : (d : Data) (ds : Items) (zs : List ℤ) (n : Bool) → d ≡ array ds → only integer_of ds ≡ true → IsPermutation (picked integer_of ds) zs → n ≡ has_null ds → AreOptions tree.as_number (some_integer zs) n (options_of d)
 are_sorted_integers d ds zs n e h p g =
     are_options integer_of tree.as_number (λ z. num_equal (exact z zero)) refl integer_apart integer_equal d ds (some_integer zs) n e h (λ m. sym (list_any-IsPermutation (λ z. num_equal (exact z zero) m) (picked integer_of ds) zs p)) g
+
+-- ---- floats among the options
+
+-- an array of options is at fault as a value is
+pub as_value : (q : Pointer) (d : Data) (ds : Items) → d ≡ array ds → enum_value q d ≡ map_ok (λ e. ds) (const_value q d)
+as_value q d ds h = ap (enum_value q) h ∙ go (first_float_item ds) ∙ sym (ap (λ d. map_ok (λ e. ds) (const_value q d)) h)
+  where
+    go : (o : Option Data) → unless_float q o ds ≡ map_ok (λ e. ds) (unless_float q o (array ds))
+    go None = refl
+    go (Some f) = refl
+
+-- ---- unique items
+
+-- what is no array has none
+pub no_items_unique : (t : Tree) → tree.is_array t ≡ false → unique (tree.items t) ≡ true
+no_items_unique (tree.array ts) h = absurd (true≢false h)
+no_items_unique t h = refl

@@ -106,4 +106,4 @@ by_value c k z = ap (int_eq (z *ℤ pos (10 ^ k))) (sym (*ℤ-one c))
 pub searched_integers : (c : ℤ) (k : ℕ) (zs : List ℤ) (r : Result ℕ ℕ) → IsSorted int_cmp zs → IsSearchInRange r (length zs) → IsBinarySearchResult (integer_against c k) zs r → is_ok r ≡ some_integer zs (exact c k)
 searched_integers c k zs r sorted h e =
     searched (λ z. num_equal (exact z zero) (exact c k)) (integer_against c k) (by_value c k) zs r
-        (searchable_from_sorted int_cmp_total (λ z. z *ℤ pos (10 ^ k)) zs c (sorted_scaled (10 ^ k) zs sorted)) h e
+    (searchable_from_sorted int_cmp_total (λ z. z *ℤ pos (10 ^ k)) zs c (sorted_scaled (10 ^ k) zs sorted)) h e

@@ -7,7 +7,7 @@ use Rattle.jskw_value.specs.declared.types.JsonType.TheVariants.{Array, Boolean,
 use Rattle.jskw_report.specs.declared.error.TypeKind.TheVariants.{Single, Multiple}
 use Rattle.jskw_report.specs.Read.{integers_of}
 use Rattle.jskw_report.specs.declared.settings.Draft.TheVariants.{Draft4}
-use Rattle.jskw_report.specs.Keyword.{Keyword, assertion, constant, among, never, type_is, Integers, by_value, as_written}
+use Rattle.jskw_report.specs.Keyword.{Keyword, assertion, constant, among, unique, never, type_is, Integers, by_value, as_written}
 use Rattle.jskw_number.specs.Meaning.{number_keyword}
 use Rattle.jskw_leaf.specs.declared.boolean.FalseValidator.{FalseValidator}
 use Rattle.jskw_leaf.specs.declared.type_.MultipleTypesValidator.{MultipleTypesValidator}
@@ -31,9 +31,10 @@ use Rattle.jskw_leaf.specs.declared.enum_.SingleValueEnumValidator.{SingleValueE
 use Rattle.jskw_leaf.specs.declared.enum_.strings.SmallStringEnumValidator.{SmallStringEnumValidator}
 use Rattle.jskw_leaf.specs.declared.enum_.strings.BigStringEnumValidator.{BigStringEnumValidator}
 use Rattle.jskw_leaf.specs.declared.enum_.integers.IntegerEnumValidator.{IntegerEnumValidator}
+use Rattle.jskw_leaf.specs.declared.unique_items.UniqueItemsValidator.{UniqueItemsValidator}
 use Rattle.jskw_leaf.specs.Options.{options_of}
 use Rattle.jskw_leaf.specs.declared.leaf.LeafValidator.{LeafValidator}
-use Rattle.jskw_leaf.specs.declared.leaf.LeafValidator.TheVariants.{False, Number as number, MultipleTypes, ArrayType, BooleanType, IntegerType, NullType, NumberType, ObjectType, StringType, MultipleTypesDraft4, IntegerTypeDraft4, ConstArray, ConstBoolean, ConstNull, ConstNumber, ConstObject, ConstString}
+use Rattle.jskw_leaf.specs.declared.leaf.LeafValidator.TheVariants.{False, Number as number, MultipleTypes, ArrayType, BooleanType, IntegerType, NullType, NumberType, ObjectType, StringType, MultipleTypesDraft4, IntegerTypeDraft4, ConstArray, ConstBoolean, ConstNull, ConstNumber, ConstObject, ConstString, Enum, SingleValueEnum, SmallStringEnum, NullableSmallStringEnum, BigStringEnum, NullableBigStringEnum, IntegerEnum, NullableIntegerEnum, UniqueItems}
 
 abbrev pub false_keyword : FalseValidator → Keyword
 false_keyword v = assertion v.location never
@@ -119,6 +120,9 @@ enum_big_string v = among_at v.location v.options
 abbrev pub enum_integer : {N : Type 0} {g : _} → IntegerEnumValidator N g → Keyword
 enum_integer v = among_at v.location v.options
 
+abbrev pub unique_items : UniqueItemsValidator → Keyword
+unique_items v = assertion v.location unique
+
 -- ---- any of them; F, N, O and P are the types of a representation
 
 abbrev pub leaf_keyword : {F N O P : Type 0} → LeafValidator F N O P → Keyword
@@ -140,3 +144,12 @@ leaf_keyword (ConstNull v) = const_null v
 leaf_keyword (ConstNumber v) = const_number v
 leaf_keyword (ConstObject v) = const_object v
 leaf_keyword (ConstString v) = const_string v
+leaf_keyword (Enum v) = enum_any v
+leaf_keyword (SingleValueEnum v) = enum_single v
+leaf_keyword (SmallStringEnum v) = enum_small_string v
+leaf_keyword (NullableSmallStringEnum v) = enum_small_string v
+leaf_keyword (BigStringEnum v) = enum_big_string v
+leaf_keyword (NullableBigStringEnum v) = enum_big_string v
+leaf_keyword (IntegerEnum v) = enum_integer v
+leaf_keyword (NullableIntegerEnum v) = enum_integer v
+leaf_keyword (UniqueItems v) = unique_items v

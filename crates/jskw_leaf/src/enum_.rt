@@ -12,17 +12,17 @@ ghost use Rattle.jskw_report.specs.Kind.{Enum, Listed};
 ghost use Rattle.jskw_leaf.specs.Options.{options_of, option_types};
 
 mod integers;
-//mod make;
+mod make;
 mod strings;
 
+pub use integers::IntegerEnumValidator;
 use jskw_report::validator::{append_first, evaluate_first, fail_unless};
 use jskw_report::{
     EnumOptions, EvaluationResult, Fault, LazyLocation, Location, Validate, ValidationContext,
     ValidationError, ValidationErrorKind,
 };
 use jskw_value::{Json, JsonTypeSet, Node, Nullability};
-pub use integers::IntegerEnumValidator;
-//pub use make::compile;
+pub use make::compile;
 use serde_json::Value;
 use std::alloc::{AllocError, Global};
 use std::marker::PhantomData;

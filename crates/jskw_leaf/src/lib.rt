@@ -8,6 +8,7 @@ mod floats;
 pub mod leaf;
 pub mod legacy;
 pub mod type_;
+pub mod unique_items;
 
 pub use leaf::LeafValidator;
 

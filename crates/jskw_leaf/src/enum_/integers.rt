@@ -9,7 +9,7 @@ ghost use Rattle.jskw_value.specs.Decimal.{value};
 ghost use Rattle.jskw_value.specs.Tree.{as_number};
 ghost use Rattle.jskw_leaf.specs.Options.{options_of, AreOptions, some_integer, integer_against, integer_of, picked, only, has_null};
 
-use super::{unlisted, NullOption};
+use super::{NullOption, unlisted};
 use jskw_report::validator::{append_first, evaluate_first, fail_unless};
 use jskw_report::{
     EvaluationResult, Fault, LazyLocation, Location, Validate, ValidationContext, ValidationError,
@@ -113,7 +113,9 @@ fn is_in_table(table: &[i64], number: &Decimal) -> bool
     requires { IsSorted int_cmp table.now }
     ensures { result ≡ some_integer table.now (value number.now) }
 {
-    table.binary_search_by(|entry| compare(*entry, number)).is_ok()
+    table
+        .binary_search_by(|entry| compare(*entry, number))
+        .is_ok()
 }
 
 #[tactic(auto, using(crate::proofs::Tables::reversed))]

@@ -8,7 +8,7 @@ ghost use Rattle.jskw_value.specs.PropertyName.{head_of};
 ghost use Rattle.jskw_value.specs.Tree.{as_string};
 ghost use Rattle.jskw_leaf.specs.Options.{options_of, AreOptions, some_text, text_against, picked, only, has_null};
 
-use super::{unlisted, NullOption};
+use super::{NullOption, unlisted};
 use jskw_report::validator::{append_first, evaluate_first, fail_unless};
 use jskw_report::{
     EvaluationResult, Fault, LazyLocation, Location, Validate, ValidationContext, ValidationError,
