@@ -1,5 +1,5 @@
 -- A search by halves in a sorted table.
-use Rattle.std.proofs.Common.{◌≡◌, ℕ, zero, suc, ◌+◌, ◌^◌, ◌*◌, ◌<◌, ◌≤◌, ℤ, pos, negsuc, ◌*ℤ◌, List, [], ◌∷◌, length, get_or, Bool, true, false, ◌||◌, cond, map, String, Global, string_bytes, string_cmp, refl, sym, ap, subst, ◌∙◌, arith}
+use Rattle.std.proofs.Common.{◌≡◌, ℕ, zero, suc, ◌+◌, ◌^◌, ◌*◌, ◌<◌, ◌≤◌, ℤ, pos, negsuc, ◌*ℤ◌, List, [], ◌∷◌, length, get_or, Bool, true, false, ◌||◌, cond, map, String, Global, string_bytes, string_cmp, refl, sym, ap, ◌∙◌, arith}
 use Rattle.std.specs.Prelude.{int_lt, neg_ℤ}
 use Rattle.std.proofs.Math.IntN.{*ℤ-one, one}
 use Rattle.std.proofs.Math.Nat.{mul-le-mul_right}
@@ -17,7 +17,7 @@ use Rattle.std.specs.declared.cmp.Ordering.{Ordering}
 use Rattle.std.specs.declared.cmp.Ordering.TheVariants.{Less, Equal, Greater}
 use Rattle.std.specs.declared.result.Result.{Result}
 use Rattle.std.specs.declared.result.Result.TheVariants.{Ok, Err}
-use Rattle.jskw_value.specs.Number.{exact, num_equal, cmp_whole}
+use Rattle.jskw_value.specs.Number.{exact, num_equal}
 use Rattle.jskw_leaf.specs.Options.{some_text, some_integer, text_against, integer_against}
 
 -- ---- any table
