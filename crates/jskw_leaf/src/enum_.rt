@@ -1,10 +1,10 @@
 //! `enum` (Validation 6.1.2): the instance equals one of the schema's values.
-ghost use Rattle.std.specs.Prelude.{◌≡◌, IsSome};
+ghost use Rattle.std.specs.Prelude.{◌≡◌, ◌&&◌, IsSome};
 ghost use Rattle.serde_json.specs.Find.{as_array};
 ghost use Rattle.serde_json.specs.View.{view, items_view};
 ghost use Rattle.jskw_value.specs.Equality.{equal};
 ghost use Rattle.jskw_value.specs.Serde.{value_tree};
-ghost use Rattle.jskw_value.specs.Tree.{Tree};
+ghost use Rattle.jskw_value.specs.Tree.{Tree, is_null};
 ghost use Rattle.jskw_value.specs.Types.{no_types};
 ghost use Rattle.jskw_report.specs.Errors.{kind_of};
 ghost use Rattle.jskw_report.specs.Holds.{is_option};
@@ -25,7 +25,7 @@ use jskw_value::{Json, JsonTypeSet, Node, Nullability};
 pub use make::compile;
 use serde_json::Value;
 use std::alloc::{AllocError, Global};
-use std::marker::PhantomData;
+use std::marker::{Model, PhantomData};
 pub use strings::{BigStringEnumValidator, SmallStringEnumValidator};
 
 /// The validator of options of any types. An instance whose type no option has is compared with none.
@@ -144,23 +144,36 @@ impl<F: Json> Validate<F> for SingleValueEnumValidator {
     }
 }
 
-/// Whether null is an option, which the type tells.
+/// Whether null is an option, as the type tells. Contracts see the answer.
 #[derive(Drop)]
 pub(crate) struct NullOption<N: Nullability> {
-    is_there: bool,
     nullability: PhantomData<N>,
-    ghost told: { is_there ≡ N.ACCEPTS_NULL },
+}
+
+impl<N: Nullability> Model for NullOption<N> {
+    ghost use Rattle.std.specs.Prelude.{Bool};
+
+    ghost Value = { Bool };
+
+    ghost view = { λ n. N.ACCEPTS_NULL };
 }
 
 impl<N: Nullability> NullOption<N> {
-    /// What the type tells.
     pub(crate) fn new() -> NullOption<N>
-        ensures { result.is_there ≡ N.ACCEPTS_NULL }
+        ensures { result ≡ N.ACCEPTS_NULL }
     {
         NullOption {
-            is_there: N::ACCEPTS_NULL,
             nullability: PhantomData,
         }
+    }
+
+    /// Whether null is an option and the instance is null.
+    pub(crate) fn accepts<F: Json>(&self, instance: &F::Node) -> bool
+        ensures { result ≡ (self.now && is_null (F.Node.tree instance.now)) }
+    {
+        // to read the field is to look into the model
+        let _nullability = &self.nullability;
+        N::ACCEPTS_NULL && instance.is_null()
     }
 }
 

@@ -29,7 +29,7 @@ pub struct IntegerEnumValidator<N: Nullability> {
     location: Location,
     ghost array: { IsSome (as_array (view options)) },
     ghost sorted: { IsSorted int_cmp integers.items },
-    ghost listed: { AreOptions as_number (some_integer integers.items) null.is_there (options_of (view options)) },
+    ghost listed: { AreOptions as_number (some_integer integers.items) null (options_of (view options)) },
 }
 
 impl<N: Nullability> IntegerEnumValidator<N> {
@@ -66,7 +66,7 @@ impl<F: Json, N: Nullability> Validate<F> for IntegerEnumValidator<N> {
     fn is_valid(&self, instance: &F::Node, _ctx: &mut ValidationContext) -> bool {
         match instance.as_number() {
             Some(number) => is_in_table(&self.integers, &number.decimal()),
-            None => N::ACCEPTS_NULL && instance.is_null(),
+            None => self.null.accepts::<F>(instance),
         }
     }
 

@@ -26,7 +26,7 @@ pub struct SmallStringEnumValidator<N: Nullability> {
     null: NullOption<N>,
     location: Location,
     ghost array: { IsSome (as_array (view options)) },
-    ghost listed: { AreOptions as_string (some_text items.items) null.is_there (options_of (view options)) },
+    ghost listed: { AreOptions as_string (some_text items.items) null (options_of (view options)) },
 }
 
 impl<N: Nullability> SmallStringEnumValidator<N> {
@@ -63,7 +63,7 @@ impl<F: Json, N: Nullability> Validate<F> for SmallStringEnumValidator<N> {
     fn is_valid(&self, instance: &F::Node, _ctx: &mut ValidationContext) -> bool {
         match instance.as_string() {
             Some(text) => is_one_of(&self.items, text),
-            None => N::ACCEPTS_NULL && instance.is_null(),
+            None => self.null.accepts::<F>(instance),
         }
     }
 
@@ -114,7 +114,7 @@ pub struct BigStringEnumValidator<N: Nullability> {
     location: Location,
     ghost array: { IsSome (as_array (view options)) },
     ghost sorted: { IsSorted string_cmp items.items },
-    ghost listed: { AreOptions as_string (some_text (map string_bytes items.items)) null.is_there (options_of (view options)) },
+    ghost listed: { AreOptions as_string (some_text (map string_bytes items.items)) null (options_of (view options)) },
 }
 
 impl<N: Nullability> BigStringEnumValidator<N> {
@@ -151,7 +151,7 @@ impl<F: Json, N: Nullability> Validate<F> for BigStringEnumValidator<N> {
     fn is_valid(&self, instance: &F::Node, _ctx: &mut ValidationContext) -> bool {
         match instance.as_string() {
             Some(text) => is_in_table(&self.items, text),
-            None => N::ACCEPTS_NULL && instance.is_null(),
+            None => self.null.accepts::<F>(instance),
         }
     }
 
