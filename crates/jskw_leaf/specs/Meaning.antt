@@ -7,7 +7,7 @@ use Rattle.jskw_value.specs.declared.types.JsonType.TheVariants.{Array, Boolean,
 use Rattle.jskw_report.specs.declared.error.TypeKind.TheVariants.{Single, Multiple}
 use Rattle.jskw_report.specs.Read.{integers_of}
 use Rattle.jskw_report.specs.declared.settings.Draft.TheVariants.{Draft4}
-use Rattle.jskw_report.specs.Keyword.{Keyword, assertion, constant, never, type_is, Integers, by_value, as_written}
+use Rattle.jskw_report.specs.Keyword.{Keyword, assertion, constant, among, unique, never, type_is, Integers, by_value, as_written}
 use Rattle.jskw_number.specs.Meaning.{number_keyword}
 use Rattle.jskw_leaf.specs.declared.boolean.FalseValidator.{FalseValidator}
 use Rattle.jskw_leaf.specs.declared.type_.MultipleTypesValidator.{MultipleTypesValidator}
@@ -26,8 +26,15 @@ use Rattle.jskw_leaf.specs.declared.const_.ConstNullValidator.{ConstNullValidato
 use Rattle.jskw_leaf.specs.declared.const_.ConstNumberValidator.{ConstNumberValidator}
 use Rattle.jskw_leaf.specs.declared.const_.ConstObjectValidator.{ConstObjectValidator}
 use Rattle.jskw_leaf.specs.declared.const_.ConstStringValidator.{ConstStringValidator}
+use Rattle.jskw_leaf.specs.declared.enum_.EnumValidator.{EnumValidator}
+use Rattle.jskw_leaf.specs.declared.enum_.SingleValueEnumValidator.{SingleValueEnumValidator}
+use Rattle.jskw_leaf.specs.declared.enum_.strings.SmallStringEnumValidator.{SmallStringEnumValidator}
+use Rattle.jskw_leaf.specs.declared.enum_.strings.BigStringEnumValidator.{BigStringEnumValidator}
+use Rattle.jskw_leaf.specs.declared.enum_.integers.IntegerEnumValidator.{IntegerEnumValidator}
+use Rattle.jskw_leaf.specs.declared.unique_items.UniqueItemsValidator.{UniqueItemsValidator}
+use Rattle.jskw_leaf.specs.Options.{options_of}
 use Rattle.jskw_leaf.specs.declared.leaf.LeafValidator.{LeafValidator}
-use Rattle.jskw_leaf.specs.declared.leaf.LeafValidator.TheVariants.{False, Number as number, MultipleTypes, ArrayType, BooleanType, IntegerType, NullType, NumberType, ObjectType, StringType, MultipleTypesDraft4, IntegerTypeDraft4, ConstArray, ConstBoolean, ConstNull, ConstNumber, ConstObject, ConstString}
+use Rattle.jskw_leaf.specs.declared.leaf.LeafValidator.TheVariants.{False, Number as number, MultipleTypes, ArrayType, BooleanType, IntegerType, NullType, NumberType, ObjectType, StringType, MultipleTypesDraft4, IntegerTypeDraft4, ConstArray, ConstBoolean, ConstNull, ConstNumber, ConstObject, ConstString, Enum, SingleValueEnum, SmallStringEnum, NullableSmallStringEnum, BigStringEnum, NullableBigStringEnum, IntegerEnum, NullableIntegerEnum, UniqueItems}
 
 abbrev pub false_keyword : FalseValidator → Keyword
 false_keyword v = assertion v.location never
@@ -92,6 +99,30 @@ const_object v = constant_at v.location v.value
 abbrev pub const_string : ConstStringValidator → Keyword
 const_string v = constant_at v.location v.value
 
+-- ---- `enum`
+
+-- the options that a value lists, failing at the location
+abbrev pub among_at : Pointer → Value → Keyword
+among_at q v = assertion q (among (options_of (view v)))
+
+abbrev pub enum_any : EnumValidator → Keyword
+enum_any v = among_at v.location v.options
+
+abbrev pub enum_single : SingleValueEnumValidator → Keyword
+enum_single v = among_at v.location v.options
+
+abbrev pub enum_small_string : {N : Type 0} {g : _} → SmallStringEnumValidator N g → Keyword
+enum_small_string v = among_at v.location v.options
+
+abbrev pub enum_big_string : {N : Type 0} {g : _} → BigStringEnumValidator N g → Keyword
+enum_big_string v = among_at v.location v.options
+
+abbrev pub enum_integer : {N : Type 0} {g : _} → IntegerEnumValidator N g → Keyword
+enum_integer v = among_at v.location v.options
+
+abbrev pub unique_items : UniqueItemsValidator → Keyword
+unique_items v = assertion v.location unique
+
 -- ---- any of them; F, N, O and P are the types of a representation
 
 abbrev pub leaf_keyword : {F N O P : Type 0} → LeafValidator F N O P → Keyword
@@ -113,3 +144,12 @@ leaf_keyword (ConstNull v) = const_null v
 leaf_keyword (ConstNumber v) = const_number v
 leaf_keyword (ConstObject v) = const_object v
 leaf_keyword (ConstString v) = const_string v
+leaf_keyword (Enum v) = enum_any v
+leaf_keyword (SingleValueEnum v) = enum_single v
+leaf_keyword (SmallStringEnum v) = enum_small_string v
+leaf_keyword (NullableSmallStringEnum v) = enum_small_string v
+leaf_keyword (BigStringEnum v) = enum_big_string v
+leaf_keyword (NullableBigStringEnum v) = enum_big_string v
+leaf_keyword (IntegerEnum v) = enum_integer v
+leaf_keyword (NullableIntegerEnum v) = enum_integer v
+leaf_keyword (UniqueItems v) = unique_items v

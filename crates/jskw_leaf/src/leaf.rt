@@ -6,16 +6,21 @@ use crate::const_::{
     ConstArrayValidator, ConstBooleanValidator, ConstNullValidator, ConstNumberValidator,
     ConstObjectValidator, ConstStringValidator,
 };
+use crate::enum_::{
+    BigStringEnumValidator, EnumValidator, IntegerEnumValidator, SingleValueEnumValidator,
+    SmallStringEnumValidator,
+};
 use crate::legacy::type_draft_4;
 use crate::type_::{
     ArrayTypeValidator, BooleanTypeValidator, IntegerTypeValidator, MultipleTypesValidator,
     NullTypeValidator, NumberTypeValidator, ObjectTypeValidator, StringTypeValidator,
 };
+use crate::unique_items::UniqueItemsValidator;
 use jskw_number::NumberValidator;
 use jskw_report::{
     EvaluationResult, Fault, LazyLocation, Validate, ValidationContext, ValidationError,
 };
-use jskw_value::Json;
+use jskw_value::{Json, NotNullable, Nullable};
 use std::alloc::{AllocError, Global};
 use std::marker::PhantomData;
 
@@ -40,6 +45,15 @@ pub enum LeafValidator<F: Json> {
     ConstNumber(ConstNumberValidator),
     ConstObject(ConstObjectValidator),
     ConstString(ConstStringValidator),
+    Enum(EnumValidator),
+    SingleValueEnum(SingleValueEnumValidator),
+    SmallStringEnum(SmallStringEnumValidator<NotNullable>),
+    NullableSmallStringEnum(SmallStringEnumValidator<Nullable>),
+    BigStringEnum(BigStringEnumValidator<NotNullable>),
+    NullableBigStringEnum(BigStringEnumValidator<Nullable>),
+    IntegerEnum(IntegerEnumValidator<NotNullable>),
+    NullableIntegerEnum(IntegerEnumValidator<Nullable>),
+    UniqueItems(UniqueItemsValidator),
 }
 
 /// What is said of the validator, whichever it is.
@@ -64,6 +78,15 @@ macro_rules! whichever {
             LeafValidator::ConstNumber($validator) => $answer,
             LeafValidator::ConstObject($validator) => $answer,
             LeafValidator::ConstString($validator) => $answer,
+            LeafValidator::Enum($validator) => $answer,
+            LeafValidator::SingleValueEnum($validator) => $answer,
+            LeafValidator::SmallStringEnum($validator) => $answer,
+            LeafValidator::NullableSmallStringEnum($validator) => $answer,
+            LeafValidator::BigStringEnum($validator) => $answer,
+            LeafValidator::NullableBigStringEnum($validator) => $answer,
+            LeafValidator::IntegerEnum($validator) => $answer,
+            LeafValidator::NullableIntegerEnum($validator) => $answer,
+            LeafValidator::UniqueItems($validator) => $answer,
         }
     };
 }

@@ -3,10 +3,12 @@
 
 pub mod boolean;
 pub mod const_;
+pub mod enum_;
 mod floats;
 pub mod leaf;
 pub mod legacy;
 pub mod type_;
+pub mod unique_items;
 
 pub use leaf::LeafValidator;
 

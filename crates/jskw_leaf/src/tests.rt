@@ -1,10 +1,11 @@
 // What the tests of the keywords share: a schema's keyword is compiled, and its observers are asked of an instance.
 mod constants;
+mod enums;
 mod types;
 
 use crate::leaf::LeafValidator;
 use crate::legacy::type_draft_4;
-use crate::{const_, type_};
+use crate::{const_, enum_, type_, unique_items};
 use jskw_report::{
     CompilationResult, CompileFault, Context, Draft, EnumOptions, EvaluationResult, Fault,
     LazyLocation, LocationSegment, Settings, TypeKind, Validate, ValidationContext,
@@ -151,6 +152,8 @@ fn compile<'a, F: Json>(
     match name {
         "type" => compile_type(alloc, ctx, parent, schema),
         "const" => const_::compile(alloc, ctx, parent, schema),
+        "enum" => enum_::compile(alloc, ctx, parent, schema),
+        "uniqueItems" => unique_items::compile(alloc, ctx, parent, schema),
         _ => None,
     }
 }

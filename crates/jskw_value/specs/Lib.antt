@@ -8,6 +8,7 @@ pub mod Laws
 pub mod Members
 pub mod Number
 pub mod Pointer
+pub mod PropertyName
 pub mod Serde
 pub mod Text
 pub mod Tree

@@ -3,6 +3,7 @@ mod equality;
 mod floats;
 mod members;
 mod memory;
+mod names;
 mod nodes;
 mod text;
 mod types;

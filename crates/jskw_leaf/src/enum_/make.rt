@@ -1,0 +1,204 @@
+//! The validator of options.
+ghost use Rattle.std.specs.Prelude.{◌≡◌, true, codes, IfOk};
+ghost use Rattle.serde_json.specs.Data.{array, item, no_items};
+ghost use Rattle.serde_json.specs.Find.{as_str};
+ghost use Rattle.serde_json.specs.View.{view, items_view, members_view};
+ghost use Rattle.jskw_value.specs.Pointer.{member_location};
+ghost use Rattle.jskw_value.specs.Types.{no_types};
+ghost use Rattle.jskw_report.specs.Compile.{Makes, Compiles, reading};
+ghost use Rattle.jskw_report.specs.Fault.{enum_value, map_ok};
+ghost use Rattle.jskw_report.specs.Keyword.{assertion, among};
+ghost use Rattle.jskw_report.specs.declared.keyword.KeywordName.TheVariants.{Enum};
+ghost use Rattle.jskw_leaf.specs.Meaning.{among_at, leaf_keyword};
+ghost use Rattle.jskw_leaf.specs.Options.{only, has_null, integer_of, option_types};
+
+use super::{
+    BigStringEnumValidator, EnumValidator, IntegerEnumValidator, SingleValueEnumValidator,
+    SmallStringEnumValidator,
+};
+use crate::floats::refuse_floats;
+use crate::leaf::LeafValidator;
+use crate::type_::single;
+use jskw_report::{
+    CompilationResult, CompileFault, Context, Location, LocationSegment, ValidationError,
+};
+use jskw_value::{Json, JsonType, JsonTypeSet};
+use serde_json::{Map, Value};
+use std::alloc::{AllocError, Global};
+
+/// Up to so many strings are compared one by one.
+const STRING_ENUM_THRESHOLD: usize = 10;
+
+/// Compiles `enum`, whose value is `schema` and stands in `parent`; `ctx` is at the location of that object. The validator
+/// is chosen by the number and the types of the options, and there always is one. A value that is no array is an error of
+/// the type array. An array that holds a float is a compile error with the message `Not a whole number of 64 bits`, whose
+/// value at fault is the first float. Else only memory can fail.
+#[tactic(auto, unfolding(jskw_report::specs::Read::asserted))]
+pub fn compile<'a, F: Json>(
+    alloc: Global,
+    ctx: &Context<'_, F>,
+    parent: &'a Map<String, Value>,
+    schema: &'a Value,
+) -> Option<CompilationResult<'a, LeafValidator<F>>>
+    ensures { Compiles leaf_keyword result
+        (reading Enum ctx.now (members_view parent.now.entries) (view schema.now)) }
+{
+    let _ = parent;
+    Some(make(alloc, ctx.location(), schema))
+}
+
+#[tactic(auto, using(crate::proofs::Options::as_value))]
+fn make<'a, F: Json>(
+    alloc: Global,
+    parent: &Location,
+    schema: &'a Value,
+) -> CompilationResult<'a, LeafValidator<F>>
+    ensures { let q = member_location parent.now (codes "enum") in
+        Makes leaf_keyword result (map_ok (λ ds. assertion q (among ds)) (enum_value q (view schema.now))) }
+{
+    let location = parent.join(alloc, LocationSegment::Name("enum"))?;
+    let Value::Array(items) = schema else {
+        let kind = single(JsonType::Array);
+        return Err(CompileFault::Bad(ValidationError::refused(alloc, kind, location, schema)));
+    };
+    refuse_floats(alloc, &location, schema)?;
+    Ok(validator_of(alloc, schema, items.as_slice(), location)?)
+}
+
+/// The validator of these items of the options, by their number and types.
+fn validator_of<F: Json>(
+    alloc: Global,
+    options: &Value,
+    items: &[Value],
+    location: Location,
+) -> Result<LeafValidator<F>, AllocError>
+    requires { view options.now ≡ array (items_view items.now) }
+    ensures { IfOk result (λ v. leaf_keyword v ≡ among_at location options.now) }
+{
+    if items.len() == 1 {
+        return one_value(options, &items[0], location);
+    }
+    if are_strings(items) {
+        return strings(alloc, options, items, location);
+    }
+    if are_integers(items) {
+        return integers(alloc, options, items, location);
+    }
+    Ok(LeafValidator::Enum(EnumValidator {
+        options: options.clone()?,
+        types: types_of(items),
+        location,
+    }))
+}
+
+/// The validator of the only item.
+fn one_value<F: Json>(
+    options: &Value,
+    value: &Value,
+    location: Location,
+) -> Result<LeafValidator<F>, AllocError>
+    requires { view options.now ≡ array (item (view value.now) no_items) }
+    ensures { IfOk result (λ v. leaf_keyword v ≡ among_at location options.now) }
+{
+    Ok(LeafValidator::SingleValueEnum(SingleValueEnumValidator {
+        options: options.clone()?,
+        value: value.clone()?,
+        location,
+    }))
+}
+
+/// The validator of items that are strings or null.
+fn strings<F: Json>(
+    alloc: Global,
+    options: &Value,
+    items: &[Value],
+    location: Location,
+) -> Result<LeafValidator<F>, AllocError>
+    requires array { view options.now ≡ array (items_view items.now) }
+    requires texts { only as_str (items_view items.now) ≡ true }
+    ensures { IfOk result (λ v. leaf_keyword v ≡ among_at location options.now) }
+{
+    match (items.len() <= STRING_ENUM_THRESHOLD, has_null(items)) {
+        (true, true) => Ok(LeafValidator::NullableSmallStringEnum(SmallStringEnumValidator::compile(
+            alloc, options, items, location,
+        )?)),
+        (true, false) => Ok(LeafValidator::SmallStringEnum(SmallStringEnumValidator::compile(
+            alloc, options, items, location,
+        )?)),
+        (false, true) => Ok(LeafValidator::NullableBigStringEnum(BigStringEnumValidator::compile(
+            alloc, options, items, location,
+        )?)),
+        (false, false) => Ok(LeafValidator::BigStringEnum(BigStringEnumValidator::compile(
+            alloc, options, items, location,
+        )?)),
+    }
+}
+
+/// The validator of items that are integers or null.
+fn integers<F: Json>(
+    alloc: Global,
+    options: &Value,
+    items: &[Value],
+    location: Location,
+) -> Result<LeafValidator<F>, AllocError>
+    requires array { view options.now ≡ array (items_view items.now) }
+    requires integers { only integer_of (items_view items.now) ≡ true }
+    ensures { IfOk result (λ v. leaf_keyword v ≡ among_at location options.now) }
+{
+    if has_null(items) {
+        Ok(LeafValidator::NullableIntegerEnum(IntegerEnumValidator::compile(
+            alloc, options, items, location,
+        )?))
+    } else {
+        Ok(LeafValidator::IntegerEnum(IntegerEnumValidator::compile(
+            alloc, options, items, location,
+        )?))
+    }
+}
+
+/// Whether each item is a string or null.
+fn are_strings(items: &[Value]) -> bool
+    ensures { result ≡ only as_str (items_view items.now) }
+{
+    for item in items {
+        if !(item.as_str().is_some() || item.is_null()) {
+            return false;
+        }
+    }
+    true
+}
+
+/// Whether each item is an integer from -2^63 to 2^63 - 1, or null.
+fn are_integers(items: &[Value]) -> bool
+    ensures { result ≡ only integer_of (items_view items.now) }
+{
+    for item in items {
+        if !(item.as_i64().is_some() || item.is_null()) {
+            return false;
+        }
+    }
+    true
+}
+
+/// Whether an item is null.
+fn has_null(items: &[Value]) -> bool
+    ensures { result ≡ has_null (items_view items.now) }
+{
+    for item in items {
+        if item.is_null() {
+            return true;
+        }
+    }
+    false
+}
+
+/// The types of the items.
+fn types_of(items: &[Value]) -> JsonTypeSet
+    ensures { result ≡ option_types no_types (items_view items.now) }
+{
+    let mut types = JsonTypeSet::empty();
+    for item in items {
+        types = types.insert(JsonType::from(item));
+    }
+    types
+}
