@@ -7,7 +7,7 @@ use Rattle.jskw_report.specs.Compile.{reading}
 use Rattle.jskw_report.specs.Read.{asserted, part, part_named, read_word}
 use Rattle.jskw_report.specs.Setting.{Spot, keywords, name_of, stands}
 use Rattle.jskw_report.specs.declared.keyword.KeywordName.{KeywordName}
-use Rattle.jskw_report.specs.declared.keyword.KeywordName.TheVariants.{TypeKeyword, MinItems, MaxItems, Const, Minimum, Maximum, ExclusiveMinimum, ExclusiveMaximum, MultipleOf, MinProperties, MaxProperties}
+use Rattle.jskw_report.specs.declared.keyword.KeywordName.TheVariants.{TypeKeyword, MinItems, MaxItems, UniqueItems, Const, Enum, Minimum, Maximum, ExclusiveMinimum, ExclusiveMaximum, MultipleOf, MinProperties, MaxProperties}
 use Rattle.jskw.specs.Answer.{is_built, program_keywords}
 
 pub built_at : (i : ℕ) (w : KeywordName) → i < length program_keywords → is_built (get_or program_keywords i w) ≡ true
@@ -22,7 +22,9 @@ built_at (suc (suc (suc (suc (suc (suc (suc zero))))))) w h = refl
 built_at (suc (suc (suc (suc (suc (suc (suc (suc zero)))))))) w h = refl
 built_at (suc (suc (suc (suc (suc (suc (suc (suc (suc zero))))))))) w h = refl
 built_at (suc (suc (suc (suc (suc (suc (suc (suc (suc (suc zero)))))))))) w h = refl
-built_at (suc (suc (suc (suc (suc (suc (suc (suc (suc (suc (suc i))))))))))) w h = absurd (omega (arith, h))
+built_at (suc (suc (suc (suc (suc (suc (suc (suc (suc (suc (suc zero))))))))))) w h = refl
+built_at (suc (suc (suc (suc (suc (suc (suc (suc (suc (suc (suc (suc zero)))))))))))) w h = refl
+built_at (suc (suc (suc (suc (suc (suc (suc (suc (suc (suc (suc (suc (suc i))))))))))))) w h = absurd (omega (arith, h))
 
 -- what it asserts is read of its value alone
 same_reading : (w : KeywordName) (spot : Spot) (ms : Members) (d : Data) → is_built w ≡ true → asserted w spot.setting spot.location ms (part program_keywords d) ≡ reading w spot ms d
@@ -30,7 +32,9 @@ unfolding asserted
 same_reading TypeKeyword spot ms d h = refl
 same_reading MinItems spot ms d h = refl
 same_reading MaxItems spot ms d h = refl
+same_reading UniqueItems spot ms d h = refl
 same_reading Const spot ms d h = refl
+same_reading Enum spot ms d h = refl
 same_reading Minimum spot ms d h = refl
 same_reading Maximum spot ms d h = refl
 same_reading ExclusiveMinimum spot ms d h = refl

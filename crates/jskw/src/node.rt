@@ -17,7 +17,7 @@ ghost use Rattle.jskw.specs.Node.{keywords_of, node_schema};
 
 use jskw_leaf::boolean::FalseValidator;
 use jskw_leaf::legacy::type_draft_4;
-use jskw_leaf::{LeafValidator, const_, type_};
+use jskw_leaf::{LeafValidator, const_, enum_, type_, unique_items};
 use jskw_number::legacy::{maximum_draft_4, minimum_draft_4};
 use jskw_number::{
     NumberValidator, max_items, max_properties, min_items, min_properties, minmax, multiple_of,
@@ -53,11 +53,13 @@ struct Unit<F: Json> {
     validator: LeafValidator<F>,
 }
 
-const KEYWORDS: [KeywordName; 11] = [
+const KEYWORDS: [KeywordName; 13] = [
     KeywordName::TypeKeyword,
     KeywordName::MinItems,
     KeywordName::MaxItems,
+    KeywordName::UniqueItems,
     KeywordName::Const,
+    KeywordName::Enum,
     KeywordName::Minimum,
     KeywordName::Maximum,
     KeywordName::ExclusiveMinimum,
@@ -149,7 +151,9 @@ fn compile_keyword<'a, F: Json>(
             Draft::Draft4 => type_draft_4::compile(alloc, ctx, parent, schema),
             _ => type_::compile(alloc, ctx, parent, schema),
         },
+        KeywordName::UniqueItems => unique_items::compile(alloc, ctx, parent, schema),
         KeywordName::Const => const_::compile(alloc, ctx, parent, schema),
+        KeywordName::Enum => enum_::compile(alloc, ctx, parent, schema),
         _ => of_number(compile_number(alloc, ctx, parent, keyword, schema)),
     }
 }

@@ -4,6 +4,7 @@ ghost use Rattle.std.specs.Prelude.{◌<◌};
 mod devices;
 mod node;
 mod numbers;
+mod options;
 mod requests;
 
 use crate::memory::{ArraySink, SliceSource};
