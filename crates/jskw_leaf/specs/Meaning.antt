@@ -111,6 +111,7 @@ enum_any v = among_at v.location v.options
 abbrev pub enum_single : SingleValueEnumValidator → Keyword
 enum_single v = among_at v.location v.options
 
+-- those of strings or integers: N tells whether null is among them, and g is what is known of N
 abbrev pub enum_small_string : {N : Type 0} {g : _} → SmallStringEnumValidator N g → Keyword
 enum_small_string v = among_at v.location v.options
 
@@ -119,6 +120,8 @@ enum_big_string v = among_at v.location v.options
 
 abbrev pub enum_integer : {N : Type 0} {g : _} → IntegerEnumValidator N g → Keyword
 enum_integer v = among_at v.location v.options
+
+-- ---- `uniqueItems`
 
 abbrev pub unique_items : UniqueItemsValidator → Keyword
 unique_items v = assertion v.location unique

@@ -29,11 +29,11 @@ some_text names s = list_any (λ n. bytes_eq n s) names
 abbrev pub some_integer : List ℤ → Num → Bool
 some_integer zs n = list_any (λ z. num_equal (exact z zero) n) zs
 
--- the trees that are options: of those with a text or number, as `kind` takes it, those that pass the test, and else null where it is listed
+-- which trees are options: where `kind` sees a string or a number, what passes the test; else null, where it is listed
 abbrev pub AreOptions : {Y : Type 0} → (Tree → Option Y) → (Y → Bool) → Bool → Items → Type 0
 AreOptions kind test null ds = (t : Tree) → is_option ds t ≡ option_map_or test (kind t) (null && is_null t)
 
--- what is picked of the options
+-- what `pick` takes of the options
 abbrev pub picked : {X : Type 0} → (Data → Option X) → Items → List X
 picked pick no_items = []
 picked pick (item d ds) = option_map_or (λ x. x ∷ picked pick ds) (pick d) (picked pick ds)
@@ -47,12 +47,12 @@ abbrev pub has_null : Items → Bool
 has_null no_items = false
 has_null (item d ds) = is_some (as_null d) || has_null ds
 
--- each option is picked, or null
+-- `pick` takes each option, or it is null
 abbrev pub only : {X : Type 0} → (Data → Option X) → Items → Bool
 only pick no_items = true
 only pick (item d ds) = (is_some (pick d) || is_some (as_null d)) && only pick ds
 
--- the set with the types of the options too
+-- the set with the types of the options
 abbrev pub option_types : JsonTypeSet → Items → JsonTypeSet
 option_types s no_items = s
 option_types s (item d ds) = option_types (insert (json_type (tree_of d)) s) ds

@@ -19,8 +19,8 @@ use serde_json::Value;
 use std::alloc::{AllocError, Global};
 use std::cmp::Ordering;
 
-/// The validator of integers, and of null where the type says so. The integers are sorted, and a number is looked up by its value, by halves:
-/// 1.0 is 1.
+/// The validator of integers, and of null where the type says so. The integers are sorted, and a number is looked up by
+/// its value, by halves: 1.0 is 1.
 #[derive(Drop)]
 pub struct IntegerEnumValidator<N: Nullability> {
     options: Value,
@@ -35,8 +35,8 @@ pub struct IntegerEnumValidator<N: Nullability> {
 impl<N: Nullability> IntegerEnumValidator<N> {
     ghost use Rattle.jskw_leaf.specs.Meaning.{among_at, enum_integer};
 
-    /// The validator of these items of the options, each an integer from -2^63 to 2^63 - 1 or null, with null among them where
-    /// the type says so. Only memory can fail.
+    /// The validator of these items of the options, each an integer from -2^63 to 2^63 - 1 or null, with null among
+    /// them where the type says so. Only memory can fail.
     pub(super) fn compile(
         alloc: Global,
         options: &Value,

@@ -4,7 +4,6 @@ ghost use Rattle.std.specs.List.Sorted.{IsSorted, IsPermutation};
 ghost use Rattle.serde_json.specs.Data.{array};
 ghost use Rattle.serde_json.specs.Find.{as_array, as_str};
 ghost use Rattle.serde_json.specs.View.{view, items_view};
-ghost use Rattle.jskw_value.specs.PropertyName.{head_of};
 ghost use Rattle.jskw_value.specs.Tree.{as_string};
 ghost use Rattle.jskw_leaf.specs.Options.{options_of, AreOptions, some_text, text_against, picked, only, has_null};
 
@@ -18,7 +17,7 @@ use serde_json::Value;
 use std::alloc::{AllocError, Global};
 use std::cmp::Ordering;
 
-/// The validator of a few strings, and of null where the type says so. A string is compared with each option, by its head first.
+/// The validator of a few strings, and of null where the type says so. A string is compared with each, by its head first.
 #[derive(Drop)]
 pub struct SmallStringEnumValidator<N: Nullability> {
     options: Value,
@@ -32,8 +31,8 @@ pub struct SmallStringEnumValidator<N: Nullability> {
 impl<N: Nullability> SmallStringEnumValidator<N> {
     ghost use Rattle.jskw_leaf.specs.Meaning.{among_at, enum_small_string};
 
-    /// The validator of these items of the options, each a string or null, with null among them where the type says so. Only
-    /// memory can fail.
+    /// The validator of these items of the options, each a string or null, with null among them where the type says
+    /// so. Only memory can fail.
     pub(super) fn compile(
         alloc: Global,
         options: &Value,
@@ -105,7 +104,8 @@ impl<F: Json, N: Nullability> Validate<F> for SmallStringEnumValidator<N> {
     }
 }
 
-/// The validator of many strings, and of null where the type says so. The strings are sorted, and a string is looked up by halves.
+/// The validator of many strings, and of null where the type says so. The strings are sorted, and one is looked up by
+/// halves.
 #[derive(Drop)]
 pub struct BigStringEnumValidator<N: Nullability> {
     options: Value,
@@ -120,8 +120,8 @@ pub struct BigStringEnumValidator<N: Nullability> {
 impl<N: Nullability> BigStringEnumValidator<N> {
     ghost use Rattle.jskw_leaf.specs.Meaning.{among_at, enum_big_string};
 
-    /// The validator of these items of the options, each a string or null, with null among them where the type says so. Only
-    /// memory can fail.
+    /// The validator of these items of the options, each a string or null, with null among them where the type says
+    /// so. Only memory can fail.
     pub(super) fn compile(
         alloc: Global,
         options: &Value,
