@@ -1,1 +1,4 @@
+pub mod Counting
+pub mod Lookups
+pub mod Marking
 pub mod Types

@@ -6,6 +6,7 @@ pub mod const_;
 mod floats;
 pub mod leaf;
 pub mod legacy;
+pub mod required;
 pub mod type_;
 
 pub use leaf::LeafValidator;

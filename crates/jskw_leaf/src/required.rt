@@ -1,0 +1,3 @@
+//! `required` (Validation 6.5.3): an object has a member of each name.
+mod found;
+mod prepared;

@@ -1,0 +1,86 @@
+//! Which of some names an object has. A few names are looked for in one walk over an object of not too many members; else
+//! each is looked up by its key.
+ghost use Rattle.std.specs.Prelude.{◌≡◌, ◌<◌, ◌≤◌, ◌^◌, IfSome, Some, IsTrue, is_some, not, length, slice_get};
+ghost use Rattle.std.specs.List.{list_all, IsDistinct};
+ghost use Rattle.std.specs.Str.{bytes_eq};
+ghost use Rattle.jskw_value.specs.Tree.{has_name, is_object};
+ghost use Rattle.jskw_leaf.specs.Required.{is_among, Marks};
+
+use super::prepared::PreparedName;
+use jskw_value::{Json, KeyHead, Object};
+
+/// The most names that one walk looks for; of more the comparisons would take longer than look-ups.
+const MAX_SCANNED_REQUIRED: usize = 16;
+
+/// Whether the object has every name.
+#[tactic(auto, using(crate::proofs::Counting::too_few))]
+pub(crate) fn has_all<F: Json>(names: &[PreparedName<F>], object: &F::Node) -> bool
+    requires object { IsTrue (is_object (F.Node.tree object.now)) }
+    requires distinct { IsDistinct bytes_eq names.now }
+    ensures { result ≡ list_all (has_name (F.Node.tree object.now)) names.now }
+{
+    if Object::len(object) < names.len() {
+        return false;
+    }
+    if is_scanned::<F>(names.len(), object) {
+        walk_finds_all(names, object)
+    } else {
+        lookups_find_all(names, object)
+    }
+}
+
+/// Whether so many names are looked for in one walk over the object.
+fn is_scanned<F: Json>(count: usize, object: &F::Node) -> bool
+    requires { IsTrue (is_object (F.Node.tree object.now)) }
+    ensures { IsTrue result → count ≤ 16 }
+{
+    count <= MAX_SCANNED_REQUIRED && Object::len(object) <= F::KEYS_PER_LOOKUP.saturating_mul(count)
+}
+
+/// Counts the names that a walk meets, and stops where none is left to be met: both the names and those of the members are
+/// distinct.
+#[tactic(auto, using(crate::proofs::Counting::found_at_most, crate::proofs::Counting::all_found, crate::proofs::Counting::not_all_found))]
+fn walk_finds_all<F: Json>(names: &[PreparedName<F>], object: &F::Node) -> bool
+    requires object { IsTrue (is_object (F.Node.tree object.now)) }
+    requires distinct { IsDistinct bytes_eq names.now }
+    ensures { result ≡ list_all (has_name (F.Node.tree object.now)) names.now }
+{
+    let mut found = 0;
+    for (text, _) in object.walk() {
+        if found == names.len() {
+            return true;
+        }
+        if place_of(names, text).is_some() {
+            found += 1;
+        }
+    }
+    found == names.len()
+}
+
+#[tactic(auto, using(crate::proofs::Counting::all_step, crate::proofs::Counting::all_end))]
+fn lookups_find_all<F: Json>(names: &[PreparedName<F>], object: &F::Node) -> bool
+    requires { IsTrue (is_object (F.Node.tree object.now)) }
+    ensures { result ≡ list_all (has_name (F.Node.tree object.now)) names.now }
+{
+    for name in names {
+        if !name.is_in(object) {
+            return false;
+        }
+    }
+    true
+}
+
+/// The index of the text among the names.
+#[tactic(auto, using(crate::proofs::Marking::place_step, crate::proofs::Marking::place_end, crate::proofs::Marking::place_found))]
+fn place_of<F: Json>(names: &[PreparedName<F>], text: &str) -> Option<usize>
+    ensures place { IfSome result (λ i. (i < length names.now) × (slice_get names.now i ≡ Some text.now)) }
+    ensures found { is_some result ≡ is_among names.now text.now }
+{
+    let head = KeyHead::of(text);
+    for i in 0..names.len() {
+        if names[i].matches(head, text) {
+            return Some(i);
+        }
+    }
+    None
+}
