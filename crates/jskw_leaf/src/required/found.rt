@@ -1,6 +1,7 @@
 //! Which of some names an object has. A few names are looked for in one walk over an object of not too many members; else
 //! each is looked up by its key.
-ghost use Rattle.std.specs.Prelude.{◌≡◌, ◌<◌, ◌≤◌, ◌^◌, IfSome, Some, IsTrue, is_some, not, length, slice_get};
+ghost use Rattle.std.specs.Prelude.{◌≡◌, ◌<◌, ◌≤◌, ◌==◌, ◌^◌, [], IfSome, Some, IsTrue, is_some, not, length, slice_get, slice_index_or};
+ghost use Rattle.std.specs.Int.{bit_at};
 ghost use Rattle.std.specs.List.{list_all, IsDistinct};
 ghost use Rattle.std.specs.Str.{bytes_eq};
 ghost use Rattle.jskw_value.specs.Tree.{has_name, is_object};
@@ -83,4 +84,72 @@ fn place_of<F: Json>(names: &[PreparedName<F>], text: &str) -> Option<usize>
         }
     }
     None
+}
+
+/// The names that one walk finds, a bit for each by its index; None where the names are to be looked up.
+pub(crate) fn scanned<F: Json>(names: &[PreparedName<F>], object: &F::Node) -> Option<u32>
+    requires object { IsTrue (is_object (F.Node.tree object.now)) }
+    requires distinct { IsDistinct bytes_eq names.now }
+    ensures few { IfSome result (λ _. length names.now ≤ 16) }
+    ensures marks { IfSome result (λ found. Marks found (F.Node.tree object.now) names.now) }
+{
+    if is_scanned::<F>(names.len(), object) {
+        Some(found_by_walk(names, object))
+    } else {
+        None
+    }
+}
+
+/// Whether the object lacks the name at an index. `found` is the answer of [`scanned`].
+pub(crate) fn is_missing<F: Json>(
+    names: &[PreparedName<F>],
+    index: usize,
+    found: Option<u32>,
+    object: &F::Node,
+) -> bool
+    requires object { IsTrue (is_object (F.Node.tree object.now)) }
+    requires index { index < length names.now }
+    requires few { IfSome found (λ _. length names.now ≤ 16) }
+    requires marks { IfSome found (λ found. Marks found (F.Node.tree object.now) names.now) }
+    ensures { result ≡ not (has_name (F.Node.tree object.now) (slice_index_or names.now index [])) }
+{
+    match found {
+        Some(found) => !has_bit(found, index),
+        None => !names[index].is_in(object),
+    }
+}
+
+/// Marks the names that a walk meets, and stops where all are marked.
+fn found_by_walk<F: Json>(names: &[PreparedName<F>], object: &F::Node) -> u32
+    requires object { IsTrue (is_object (F.Node.tree object.now)) }
+    requires few { length names.now ≤ 16 }
+    requires distinct { IsDistinct bytes_eq names.now }
+    ensures { Marks result (F.Node.tree object.now) names.now }
+{
+    let all = bit(names.len()) - 1;
+    let mut found = 0;
+    for (text, _) in object.walk() {
+        if found == all {
+            return found;
+        }
+        if let Some(place) = place_of(names, text) {
+            found |= bit(place);
+        }
+    }
+    found
+}
+
+fn bit(place: usize) -> u32
+    requires { place ≤ 16 }
+    ensures value { result ≡ 2 ^ place }
+    ensures low { 1 ≤ result }
+{
+    1 << place
+}
+
+fn has_bit(mask: u32, place: usize) -> bool
+    requires { place ≤ 16 }
+    ensures { result ≡ (bit_at mask place == 1) }
+{
+    mask >> place & 1 == 1
 }
