@@ -1,4 +1,6 @@
 pub mod Counting
+pub mod Lacking
 pub mod Lookups
 pub mod Marking
 pub mod Types
+pub mod Units
