@@ -7,7 +7,7 @@ use Rattle.jskw_value.specs.declared.types.JsonType.TheVariants.{Array, Boolean,
 use Rattle.jskw_report.specs.declared.error.TypeKind.TheVariants.{Single, Multiple}
 use Rattle.jskw_report.specs.Read.{integers_of}
 use Rattle.jskw_report.specs.declared.settings.Draft.TheVariants.{Draft4}
-use Rattle.jskw_report.specs.Keyword.{Keyword, assertion, constant, never, type_is, Integers, by_value, as_written}
+use Rattle.jskw_report.specs.Keyword.{Keyword, assertion, constant, never, required, type_is, Integers, by_value, as_written}
 use Rattle.jskw_number.specs.Meaning.{number_keyword}
 use Rattle.jskw_leaf.specs.declared.boolean.FalseValidator.{FalseValidator}
 use Rattle.jskw_leaf.specs.declared.type_.MultipleTypesValidator.{MultipleTypesValidator}
@@ -26,6 +26,10 @@ use Rattle.jskw_leaf.specs.declared.const_.ConstNullValidator.{ConstNullValidato
 use Rattle.jskw_leaf.specs.declared.const_.ConstNumberValidator.{ConstNumberValidator}
 use Rattle.jskw_leaf.specs.declared.const_.ConstObjectValidator.{ConstObjectValidator}
 use Rattle.jskw_leaf.specs.declared.const_.ConstStringValidator.{ConstStringValidator}
+use Rattle.jskw_leaf.specs.declared.required.RequiredValidator.{RequiredValidator}
+use Rattle.jskw_leaf.specs.declared.required.SingleItemRequiredValidator.{SingleItemRequiredValidator}
+use Rattle.jskw_leaf.specs.declared.required.Required2Validator.{Required2Validator}
+use Rattle.jskw_leaf.specs.declared.required.Required3Validator.{Required3Validator}
 use Rattle.jskw_leaf.specs.declared.leaf.LeafValidator.{LeafValidator}
 use Rattle.jskw_leaf.specs.declared.leaf.LeafValidator.TheVariants.{False, Number as number, MultipleTypes, ArrayType, BooleanType, IntegerType, NullType, NumberType, ObjectType, StringType, MultipleTypesDraft4, IntegerTypeDraft4, ConstArray, ConstBoolean, ConstNull, ConstNumber, ConstObject, ConstString}
 
@@ -91,6 +95,20 @@ const_object v = constant_at v.location v.value
 
 abbrev pub const_string : ConstStringValidator → Keyword
 const_string v = constant_at v.location v.value
+
+-- ---- `required`; F, N, O and P are the types of a representation
+
+abbrev pub several_names : {F N O P : Type 0} → RequiredValidator F N O P → Keyword
+several_names v = assertion v.location (required v.required)
+
+abbrev pub one_name : {F N O P : Type 0} → SingleItemRequiredValidator F N O P → Keyword
+one_name v = assertion v.location (required v.required)
+
+abbrev pub two_names : {F N O P : Type 0} → Required2Validator F N O P → Keyword
+two_names v = assertion v.location (required v.required)
+
+abbrev pub three_names : {F N O P : Type 0} → Required3Validator F N O P → Keyword
+three_names v = assertion v.location (required v.required)
 
 -- ---- any of them; F, N, O and P are the types of a representation
 

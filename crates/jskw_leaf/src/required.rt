@@ -1,4 +1,206 @@
 //! `required` (Validation 6.5.3): an object has a member of each name.
 mod found;
 mod missing;
+mod names;
 mod prepared;
+
+use found::has_all;
+use jskw_report::{
+    EvaluationResult, Fault, LazyLocation, Location, Validate, ValidationContext, ValidationError,
+};
+use jskw_value::{Json, Node};
+use missing::{append_missing, evaluate_errors, fail_first};
+use names::{NameArray, NameList};
+use std::alloc::{AllocError, Global};
+
+/// The validator of any number of names.
+#[derive(Drop)]
+pub struct RequiredValidator<F: Json> {
+    required: NameList<F>,
+    location: Location,
+}
+
+impl<F: Json> Validate<F> for RequiredValidator<F> {
+    ghost use Rattle.jskw_leaf.specs.Meaning.{several_names};
+
+    ghost keyword = { several_names };
+
+    fn is_valid(&self, instance: &F::Node, _ctx: &mut ValidationContext) -> bool {
+        !instance.is_object() || has_all(self.required.as_slice(), instance)
+    }
+
+    fn validate<'i>(
+        &'i self,
+        instance: &'i F::Node,
+        location: &mut LazyLocation,
+        _ctx: &mut ValidationContext,
+    ) -> Result<(), Fault<'i, F>> {
+        fail_first(self.required.as_slice(), &self.location, instance, location)
+    }
+
+    fn collect_errors<'i>(
+        &'i self,
+        instance: &'i F::Node,
+        location: &mut LazyLocation,
+        _ctx: &mut ValidationContext,
+        errors: &mut Vec<ValidationError<'i, F>>,
+    ) -> Result<(), AllocError> {
+        append_missing(self.required.as_slice(), &self.location, instance, location, errors)
+    }
+
+    fn evaluate(
+        &self,
+        alloc: Global,
+        instance: &F::Node,
+        location: &mut LazyLocation,
+        ctx: &mut ValidationContext,
+    ) -> Result<EvaluationResult, AllocError> {
+        let mut errors = Vec::new(alloc);
+        self.collect_errors(instance, location, ctx, &mut errors)?;
+        evaluate_errors(alloc, &errors)
+    }
+}
+
+/// The validator of one name.
+#[derive(Drop)]
+pub struct SingleItemRequiredValidator<F: Json> {
+    required: NameArray<F, 1>,
+    location: Location,
+}
+
+impl<F: Json> Validate<F> for SingleItemRequiredValidator<F> {
+    ghost use Rattle.jskw_leaf.specs.Meaning.{one_name};
+
+    ghost keyword = { one_name };
+
+    fn is_valid(&self, instance: &F::Node, _ctx: &mut ValidationContext) -> bool {
+        !instance.is_object() || has_all(self.required.as_slice(), instance)
+    }
+
+    fn validate<'i>(
+        &'i self,
+        instance: &'i F::Node,
+        location: &mut LazyLocation,
+        _ctx: &mut ValidationContext,
+    ) -> Result<(), Fault<'i, F>> {
+        fail_first(self.required.as_slice(), &self.location, instance, location)
+    }
+
+    fn collect_errors<'i>(
+        &'i self,
+        instance: &'i F::Node,
+        location: &mut LazyLocation,
+        _ctx: &mut ValidationContext,
+        errors: &mut Vec<ValidationError<'i, F>>,
+    ) -> Result<(), AllocError> {
+        append_missing(self.required.as_slice(), &self.location, instance, location, errors)
+    }
+
+    fn evaluate(
+        &self,
+        alloc: Global,
+        instance: &F::Node,
+        location: &mut LazyLocation,
+        ctx: &mut ValidationContext,
+    ) -> Result<EvaluationResult, AllocError> {
+        let mut errors = Vec::new(alloc);
+        self.collect_errors(instance, location, ctx, &mut errors)?;
+        evaluate_errors(alloc, &errors)
+    }
+}
+
+/// The validator of two names.
+#[derive(Drop)]
+pub struct Required2Validator<F: Json> {
+    required: NameArray<F, 2>,
+    location: Location,
+}
+
+impl<F: Json> Validate<F> for Required2Validator<F> {
+    ghost use Rattle.jskw_leaf.specs.Meaning.{two_names};
+
+    ghost keyword = { two_names };
+
+    fn is_valid(&self, instance: &F::Node, _ctx: &mut ValidationContext) -> bool {
+        !instance.is_object() || has_all(self.required.as_slice(), instance)
+    }
+
+    fn validate<'i>(
+        &'i self,
+        instance: &'i F::Node,
+        location: &mut LazyLocation,
+        _ctx: &mut ValidationContext,
+    ) -> Result<(), Fault<'i, F>> {
+        fail_first(self.required.as_slice(), &self.location, instance, location)
+    }
+
+    fn collect_errors<'i>(
+        &'i self,
+        instance: &'i F::Node,
+        location: &mut LazyLocation,
+        _ctx: &mut ValidationContext,
+        errors: &mut Vec<ValidationError<'i, F>>,
+    ) -> Result<(), AllocError> {
+        append_missing(self.required.as_slice(), &self.location, instance, location, errors)
+    }
+
+    fn evaluate(
+        &self,
+        alloc: Global,
+        instance: &F::Node,
+        location: &mut LazyLocation,
+        ctx: &mut ValidationContext,
+    ) -> Result<EvaluationResult, AllocError> {
+        let mut errors = Vec::new(alloc);
+        self.collect_errors(instance, location, ctx, &mut errors)?;
+        evaluate_errors(alloc, &errors)
+    }
+}
+
+/// The validator of three names.
+#[derive(Drop)]
+pub struct Required3Validator<F: Json> {
+    required: NameArray<F, 3>,
+    location: Location,
+}
+
+impl<F: Json> Validate<F> for Required3Validator<F> {
+    ghost use Rattle.jskw_leaf.specs.Meaning.{three_names};
+
+    ghost keyword = { three_names };
+
+    fn is_valid(&self, instance: &F::Node, _ctx: &mut ValidationContext) -> bool {
+        !instance.is_object() || has_all(self.required.as_slice(), instance)
+    }
+
+    fn validate<'i>(
+        &'i self,
+        instance: &'i F::Node,
+        location: &mut LazyLocation,
+        _ctx: &mut ValidationContext,
+    ) -> Result<(), Fault<'i, F>> {
+        fail_first(self.required.as_slice(), &self.location, instance, location)
+    }
+
+    fn collect_errors<'i>(
+        &'i self,
+        instance: &'i F::Node,
+        location: &mut LazyLocation,
+        _ctx: &mut ValidationContext,
+        errors: &mut Vec<ValidationError<'i, F>>,
+    ) -> Result<(), AllocError> {
+        append_missing(self.required.as_slice(), &self.location, instance, location, errors)
+    }
+
+    fn evaluate(
+        &self,
+        alloc: Global,
+        instance: &F::Node,
+        location: &mut LazyLocation,
+        ctx: &mut ValidationContext,
+    ) -> Result<EvaluationResult, AllocError> {
+        let mut errors = Vec::new(alloc);
+        self.collect_errors(instance, location, ctx, &mut errors)?;
+        evaluate_errors(alloc, &errors)
+    }
+}
