@@ -1,4 +1,5 @@
 pub mod Counting
+pub mod Distinct
 pub mod Lacking
 pub mod Lookups
 pub mod Marking

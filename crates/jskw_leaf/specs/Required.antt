@@ -1,11 +1,14 @@
 -- Which names an object has, and the errors of those that it lacks.
-use Rattle.std.specs.Prelude.{◌≡◌, ℕ, List, Bool, Some, cond, slice_get}
+use Rattle.std.specs.Prelude.{◌≡◌, ℕ, List, Bool, Some, Result, Ok, cond, slice_get}
 use Rattle.std.specs.Int.{bit_at}
 use Rattle.std.specs.List.{list_any}
 use Rattle.std.specs.Str.{bytes_eq}
+use Rattle.serde_json.specs.Data.{Data, string}
 use Rattle.jskw_value.specs.Pointer.{Pointer}
 use Rattle.jskw_value.specs.Tree.{Tree, has_name}
+use Rattle.jskw_value.specs.declared.types.JsonType.TheVariants.{String}
 use Rattle.jskw_report.specs.Fail.{Failure, keyword_fail}
+use Rattle.jskw_report.specs.Fault.{Fault, of_type, wrong}
 use Rattle.jskw_report.specs.Keyword.{assertion, required}
 use Rattle.jskw_report.specs.Kind.{Required}
 
@@ -24,3 +27,8 @@ required_fail q t p name = record { kind = Required name; instance_location = p;
 -- the errors of `required` of the names
 abbrev pub required_fails : Pointer → Tree → Pointer → List (List ℕ) → List Failure
 required_fails q t p names = keyword_fail (assertion q (required names)) t p
+
+-- the name that an item is
+abbrev pub name_value : Pointer → Data → Result (List ℕ) Fault
+name_value p (string s) = Ok s
+name_value p d = wrong (of_type String) p d

@@ -1,5 +1,6 @@
 //! `required` (Validation 6.5.3): an object has a member of each name.
 mod found;
+mod make;
 mod missing;
 mod names;
 mod prepared;
