@@ -1,5 +1,6 @@
 pub mod Counting
 pub mod Distinct
+pub mod HandedOn
 pub mod Lacking
 pub mod Lookups
 pub mod Marking

@@ -31,7 +31,7 @@ use Rattle.jskw_leaf.specs.declared.required.SingleItemRequiredValidator.{Single
 use Rattle.jskw_leaf.specs.declared.required.Required2Validator.{Required2Validator}
 use Rattle.jskw_leaf.specs.declared.required.Required3Validator.{Required3Validator}
 use Rattle.jskw_leaf.specs.declared.leaf.LeafValidator.{LeafValidator}
-use Rattle.jskw_leaf.specs.declared.leaf.LeafValidator.TheVariants.{False, Number as number, MultipleTypes, ArrayType, BooleanType, IntegerType, NullType, NumberType, ObjectType, StringType, MultipleTypesDraft4, IntegerTypeDraft4, ConstArray, ConstBoolean, ConstNull, ConstNumber, ConstObject, ConstString}
+use Rattle.jskw_leaf.specs.declared.leaf.LeafValidator.TheVariants.{False, Number as number, MultipleTypes, ArrayType, BooleanType, IntegerType, NullType, NumberType, ObjectType, StringType, MultipleTypesDraft4, IntegerTypeDraft4, ConstArray, ConstBoolean, ConstNull, ConstNumber, ConstObject, ConstString, Required, SingleItemRequired, Required2, Required3}
 
 abbrev pub false_keyword : FalseValidator → Keyword
 false_keyword v = assertion v.location never
@@ -99,21 +99,21 @@ const_string v = constant_at v.location v.value
 -- ---- `required`; F, N, O and P are the types of a representation
 
 abbrev pub several_names : {F N O P : Type 0} → RequiredValidator F N O P → Keyword
-several_names v = assertion v.location (required v.required)
+several_names v = assertion v.location (required v.names)
 
 abbrev pub one_name : {F N O P : Type 0} → SingleItemRequiredValidator F N O P → Keyword
-one_name v = assertion v.location (required v.required)
+one_name v = assertion v.location (required v.names)
 
 abbrev pub two_names : {F N O P : Type 0} → Required2Validator F N O P → Keyword
-two_names v = assertion v.location (required v.required)
+two_names v = assertion v.location (required v.names)
 
 abbrev pub three_names : {F N O P : Type 0} → Required3Validator F N O P → Keyword
-three_names v = assertion v.location (required v.required)
+three_names v = assertion v.location (required v.names)
 
 -- ---- any of them; F, N, O and P are the types of a representation
 
 abbrev pub leaf_keyword : {F N O P : Type 0} → LeafValidator F N O P → Keyword
-leaf_keyword (False v marker) = false_keyword v
+leaf_keyword (False v) = false_keyword v
 leaf_keyword (number v) = number_keyword v
 leaf_keyword (MultipleTypes v) = multiple_types v
 leaf_keyword (ArrayType v) = array_type v
@@ -131,3 +131,7 @@ leaf_keyword (ConstNull v) = const_null v
 leaf_keyword (ConstNumber v) = const_number v
 leaf_keyword (ConstObject v) = const_object v
 leaf_keyword (ConstString v) = const_string v
+leaf_keyword (Required v) = several_names v
+leaf_keyword (SingleItemRequired v) = one_name v
+leaf_keyword (Required2 v) = two_names v
+leaf_keyword (Required3 v) = three_names v

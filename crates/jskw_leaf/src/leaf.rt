@@ -7,6 +7,9 @@ use crate::const_::{
     ConstObjectValidator, ConstStringValidator,
 };
 use crate::legacy::type_draft_4;
+use crate::required::{
+    Required2Validator, Required3Validator, RequiredValidator, SingleItemRequiredValidator,
+};
 use crate::type_::{
     ArrayTypeValidator, BooleanTypeValidator, IntegerTypeValidator, MultipleTypesValidator,
     NullTypeValidator, NumberTypeValidator, ObjectTypeValidator, StringTypeValidator,
@@ -17,12 +20,11 @@ use jskw_report::{
 };
 use jskw_value::Json;
 use std::alloc::{AllocError, Global};
-use std::marker::PhantomData;
 
 /// A validator of one keyword without subschemas, over the representation `F`.
 #[derive(Drop)]
 pub enum LeafValidator<F: Json> {
-    False(FalseValidator, PhantomData<F>),
+    False(FalseValidator),
     Number(NumberValidator),
     MultipleTypes(MultipleTypesValidator),
     ArrayType(ArrayTypeValidator),
@@ -40,13 +42,17 @@ pub enum LeafValidator<F: Json> {
     ConstNumber(ConstNumberValidator),
     ConstObject(ConstObjectValidator),
     ConstString(ConstStringValidator),
+    Required(RequiredValidator<F>),
+    SingleItemRequired(SingleItemRequiredValidator<F>),
+    Required2(Required2Validator<F>),
+    Required3(Required3Validator<F>),
 }
 
 /// What is said of the validator, whichever it is.
 macro_rules! whichever {
     ($leaf:expr, $validator:ident => $answer:expr) => {
         match $leaf {
-            LeafValidator::False($validator, _) => $answer,
+            LeafValidator::False($validator) => $answer,
             LeafValidator::Number($validator) => $answer,
             LeafValidator::MultipleTypes($validator) => $answer,
             LeafValidator::ArrayType($validator) => $answer,
@@ -64,6 +70,10 @@ macro_rules! whichever {
             LeafValidator::ConstNumber($validator) => $answer,
             LeafValidator::ConstObject($validator) => $answer,
             LeafValidator::ConstString($validator) => $answer,
+            LeafValidator::Required($validator) => $answer,
+            LeafValidator::SingleItemRequired($validator) => $answer,
+            LeafValidator::Required2($validator) => $answer,
+            LeafValidator::Required3($validator) => $answer,
         }
     };
 }

@@ -1,4 +1,5 @@
 //! `required` (Validation 6.5.3): an object has a member of each name.
+mod beside;
 mod found;
 mod make;
 mod missing;
@@ -10,14 +11,15 @@ use jskw_report::{
     EvaluationResult, Fault, LazyLocation, Location, Validate, ValidationContext, ValidationError,
 };
 use jskw_value::{Json, Node};
+pub use make::{compile, compile_with_path};
 use missing::{append_missing, evaluate_errors, fail_first};
-use names::{NameArray, NameList};
+use names::{NameList, OneName, ThreeNames, TwoNames};
 use std::alloc::{AllocError, Global};
 
 /// The validator of any number of names.
 #[derive(Drop)]
 pub struct RequiredValidator<F: Json> {
-    required: NameList<F>,
+    names: NameList<F>,
     location: Location,
 }
 
@@ -27,7 +29,7 @@ impl<F: Json> Validate<F> for RequiredValidator<F> {
     ghost keyword = { several_names };
 
     fn is_valid(&self, instance: &F::Node, _ctx: &mut ValidationContext) -> bool {
-        !instance.is_object() || has_all(self.required.as_slice(), instance)
+        !instance.is_object() || has_all(&self.names, instance)
     }
 
     fn validate<'i>(
@@ -36,7 +38,7 @@ impl<F: Json> Validate<F> for RequiredValidator<F> {
         location: &mut LazyLocation,
         _ctx: &mut ValidationContext,
     ) -> Result<(), Fault<'i, F>> {
-        fail_first(self.required.as_slice(), &self.location, instance, location)
+        fail_first(&self.names, &self.location, instance, location)
     }
 
     fn collect_errors<'i>(
@@ -46,7 +48,7 @@ impl<F: Json> Validate<F> for RequiredValidator<F> {
         _ctx: &mut ValidationContext,
         errors: &mut Vec<ValidationError<'i, F>>,
     ) -> Result<(), AllocError> {
-        append_missing(self.required.as_slice(), &self.location, instance, location, errors)
+        append_missing(&self.names, &self.location, instance, location, errors)
     }
 
     fn evaluate(
@@ -65,7 +67,7 @@ impl<F: Json> Validate<F> for RequiredValidator<F> {
 /// The validator of one name.
 #[derive(Drop)]
 pub struct SingleItemRequiredValidator<F: Json> {
-    required: NameArray<F, 1>,
+    names: OneName<F>,
     location: Location,
 }
 
@@ -75,7 +77,7 @@ impl<F: Json> Validate<F> for SingleItemRequiredValidator<F> {
     ghost keyword = { one_name };
 
     fn is_valid(&self, instance: &F::Node, _ctx: &mut ValidationContext) -> bool {
-        !instance.is_object() || has_all(self.required.as_slice(), instance)
+        !instance.is_object() || has_all(&self.names, instance)
     }
 
     fn validate<'i>(
@@ -84,7 +86,7 @@ impl<F: Json> Validate<F> for SingleItemRequiredValidator<F> {
         location: &mut LazyLocation,
         _ctx: &mut ValidationContext,
     ) -> Result<(), Fault<'i, F>> {
-        fail_first(self.required.as_slice(), &self.location, instance, location)
+        fail_first(&self.names, &self.location, instance, location)
     }
 
     fn collect_errors<'i>(
@@ -94,7 +96,7 @@ impl<F: Json> Validate<F> for SingleItemRequiredValidator<F> {
         _ctx: &mut ValidationContext,
         errors: &mut Vec<ValidationError<'i, F>>,
     ) -> Result<(), AllocError> {
-        append_missing(self.required.as_slice(), &self.location, instance, location, errors)
+        append_missing(&self.names, &self.location, instance, location, errors)
     }
 
     fn evaluate(
@@ -113,7 +115,7 @@ impl<F: Json> Validate<F> for SingleItemRequiredValidator<F> {
 /// The validator of two names.
 #[derive(Drop)]
 pub struct Required2Validator<F: Json> {
-    required: NameArray<F, 2>,
+    names: TwoNames<F>,
     location: Location,
 }
 
@@ -123,7 +125,7 @@ impl<F: Json> Validate<F> for Required2Validator<F> {
     ghost keyword = { two_names };
 
     fn is_valid(&self, instance: &F::Node, _ctx: &mut ValidationContext) -> bool {
-        !instance.is_object() || has_all(self.required.as_slice(), instance)
+        !instance.is_object() || has_all(&self.names, instance)
     }
 
     fn validate<'i>(
@@ -132,7 +134,7 @@ impl<F: Json> Validate<F> for Required2Validator<F> {
         location: &mut LazyLocation,
         _ctx: &mut ValidationContext,
     ) -> Result<(), Fault<'i, F>> {
-        fail_first(self.required.as_slice(), &self.location, instance, location)
+        fail_first(&self.names, &self.location, instance, location)
     }
 
     fn collect_errors<'i>(
@@ -142,7 +144,7 @@ impl<F: Json> Validate<F> for Required2Validator<F> {
         _ctx: &mut ValidationContext,
         errors: &mut Vec<ValidationError<'i, F>>,
     ) -> Result<(), AllocError> {
-        append_missing(self.required.as_slice(), &self.location, instance, location, errors)
+        append_missing(&self.names, &self.location, instance, location, errors)
     }
 
     fn evaluate(
@@ -161,7 +163,7 @@ impl<F: Json> Validate<F> for Required2Validator<F> {
 /// The validator of three names.
 #[derive(Drop)]
 pub struct Required3Validator<F: Json> {
-    required: NameArray<F, 3>,
+    names: ThreeNames<F>,
     location: Location,
 }
 
@@ -171,7 +173,7 @@ impl<F: Json> Validate<F> for Required3Validator<F> {
     ghost keyword = { three_names };
 
     fn is_valid(&self, instance: &F::Node, _ctx: &mut ValidationContext) -> bool {
-        !instance.is_object() || has_all(self.required.as_slice(), instance)
+        !instance.is_object() || has_all(&self.names, instance)
     }
 
     fn validate<'i>(
@@ -180,7 +182,7 @@ impl<F: Json> Validate<F> for Required3Validator<F> {
         location: &mut LazyLocation,
         _ctx: &mut ValidationContext,
     ) -> Result<(), Fault<'i, F>> {
-        fail_first(self.required.as_slice(), &self.location, instance, location)
+        fail_first(&self.names, &self.location, instance, location)
     }
 
     fn collect_errors<'i>(
@@ -190,7 +192,7 @@ impl<F: Json> Validate<F> for Required3Validator<F> {
         _ctx: &mut ValidationContext,
         errors: &mut Vec<ValidationError<'i, F>>,
     ) -> Result<(), AllocError> {
-        append_missing(self.required.as_slice(), &self.location, instance, location, errors)
+        append_missing(&self.names, &self.location, instance, location, errors)
     }
 
     fn evaluate(

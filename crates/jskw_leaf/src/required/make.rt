@@ -8,17 +8,118 @@ ghost use Rattle.jskw_report.specs.Compile.{Makes, Compiles, reading};
 ghost use Rattle.jskw_report.specs.Fault.{required_value, map_ok, texts, distinct};
 ghost use Rattle.jskw_report.specs.Keyword.{assertion, required};
 ghost use Rattle.jskw_report.specs.Setting.{stands};
-ghost use Rattle.jskw_report.specs.Sibling.{is_handed_on, requires_one_of_properties, requires_two_of_properties};
 ghost use Rattle.jskw_report.specs.declared.keyword.KeywordName.TheVariants.{Required};
 ghost use Rattle.jskw_leaf.specs.Meaning.{leaf_keyword};
-ghost use Rattle.jskw_leaf.specs.Required.{name_value};
+ghost use Rattle.jskw_leaf.specs.Required.{name_value, required_at};
 
+use super::beside::is_handed_on;
+use super::names::{NameList, OneName, ThreeNames, TwoNames};
+use super::prepared::PreparedName;
+use super::{Required2Validator, Required3Validator, RequiredValidator, SingleItemRequiredValidator};
+use crate::leaf::LeafValidator;
 use crate::type_::single;
 use jskw_report::{CompilationResult, CompileFault, Context, Location, LocationSegment, ValidationError};
 use jskw_value::{Json, JsonType};
 use serde_json::{Map, Value};
-use std::alloc::Global;
+use std::alloc::{AllocError, Global};
 use std::collections::BTreeSet;
+
+/// Compiles `required`, whose value is `schema` and stands in `parent`; `ctx` is at the location of that object, and the
+/// keyword stands. None where it is left to the keywords of objects beside it, and its items are then not looked at: with
+/// the applicator vocabulary and without `patternProperties`, either one item beside `properties` and an
+/// `additionalProperties` of `false` that isn't overridden, or two items beside a `properties` that isn't overridden, an
+/// object of fewer than 15 members, where `additionalProperties` is neither `false` nor an object. Else what
+/// [`compile_with_path`] answers.
+pub fn compile<'a, F: Json>(
+    alloc: Global,
+    ctx: &Context<'_, F>,
+    parent: &'a Map<String, Value>,
+    schema: &'a Value,
+) -> Option<CompilationResult<'a, LeafValidator<F>>>
+    requires stands { IsTrue (stands ctx.now.setting Required) }
+    requires member { get_member (codes "required") (members_view parent.now.entries) ≡ Some (view schema.now) }
+    ensures { Compiles leaf_keyword result
+        (reading Required ctx.now (members_view parent.now.entries) (view schema.now)) }
+{
+    if is_handed_on(ctx, parent, schema) {
+        return None;
+    }
+    match ctx.location().join(alloc, LocationSegment::Name("required")) {
+        Ok(location) => compile_with_path(alloc, schema, location),
+        Err(error) => Some(Err(CompileFault::Memory(error))),
+    }
+}
+
+/// Compiles a value of `required` that stands at a location, whatever stands beside it. Always Some. The validator asks
+/// for each name once. A value that is no array is a compile error, whose kind is a type of `array`; an item that is no
+/// string is one too, whose kind is a type of `string` and whose value is the first such item. Else only memory can fail.
+pub fn compile_with_path<'a, F: Json>(
+    alloc: Global,
+    schema: &'a Value,
+    location: Location,
+) -> Option<CompilationResult<'a, LeafValidator<F>>>
+    ensures { Compiles leaf_keyword result (required_at location (view schema.now)) }
+{
+    Some(make(alloc, schema, location))
+}
+
+fn make<'a, F: Json>(
+    alloc: Global,
+    schema: &'a Value,
+    location: Location,
+) -> CompilationResult<'a, LeafValidator<F>>
+    ensures { Makes leaf_keyword result (map_ok (λ names. assertion location (required names)) (required_value location (view schema.now))) }
+{
+    let Value::Array(items) = schema else {
+        let kind = single(JsonType::Array);
+        return Err(CompileFault::Bad(ValidationError::refused(alloc, kind, location, schema)));
+    };
+    let names = distinct_names(alloc, &location, items.as_slice())?;
+    Ok(validator_of(alloc, names.as_slice(), location)?)
+}
+
+/// The validator of distinct names, in the form for their number. Only memory can fail.
+fn validator_of<F: Json>(
+    alloc: Global,
+    names: &[&str],
+    location: Location,
+) -> Result<LeafValidator<F>, AllocError>
+    requires { IsDistinct bytes_eq (map (λ name. name.now) names.now) }
+    ensures { IfOk result (λ v. leaf_keyword v ≡ assertion location (required (map (λ name. name.now) names.now))) }
+{
+    match names {
+        [name] => {
+            let names = OneName::new(PreparedName::new(alloc, name)?);
+            Ok(LeafValidator::SingleItemRequired(SingleItemRequiredValidator { names, location }))
+        }
+        [first, second] => {
+            let first = PreparedName::new(alloc, first)?;
+            let names = TwoNames::new(first, PreparedName::new(alloc, second)?);
+            Ok(LeafValidator::Required2(Required2Validator { names, location }))
+        }
+        [first, second, third] => {
+            let first = PreparedName::new(alloc, first)?;
+            let second = PreparedName::new(alloc, second)?;
+            let names = ThreeNames::new(first, second, PreparedName::new(alloc, third)?);
+            Ok(LeafValidator::Required3(Required3Validator { names, location }))
+        }
+        _ => {
+            let names = NameList::new(prepared(alloc, names)?);
+            Ok(LeafValidator::Required(RequiredValidator { names, location }))
+        }
+    }
+}
+
+/// Each name made ready. Only memory can fail.
+fn prepared<F: Json>(alloc: Global, names: &[&str]) -> Result<Vec<PreparedName<F>>, AllocError>
+    ensures { IfOk result (λ v. v.items ≡ map (λ name. name.now) names.now) }
+{
+    let mut prepared = Vec::new(alloc);
+    for name in names {
+        prepared.push(PreparedName::new(alloc, name)?)?;
+    }
+    Ok(prepared)
+}
 
 /// The names that the items are, each at its first place.
 #[tactic(auto, using(crate::proofs::Distinct::next_fault, crate::proofs::Distinct::none_after))]

@@ -1,7 +1,5 @@
 //! What is wrong with an object that lacks required names: one error for each, in the order of the names.
 ghost use Rattle.std.specs.Prelude.{◌≡◌, ◌++◌, [], ◌∷◌, IfOk, OnOk, OnErr, MatchOption, List};
-ghost use Rattle.std.specs.List.{IsDistinct};
-ghost use Rattle.std.specs.Str.{bytes_eq};
 ghost use Rattle.jskw_report.specs.Errors.{failure_of, failures_of};
 ghost use Rattle.jskw_report.specs.Evaluation.{of_errors};
 ghost use Rattle.jskw_report.specs.EvaluationView.{result_of};
@@ -12,7 +10,7 @@ ghost use Rattle.jskw_report.specs.Paths.{path_of};
 ghost use Rattle.jskw_leaf.specs.Required.{required_fail, required_fails};
 
 use super::found::{is_missing, scanned};
-use super::prepared::PreparedName;
+use super::names::Names;
 use jskw_report::{
     ErrorDescription, EvaluationResult, Fault, LazyLocation, Location, ValidationError,
     ValidationErrorKind,
@@ -21,15 +19,14 @@ use jskw_value::{Json, Node};
 use std::alloc::{AllocError, Global};
 
 /// Ok where nothing is missing, which takes no memory, and else the error of the first name that is.
-pub(crate) fn fail_first<'i, F: Json>(
-    names: &'i [PreparedName<F>],
+pub(crate) fn fail_first<'i, F: Json + 'i, L: Names<F> + 'i>(
+    names: &'i L,
     schema_path: &'i Location,
     instance: &'i F::Node,
     location: &LazyLocation,
 ) -> Result<(), Fault<'i, F>>
-    requires { IsDistinct bytes_eq names.now }
     ensures { IsFirst F.Node.tree
-        (required_fails schema_path.now (F.Node.tree instance.now) (path_of location.now) names.now) result }
+        (required_fails schema_path.now (F.Node.tree instance.now) (path_of location.now) (L.names names.now)) result }
 {
     match first_missing(names, instance) {
         Some(property) => {
@@ -41,9 +38,8 @@ pub(crate) fn fail_first<'i, F: Json>(
 }
 
 /// The first name that an object lacks.
-fn first_missing<'n, F: Json>(names: &'n [PreparedName<F>], instance: &F::Node) -> Option<&'n str>
-    requires { IsDistinct bytes_eq names.now }
-    ensures { let kinds = missing names.now (F.Node.tree instance.now) in
+fn first_missing<'n, F: Json + 'n, L: Names<F> + 'n>(names: &'n L, instance: &F::Node) -> Option<&'n str>
+    ensures { let kinds = missing (L.names names.now) (F.Node.tree instance.now) in
         MatchOption result (kinds ≡ []) (λ name. (rest : List ErrorKind) × (kinds ≡ Required name.now ∷ rest)) }
 {
     if !instance.is_object() {
@@ -52,27 +48,26 @@ fn first_missing<'n, F: Json>(names: &'n [PreparedName<F>], instance: &F::Node) 
     let found = scanned(names, instance);
     for index in 0..names.len() {
         if is_missing(names, index, found, instance) {
-            return Some(names[index].as_str());
+            return Some(names.at(index).as_str());
         }
     }
     None
 }
 
 /// Appends an error for each missing name. Where none is missing it takes no memory.
-pub(crate) fn append_missing<'i, F: Json>(
-    names: &'i [PreparedName<F>],
+pub(crate) fn append_missing<'i, F: Json + 'i, L: Names<F> + 'i>(
+    names: &'i L,
     schema_path: &'i Location,
     instance: &'i F::Node,
     location: &LazyLocation,
     errors: &mut Vec<ValidationError<'i, F>>,
 ) -> Result<(), AllocError>
-    requires { IsDistinct bytes_eq names.now }
     ensures appended { OnOk result (failures_of F.Node.tree errors.new.items
         ≡ failures_of F.Node.tree errors.old.items
-        ++ required_fails schema_path.now (F.Node.tree instance.now) (path_of location.now) names.now) }
+        ++ required_fails schema_path.now (F.Node.tree instance.now) (path_of location.now) (L.names names.now)) }
     ensures begun { OnErr result (AppendsBeginning (failures_of F.Node.tree errors.old.items)
         (failures_of F.Node.tree errors.new.items)
-        (required_fails schema_path.now (F.Node.tree instance.now) (path_of location.now) names.now)) }
+        (required_fails schema_path.now (F.Node.tree instance.now) (path_of location.now) (L.names names.now))) }
 {
     if !instance.is_object() {
         return Ok(());
@@ -80,7 +75,7 @@ pub(crate) fn append_missing<'i, F: Json>(
     let found = scanned(names, instance);
     for index in 0..names.len() {
         if is_missing(names, index, found, instance) {
-            let property = names[index].as_str();
+            let property = names.at(index).as_str();
             append_error(property, schema_path, instance, location, errors)?;
         }
     }

@@ -1,5 +1,5 @@
 //! Lists of required names, each once.
-ghost use Rattle.std.specs.Prelude.{◌≡◌, ℕ, List};
+ghost use Rattle.std.specs.Prelude.{◌≡◌, ◌<◌, ℕ, List, [], ◌∷◌, length, slice_index_or};
 ghost use Rattle.std.specs.List.{IsDistinct};
 ghost use Rattle.std.specs.Str.{bytes_eq};
 
@@ -7,7 +7,22 @@ use super::prepared::PreparedName;
 use jskw_value::Json;
 use std::marker::Model;
 
-/// Any number of distinct names, in their order. Contracts see a list.
+/// Distinct names, in their order.
+pub(crate) trait Names<F: Json> {
+    ghost names: { Self → List (List ℕ) };
+
+    /// How many there are.
+    fn len(&self) -> usize
+        ensures count { result ≡ length (names self.now) }
+        ensures distinct { IsDistinct bytes_eq (names self.now) };
+
+    /// The name at an index below that.
+    fn at(&self, index: usize) -> &PreparedName<F>
+        requires { index < length (names self.now) }
+        ensures { result.now ≡ slice_index_or (names self.now) index result.now };
+}
+
+/// Any number of names. Contracts see a list.
 #[derive(Drop)]
 pub(crate) struct NameList<F: Json> {
     names: Vec<PreparedName<F>>,
@@ -26,55 +41,153 @@ impl<F: Json> Model for NameList<F> {
 }
 
 impl<F: Json> NameList<F> {
-    /// The names of the list, which are distinct.
     pub(crate) fn new(names: Vec<PreparedName<F>>) -> NameList<F>
         requires { IsDistinct bytes_eq names.items }
         ensures { result ≡ names.items }
     {
         NameList { names }
     }
+}
 
-    /// The names, which are distinct.
-    pub(crate) fn as_slice(&self) -> &[PreparedName<F>]
-        ensures names { result.now ≡ self.now }
-        ensures distinct { IsDistinct bytes_eq self.now }
-    {
-        self.names.as_slice()
+impl<F: Json> Names<F> for NameList<F> {
+    ghost names = { λ names. names };
+
+    fn len(&self) -> usize {
+        self.names.len()
+    }
+
+    fn at(&self, index: usize) -> &PreparedName<F> {
+        &self.names[index]
     }
 }
 
-/// `N` distinct names, in their order, held in place. Contracts see a list.
+/// One name. Contracts see a list.
 #[derive(Drop)]
-pub(crate) struct NameArray<F: Json, const N: usize> {
-    names: [PreparedName<F>; N],
+pub(crate) struct OneName<F: Json> {
+    name: PreparedName<F>,
 }
 
-impl<F: Json, const N: usize> Model for NameArray<F, N> {
-    ghost use Rattle.std.specs.Prelude.{ℕ, List};
+impl<F: Json> Model for OneName<F> {
+    ghost use Rattle.std.specs.Prelude.{ℕ, List, [], ◌∷◌};
     ghost use Rattle.std.specs.List.{IsDistinct};
     ghost use Rattle.std.specs.Str.{bytes_eq};
 
     ghost Value = { List (List ℕ) };
 
-    ghost view = { λ a. a.names };
+    ghost view = { λ a. a.name ∷ [] };
 
-    ghost invariant = { λ a. IsDistinct bytes_eq a.names };
+    ghost invariant = { λ a. IsDistinct bytes_eq (a.name ∷ []) };
 }
 
-impl<F: Json, const N: usize> NameArray<F, N> {
-    /// The names of the array, which are distinct.
-    pub(crate) fn new(names: [PreparedName<F>; N]) -> NameArray<F, N>
-        requires { IsDistinct bytes_eq names }
-        ensures { result ≡ names }
+impl<F: Json> OneName<F> {
+    pub(crate) fn new(name: PreparedName<F>) -> OneName<F>
+        requires { IsDistinct bytes_eq (name ∷ []) }
+        ensures { result ≡ name ∷ [] }
     {
-        NameArray { names }
+        OneName { name }
+    }
+}
+
+impl<F: Json> Names<F> for OneName<F> {
+    ghost names = { λ names. names };
+
+    fn len(&self) -> usize {
+        let _ = &self.name;
+        1
     }
 
-    /// The names, which are distinct.
-    pub(crate) fn as_slice(&self) -> &[PreparedName<F>]
-        ensures names { result.now ≡ self.now }
-        ensures distinct { IsDistinct bytes_eq self.now }
+    fn at(&self, index: usize) -> &PreparedName<F> {
+        let _ = index;
+        &self.name
+    }
+}
+
+/// Two names, held in place. Contracts see a list.
+#[derive(Drop)]
+pub(crate) struct TwoNames<F: Json> {
+    first: PreparedName<F>,
+    second: PreparedName<F>,
+}
+
+impl<F: Json> Model for TwoNames<F> {
+    ghost use Rattle.std.specs.Prelude.{ℕ, List, [], ◌∷◌};
+    ghost use Rattle.std.specs.List.{IsDistinct};
+    ghost use Rattle.std.specs.Str.{bytes_eq};
+
+    ghost Value = { List (List ℕ) };
+
+    ghost view = { λ a. a.first ∷ a.second ∷ [] };
+
+    ghost invariant = { λ a. IsDistinct bytes_eq (a.first ∷ a.second ∷ []) };
+}
+
+impl<F: Json> TwoNames<F> {
+    pub(crate) fn new(first: PreparedName<F>, second: PreparedName<F>) -> TwoNames<F>
+        requires { IsDistinct bytes_eq (first ∷ second ∷ []) }
+        ensures { result ≡ first ∷ second ∷ [] }
     {
-        self.names.as_slice()
+        TwoNames { first, second }
+    }
+}
+
+impl<F: Json> Names<F> for TwoNames<F> {
+    ghost names = { λ names. names };
+
+    fn len(&self) -> usize {
+        let _ = &self.first;
+        2
+    }
+
+    fn at(&self, index: usize) -> &PreparedName<F> {
+        match index {
+            0 => &self.first,
+            _ => &self.second,
+        }
+    }
+}
+
+/// Three names, held in place. Contracts see a list.
+#[derive(Drop)]
+pub(crate) struct ThreeNames<F: Json> {
+    first: PreparedName<F>,
+    second: PreparedName<F>,
+    third: PreparedName<F>,
+}
+
+impl<F: Json> Model for ThreeNames<F> {
+    ghost use Rattle.std.specs.Prelude.{ℕ, List, [], ◌∷◌};
+    ghost use Rattle.std.specs.List.{IsDistinct};
+    ghost use Rattle.std.specs.Str.{bytes_eq};
+
+    ghost Value = { List (List ℕ) };
+
+    ghost view = { λ a. a.first ∷ a.second ∷ a.third ∷ [] };
+
+    ghost invariant = { λ a. IsDistinct bytes_eq (a.first ∷ a.second ∷ a.third ∷ []) };
+}
+
+impl<F: Json> ThreeNames<F> {
+    pub(crate) fn new(first: PreparedName<F>, second: PreparedName<F>, third: PreparedName<F>) -> ThreeNames<F>
+        requires { IsDistinct bytes_eq (first ∷ second ∷ third ∷ []) }
+        ensures { result ≡ first ∷ second ∷ third ∷ [] }
+    {
+        ThreeNames { first, second, third }
+    }
+}
+
+impl<F: Json> Names<F> for ThreeNames<F> {
+    ghost names = { λ names. names };
+
+    fn len(&self) -> usize {
+        let _ = &self.first;
+        3
+    }
+
+    fn at(&self, index: usize) -> &PreparedName<F> {
+        match index {
+            0 => &self.first,
+            1 => &self.second,
+            _ => &self.third,
+        }
     }
 }

@@ -7,4 +7,4 @@ use Rattle.jskw_leaf.proofs.required.found.found_by_walk.Given as goal
 abbrev pub invariant-loop-text : goal.invariant-loop-text
 invariant-loop-text g l =
     let tree = g.F.Node.Rooted.tree in
-    MarksBefore l.found (keys_of (left tree l.text-iterator)) (tree l.object) l.names
+    MarksBefore l.found (keys_of (left tree l.text-iterator)) (tree l.object) (g.L.Names.names l.names)

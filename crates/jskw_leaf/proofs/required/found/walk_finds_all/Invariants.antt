@@ -9,4 +9,5 @@ use Rattle.jskw_leaf.proofs.required.found.walk_finds_all.Given as goal
 abbrev pub invariant-loop-text : goal.invariant-loop-text
 invariant-loop-text g l =
     let tree = g.F.Node.Rooted.tree in
-    l.found + count_by (is_among l.names) (keys_of (left tree l.text-iterator)) ≡ count_by (is_among l.names) (names (tree l.object))
+    let wanted = is_among (g.L.Names.names l.names) in
+    l.found + count_by wanted (keys_of (left tree l.text-iterator)) ≡ count_by wanted (names (tree l.object))

@@ -1,4 +1,4 @@
-use Rattle.std.proofs.Common.{◌≡◌, ◌+◌, List, ℕ, [], ◌∷◌, ◌++◌, Bool, true, false, not, drop, get_or, refl, ap, subst, sym, ◌∙◌, arith}
+use Rattle.std.proofs.Common.{◌≡◌, ◌+◌, ◌<◌, length, List, ℕ, [], ◌∷◌, ◌++◌, Bool, true, false, not, drop, get_or, refl, ap, subst, sym, ◌∙◌, arith}
 use Rattle.std.proofs.lemmas.List.{get_or_read}
 use Rattle.jskw_value.specs.Tree.{has_name, is_object}
 use Rattle.jskw_report.specs.Errors.{failures_of}
@@ -10,7 +10,7 @@ use Rattle.jskw_leaf.proofs.required.missing.append_missing.Goals as goal
 use Rattle.jskw_leaf.proofs.required.missing.append_missing.Goals.{then-is_missing+in_ok-append_error, else-is_missing}
 
 pub loop-index-init : goal.loop-index-init
-loop-index-init g c = record { within = refl; collects = collects_nothing _ _ }
+loop-index-init g c = record { within = c.len-index-end.ensures.count; collects = collects_nothing _ _ }
 
 pub loop-index-preserved : goal.loop-index-preserved
 loop-index-preserved g c =
@@ -18,20 +18,21 @@ loop-index-preserved g c =
     let t = tree c.args.instance.now in
     let p = path_of c.args.location.now in
     let q = c.args.schema_path.now in
-    let names = c.args.names.now in
+    let names = (g.L.Names.names c.args.names.now) in
     let i = c.loop-index.index in
     let fails = required_fails q t p in
     let old = failures_of tree c.args.errors.now.items in
     let now = failures_of tree c.loop-index.errors.items in
     let name = get_or names i [] in
     let is_object : is_object t ≡ true = sym c.is_object.ensures ∙ c.if-not-is_object.false in
+    let within : i < length names = omega (arith, c.loop-index.invariant.within, c.loop-index-test.true) in
     elim c.if-is_missing.branch [
     then-is_missing+in_ok-append_error w ↦
         let lacks : has_name t name ≡ false = not_true _ (sym c.is_missing.ensures ∙ w.if-is_missing.true) in
-        let is : w.as_str-property.result.now ≡ name = w.as_str-property.ensures ∙ get_or_read names i _ c.loop-index-test.true w.index-names-index.is [] in
-        let left = subst (λ fs. Collects old now fs (fails names)) (fails_here q t p names i [] is_object c.loop-index-test.true lacks) c.loop-index.invariant.collects in
-        record { within = refl; collects = collects_one (required_fail q t p name) (fails (drop (i + 1) names)) left (rw w.errors-is (w.in_ok-append_error.ensures.appended ∙ ap (λ (n : List ℕ). now ++ required_fail q t p n ∷ []) is)) }
+        let is : w.as_str-property.result.now ≡ name = w.as_str-property.ensures ∙ get_or_read names i _ within w.at.ensures [] in
+        let left = subst (λ fs. Collects old now fs (fails names)) (fails_here q t p names i [] is_object within lacks) c.loop-index.invariant.collects in
+        record { within = c.loop-index.invariant.within; collects = collects_one (required_fail q t p name) (fails (drop (i + 1) names)) left (rw w.errors-is (w.in_ok-append_error.ensures.appended ∙ ap (λ (n : List ℕ). now ++ required_fail q t p n ∷ []) is)) }
     | else-is_missing w ↦
         let has : has_name t name ≡ true = not_false _ (sym c.is_missing.ensures ∙ w.if-is_missing.false) in
-        let left = subst (λ fs. Collects old now fs (fails names)) (fails_there q t p names i [] c.loop-index-test.true has) c.loop-index.invariant.collects in
-        record { within = refl; collects = rw w.errors-is left } ]
+        let left = subst (λ fs. Collects old now fs (fails names)) (fails_there q t p names i [] within has) c.loop-index.invariant.collects in
+        record { within = c.loop-index.invariant.within; collects = rw w.errors-is left } ]

@@ -10,7 +10,8 @@ abbrev pub invariant-loop-index : goal.invariant-loop-index
 invariant-loop-index g l =
     let tree = g.F.Node.Rooted.tree in
     let fails = required_fails l.schema_path (tree l.instance) (path_of l.location) in
+    let names = g.L.Names.names l.names in
     record {
-      within : l.index-end ≡ length l.names;
-      collects : Collects (failures_of tree l.initial.errors.items) (failures_of tree l.errors.items) (fails (drop l.index l.names)) (fails l.names);
+      within : l.index-end ≡ length names;
+      collects : Collects (failures_of tree l.initial.errors.items) (failures_of tree l.errors.items) (fails (drop l.index names)) (fails names);
     }

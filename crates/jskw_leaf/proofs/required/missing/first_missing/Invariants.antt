@@ -6,4 +6,5 @@ use Rattle.jskw_leaf.proofs.required.missing.first_missing.Given as goal
 abbrev pub invariant-loop-index : goal.invariant-loop-index
 invariant-loop-index g l =
     let t = g.F.Node.Rooted.tree l.instance in
-    (l.index-end ≡ length l.names) × (missing l.names t ≡ missing (drop l.index l.names) t)
+    let names = g.L.Names.names l.names in
+    (l.index-end ≡ length names) × (missing names t ≡ missing (drop l.index names) t)
