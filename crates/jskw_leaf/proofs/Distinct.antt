@@ -1,22 +1,23 @@
 -- Names that are put together item by item, each once.
-use Rattle.std.proofs.Common.{◌≡◌, ◌≢◌, ℕ, ◌+◌, ◌<◌, ◌≤◌, List, [], ◌∷◌, ◌++◌, length, drop, get_or, filter, map, Bool, true, false, not, ◌&&◌, ◌||◌, cond, Bor, Result, Ok, Err, refl, ap, sym, ◌∙◌, append-nil, append_assoc, arith}
+use Rattle.std.proofs.Common.{◌≡◌, ◌≢◌, ℕ, ◌+◌, ◌<◌, ◌≤◌, List, [], ◌∷◌, ◌++◌, length, drop, get_or, filter, map, Bool, true, false, not, ◌&&◌, ◌||◌, cond, Bor, Result, Ok, Err, refl, ap, subst, sym, ◌∙◌, append-nil, append_assoc, arith}
 use Rattle.std.proofs.lemmas.Bool.{true≢false}
 use Rattle.std.proofs.lemmas.Cmp.{nat_list_eq_equiv}
 use Rattle.std.proofs.lemmas.List.{at_drop_all, drop_more}
-use Rattle.std.proofs.lemmas.Map.Keys.{IsDistinct-cons}
+use Rattle.std.proofs.lemmas.Map.Keys.{IsDistinct-cons, IsDistinct-head, IsDistinct-tail}
 use Rattle.std.proofs.lemmas.Slice.Eq.{bytes_eq-Decides}
 use Rattle.std.proofs.lemmas.Map.Text.{is_eq-slice_cmp}
 use Rattle.std.specs.BTreeSet.{BTreeSet, UpdatesBy, contains_by}
 use Rattle.std.specs.Cmp.Lexicographic.{slice_cmp}
 use Rattle.std.specs.Ordering.{nat_cmp}
 use Rattle.std.specs.declared.cmp.Ordering.{Ordering}
-use Rattle.std.specs.List.{IsDistinct, list_any}
+use Rattle.std.specs.List.{AllByRecursion, IsDistinct, list_any}
 use Rattle.std.specs.Str.{bytes_eq}
 use Rattle.serde_json.specs.Data.{Data, string, Items, item}
 use Rattle.serde_json.specs.View.{view, items_view}
 use Rattle.serde_json.specs.declared.value.Value.{Value}
 use Rattle.jskw_value.specs.Pointer.{Pointer}
 use Rattle.jskw_report.specs.Fault.{Fault, map_ok, texts, distinct}
+use Rattle.jskw_value.proofs.MembersByPlace.{distinct_none}
 use Rattle.jskw_leaf.specs.Required.{is_among, name_value}
 
 -- ---- names that were met, and those after them
@@ -166,3 +167,42 @@ seen_again n s t done u a h m = seen_pushed n s t done u h m ∙ go (bytes_eq m 
     go : (b : Bool) → bytes_eq m n.now ≡ b → (is_among done m || b) ≡ is_among done m
     go true e = let is : m ≡ n.now = (bytes_eq-Decides m n.now).0 e in let there : is_among done m ≡ true = ap (is_among done) is ∙ a in ap (λ b. b || true) there ∙ sym there
     go false e = or_false (is_among done m)
+
+-- ---- distinct names
+
+apart_filtered : (p : List ℕ → Bool) (n : List ℕ) (ns : List (List ℕ)) → AllByRecursion (λ m. bytes_eq n m ≡ false) ns → AllByRecursion (λ m. bytes_eq n m ≡ false) (filter p ns)
+apart_filtered p n [] h = tt
+apart_filtered p n (m ∷ ns) h = go (p m) (apart_filtered p n ns h.1)
+  where
+    go : (b : Bool) → AllByRecursion (λ k. bytes_eq n k ≡ false) (filter p ns) → AllByRecursion (λ k. bytes_eq n k ≡ false) (cond b (m ∷ filter p ns) (filter p ns))
+    go true r = (h.0, r)
+    go false r = r
+
+told_filtered : (p : List ℕ → Bool) (ns : List (List ℕ)) → IsDistinct bytes_eq ns → IsDistinct bytes_eq (filter p ns)
+told_filtered p [] d = d
+told_filtered p (n ∷ ns) d = go (p n) (told_filtered p ns (IsDistinct-tail bytes_eq n ns d))
+  where
+    go : (b : Bool) → IsDistinct bytes_eq (filter p ns) → IsDistinct bytes_eq (cond b (n ∷ filter p ns) (filter p ns))
+    go true r = IsDistinct-cons bytes_eq n (filter p ns) (apart_filtered p n ns (IsDistinct-head bytes_eq n ns d)) r
+    go false r = r
+
+others : (n : List ℕ) (ns : List (List ℕ)) → AllByRecursion (λ m. bytes_eq n m ≡ false) (filter (λ m. not (bytes_eq n m)) ns)
+others n [] = tt
+others n (m ∷ ns) = go (bytes_eq n m) refl (others n ns)
+  where
+    go : (b : Bool) → bytes_eq n m ≡ b → AllByRecursion (λ k. bytes_eq n k ≡ false) (filter (λ k. not (bytes_eq n k)) ns)
+        → AllByRecursion (λ k. bytes_eq n k ≡ false) (cond (not b) (m ∷ filter (λ k. not (bytes_eq n k)) ns) (filter (λ k. not (bytes_eq n k)) ns))
+    go true e r = r
+    go false e r = (e, r)
+
+each_once : (ns : List (List ℕ)) → IsDistinct bytes_eq (distinct ns)
+each_once [] = distinct_none
+each_once (n ∷ ns) = IsDistinct-cons bytes_eq n (filter (λ m. not (bytes_eq n m)) (distinct ns)) (others n (distinct ns)) (told_filtered (λ m. not (bytes_eq n m)) (distinct ns) (each_once ns))
+
+pub one_once : (n : List ℕ) → IsDistinct bytes_eq (n ∷ [])
+one_once n = IsDistinct-cons bytes_eq n [] tt distinct_none
+
+-- the names that were read are distinct
+pub read_once : (r : Result (List (List ℕ)) Fault) (ns : List (List ℕ)) → map_ok distinct r ≡ Ok ns → IsDistinct bytes_eq ns
+read_once (Ok ms) ns e = let is : distinct ms ≡ ns = cc in subst (IsDistinct bytes_eq) is (each_once ms)
+read_once (Err f) ns e = cc

@@ -4,5 +4,6 @@ pub mod HandedOn
 pub mod Lacking
 pub mod Lookups
 pub mod Marking
+pub mod Sizes
 pub mod Types
 pub mod Units

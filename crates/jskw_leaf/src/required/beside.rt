@@ -96,7 +96,17 @@ fn has_small_object(parent: &Map<String, Value>, name: &str) -> bool
     ensures { result ≡ member_passes has_few_members name.now (members_view parent.now.entries) }
 {
     match member_of(parent, name) {
-        Some(Value::Object(members)) => members.len() < HASHMAP_THRESHOLD,
+        Some(value) => has_few_members(value),
+        None => false,
+    }
+}
+
+/// Whether the value is an object of few members.
+fn has_few_members(value: &Value) -> bool
+    ensures { result ≡ has_few_members (view value.now) }
+{
+    match value {
+        Value::Object(members) => members.len() < HASHMAP_THRESHOLD,
         _ => false,
     }
 }

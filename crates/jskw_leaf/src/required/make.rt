@@ -14,7 +14,6 @@ ghost use Rattle.jskw_leaf.specs.Required.{name_value, required_at};
 
 use super::beside::is_handed_on;
 use super::names::{NameList, OneName, ThreeNames, TwoNames};
-use super::prepared::PreparedName;
 use super::{Required2Validator, Required3Validator, RequiredValidator, SingleItemRequiredValidator};
 use crate::leaf::LeafValidator;
 use crate::type_::single;
@@ -89,36 +88,22 @@ fn validator_of<F: Json>(
 {
     match names {
         [name] => {
-            let names = OneName::new(PreparedName::new(alloc, name)?);
+            let names = OneName::new(alloc, name)?;
             Ok(LeafValidator::SingleItemRequired(SingleItemRequiredValidator { names, location }))
         }
         [first, second] => {
-            let first = PreparedName::new(alloc, first)?;
-            let names = TwoNames::new(first, PreparedName::new(alloc, second)?);
+            let names = TwoNames::new(alloc, first, second)?;
             Ok(LeafValidator::Required2(Required2Validator { names, location }))
         }
         [first, second, third] => {
-            let first = PreparedName::new(alloc, first)?;
-            let second = PreparedName::new(alloc, second)?;
-            let names = ThreeNames::new(first, second, PreparedName::new(alloc, third)?);
+            let names = ThreeNames::new(alloc, first, second, third)?;
             Ok(LeafValidator::Required3(Required3Validator { names, location }))
         }
         _ => {
-            let names = NameList::new(prepared(alloc, names)?);
+            let names = NameList::new(alloc, names)?;
             Ok(LeafValidator::Required(RequiredValidator { names, location }))
         }
     }
-}
-
-/// Each name made ready. Only memory can fail.
-fn prepared<F: Json>(alloc: Global, names: &[&str]) -> Result<Vec<PreparedName<F>>, AllocError>
-    ensures { IfOk result (λ v. v.items ≡ map (λ name. name.now) names.now) }
-{
-    let mut prepared = Vec::new(alloc);
-    for name in names {
-        prepared.push(PreparedName::new(alloc, name)?)?;
-    }
-    Ok(prepared)
 }
 
 /// The names that the items are, each at its first place.

@@ -1,10 +1,11 @@
 //! Lists of required names, each once.
-ghost use Rattle.std.specs.Prelude.{◌≡◌, ◌<◌, ℕ, List, [], ◌∷◌, length, slice_index_or};
+ghost use Rattle.std.specs.Prelude.{◌≡◌, ◌<◌, ℕ, List, [], ◌∷◌, IfOk, length, map, slice_index_or};
 ghost use Rattle.std.specs.List.{IsDistinct};
 ghost use Rattle.std.specs.Str.{bytes_eq};
 
 use super::prepared::PreparedName;
 use jskw_value::Json;
+use std::alloc::{AllocError, Global};
 use std::marker::Model;
 
 /// Distinct names, in their order.
@@ -41,11 +42,16 @@ impl<F: Json> Model for NameList<F> {
 }
 
 impl<F: Json> NameList<F> {
-    pub(crate) fn new(names: Vec<PreparedName<F>>) -> NameList<F>
-        requires { IsDistinct bytes_eq names.items }
-        ensures { result ≡ names.items }
+    /// The names of these texts, which differ. Only memory can fail.
+    pub(crate) fn new(alloc: Global, texts: &[&str]) -> Result<NameList<F>, AllocError>
+        requires { IsDistinct bytes_eq (map (λ text. text.now) texts.now) }
+        ensures { IfOk result (λ names. names ≡ map (λ text. text.now) texts.now) }
     {
-        NameList { names }
+        let mut names = Vec::new(alloc);
+        for text in texts {
+            names.push(PreparedName::new(alloc, text)?)?;
+        }
+        Ok(NameList { names })
     }
 }
 
@@ -80,11 +86,14 @@ impl<F: Json> Model for OneName<F> {
 }
 
 impl<F: Json> OneName<F> {
-    pub(crate) fn new(name: PreparedName<F>) -> OneName<F>
-        requires { IsDistinct bytes_eq (name ∷ []) }
-        ensures { result ≡ name ∷ [] }
+    /// The name of this text. Only memory can fail.
+    #[tactic(auto, using(crate::proofs::Distinct::one_once))]
+    pub(crate) fn new(alloc: Global, name: &str) -> Result<OneName<F>, AllocError>
+        ensures { IfOk result (λ names. names ≡ name.now ∷ []) }
     {
-        OneName { name }
+        Ok(OneName {
+            name: PreparedName::new(alloc, name)?,
+        })
     }
 }
 
@@ -122,11 +131,15 @@ impl<F: Json> Model for TwoNames<F> {
 }
 
 impl<F: Json> TwoNames<F> {
-    pub(crate) fn new(first: PreparedName<F>, second: PreparedName<F>) -> TwoNames<F>
-        requires { IsDistinct bytes_eq (first ∷ second ∷ []) }
-        ensures { result ≡ first ∷ second ∷ [] }
+    /// The names of these texts, which differ. Only memory can fail.
+    pub(crate) fn new(alloc: Global, first: &str, second: &str) -> Result<TwoNames<F>, AllocError>
+        requires { IsDistinct bytes_eq (first.now ∷ second.now ∷ []) }
+        ensures { IfOk result (λ names. names ≡ first.now ∷ second.now ∷ []) }
     {
-        TwoNames { first, second }
+        Ok(TwoNames {
+            first: PreparedName::new(alloc, first)?,
+            second: PreparedName::new(alloc, second)?,
+        })
     }
 }
 
@@ -167,11 +180,16 @@ impl<F: Json> Model for ThreeNames<F> {
 }
 
 impl<F: Json> ThreeNames<F> {
-    pub(crate) fn new(first: PreparedName<F>, second: PreparedName<F>, third: PreparedName<F>) -> ThreeNames<F>
-        requires { IsDistinct bytes_eq (first ∷ second ∷ third ∷ []) }
-        ensures { result ≡ first ∷ second ∷ third ∷ [] }
+    /// The names of these texts, each of which differs from the others. Only memory can fail.
+    pub(crate) fn new(alloc: Global, first: &str, second: &str, third: &str) -> Result<ThreeNames<F>, AllocError>
+        requires { IsDistinct bytes_eq (first.now ∷ second.now ∷ third.now ∷ []) }
+        ensures { IfOk result (λ names. names ≡ first.now ∷ second.now ∷ third.now ∷ []) }
     {
-        ThreeNames { first, second, third }
+        Ok(ThreeNames {
+            first: PreparedName::new(alloc, first)?,
+            second: PreparedName::new(alloc, second)?,
+            third: PreparedName::new(alloc, third)?,
+        })
     }
 }
 
