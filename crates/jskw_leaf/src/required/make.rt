@@ -14,10 +14,14 @@ ghost use Rattle.jskw_leaf.specs.Required.{name_value, required_at};
 
 use super::beside::is_handed_on;
 use super::names::{NameList, OneName, ThreeNames, TwoNames};
-use super::{Required2Validator, Required3Validator, RequiredValidator, SingleItemRequiredValidator};
+use super::{
+    Required2Validator, Required3Validator, RequiredValidator, SingleItemRequiredValidator,
+};
 use crate::leaf::LeafValidator;
 use crate::type_::single;
-use jskw_report::{CompilationResult, CompileFault, Context, Location, LocationSegment, ValidationError};
+use jskw_report::{
+    CompilationResult, CompileFault, Context, Location, LocationSegment, ValidationError,
+};
 use jskw_value::{Json, JsonType};
 use serde_json::{Map, Value};
 use std::alloc::{AllocError, Global};
@@ -43,7 +47,10 @@ pub fn compile<'a, F: Json>(
     if is_handed_on(ctx, parent, schema) {
         return None;
     }
-    match ctx.location().join(alloc, LocationSegment::Name("required")) {
+    match ctx
+        .location()
+        .join(alloc, LocationSegment::Name("required"))
+    {
         Ok(location) => compile_with_path(alloc, schema, location),
         Err(error) => Some(Err(CompileFault::Memory(error))),
     }
@@ -127,7 +134,11 @@ fn distinct_names<'a>(
 }
 
 /// The name that an item is, or its fault.
-fn name_of<'a>(alloc: Global, location: &Location, item: &'a Value) -> CompilationResult<'a, &'a str>
+fn name_of<'a>(
+    alloc: Global,
+    location: &Location,
+    item: &'a Value,
+) -> CompilationResult<'a, &'a str>
     ensures { Makes (λ name. name.now) result (name_value location.now (view item.now)) }
 {
     match item {

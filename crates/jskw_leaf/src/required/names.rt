@@ -181,7 +181,12 @@ impl<F: Json> Model for ThreeNames<F> {
 
 impl<F: Json> ThreeNames<F> {
     /// The names of these texts, each of which differs from the others. Only memory can fail.
-    pub(crate) fn new(alloc: Global, first: &str, second: &str, third: &str) -> Result<ThreeNames<F>, AllocError>
+    pub(crate) fn new(
+        alloc: Global,
+        first: &str,
+        second: &str,
+        third: &str,
+    ) -> Result<ThreeNames<F>, AllocError>
         requires { IsDistinct bytes_eq (first.now ∷ second.now ∷ third.now ∷ []) }
         ensures { IfOk result (λ names. names ≡ first.now ∷ second.now ∷ third.now ∷ []) }
     {

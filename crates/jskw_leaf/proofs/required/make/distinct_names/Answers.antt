@@ -18,20 +18,21 @@ loop-item-preserved c =
     let all = map_ok distinct (texts p (items_view items)) in
     let later = texts p (items_view (drop (i + 1) items)) in
     elim c.if-branch.branch [
-    then-branch+in_ok-push w ↦
-        let fresh : is_among done name.now ≡ false = sym (c.loop-item.invariant.seen name.now) ∙ not_true _ (sym c.in_ok-insert.ensures.added ∙ w.if-branch.true) in
-        let is : map (λ k. k.now) c.if-branch.names.items ≡ done ++ name.now ∷ [] = rw (w.names-is, w.in_ok-push.ensures.items) (map-append (λ k. k.now) c.loop-item.names.items (name ∷ [])) in
-        record {
-          seen = λ m. seen_anew name c.loop-item.seen _ done c.in_ok-insert.ensures.updates c.loop-item.invariant.seen m ∙ ap (λ ns. is_among ns m) (sym is);
-          read = ap (λ ns. map_ok (and_later ns) later) is ∙ sym (next_anew p items i c.item-item.result done name.now c.loop-item-test.true c.item-item.is c.in_ok-name.ensures fresh) ∙ c.loop-item.invariant.read;
-        }
-    | else-branch w ↦
-        let met : is_among done name.now ≡ true = sym (c.loop-item.invariant.seen name.now) ∙ not_false _ (sym c.in_ok-insert.ensures.added ∙ w.if-branch.false) in
-        let is : map (λ k. k.now) c.if-branch.names.items ≡ done = rw w.names-is refl in
-        record {
-          seen = λ m. seen_again name c.loop-item.seen _ done c.in_ok-insert.ensures.updates met c.loop-item.invariant.seen m ∙ ap (λ ns. is_among ns m) (sym is);
-          read = ap (λ ns. map_ok (and_later ns) later) is ∙ sym (next_again p items i c.item-item.result done name.now c.loop-item-test.true c.item-item.is c.in_ok-name.ensures met) ∙ c.loop-item.invariant.read;
-        } ]
+      | then-branch+in_ok-push w ↦
+          let fresh : is_among done name.now ≡ false = sym (c.loop-item.invariant.seen name.now) ∙ not_true _ (sym c.in_ok-insert.ensures.added ∙ w.if-branch.true) in
+          let is : map (λ k. k.now) c.if-branch.names.items ≡ done ++ name.now ∷ [] = rw (w.names-is, w.in_ok-push.ensures.items) (map-append (λ k. k.now) c.loop-item.names.items (name ∷ [])) in
+          record {
+            seen = λ m. seen_anew name c.loop-item.seen _ done c.in_ok-insert.ensures.updates c.loop-item.invariant.seen m ∙ ap (λ ns. is_among ns m) (sym is);
+            read = ap (λ ns. map_ok (and_later ns) later) is ∙ sym (next_anew p items i c.item-item.result done name.now c.loop-item-test.true c.item-item.is c.in_ok-name.ensures fresh) ∙ c.loop-item.invariant.read;
+          }
+      | else-branch w ↦
+          let met : is_among done name.now ≡ true = sym (c.loop-item.invariant.seen name.now) ∙ not_false _ (sym c.in_ok-insert.ensures.added ∙ w.if-branch.false) in
+          let is : map (λ k. k.now) c.if-branch.names.items ≡ done = rw w.names-is refl in
+          record {
+            seen = λ m. seen_again name c.loop-item.seen _ done c.in_ok-insert.ensures.updates met c.loop-item.invariant.seen m ∙ ap (λ ns. is_among ns m) (sym is);
+            read = ap (λ ns. map_ok (and_later ns) later) is ∙ sym (next_again p items i c.item-item.result done name.now c.loop-item-test.true c.item-item.is c.in_ok-name.ensures met) ∙ c.loop-item.invariant.read;
+          }
+    ]
 
 pub loop-item-init : goal.loop-item-init
 loop-item-init c = record {

@@ -27,12 +27,13 @@ loop-index-preserved g c =
     let is_object : is_object t ≡ true = sym c.is_object.ensures ∙ c.if-not-is_object.false in
     let within : i < length names = omega (arith, c.loop-index.invariant.within, c.loop-index-test.true) in
     elim c.if-is_missing.branch [
-    then-is_missing+in_ok-append_error w ↦
-        let lacks : has_name t name ≡ false = not_true _ (sym c.is_missing.ensures ∙ w.if-is_missing.true) in
-        let is : w.as_str-property.result.now ≡ name = w.as_str-property.ensures ∙ get_or_read names i _ within w.at.ensures [] in
-        let left = subst (λ fs. Collects old now fs (fails names)) (fails_here q t p names i [] is_object within lacks) c.loop-index.invariant.collects in
-        record { within = c.loop-index.invariant.within; collects = collects_one (required_fail q t p name) (fails (drop (i + 1) names)) left (rw w.errors-is (w.in_ok-append_error.ensures.appended ∙ ap (λ (n : List ℕ). now ++ required_fail q t p n ∷ []) is)) }
-    | else-is_missing w ↦
-        let has : has_name t name ≡ true = not_false _ (sym c.is_missing.ensures ∙ w.if-is_missing.false) in
-        let left = subst (λ fs. Collects old now fs (fails names)) (fails_there q t p names i [] within has) c.loop-index.invariant.collects in
-        record { within = c.loop-index.invariant.within; collects = rw w.errors-is left } ]
+      | then-is_missing+in_ok-append_error w ↦
+          let lacks : has_name t name ≡ false = not_true _ (sym c.is_missing.ensures ∙ w.if-is_missing.true) in
+          let is : w.as_str-property.result.now ≡ name = w.as_str-property.ensures ∙ get_or_read names i _ within w.at.ensures [] in
+          let left = subst (λ fs. Collects old now fs (fails names)) (fails_here q t p names i [] is_object within lacks) c.loop-index.invariant.collects in
+          record { within = c.loop-index.invariant.within; collects = collects_one (required_fail q t p name) (fails (drop (i + 1) names)) left (rw w.errors-is (w.in_ok-append_error.ensures.appended ∙ ap (λ (n : List ℕ). now ++ required_fail q t p n ∷ []) is)) }
+      | else-is_missing w ↦
+          let has : has_name t name ≡ true = not_false _ (sym c.is_missing.ensures ∙ w.if-is_missing.false) in
+          let left = subst (λ fs. Collects old now fs (fails names)) (fails_there q t p names i [] within has) c.loop-index.invariant.collects in
+          record { within = c.loop-index.invariant.within; collects = rw w.errors-is left }
+    ]
