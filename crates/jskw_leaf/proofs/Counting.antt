@@ -45,6 +45,10 @@ same_count : (ks rs : List (List ℕ)) → IsDistinct bytes_eq ks → IsDistinct
 same_count [] rs d e = sym (count_none rs)
 same_count (k ∷ ks) rs d e = count_cons (is_among rs) k ks ∙ ap (λ n. cond (is_among rs k) 1 0 + n) (same_count ks rs (IsDistinct-tail bytes_eq k ks d) e) ∙ sym (count_more k ks rs (IsDistinct-head bytes_eq k ks d) e)
 
+-- the first of the names is one of those that are counted
+pub count_hit : (p : List ℕ → Bool) (ks : List (List ℕ)) (k : List ℕ) (rest : List (List ℕ)) → ks ≡ k ∷ rest → p k ≡ true → count_by p ks ≡ 1 + count_by p rest
+count_hit p ks k rest e h = ap (count_by p) e ∙ count_cons p k rest ∙ ap (λ b. cond b 1 0 + count_by p rest) h
+
 counted_cons : (b all : Bool) (n c : ℕ) → suc n ≤ cond b 1 0 + c → c ≤ n → (n ≤ c → all ≡ true) → (b && all) ≡ true
 counted_cons true all n c h k then = then (omega (arith, h))
 counted_cons false all n c h k then = absurd (omega (arith, h, k))

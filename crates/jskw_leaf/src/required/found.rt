@@ -43,16 +43,17 @@ fn walk_finds_all<F: Json, L: Names<F>>(names: &L, object: &F::Node) -> bool
     requires { IsTrue (is_object (F.Node.tree object.now)) }
     ensures { result ≡ list_all (has_name (F.Node.tree object.now)) (L.names names.now) }
 {
+    let count = names.len();
     let mut found = 0;
     for (text, _) in object.walk() {
-        if found == names.len() {
-            return true;
-        }
         if place_of(names, text).is_some() {
             found += 1;
+            if found == count {
+                return true;
+            }
         }
     }
-    found == names.len()
+    found == count
 }
 
 #[tactic(auto, using(crate::proofs::Counting::all_step, crate::proofs::Counting::all_end))]
@@ -124,11 +125,11 @@ fn found_by_walk<F: Json, L: Names<F>>(names: &L, object: &F::Node) -> u32
     let all = bit(names.len()) - 1;
     let mut found = 0;
     for (text, _) in object.walk() {
-        if found == all {
-            return found;
-        }
         if let Some(place) = place_of(names, text) {
             found |= bit(place);
+            if found == all {
+                return found;
+            }
         }
     }
     found

@@ -1,4 +1,4 @@
-use Rattle.std.proofs.Common.{◌≡◌, ◌+◌, count_by}
+use Rattle.std.proofs.Common.{◌≡◌, ◌+◌, count_by, length}
 use Rattle.std.specs.Map.{keys_of}
 use Rattle.jskw_value.specs.Tree.{names}
 use Rattle.jskw_value.specs.Walk.{left}
@@ -10,4 +10,4 @@ abbrev pub invariant-loop-text : goal.invariant-loop-text
 invariant-loop-text g l =
     let tree = g.F.Node.Rooted.tree in
     let wanted = is_among (g.L.Names.names l.names) in
-    l.found + count_by wanted (keys_of (left tree l.text-iterator)) ≡ count_by wanted (names (tree l.object))
+    (l.count ≡ length (g.L.Names.names l.names)) × (l.found + count_by wanted (keys_of (left tree l.text-iterator)) ≡ count_by wanted (names (tree l.object)))
