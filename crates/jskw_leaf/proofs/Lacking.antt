@@ -1,10 +1,11 @@
 -- The errors of the names that an object lacks, one name at a time.
-use Rattle.std.proofs.Common.{◌≡◌, ℕ, ◌+◌, ◌<◌, ◌≤◌, List, [], ◌∷◌, ◌++◌, length, get_or, drop, map, filter, Bool, true, false, not, cond, refl, sym, ap, ◌∙◌, append-nil, append_assoc, arith}
+use Rattle.std.proofs.Common.{◌≡◌, ℕ, zero, suc, ◌+◌, ◌<◌, ◌≤◌, List, [], ◌∷◌, ◌++◌, length, get_or, drop, map, filter, Bool, true, false, not, cond, refl, sym, ap, ◌∙◌, append-nil, append_assoc, arith}
 use Rattle.std.proofs.lemmas.Bool.{true≢false}
 use Rattle.std.proofs.lemmas.List.{at_drop_all, at_drop_more, map-append}
-use Rattle.std.specs.List.{list_all}
 use Rattle.jskw_value.specs.Pointer.{Pointer}
 use Rattle.jskw_value.specs.Tree.{Tree, object, is_object, has_name}
+use Rattle.jskw_value.proofs.Booleans.{left_of, right_of}
+use Rattle.jskw_report.specs.Holds.{required_holds}
 use Rattle.jskw_report.specs.Fail.{Failure, missing}
 use Rattle.jskw_report.specs.Kind.{ErrorKind, Required}
 use Rattle.jskw_report.specs.Observe.{Collects, AppendsBeginning}
@@ -23,6 +24,19 @@ has _ n ns e = refl
 pub nothing_lacks : (t : Tree) (ns : List (List ℕ)) → is_object t ≡ false → missing ns t ≡ []
 nothing_lacks (object ms) ns h = absurd (true≢false h)
 nothing_lacks _ ns h = refl
+
+-- ---- none, where it holds
+
+pub holds_lacks : (t : Tree) (ns : List (List ℕ)) (k : ErrorKind) (ks : List ErrorKind) → required_holds ns t ≡ true → missing ns t ≡ k ∷ ks → ⊥
+holds_lacks (object ms) [] k ks h e = cc
+holds_lacks (object ms) (n ∷ ns) k ks h e = holds_lacks (object ms) ns k ks (right_of _ _ h) (sym (has (object ms) n ns (left_of _ _ h)) ∙ e)
+holds_lacks _ ns k ks h e = cc
+
+pub all_there : (t : Tree) (ns : List (List ℕ)) (i : ℕ) (d : List ℕ) → required_holds ns t ≡ true → is_object t ≡ true → i < length ns → has_name t (get_or ns i d) ≡ true
+all_there (object ms) [] i d h o l = absurd (omega (arith, l))
+all_there (object ms) (n ∷ ns) zero d h o l = left_of _ _ h
+all_there (object ms) (n ∷ ns) (suc i) d h o l = all_there (object ms) ns i d (right_of _ _ h) o (omega (arith, l))
+all_there _ ns i d h o l = absurd (true≢false (sym o))
 
 -- ---- the errors
 

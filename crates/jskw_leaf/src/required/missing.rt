@@ -1,9 +1,10 @@
 //! What is wrong with an object that lacks required names: one error for each, in the order of the names.
-ghost use Rattle.std.specs.Prelude.{◌≡◌, ◌++◌, [], ◌∷◌, IfOk, OnOk, OnErr, MatchOption, List};
+ghost use Rattle.std.specs.Prelude.{◌≡◌, ◌++◌, [], ◌∷◌, IfOk, OnOk, OnErr, MatchOption, IsTrue, IsOk, List};
 ghost use Rattle.jskw_report.specs.Errors.{failure_of, failures_of};
 ghost use Rattle.jskw_report.specs.Evaluation.{of_errors};
 ghost use Rattle.jskw_report.specs.EvaluationView.{result_of};
 ghost use Rattle.jskw_report.specs.Fail.{missing};
+ghost use Rattle.jskw_report.specs.Holds.{required_holds};
 ghost use Rattle.jskw_report.specs.Kind.{ErrorKind, Required};
 ghost use Rattle.jskw_report.specs.Observe.{AppendsBeginning, IsFirst};
 ghost use Rattle.jskw_report.specs.Paths.{path_of};
@@ -25,8 +26,9 @@ pub(crate) fn fail_first<'i, F: Json + 'i, L: Names<F> + 'i>(
     instance: &'i F::Node,
     location: &LazyLocation,
 ) -> Result<(), Fault<'i, F>>
-    ensures { IsFirst F.Node.tree
+    ensures first { IsFirst F.Node.tree
         (required_fails schema_path.now (F.Node.tree instance.now) (path_of location.now) (L.names names.now)) result }
+    ensures ok { IsTrue (required_holds (L.names names.now) (F.Node.tree instance.now)) → IsOk result }
 {
     match first_missing(names, instance) {
         Some(property) => {
@@ -71,6 +73,7 @@ pub(crate) fn append_missing<'i, F: Json + 'i, L: Names<F> + 'i>(
     ensures begun { OnErr result (AppendsBeginning (failures_of F.Node.tree errors.old.items)
         (failures_of F.Node.tree errors.new.items)
         (required_fails schema_path.now (F.Node.tree instance.now) (path_of location.now) (L.names names.now))) }
+    ensures ok { IsTrue (required_holds (L.names names.now) (F.Node.tree instance.now)) → IsOk result }
 {
     if !instance.is_object() {
         return Ok(());

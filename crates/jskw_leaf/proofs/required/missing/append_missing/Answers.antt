@@ -1,11 +1,12 @@
 use Rattle.std.proofs.Common.{◌≡◌, ◌+◌, ◌<◌, length, List, ℕ, [], ◌∷◌, ◌++◌, Bool, true, false, not, drop, get_or, refl, ap, subst, sym, ◌∙◌, arith}
+use Rattle.std.proofs.lemmas.Bool.{true≢false}
 use Rattle.std.proofs.lemmas.List.{get_or_read}
 use Rattle.jskw_value.specs.Tree.{has_name, is_object}
 use Rattle.jskw_report.specs.Errors.{failures_of}
 use Rattle.jskw_report.specs.Observe.{Collects}
 use Rattle.jskw_report.specs.Paths.{path_of}
 use Rattle.jskw_leaf.specs.Required.{required_fail, required_fails}
-use Rattle.jskw_leaf.proofs.Lacking.{fails_here, fails_there, collects_nothing, collects_one, not_true, not_false}
+use Rattle.jskw_leaf.proofs.Lacking.{fails_here, fails_there, collects_nothing, collects_one, all_there, not_true, not_false}
 use Rattle.jskw_leaf.proofs.required.missing.append_missing.Goals as goal
 use Rattle.jskw_leaf.proofs.required.missing.append_missing.Goals.{then-is_missing+in_ok-append_error, else-is_missing}
 
@@ -37,3 +38,10 @@ loop-index-preserved g c =
           let left = subst (λ fs. Collects old now fs (fails names)) (fails_there q t p names i [] within has) c.loop-index.invariant.collects in
           record { within = c.loop-index.invariant.within; collects = rw w.errors-is left }
     ]
+
+pub returns-in_err-append_error-clause-ok : goal.returns-in_err-append_error-clause-ok
+returns-in_err-append_error-clause-ok g c = λ h.
+    let names = g.L.Names.names c.args.names.now in
+    let within : c.loop-index.index < length names = omega (arith, c.loop-index.invariant.within, c.loop-index-test.true) in
+    let there = all_there (g.F.Node.Rooted.tree c.args.instance.now) names c.loop-index.index [] h (sym c.is_object.ensures ∙ c.if-not-is_object.false) within in
+    absurd (true≢false (sym there ∙ not_true _ (sym c.is_missing.ensures ∙ c.if-is_missing.true)))
