@@ -1,5 +1,6 @@
 // What the tests of the keywords share: a schema's keyword is compiled, and its observers are asked of an instance.
 mod constants;
+mod required;
 mod types;
 
 use crate::leaf::LeafValidator;
@@ -64,6 +65,7 @@ fn kind_text(alloc: Global, kind: &ValidationErrorKind) -> Result<String, AllocE
         ValidationErrorKind::Enum {
             options: EnumOptions::TypeNames,
         } => String::from_str(alloc, "enum of the types"),
+        ValidationErrorKind::Required { property } => format!(in alloc; "required {property}"),
         ValidationErrorKind::WrongType {
             kind: TypeKind::Single(json_type),
         } => format!(in alloc; "type {json_type:?}"),
