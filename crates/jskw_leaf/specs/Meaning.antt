@@ -99,16 +99,16 @@ const_string v = constant_at v.location v.value
 -- ---- `required`; F, N, O and P are the types of a representation
 
 abbrev pub several_names : {F N O P : Type 0} → RequiredValidator F N O P → Keyword
-several_names v = assertion v.location (required v.names)
+several_names v = assertion v.location (required v.required)
 
 abbrev pub one_name : {F N O P : Type 0} → SingleItemRequiredValidator F N O P → Keyword
-one_name v = assertion v.location (required v.names)
+one_name v = assertion v.location (required v.name)
 
 abbrev pub two_names : {F N O P : Type 0} → Required2Validator F N O P → Keyword
-two_names v = assertion v.location (required v.names)
+two_names v = assertion v.location (required v.pair)
 
 abbrev pub three_names : {F N O P : Type 0} → Required3Validator F N O P → Keyword
-three_names v = assertion v.location (required v.names)
+three_names v = assertion v.location (required v.triple)
 
 -- ---- any of them; F, N, O and P are the types of a representation
 

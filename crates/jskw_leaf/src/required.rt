@@ -19,7 +19,7 @@ use std::alloc::{AllocError, Global};
 /// The validator of any number of names.
 #[derive(Drop)]
 pub struct RequiredValidator<F: Json> {
-    names: NameList<F>,
+    required: NameList<F>,
     location: Location,
 }
 
@@ -29,7 +29,7 @@ impl<F: Json> Validate<F> for RequiredValidator<F> {
     ghost keyword = { several_names };
 
     fn is_valid(&self, instance: &F::Node, _ctx: &mut ValidationContext) -> bool {
-        !instance.is_object() || has_all(&self.names, instance)
+        !instance.is_object() || has_all(&self.required, instance)
     }
 
     fn validate<'i>(
@@ -38,7 +38,7 @@ impl<F: Json> Validate<F> for RequiredValidator<F> {
         location: &mut LazyLocation,
         _ctx: &mut ValidationContext,
     ) -> Result<(), Fault<'i, F>> {
-        fail_first(&self.names, &self.location, instance, location)
+        fail_first(&self.required, &self.location, instance, location)
     }
 
     fn collect_errors<'i>(
@@ -48,7 +48,7 @@ impl<F: Json> Validate<F> for RequiredValidator<F> {
         _ctx: &mut ValidationContext,
         errors: &mut Vec<ValidationError<'i, F>>,
     ) -> Result<(), AllocError> {
-        append_missing(&self.names, &self.location, instance, location, errors)
+        append_missing(&self.required, &self.location, instance, location, errors)
     }
 
     fn evaluate(
@@ -67,7 +67,7 @@ impl<F: Json> Validate<F> for RequiredValidator<F> {
 /// The validator of one name.
 #[derive(Drop)]
 pub struct SingleItemRequiredValidator<F: Json> {
-    names: OneName<F>,
+    name: OneName<F>,
     location: Location,
 }
 
@@ -77,7 +77,7 @@ impl<F: Json> Validate<F> for SingleItemRequiredValidator<F> {
     ghost keyword = { one_name };
 
     fn is_valid(&self, instance: &F::Node, _ctx: &mut ValidationContext) -> bool {
-        !instance.is_object() || has_all(&self.names, instance)
+        !instance.is_object() || has_all(&self.name, instance)
     }
 
     fn validate<'i>(
@@ -86,7 +86,7 @@ impl<F: Json> Validate<F> for SingleItemRequiredValidator<F> {
         location: &mut LazyLocation,
         _ctx: &mut ValidationContext,
     ) -> Result<(), Fault<'i, F>> {
-        fail_first(&self.names, &self.location, instance, location)
+        fail_first(&self.name, &self.location, instance, location)
     }
 
     fn collect_errors<'i>(
@@ -96,7 +96,7 @@ impl<F: Json> Validate<F> for SingleItemRequiredValidator<F> {
         _ctx: &mut ValidationContext,
         errors: &mut Vec<ValidationError<'i, F>>,
     ) -> Result<(), AllocError> {
-        append_missing(&self.names, &self.location, instance, location, errors)
+        append_missing(&self.name, &self.location, instance, location, errors)
     }
 
     fn evaluate(
@@ -115,7 +115,7 @@ impl<F: Json> Validate<F> for SingleItemRequiredValidator<F> {
 /// The validator of two names.
 #[derive(Drop)]
 pub struct Required2Validator<F: Json> {
-    names: TwoNames<F>,
+    pair: TwoNames<F>,
     location: Location,
 }
 
@@ -125,7 +125,7 @@ impl<F: Json> Validate<F> for Required2Validator<F> {
     ghost keyword = { two_names };
 
     fn is_valid(&self, instance: &F::Node, _ctx: &mut ValidationContext) -> bool {
-        !instance.is_object() || has_all(&self.names, instance)
+        !instance.is_object() || has_all(&self.pair, instance)
     }
 
     fn validate<'i>(
@@ -134,7 +134,7 @@ impl<F: Json> Validate<F> for Required2Validator<F> {
         location: &mut LazyLocation,
         _ctx: &mut ValidationContext,
     ) -> Result<(), Fault<'i, F>> {
-        fail_first(&self.names, &self.location, instance, location)
+        fail_first(&self.pair, &self.location, instance, location)
     }
 
     fn collect_errors<'i>(
@@ -144,7 +144,7 @@ impl<F: Json> Validate<F> for Required2Validator<F> {
         _ctx: &mut ValidationContext,
         errors: &mut Vec<ValidationError<'i, F>>,
     ) -> Result<(), AllocError> {
-        append_missing(&self.names, &self.location, instance, location, errors)
+        append_missing(&self.pair, &self.location, instance, location, errors)
     }
 
     fn evaluate(
@@ -163,7 +163,7 @@ impl<F: Json> Validate<F> for Required2Validator<F> {
 /// The validator of three names.
 #[derive(Drop)]
 pub struct Required3Validator<F: Json> {
-    names: ThreeNames<F>,
+    triple: ThreeNames<F>,
     location: Location,
 }
 
@@ -173,7 +173,7 @@ impl<F: Json> Validate<F> for Required3Validator<F> {
     ghost keyword = { three_names };
 
     fn is_valid(&self, instance: &F::Node, _ctx: &mut ValidationContext) -> bool {
-        !instance.is_object() || has_all(&self.names, instance)
+        !instance.is_object() || has_all(&self.triple, instance)
     }
 
     fn validate<'i>(
@@ -182,7 +182,7 @@ impl<F: Json> Validate<F> for Required3Validator<F> {
         location: &mut LazyLocation,
         _ctx: &mut ValidationContext,
     ) -> Result<(), Fault<'i, F>> {
-        fail_first(&self.names, &self.location, instance, location)
+        fail_first(&self.triple, &self.location, instance, location)
     }
 
     fn collect_errors<'i>(
@@ -192,7 +192,7 @@ impl<F: Json> Validate<F> for Required3Validator<F> {
         _ctx: &mut ValidationContext,
         errors: &mut Vec<ValidationError<'i, F>>,
     ) -> Result<(), AllocError> {
-        append_missing(&self.names, &self.location, instance, location, errors)
+        append_missing(&self.triple, &self.location, instance, location, errors)
     }
 
     fn evaluate(

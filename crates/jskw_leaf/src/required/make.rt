@@ -95,20 +95,20 @@ fn validator_of<F: Json>(
 {
     match names {
         [name] => {
-            let names = OneName::new(alloc, name)?;
-            Ok(LeafValidator::SingleItemRequired(SingleItemRequiredValidator { names, location }))
+            let name = OneName::new(alloc, name)?;
+            Ok(LeafValidator::SingleItemRequired(SingleItemRequiredValidator { name, location }))
         }
         [first, second] => {
-            let names = TwoNames::new(alloc, first, second)?;
-            Ok(LeafValidator::Required2(Required2Validator { names, location }))
+            let pair = TwoNames::new(alloc, first, second)?;
+            Ok(LeafValidator::Required2(Required2Validator { pair, location }))
         }
         [first, second, third] => {
-            let names = ThreeNames::new(alloc, first, second, third)?;
-            Ok(LeafValidator::Required3(Required3Validator { names, location }))
+            let triple = ThreeNames::new(alloc, first, second, third)?;
+            Ok(LeafValidator::Required3(Required3Validator { triple, location }))
         }
         _ => {
-            let names = NameList::new(alloc, names)?;
-            Ok(LeafValidator::Required(RequiredValidator { names, location }))
+            let required = NameList::new(alloc, names)?;
+            Ok(LeafValidator::Required(RequiredValidator { required, location }))
         }
     }
 }
