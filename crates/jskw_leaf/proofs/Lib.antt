@@ -1,3 +1,11 @@
+pub mod Counting
+pub mod Distinct
+pub mod HandedOn
+pub mod Lacking
+pub mod Lookups
+pub mod Marking
 pub mod Options
+pub mod Sizes
 pub mod Tables
 pub mod Types
+pub mod Units

@@ -7,7 +7,7 @@ use Rattle.jskw_value.specs.declared.types.JsonType.TheVariants.{Array, Boolean,
 use Rattle.jskw_report.specs.declared.error.TypeKind.TheVariants.{Single, Multiple}
 use Rattle.jskw_report.specs.Read.{integers_of}
 use Rattle.jskw_report.specs.declared.settings.Draft.TheVariants.{Draft4}
-use Rattle.jskw_report.specs.Keyword.{Keyword, assertion, constant, among, unique, never, type_is, Integers, by_value, as_written}
+use Rattle.jskw_report.specs.Keyword.{Keyword, assertion, constant, among, unique, never, type_is, Integers, by_value, as_written, required}
 use Rattle.jskw_number.specs.Meaning.{number_keyword}
 use Rattle.jskw_leaf.specs.declared.boolean.FalseValidator.{FalseValidator}
 use Rattle.jskw_leaf.specs.declared.type_.MultipleTypesValidator.{MultipleTypesValidator}
@@ -34,7 +34,11 @@ use Rattle.jskw_leaf.specs.declared.enum_.integers.IntegerEnumValidator.{Integer
 use Rattle.jskw_leaf.specs.declared.unique_items.UniqueItemsValidator.{UniqueItemsValidator}
 use Rattle.jskw_leaf.specs.Options.{options_of}
 use Rattle.jskw_leaf.specs.declared.leaf.LeafValidator.{LeafValidator}
-use Rattle.jskw_leaf.specs.declared.leaf.LeafValidator.TheVariants.{False, Number as number, MultipleTypes, ArrayType, BooleanType, IntegerType, NullType, NumberType, ObjectType, StringType, MultipleTypesDraft4, IntegerTypeDraft4, ConstArray, ConstBoolean, ConstNull, ConstNumber, ConstObject, ConstString, Enum, SingleValueEnum, SmallStringEnum, NullableSmallStringEnum, BigStringEnum, NullableBigStringEnum, IntegerEnum, NullableIntegerEnum, UniqueItems}
+use Rattle.jskw_leaf.specs.declared.leaf.LeafValidator.TheVariants.{False, Number as number, MultipleTypes, ArrayType, BooleanType, IntegerType, NullType, NumberType, ObjectType, StringType, MultipleTypesDraft4, IntegerTypeDraft4, ConstArray, ConstBoolean, ConstNull, ConstNumber, ConstObject, ConstString, Enum, SingleValueEnum, SmallStringEnum, NullableSmallStringEnum, BigStringEnum, NullableBigStringEnum, IntegerEnum, NullableIntegerEnum, UniqueItems, Required, SingleItemRequired, Required2, Required3}
+use Rattle.jskw_leaf.specs.declared.required.RequiredValidator.{RequiredValidator}
+use Rattle.jskw_leaf.specs.declared.required.SingleItemRequiredValidator.{SingleItemRequiredValidator}
+use Rattle.jskw_leaf.specs.declared.required.Required2Validator.{Required2Validator}
+use Rattle.jskw_leaf.specs.declared.required.Required3Validator.{Required3Validator}
 
 abbrev pub false_keyword : FalseValidator → Keyword
 false_keyword v = assertion v.location never
@@ -126,10 +130,24 @@ enum_integer v = among_at v.location v.options
 abbrev pub unique_items : UniqueItemsValidator → Keyword
 unique_items v = assertion v.location unique
 
+-- ---- `required`; F, N, O and P are the types of a representation
+
+abbrev pub several_names : {F N O P : Type 0} → RequiredValidator F N O P → Keyword
+several_names v = assertion v.location (required v.required)
+
+abbrev pub one_name : {F N O P : Type 0} → SingleItemRequiredValidator F N O P → Keyword
+one_name v = assertion v.location (required v.name)
+
+abbrev pub two_names : {F N O P : Type 0} → Required2Validator F N O P → Keyword
+two_names v = assertion v.location (required v.pair)
+
+abbrev pub three_names : {F N O P : Type 0} → Required3Validator F N O P → Keyword
+three_names v = assertion v.location (required v.triple)
+
 -- ---- any of them; F, N, O and P are the types of a representation
 
 abbrev pub leaf_keyword : {F N O P : Type 0} → LeafValidator F N O P → Keyword
-leaf_keyword (False v marker) = false_keyword v
+leaf_keyword (False v) = false_keyword v
 leaf_keyword (number v) = number_keyword v
 leaf_keyword (MultipleTypes v) = multiple_types v
 leaf_keyword (ArrayType v) = array_type v
@@ -156,3 +174,7 @@ leaf_keyword (NullableBigStringEnum v) = enum_big_string v
 leaf_keyword (IntegerEnum v) = enum_integer v
 leaf_keyword (NullableIntegerEnum v) = enum_integer v
 leaf_keyword (UniqueItems v) = unique_items v
+leaf_keyword (Required v) = several_names v
+leaf_keyword (SingleItemRequired v) = one_name v
+leaf_keyword (Required2 v) = two_names v
+leaf_keyword (Required3 v) = three_names v

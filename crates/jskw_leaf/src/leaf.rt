@@ -11,6 +11,9 @@ use crate::enum_::{
     SmallStringEnumValidator,
 };
 use crate::legacy::type_draft_4;
+use crate::required::{
+    Required2Validator, Required3Validator, RequiredValidator, SingleItemRequiredValidator,
+};
 use crate::type_::{
     ArrayTypeValidator, BooleanTypeValidator, IntegerTypeValidator, MultipleTypesValidator,
     NullTypeValidator, NumberTypeValidator, ObjectTypeValidator, StringTypeValidator,
@@ -22,12 +25,11 @@ use jskw_report::{
 };
 use jskw_value::{Json, NotNullable, Nullable};
 use std::alloc::{AllocError, Global};
-use std::marker::PhantomData;
 
 /// A validator of one keyword without subschemas, over the representation `F`.
 #[derive(Drop)]
 pub enum LeafValidator<F: Json> {
-    False(FalseValidator, PhantomData<F>),
+    False(FalseValidator),
     Number(NumberValidator),
     MultipleTypes(MultipleTypesValidator),
     ArrayType(ArrayTypeValidator),
@@ -54,13 +56,17 @@ pub enum LeafValidator<F: Json> {
     IntegerEnum(IntegerEnumValidator<NotNullable>),
     NullableIntegerEnum(IntegerEnumValidator<Nullable>),
     UniqueItems(UniqueItemsValidator),
+    Required(RequiredValidator<F>),
+    SingleItemRequired(SingleItemRequiredValidator<F>),
+    Required2(Required2Validator<F>),
+    Required3(Required3Validator<F>),
 }
 
 /// What is said of the validator, whichever it is.
 macro_rules! whichever {
     ($leaf:expr, $validator:ident => $answer:expr) => {
         match $leaf {
-            LeafValidator::False($validator, _) => $answer,
+            LeafValidator::False($validator) => $answer,
             LeafValidator::Number($validator) => $answer,
             LeafValidator::MultipleTypes($validator) => $answer,
             LeafValidator::ArrayType($validator) => $answer,
@@ -87,6 +93,10 @@ macro_rules! whichever {
             LeafValidator::IntegerEnum($validator) => $answer,
             LeafValidator::NullableIntegerEnum($validator) => $answer,
             LeafValidator::UniqueItems($validator) => $answer,
+            LeafValidator::Required($validator) => $answer,
+            LeafValidator::SingleItemRequired($validator) => $answer,
+            LeafValidator::Required2($validator) => $answer,
+            LeafValidator::Required3($validator) => $answer,
         }
     };
 }

@@ -7,6 +7,7 @@ pub mod enum_;
 mod floats;
 pub mod leaf;
 pub mod legacy;
+pub mod required;
 pub mod type_;
 pub mod unique_items;
 

@@ -1,6 +1,7 @@
 // What the tests of the keywords share: a schema's keyword is compiled, and its observers are asked of an instance.
 mod constants;
 mod enums;
+mod required;
 mod types;
 
 use crate::leaf::LeafValidator;
@@ -65,6 +66,7 @@ fn kind_text(alloc: Global, kind: &ValidationErrorKind) -> Result<String, AllocE
         ValidationErrorKind::Enum {
             options: EnumOptions::TypeNames,
         } => String::from_str(alloc, "enum of the types"),
+        ValidationErrorKind::Required { property } => format!(in alloc; "required {property}"),
         ValidationErrorKind::WrongType {
             kind: TypeKind::Single(json_type),
         } => format!(in alloc; "type {json_type:?}"),

@@ -1,0 +1,47 @@
+use Rattle.std.proofs.Common.{◌≡◌, ◌+◌, ◌<◌, length, List, ℕ, [], ◌∷◌, ◌++◌, Bool, true, false, not, drop, get_or, refl, ap, subst, sym, ◌∙◌, arith}
+use Rattle.std.proofs.lemmas.Bool.{true≢false}
+use Rattle.std.proofs.lemmas.List.{get_or_read}
+use Rattle.jskw_value.specs.Tree.{has_name, is_object}
+use Rattle.jskw_report.specs.Errors.{failures_of}
+use Rattle.jskw_report.specs.Observe.{Collects}
+use Rattle.jskw_report.specs.Paths.{path_of}
+use Rattle.jskw_leaf.specs.Required.{required_fail, required_fails}
+use Rattle.jskw_leaf.proofs.Lacking.{fails_here, fails_there, collects_nothing, collects_one, all_there, not_true, not_false}
+use Rattle.jskw_leaf.proofs.required.missing.append_missing.Goals as goal
+use Rattle.jskw_leaf.proofs.required.missing.append_missing.Goals.{then-is_missing+in_ok-append_error, else-is_missing}
+
+pub loop-index-init : goal.loop-index-init
+loop-index-init g c = record { within = c.len-index-end.ensures.count; collects = collects_nothing _ _ }
+
+pub loop-index-preserved : goal.loop-index-preserved
+loop-index-preserved g c =
+    let tree = g.F.Node.Rooted.tree in
+    let t = tree c.args.instance.now in
+    let p = path_of c.args.location.now in
+    let q = c.args.schema_path.now in
+    let names = (g.L.Names.names c.args.names.now) in
+    let i = c.loop-index.index in
+    let fails = required_fails q t p in
+    let old = failures_of tree c.args.errors.now.items in
+    let now = failures_of tree c.loop-index.errors.items in
+    let name = get_or names i [] in
+    let is_object : is_object t ≡ true = sym c.is_object.ensures ∙ c.if-not-is_object.false in
+    let within : i < length names = omega (arith, c.loop-index.invariant.within, c.loop-index-test.true) in
+    elim c.if-is_missing.branch [
+      | then-is_missing+in_ok-append_error w ↦
+          let lacks : has_name t name ≡ false = not_true _ (sym c.is_missing.ensures ∙ w.if-is_missing.true) in
+          let is : w.as_str-property.result.now ≡ name = w.as_str-property.ensures ∙ get_or_read names i _ within w.at.ensures [] in
+          let left = subst (λ fs. Collects old now fs (fails names)) (fails_here q t p names i [] is_object within lacks) c.loop-index.invariant.collects in
+          record { within = c.loop-index.invariant.within; collects = collects_one (required_fail q t p name) (fails (drop (i + 1) names)) left (rw w.errors-is (w.in_ok-append_error.ensures.appended ∙ ap (λ (n : List ℕ). now ++ required_fail q t p n ∷ []) is)) }
+      | else-is_missing w ↦
+          let has : has_name t name ≡ true = not_false _ (sym c.is_missing.ensures ∙ w.if-is_missing.false) in
+          let left = subst (λ fs. Collects old now fs (fails names)) (fails_there q t p names i [] within has) c.loop-index.invariant.collects in
+          record { within = c.loop-index.invariant.within; collects = rw w.errors-is left }
+    ]
+
+pub returns-in_err-append_error-clause-ok : goal.returns-in_err-append_error-clause-ok
+returns-in_err-append_error-clause-ok g c = λ h.
+    let names = g.L.Names.names c.args.names.now in
+    let within : c.loop-index.index < length names = omega (arith, c.loop-index.invariant.within, c.loop-index-test.true) in
+    let there = all_there (g.F.Node.Rooted.tree c.args.instance.now) names c.loop-index.index [] h (sym c.is_object.ensures ∙ c.if-not-is_object.false) within in
+    absurd (true≢false (sym there ∙ not_true _ (sym c.is_missing.ensures ∙ c.if-is_missing.true)))

@@ -1,0 +1,11 @@
+use Rattle.std.proofs.Common.{◌≡◌, ◌++◌, drop, map}
+use Rattle.jskw_report.specs.Errors.{failures_of}
+use Rattle.jskw_report.specs.EvaluationView.{keywords_of}
+use Rattle.jskw_leaf.proofs.Units.{keywords}
+use Rattle.jskw_leaf.proofs.required.missing.evaluate_errors.Given as goal
+
+-- the keywords so far, with those of the errors that are left
+abbrev pub invariant-loop-error : goal.invariant-loop-error
+invariant-loop-error g l =
+    let tree = g.F.Node.Rooted.tree in
+    keywords_of l.descriptions.items ++ keywords (failures_of tree (drop l.error-index l.errors)) ≡ keywords (failures_of tree l.errors)

@@ -1,0 +1,112 @@
+//! What stands beside `required`, which may leave it to the keywords of objects.
+ghost use Rattle.std.specs.Prelude.{◌≡◌, IsTrue, Some, codes, not};
+ghost use Rattle.serde_json.specs.Find.{get_member};
+ghost use Rattle.serde_json.specs.View.{view, members_view};
+ghost use Rattle.jskw_report.specs.Setting.{stands};
+ghost use Rattle.jskw_report.specs.Sibling.{has_few_members, has_items, is_absent, is_false, is_handed_on, is_object, member_passes};
+ghost use Rattle.jskw_report.specs.declared.keyword.KeywordName.TheVariants.{Required};
+ghost use Rattle.jskw_leaf.specs.Required.{closes_properties, has_few_properties, is_left};
+
+use jskw_report::compiler::member_of;
+use jskw_report::{Context, Vocabulary};
+use jskw_value::Json;
+use serde_json::{Map, Value};
+
+/// The number of members of `properties` from which on two required names are not handed on.
+const HASHMAP_THRESHOLD: usize = 15;
+
+/// Whether `required`, whose value is `schema` and stands in `parent`, is left to the keywords of objects beside it. The
+/// items count as they are written.
+#[tactic(auto, using(crate::proofs::HandedOn::handed_on))]
+pub(super) fn is_handed_on<F: Json>(
+    ctx: &Context<'_, F>,
+    parent: &Map<String, Value>,
+    schema: &Value,
+) -> bool
+    requires stands { IsTrue (stands ctx.now.setting Required) }
+    requires member { get_member (codes "required") (members_view parent.now.entries) ≡ Some (view schema.now) }
+    ensures { result ≡ is_handed_on ctx.now.setting (members_view parent.now.entries) }
+{
+    is_left(ctx, parent, schema)
+}
+
+/// The same, whether or not the keyword stands.
+fn is_left<F: Json>(ctx: &Context<'_, F>, parent: &Map<String, Value>, schema: &Value) -> bool
+    ensures { result ≡ is_left ctx.now.setting (members_view parent.now.entries) (view schema.now) }
+{
+    ctx.has_vocabulary(Vocabulary::Applicator)
+        && !has_member(parent, "patternProperties")
+        && ((has_items(schema, 1) && closes_properties(ctx, parent))
+            || (has_items(schema, 2) && has_few_properties(ctx, parent)))
+}
+
+/// Whether there are `properties`, and no other members are allowed by an `additionalProperties` that isn't overridden.
+fn closes_properties<F: Json>(ctx: &Context<'_, F>, parent: &Map<String, Value>) -> bool
+    ensures { result ≡ closes_properties ctx.now.setting (members_view parent.now.entries) }
+{
+    has_member(parent, "properties")
+        && has_false(parent, "additionalProperties")
+        && !ctx.is_keyword_overridden("additionalProperties")
+}
+
+/// Whether there are few `properties`, which aren't overridden, and `additionalProperties` is neither `false` nor an
+/// object.
+fn has_few_properties<F: Json>(ctx: &Context<'_, F>, parent: &Map<String, Value>) -> bool
+    ensures { result ≡ has_few_properties ctx.now.setting (members_view parent.now.entries) }
+{
+    has_small_object(parent, "properties")
+        && !ctx.is_keyword_overridden("properties")
+        && !has_false(parent, "additionalProperties")
+        && !has_object(parent, "additionalProperties")
+}
+
+/// Whether the value is an array of so many items.
+fn has_items(value: &Value, count: usize) -> bool
+    ensures { result ≡ has_items count (view value.now) }
+{
+    match value {
+        Value::Array(items) => items.len() == count,
+        _ => false,
+    }
+}
+
+/// Whether `parent` has the name.
+fn has_member(parent: &Map<String, Value>, name: &str) -> bool
+    ensures { result ≡ not (is_absent name.now (members_view parent.now.entries)) }
+{
+    member_of(parent, name).is_some()
+}
+
+/// Whether `parent` has `false` under a name.
+fn has_false(parent: &Map<String, Value>, name: &str) -> bool
+    ensures { result ≡ member_passes is_false name.now (members_view parent.now.entries) }
+{
+    matches!(member_of(parent, name), Some(Value::Bool(false)))
+}
+
+/// Whether `parent` has an object under a name.
+fn has_object(parent: &Map<String, Value>, name: &str) -> bool
+    ensures { result ≡ member_passes is_object name.now (members_view parent.now.entries) }
+{
+    matches!(member_of(parent, name), Some(Value::Object(_)))
+}
+
+/// Whether `parent` has an object of few members under a name.
+fn has_small_object(parent: &Map<String, Value>, name: &str) -> bool
+    ensures { result ≡ member_passes has_few_members name.now (members_view parent.now.entries) }
+{
+    match member_of(parent, name) {
+        Some(value) => has_few_members(value),
+        None => false,
+    }
+}
+
+/// Whether the value is an object of few members.
+fn has_few_members(value: &Value) -> bool
+    ensures { result ≡ has_few_members (view value.now) }
+{
+    match value {
+        Value::Object(members) => members.len() < HASHMAP_THRESHOLD,
+        _ => false,
+    }
+}

@@ -1,0 +1,140 @@
+//! What is wrong with an object that lacks required names: one error for each, in the order of the names.
+ghost use Rattle.std.specs.Prelude.{◌≡◌, ◌++◌, [], ◌∷◌, IfOk, OnOk, OnErr, MatchOption, IsTrue, IsOk, List};
+ghost use Rattle.jskw_report.specs.Errors.{failure_of, failures_of};
+ghost use Rattle.jskw_report.specs.Evaluation.{of_errors};
+ghost use Rattle.jskw_report.specs.EvaluationView.{result_of};
+ghost use Rattle.jskw_report.specs.Fail.{missing};
+ghost use Rattle.jskw_report.specs.Holds.{required_holds};
+ghost use Rattle.jskw_report.specs.Kind.{ErrorKind, Required};
+ghost use Rattle.jskw_report.specs.Observe.{AppendsBeginning, IsFirst};
+ghost use Rattle.jskw_report.specs.Paths.{path_of};
+ghost use Rattle.jskw_leaf.specs.Required.{required_fail, required_fails};
+
+use super::found::{is_missing, scanned};
+use super::names::Names;
+use jskw_report::{
+    ErrorDescription, EvaluationResult, Fault, LazyLocation, Location, ValidationError,
+    ValidationErrorKind,
+};
+use jskw_value::{Json, Node};
+use std::alloc::{AllocError, Global};
+
+/// Ok where nothing is missing, which takes no memory, and else the error of the first name that is.
+pub(crate) fn fail_first<'i, F: Json + 'i, L: Names<F> + 'i>(
+    names: &'i L,
+    schema_path: &'i Location,
+    instance: &'i F::Node,
+    location: &LazyLocation,
+) -> Result<(), Fault<'i, F>>
+    ensures first { IsFirst F.Node.tree
+        (required_fails schema_path.now (F.Node.tree instance.now) (path_of location.now) (L.names names.now)) result }
+    ensures ok { IsTrue (required_holds (L.names names.now) (F.Node.tree instance.now)) → IsOk result }
+{
+    match first_missing(names, instance) {
+        Some(property) => {
+            let error = missing_error(property, schema_path, instance, location)?;
+            Err(Fault::Invalid(error))
+        }
+        None => Ok(()),
+    }
+}
+
+/// The first name that an object lacks.
+fn first_missing<'n, F: Json + 'n, L: Names<F> + 'n>(
+    names: &'n L,
+    instance: &F::Node,
+) -> Option<&'n str>
+    ensures { let kinds = missing (L.names names.now) (F.Node.tree instance.now) in
+        MatchOption result (kinds ≡ []) (λ name. (rest : List ErrorKind) × (kinds ≡ Required name.now ∷ rest)) }
+{
+    if !instance.is_object() {
+        return None;
+    }
+    let found = scanned(names, instance);
+    for index in 0..names.len() {
+        if is_missing(names, index, found, instance) {
+            return Some(names.at(index).as_str());
+        }
+    }
+    None
+}
+
+/// Appends an error for each missing name. Where none is missing it takes no memory.
+pub(crate) fn append_missing<'i, F: Json + 'i, L: Names<F> + 'i>(
+    names: &'i L,
+    schema_path: &'i Location,
+    instance: &'i F::Node,
+    location: &LazyLocation,
+    errors: &mut Vec<ValidationError<'i, F>>,
+) -> Result<(), AllocError>
+    ensures appended { OnOk result (failures_of F.Node.tree errors.new.items
+        ≡ failures_of F.Node.tree errors.old.items
+        ++ required_fails schema_path.now (F.Node.tree instance.now) (path_of location.now) (L.names names.now)) }
+    ensures begun { OnErr result (AppendsBeginning (failures_of F.Node.tree errors.old.items)
+        (failures_of F.Node.tree errors.new.items)
+        (required_fails schema_path.now (F.Node.tree instance.now) (path_of location.now) (L.names names.now))) }
+    ensures ok { IsTrue (required_holds (L.names names.now) (F.Node.tree instance.now)) → IsOk result }
+{
+    if !instance.is_object() {
+        return Ok(());
+    }
+    let found = scanned(names, instance);
+    for index in 0..names.len() {
+        if is_missing(names, index, found, instance) {
+            let property = names.at(index).as_str();
+            append_error(property, schema_path, instance, location, errors)?;
+        }
+    }
+    Ok(())
+}
+
+/// Appends the error of a missing name. Only memory can fail, and the list is then as it was.
+fn append_error<'i, F: Json>(
+    property: &'i str,
+    schema_path: &'i Location,
+    instance: &'i F::Node,
+    location: &LazyLocation,
+    errors: &mut Vec<ValidationError<'i, F>>,
+) -> Result<(), AllocError>
+    ensures appended { OnOk result (failures_of F.Node.tree errors.new.items
+        ≡ failures_of F.Node.tree errors.old.items
+        ++ required_fail schema_path.now (F.Node.tree instance.now) (path_of location.now) property.now ∷ []) }
+    ensures begun { OnErr result (errors.new.items ≡ errors.old.items) }
+{
+    let error = missing_error(property, schema_path, instance, location)?;
+    errors.push(error)?;
+    Ok(())
+}
+
+/// The error of a missing name. Only memory can fail.
+fn missing_error<'i, F: Json>(
+    property: &'i str,
+    schema_path: &'i Location,
+    instance: &'i F::Node,
+    location: &LazyLocation,
+) -> Result<ValidationError<'i, F>, AllocError>
+    ensures { IfOk result (λ error. failure_of F.Node.tree error
+        ≡ required_fail schema_path.now (F.Node.tree instance.now) (path_of location.now) property.now) }
+{
+    let kind = ValidationErrorKind::Required { property };
+    let instance_path = location.render()?;
+    Ok(ValidationError::new(kind, instance_path, schema_path, instance))
+}
+
+/// The unit of errors that were collected: valid where there are none, which takes no memory, and else invalid with a
+/// description for each.
+pub(crate) fn evaluate_errors<F: Json>(
+    alloc: Global,
+    errors: &[ValidationError<'_, F>],
+) -> Result<EvaluationResult, AllocError>
+    ensures { IfOk result (λ r. result_of r ≡ of_errors (failures_of F.Node.tree errors.now)) }
+{
+    if errors.is_empty() {
+        return Ok(EvaluationResult::valid_empty());
+    }
+    let mut descriptions = Vec::new(alloc);
+    for error in errors {
+        descriptions.push(ErrorDescription::from_validation_error(alloc, error)?)?;
+    }
+    Ok(EvaluationResult::invalid_empty(descriptions))
+}

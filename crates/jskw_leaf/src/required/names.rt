@@ -1,0 +1,216 @@
+//! Lists of required names, each once.
+ghost use Rattle.std.specs.Prelude.{◌≡◌, ◌<◌, ℕ, List, [], ◌∷◌, IfOk, length, map, slice_index_or};
+ghost use Rattle.std.specs.List.{IsDistinct};
+ghost use Rattle.std.specs.Str.{bytes_eq};
+
+use super::prepared::PreparedName;
+use jskw_value::Json;
+use std::alloc::{AllocError, Global};
+use std::marker::Model;
+
+/// Distinct names, in their order.
+pub(crate) trait Names<F: Json> {
+    ghost names: { Self → List (List ℕ) };
+
+    /// How many there are.
+    fn len(&self) -> usize
+        ensures count { result ≡ length (names self.now) }
+        ensures distinct { IsDistinct bytes_eq (names self.now) };
+
+    /// The name at an index below that.
+    fn at(&self, index: usize) -> &PreparedName<F>
+        requires { index < length (names self.now) }
+        ensures { result.now ≡ slice_index_or (names self.now) index result.now };
+}
+
+/// Any number of names. Contracts see a list.
+#[derive(Drop)]
+pub(crate) struct NameList<F: Json> {
+    names: Vec<PreparedName<F>>,
+}
+
+impl<F: Json> Model for NameList<F> {
+    ghost use Rattle.std.specs.Prelude.{ℕ, List};
+    ghost use Rattle.std.specs.List.{IsDistinct};
+    ghost use Rattle.std.specs.Str.{bytes_eq};
+
+    ghost Value = { List (List ℕ) };
+
+    ghost view = { λ l. l.names.items };
+
+    ghost invariant = { λ l. IsDistinct bytes_eq l.names.items };
+}
+
+impl<F: Json> NameList<F> {
+    /// The names of these texts, which differ. Only memory can fail.
+    pub(crate) fn new(alloc: Global, texts: &[&str]) -> Result<NameList<F>, AllocError>
+        requires { IsDistinct bytes_eq (map (λ text. text.now) texts.now) }
+        ensures { IfOk result (λ names. names ≡ map (λ text. text.now) texts.now) }
+    {
+        let mut names = Vec::new(alloc);
+        for text in texts {
+            names.push(PreparedName::new(alloc, text)?)?;
+        }
+        Ok(NameList { names })
+    }
+}
+
+impl<F: Json> Names<F> for NameList<F> {
+    ghost names = { λ names. names };
+
+    fn len(&self) -> usize {
+        self.names.len()
+    }
+
+    fn at(&self, index: usize) -> &PreparedName<F> {
+        &self.names[index]
+    }
+}
+
+/// One name. Contracts see a list.
+#[derive(Drop)]
+pub(crate) struct OneName<F: Json> {
+    name: PreparedName<F>,
+}
+
+impl<F: Json> Model for OneName<F> {
+    ghost use Rattle.std.specs.Prelude.{ℕ, List, [], ◌∷◌};
+    ghost use Rattle.std.specs.List.{IsDistinct};
+    ghost use Rattle.std.specs.Str.{bytes_eq};
+
+    ghost Value = { List (List ℕ) };
+
+    ghost view = { λ a. a.name ∷ [] };
+
+    ghost invariant = { λ a. IsDistinct bytes_eq (a.name ∷ []) };
+}
+
+impl<F: Json> OneName<F> {
+    /// The name of this text. Only memory can fail.
+    #[tactic(auto, using(crate::proofs::Distinct::one_once))]
+    pub(crate) fn new(alloc: Global, name: &str) -> Result<OneName<F>, AllocError>
+        ensures { IfOk result (λ names. names ≡ name.now ∷ []) }
+    {
+        Ok(OneName {
+            name: PreparedName::new(alloc, name)?,
+        })
+    }
+}
+
+impl<F: Json> Names<F> for OneName<F> {
+    ghost names = { λ names. names };
+
+    fn len(&self) -> usize {
+        let _ = &self.name;
+        1
+    }
+
+    fn at(&self, index: usize) -> &PreparedName<F> {
+        let _ = index;
+        &self.name
+    }
+}
+
+/// Two names, held in place. Contracts see a list.
+#[derive(Drop)]
+pub(crate) struct TwoNames<F: Json> {
+    first: PreparedName<F>,
+    second: PreparedName<F>,
+}
+
+impl<F: Json> Model for TwoNames<F> {
+    ghost use Rattle.std.specs.Prelude.{ℕ, List, [], ◌∷◌};
+    ghost use Rattle.std.specs.List.{IsDistinct};
+    ghost use Rattle.std.specs.Str.{bytes_eq};
+
+    ghost Value = { List (List ℕ) };
+
+    ghost view = { λ a. a.first ∷ a.second ∷ [] };
+
+    ghost invariant = { λ a. IsDistinct bytes_eq (a.first ∷ a.second ∷ []) };
+}
+
+impl<F: Json> TwoNames<F> {
+    /// The names of these texts, which differ. Only memory can fail.
+    pub(crate) fn new(alloc: Global, first: &str, second: &str) -> Result<TwoNames<F>, AllocError>
+        requires { IsDistinct bytes_eq (first.now ∷ second.now ∷ []) }
+        ensures { IfOk result (λ names. names ≡ first.now ∷ second.now ∷ []) }
+    {
+        Ok(TwoNames {
+            first: PreparedName::new(alloc, first)?,
+            second: PreparedName::new(alloc, second)?,
+        })
+    }
+}
+
+impl<F: Json> Names<F> for TwoNames<F> {
+    ghost names = { λ names. names };
+
+    fn len(&self) -> usize {
+        let _ = &self.first;
+        2
+    }
+
+    fn at(&self, index: usize) -> &PreparedName<F> {
+        match index {
+            0 => &self.first,
+            _ => &self.second,
+        }
+    }
+}
+
+/// Three names, held in place. Contracts see a list.
+#[derive(Drop)]
+pub(crate) struct ThreeNames<F: Json> {
+    first: PreparedName<F>,
+    second: PreparedName<F>,
+    third: PreparedName<F>,
+}
+
+impl<F: Json> Model for ThreeNames<F> {
+    ghost use Rattle.std.specs.Prelude.{ℕ, List, [], ◌∷◌};
+    ghost use Rattle.std.specs.List.{IsDistinct};
+    ghost use Rattle.std.specs.Str.{bytes_eq};
+
+    ghost Value = { List (List ℕ) };
+
+    ghost view = { λ a. a.first ∷ a.second ∷ a.third ∷ [] };
+
+    ghost invariant = { λ a. IsDistinct bytes_eq (a.first ∷ a.second ∷ a.third ∷ []) };
+}
+
+impl<F: Json> ThreeNames<F> {
+    /// The names of these texts, each of which differs from the others. Only memory can fail.
+    pub(crate) fn new(
+        alloc: Global,
+        first: &str,
+        second: &str,
+        third: &str,
+    ) -> Result<ThreeNames<F>, AllocError>
+        requires { IsDistinct bytes_eq (first.now ∷ second.now ∷ third.now ∷ []) }
+        ensures { IfOk result (λ names. names ≡ first.now ∷ second.now ∷ third.now ∷ []) }
+    {
+        Ok(ThreeNames {
+            first: PreparedName::new(alloc, first)?,
+            second: PreparedName::new(alloc, second)?,
+            third: PreparedName::new(alloc, third)?,
+        })
+    }
+}
+
+impl<F: Json> Names<F> for ThreeNames<F> {
+    ghost names = { λ names. names };
+
+    fn len(&self) -> usize {
+        let _ = &self.first;
+        3
+    }
+
+    fn at(&self, index: usize) -> &PreparedName<F> {
+        match index {
+            0 => &self.first,
+            1 => &self.second,
+            _ => &self.third,
+        }
+    }
+}

@@ -1,0 +1,61 @@
+//! A required name, made ready to be compared with others and to be looked up.
+ghost use Rattle.std.specs.Prelude.{◌≡◌, IfOk, IsTrue};
+ghost use Rattle.std.specs.Str.{bytes_eq};
+ghost use Rattle.jskw_value.specs.PropertyName.{head_of};
+ghost use Rattle.jskw_value.specs.Tree.{has_name, is_object};
+
+use jskw_value::{Json, KeyHead, Node, Object, PropertyName};
+use std::alloc::{AllocError, Global};
+use std::marker::Model;
+
+/// A required name, with the key that it is looked up by. Contracts see the name.
+#[derive(Drop)]
+pub(crate) struct PreparedName<F: Json> {
+    name: PropertyName,
+    key: <F::Node as Object>::PreparedKey,
+}
+
+impl<F: Json> Model for PreparedName<F> {
+    ghost use Rattle.std.specs.Prelude.{◌≡◌, ℕ, List};
+
+    ghost Value = { List ℕ };
+
+    ghost view = { λ p. p.name };
+
+    ghost invariant = { λ p. F.Node.key_name p.key ≡ p.name };
+}
+
+impl<F: Json> PreparedName<F> {
+    /// The name of this text. Only memory can fail.
+    pub(crate) fn new(alloc: Global, text: &str) -> Result<PreparedName<F>, AllocError>
+        ensures { IfOk result (λ p. p ≡ text.now) }
+    {
+        Ok(PreparedName {
+            name: PropertyName::new(alloc, text)?,
+            key: F::prepare_key(alloc, text)?,
+        })
+    }
+
+    /// The name as text.
+    pub(crate) fn as_str(&self) -> &str
+        ensures { result.now ≡ self.now }
+    {
+        self.name.as_str()
+    }
+
+    /// Whether the name is this text, whose head the caller has.
+    pub(crate) fn matches(&self, head: KeyHead, text: &str) -> bool
+        requires { head ≡ head_of text.now }
+        ensures { result ≡ bytes_eq self.now text.now }
+    {
+        self.name.matches(head, text)
+    }
+
+    /// Whether the object has a member of the name, which is looked up by the key.
+    pub(crate) fn is_in(&self, object: &F::Node) -> bool
+        requires { IsTrue (is_object (F.Node.tree object.now)) }
+        ensures { result ≡ has_name (F.Node.tree object.now) self.now }
+    {
+        object.get(&self.key).is_some()
+    }
+}
