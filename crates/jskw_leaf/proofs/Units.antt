@@ -1,8 +1,8 @@
 -- The unit of an assertion's errors.
-use Rattle.std.proofs.Common.{◌≡◌, ℕ, ◌==◌, ◌≤◌, List, [], ◌∷◌, ◌++◌, length, drop, map, Bool, true, false, refl, sym, ap, ◌∙◌, append-nil, arith}
+use Rattle.std.proofs.Common.{◌≡◌, ℕ, ◌==◌, ◌≤◌, List, [], ◌∷◌, ◌++◌, length, drop, map, true, false, refl, sym, ap, ◌∙◌, append-nil, arith}
 use Rattle.std.proofs.lemmas.Bool.{eqb-true, true≢false}
 use Rattle.std.proofs.lemmas.List.{at_drop_all}
-use Rattle.jskw_report.specs.Evaluation.{Result, valid_unit, invalid_unit, of_errors}
+use Rattle.jskw_report.specs.Evaluation.{valid_unit, invalid_unit, of_errors}
 use Rattle.jskw_report.specs.Fail.{Failure}
 use Rattle.jskw_report.specs.Kind.{keyword_of}
 

@@ -1,5 +1,6 @@
 // `required`: its four forms over four representations, and where it is handed on.
 use super::{decimal_tree, error_text, fault_text};
+use crate::leaf::LeafValidator;
 use crate::required;
 use jskw_report::compiler::member_of;
 use jskw_report::{
@@ -112,7 +113,7 @@ fn answer<F: Json>(
         return Err("no such member")?;
     };
     match required::compile(alloc, &ctx, parent, value) {
-        Some(Ok(validator)) => errors_of::<F, _>(rt, alloc, &validator, instance),
+        Some(Ok(validator)) => errors_of::<F, LeafValidator<F>>(rt, alloc, &validator, instance),
         Some(Err(fault)) => Ok(fault_text(alloc, &fault)?),
         None => Ok(String::from_str(alloc, "handed on")?),
     }
@@ -560,6 +561,23 @@ fn bad_values_are_refused(rt: HostRuntime) -> Result<(), Fail> {
     Ok(())
 }
 
+// What `required` of a value at a location says of an instance, over one representation.
+fn answer_at<F: Json>(
+    rt: &impl Abort,
+    alloc: Global,
+    value: &str,
+    instance: &F::Node,
+) -> Result<String, Fail> {
+    let schema = Value::from_str(alloc, value)?;
+    let segment = LocationSegment::Name("dependentRequired");
+    let location = Location::new(alloc).join(alloc, segment)?;
+    match required::compile_with_path::<F>(alloc, &schema, location) {
+        Some(Ok(validator)) => errors_of::<F, LeafValidator<F>>(rt, alloc, &validator, instance),
+        Some(Err(fault)) => Ok(fault_text(alloc, &fault)?),
+        None => Ok(String::from_str(alloc, "handed on")?),
+    }
+}
+
 #[test]
 fn at_a_location_nothing_is_handed_on(rt: HostRuntime) -> Result<(), Fail> {
     let alloc = rt.alloc();
@@ -572,14 +590,7 @@ fn at_a_location_nothing_is_handed_on(rt: HostRuntime) -> Result<(), Fail> {
         ("[5]", "refused: type String at /dependentRequired, 5"),
         ("5", "refused: type Array at /dependentRequired, 5"),
     ] {
-        let schema = Value::from_str(alloc, value)?;
-        let segment = LocationSegment::Name("dependentRequired");
-        let location = Location::new(alloc).join(alloc, segment)?;
-        let found = match required::compile_with_path::<SerdeJson>(alloc, &schema, location) {
-            Some(Ok(validator)) => errors_of::<SerdeJson, _>(&rt, alloc, &validator, &instance)?,
-            Some(Err(fault)) => fault_text(alloc, &fault)?,
-            None => String::from_str(alloc, "handed on")?,
-        };
+        let found = answer_at::<SerdeJson>(&rt, alloc, value, &instance)?;
         assert_eq!(rt; found.as_str(), wanted, "{value}");
     }
     Ok(())

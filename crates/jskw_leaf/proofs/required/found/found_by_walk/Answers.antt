@@ -1,4 +1,4 @@
-use Rattle.std.proofs.Common.{◌≡◌, ◌^◌, ◌-◌, ◌∙◌, rules, length, bit_or, is_some, ap, subst, sym}
+use Rattle.std.proofs.Common.{◌∙◌, rules, bit_or, is_some, ap, subst, sym}
 use Rattle.std.specs.Map.{keys_of}
 use Rattle.jskw_value.specs.Walk.{left}
 use Rattle.jskw_leaf.proofs.Marking.{MarksBefore, mark_end, mark_miss, mark_hit, mark_full}

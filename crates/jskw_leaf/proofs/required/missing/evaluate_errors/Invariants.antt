@@ -1,4 +1,4 @@
-use Rattle.std.proofs.Common.{◌≡◌, ◌++◌, drop, map}
+use Rattle.std.proofs.Common.{◌≡◌, ◌++◌, drop}
 use Rattle.jskw_report.specs.Errors.{failures_of}
 use Rattle.jskw_report.specs.EvaluationView.{keywords_of}
 use Rattle.jskw_leaf.proofs.Units.{keywords}
