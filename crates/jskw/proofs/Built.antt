@@ -7,7 +7,7 @@ use Rattle.jskw_report.specs.Compile.{reading}
 use Rattle.jskw_report.specs.Read.{asserted, part, part_named, read_word}
 use Rattle.jskw_report.specs.Setting.{Spot, keywords, name_of, stands}
 use Rattle.jskw_report.specs.declared.keyword.KeywordName.{KeywordName}
-use Rattle.jskw_report.specs.declared.keyword.KeywordName.TheVariants.{TypeKeyword, MinItems, MaxItems, UniqueItems, Const, Enum, Minimum, Maximum, ExclusiveMinimum, ExclusiveMaximum, MultipleOf, MinProperties, MaxProperties}
+use Rattle.jskw_report.specs.declared.keyword.KeywordName.TheVariants.{TypeKeyword, MinItems, MaxItems, UniqueItems, Const, Enum, Minimum, Maximum, ExclusiveMinimum, ExclusiveMaximum, MultipleOf, MinProperties, MaxProperties, Required}
 use Rattle.jskw.specs.Answer.{is_built, program_keywords}
 
 pub built_at : (i : ℕ) (w : KeywordName) → i < length program_keywords → is_built (get_or program_keywords i w) ≡ true
@@ -24,7 +24,8 @@ built_at (suc (suc (suc (suc (suc (suc (suc (suc (suc zero))))))))) w h = refl
 built_at (suc (suc (suc (suc (suc (suc (suc (suc (suc (suc zero)))))))))) w h = refl
 built_at (suc (suc (suc (suc (suc (suc (suc (suc (suc (suc (suc zero))))))))))) w h = refl
 built_at (suc (suc (suc (suc (suc (suc (suc (suc (suc (suc (suc (suc zero)))))))))))) w h = refl
-built_at (suc (suc (suc (suc (suc (suc (suc (suc (suc (suc (suc (suc (suc i))))))))))))) w h = absurd (omega (arith, h))
+built_at (suc (suc (suc (suc (suc (suc (suc (suc (suc (suc (suc (suc (suc zero))))))))))))) w h = refl
+built_at (suc (suc (suc (suc (suc (suc (suc (suc (suc (suc (suc (suc (suc (suc i)))))))))))))) w h = absurd (omega (arith, h))
 
 -- what it asserts is read of its value alone
 same_reading : (w : KeywordName) (spot : Spot) (ms : Members) (d : Data) → is_built w ≡ true → asserted w spot.setting spot.location ms (part program_keywords d) ≡ reading w spot ms d
@@ -42,6 +43,7 @@ same_reading ExclusiveMaximum spot ms d h = refl
 same_reading MultipleOf spot ms d h = refl
 same_reading MinProperties spot ms d h = refl
 same_reading MaxProperties spot ms d h = refl
+same_reading Required spot ms d h = refl
 same_reading _ spot ms d h = cc
 
 pub read_built : (w : KeywordName) (spot : Spot) (ms : Members) (d : Data) → is_built w ≡ true → get_member (name_of w) ms ≡ Some d → stands spot.setting w ≡ true

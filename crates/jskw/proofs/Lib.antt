@@ -1,4 +1,5 @@
 pub mod Built
+pub mod Collecting
 pub mod Reading
 pub mod Requests
 pub mod Turns

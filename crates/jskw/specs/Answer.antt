@@ -9,14 +9,14 @@ use Rattle.jskw_report.specs.Fault.{Fault}
 use Rattle.jskw_report.specs.Kind.{keyword_of}
 use Rattle.jskw_report.specs.Read.{Reading, read}
 use Rattle.jskw_report.specs.declared.keyword.KeywordName.{KeywordName}
-use Rattle.jskw_report.specs.declared.keyword.KeywordName.TheVariants.{TypeKeyword, MinItems, MaxItems, UniqueItems, Const, Enum, Minimum, Maximum, ExclusiveMinimum, ExclusiveMaximum, MultipleOf, MinProperties, MaxProperties}
+use Rattle.jskw_report.specs.declared.keyword.KeywordName.TheVariants.{TypeKeyword, MinItems, MaxItems, UniqueItems, Const, Enum, Minimum, Maximum, ExclusiveMinimum, ExclusiveMaximum, MultipleOf, MinProperties, MaxProperties, Required}
 use Rattle.jskw.specs.Request.{Request, request_in}
 use Rattle.jskw.specs.declared.service.Verdict.{Verdict}
 use Rattle.jskw.specs.declared.service.Verdict.TheVariants.{Valid, Invalid, Refused}
 
 -- the keywords that the program has so far, in the order in which a schema is read; the others assert nothing here
 abbrev pub program_keywords : List KeywordName
-program_keywords = TypeKeyword ∷ MinItems ∷ MaxItems ∷ UniqueItems ∷ Const ∷ Enum ∷ Minimum ∷ Maximum ∷ ExclusiveMinimum ∷ ExclusiveMaximum ∷ MultipleOf ∷ MinProperties ∷ MaxProperties ∷ []
+program_keywords = TypeKeyword ∷ MinItems ∷ MaxItems ∷ UniqueItems ∷ Const ∷ Enum ∷ Minimum ∷ Maximum ∷ ExclusiveMinimum ∷ ExclusiveMaximum ∷ MultipleOf ∷ MinProperties ∷ MaxProperties ∷ Required ∷ []
 
 -- of numbers and sizes
 abbrev pub is_of_numbers : KeywordName → Bool
@@ -37,6 +37,7 @@ is_built TypeKeyword = true
 is_built UniqueItems = true
 is_built Const = true
 is_built Enum = true
+is_built Required = true
 is_built w = is_of_numbers w
 
 pub data Answer : Type 0 where

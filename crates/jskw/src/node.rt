@@ -1,5 +1,5 @@
 //! A compiled schema: the validators of its keywords, in the order in which a schema is read.
-ghost use Rattle.std.specs.Prelude.{◌≡◌, ◌++◌, OnOk, OnErr, IsTrue, true};
+ghost use Rattle.std.specs.Prelude.{◌≡◌, ◌++◌, OnOk, OnErr, IsTrue, true, false};
 ghost use Rattle.serde_json.specs.View.{view, members_view};
 ghost use Rattle.jskw_value.specs.Tree.{is_lawful};
 ghost use Rattle.jskw_report.specs.Compile.{Compiles, Makes, reading};
@@ -8,7 +8,9 @@ ghost use Rattle.jskw_report.specs.Fail.{all_fail, fail};
 ghost use Rattle.jskw_report.specs.Holds.{all_hold, holds};
 ghost use Rattle.jskw_report.specs.Observe.{AppendsBeginning, IsFirst};
 ghost use Rattle.jskw_report.specs.Paths.{path_of};
-ghost use Rattle.jskw_report.specs.Read.{Asserts, part_named, read, read_word, read_words};
+ghost use Rattle.jskw_report.specs.Keyword.{false_schema, hands_on_required, no_keywords, schema_object};
+ghost use Rattle.jskw_report.specs.Sibling.{is_handed_on};
+ghost use Rattle.jskw_report.specs.Read.{Asserts, part_named, read, read_word, read_words, whole};
 ghost use Rattle.jskw_report.specs.Setting.{name_of};
 ghost use Rattle.jskw_number.specs.Meaning.{number_keyword};
 ghost use Rattle.jskw_leaf.specs.Meaning.{leaf_keyword};
@@ -17,7 +19,7 @@ ghost use Rattle.jskw.specs.Node.{keywords_of, node_schema};
 
 use jskw_leaf::boolean::FalseValidator;
 use jskw_leaf::legacy::type_draft_4;
-use jskw_leaf::{LeafValidator, const_, enum_, type_, unique_items};
+use jskw_leaf::{LeafValidator, const_, enum_, required, type_, unique_items};
 use jskw_number::legacy::{maximum_draft_4, minimum_draft_4};
 use jskw_number::{
     NumberValidator, max_items, max_properties, min_items, min_properties, minmax, multiple_of,
@@ -35,6 +37,7 @@ use std::alloc::{AllocError, Global};
 #[derive(Drop)]
 pub(crate) struct SchemaNode<F: Json> {
     location: Location,
+    hands_on_required: bool,
     assertions: Assertions<F>,
 }
 
@@ -53,7 +56,7 @@ struct Unit<F: Json> {
     validator: LeafValidator<F>,
 }
 
-const KEYWORDS: [KeywordName; 13] = [
+const KEYWORDS: [KeywordName; 14] = [
     KeywordName::TypeKeyword,
     KeywordName::MinItems,
     KeywordName::MaxItems,
@@ -67,6 +70,7 @@ const KEYWORDS: [KeywordName; 13] = [
     KeywordName::MultipleOf,
     KeywordName::MinProperties,
     KeywordName::MaxProperties,
+    KeywordName::Required,
 ];
 
 /// Compiles a schema: a boolean, or an object by its keywords in their order. The first value that a keyword does not take
@@ -80,18 +84,9 @@ pub(crate) fn compile<'a, F: Json>(
 {
     let location = ctx.location().copy(alloc)?;
     match schema {
-        Value::Bool(true) => Ok(SchemaNode {
-            location,
-            assertions: Assertions::Keywords(Vec::new(alloc)),
-        }),
-        Value::Bool(false) => Ok(SchemaNode {
-            location: Location::new(alloc),
-            assertions: Assertions::Never(FalseValidator::new(location)),
-        }),
-        Value::Object(parent) => Ok(SchemaNode {
-            location,
-            assertions: Assertions::Keywords(compile_keywords(alloc, ctx, parent)?),
-        }),
+        Value::Bool(true) => Ok(node_of_true(alloc, location)),
+        Value::Bool(false) => Ok(node_of_false(alloc, location)),
+        Value::Object(parent) => node_of_object(alloc, ctx, location, parent),
         _ => {
             let types = JsonTypeSet::empty()
                 .insert(JsonType::Object)
@@ -102,6 +97,59 @@ pub(crate) fn compile<'a, F: Json>(
             Err(CompileFault::Bad(ValidationError::refused(alloc, kind, location, schema)))
         }
     }
+}
+
+fn node_of_true<F: Json>(alloc: Global, location: Location) -> SchemaNode<F>
+    ensures { node_schema result ≡ schema_object location false no_keywords }
+{
+    SchemaNode {
+        location,
+        hands_on_required: false,
+        assertions: Assertions::Keywords(Vec::new(alloc)),
+    }
+}
+
+fn node_of_false<F: Json>(alloc: Global, location: Location) -> SchemaNode<F>
+    ensures { node_schema result ≡ false_schema location }
+{
+    SchemaNode {
+        location: Location::new(alloc),
+        hands_on_required: false,
+        assertions: Assertions::Never(FalseValidator::new(location)),
+    }
+}
+
+fn node_of_object<'a, F: Json>(
+    alloc: Global,
+    ctx: &Context<'_, F>,
+    location: Location,
+    parent: &'a Map<String, Value>,
+) -> CompilationResult<'a, SchemaNode<F>>
+    ensures { let ms = members_view parent.now.entries in Makes node_schema result
+        (whole location (is_handed_on ctx.now.setting ms)
+        (read_words program_keywords ctx.now.setting ctx.now.location ms (λ name. part_named program_keywords name ms))) }
+{
+    let hands_on_required = is_handed_on(ctx, parent);
+    let units = compile_keywords(alloc, ctx, parent)?;
+    Ok(SchemaNode {
+        location,
+        hands_on_required,
+        assertions: Assertions::Keywords(units),
+    })
+}
+
+/// Whether the schema leaves its `required` to the keywords of objects.
+#[tactic(auto, using(jskw_leaf::proofs::HandedOn::not_handed_on, jskw_leaf::proofs::HandedOn::absent_not_handed_on))]
+fn is_handed_on<F: Json>(ctx: &Context<'_, F>, parent: &Map<String, Value>) -> bool
+    ensures { result ≡ is_handed_on ctx.now.setting (members_view parent.now.entries) }
+{
+    let Some(schema) = member_of(parent, "required") else {
+        return false;
+    };
+    if !KeywordName::Required.stands(ctx) {
+        return false;
+    }
+    required::is_handed_on(ctx, parent, schema)
 }
 
 #[tactic(auto, using(crate::proofs::Built::built_at))]
@@ -154,6 +202,7 @@ fn compile_keyword<'a, F: Json>(
         KeywordName::UniqueItems => unique_items::compile(alloc, ctx, parent, schema),
         KeywordName::Const => const_::compile(alloc, ctx, parent, schema),
         KeywordName::Enum => enum_::compile(alloc, ctx, parent, schema),
+        KeywordName::Required => required::compile(alloc, ctx, parent, schema),
         _ => of_number(compile_number(alloc, ctx, parent, keyword, schema)),
     }
 }
@@ -207,6 +256,17 @@ fn of_number<'a, F: Json>(
 }
 
 impl<F: Json> SchemaNode<F> {
+    /// Whether the schema's `required` is handed on: it asserts nothing here, and is left to the keywords of objects.
+    #[tactic(auto, using(crate::proofs::Units::leaves_hand_on_nothing))]
+    pub(crate) fn hands_on_required(&self) -> bool
+        ensures { result ≡ hands_on_required (node_schema self.now) }
+    {
+        match &self.assertions {
+            Assertions::Never(_) => false,
+            Assertions::Keywords(_) => self.hands_on_required,
+        }
+    }
+
     /// Whether the schema holds of the instance. Takes no memory, and looks no further than the first failure.
     pub(crate) fn is_valid(&self, instance: &F::Node, ctx: &mut ValidationContext) -> bool
         requires { IsTrue (is_lawful (F.Node.tree instance.now)) }

@@ -1,5 +1,5 @@
 -- When `required` is left to the keywords of objects.
-use Rattle.std.proofs.Common.{◌≡◌, ℕ, Bool, true, false, not, ◌&&◌, ◌||◌, Some, refl, ap, sym, ◌∙◌}
+use Rattle.std.proofs.Common.{None, ◌≡◌, ℕ, Bool, true, false, not, ◌&&◌, ◌||◌, Some, refl, ap, sym, ◌∙◌}
 use Rattle.std.specs.Prelude.{codes}
 use Rattle.std.proofs.lemmas.Bool.{true≢false}
 use Rattle.std.specs.Option.{option_map_or}
@@ -34,3 +34,15 @@ handed_on s ms d h e =
     rw (passes 1, passes 2) (shape (stands s Required) (has_vocabulary s Applicator) (is_absent (codes "patternProperties") ms) (has_items 1 d) (not (is_absent (codes "properties") ms))
     (member_passes is_false (codes "additionalProperties") ms) (not (is_overridden s (codes "additionalProperties"))) (has_items 2 d) (member_passes has_few_members (codes "properties") ms)
     (not (is_overridden s (codes "properties"))) (not (member_passes is_false (codes "additionalProperties") ms)) (not (member_passes is_object (codes "additionalProperties") ms)) h)
+
+pub not_handed_on : (s : Setting) (ms : Members) → stands s Required ≡ false → false ≡ is_handed_on s ms
+unfolding is_handed_on
+not_handed_on s ms h = rw h refl
+
+and_false : (b : Bool) → false ≡ (b && false)
+and_false true = refl
+and_false false = refl
+
+pub absent_not_handed_on : (s : Setting) (ms : Members) → get_member (codes "required") ms ≡ None → false ≡ is_handed_on s ms
+unfolding is_handed_on
+absent_not_handed_on s ms e = rw e (and_false (stands s Required && has_vocabulary s Applicator && is_absent (codes "patternProperties") ms))

@@ -2,6 +2,7 @@ pub mod Counting
 pub mod Distinct
 pub mod HandedOn
 pub mod Lacking
+pub mod Leaves
 pub mod Lookups
 pub mod Marking
 pub mod Options

@@ -6,6 +6,7 @@ mod missing;
 mod names;
 mod prepared;
 
+pub use beside::is_handed_on;
 use found::has_all;
 use jskw_report::{
     EvaluationResult, Fault, LazyLocation, Location, Validate, ValidationContext, ValidationError,

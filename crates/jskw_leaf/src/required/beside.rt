@@ -15,10 +15,13 @@ use serde_json::{Map, Value};
 /// The number of members of `properties` from which on two required names are not handed on.
 const HASHMAP_THRESHOLD: usize = 15;
 
-/// Whether `required`, whose value is `schema` and stands in `parent`, is left to the keywords of objects beside it. The
-/// items count as they are written.
+/// Whether `required`, whose value is `schema` and stands in `parent`, is left to the keywords of objects beside it: then
+/// [`compile`](super::compile) makes nothing. `ctx` is at the location of `parent`, and the keyword is read there. That is
+/// so under the applicator vocabulary without `patternProperties`, of one item beside `properties` and an
+/// `additionalProperties` of `false` that isn't overridden, and of two items beside `properties` of fewer than 15 members
+/// that aren't overridden, where `additionalProperties` is neither `false` nor an object. Items count as they are written.
 #[tactic(auto, using(crate::proofs::HandedOn::handed_on))]
-pub(super) fn is_handed_on<F: Json>(
+pub fn is_handed_on<F: Json>(
     ctx: &Context<'_, F>,
     parent: &Map<String, Value>,
     schema: &Value,

@@ -7,6 +7,7 @@ use Rattle.jskw_report.specs.declared.keyword.KeywordName.TheVariants.{TypeKeywo
 use Rattle.jskw_leaf.specs.Meaning.{leaf_keyword}
 use Rattle.jskw.specs.Answer.{program_keywords}
 use Rattle.jskw.specs.Node.{keywords_of}
+use Rattle.jskw.proofs.Built.{built_at}
 use Rattle.jskw.proofs.Turns.{after, after_none, append_keywords, turn_end, turn_made, turn_refused, turn_silent}
 use Rattle.jskw.proofs.Units.{keywords_in, keywords_of_more}
 use Rattle.jskw.proofs.node.compile_keywords.Goals as goal
@@ -14,6 +15,9 @@ use Rattle.jskw.proofs.node.compile_keywords.Goals.{in-None, in-Some-Ok+in_ok-lo
 
 pub loop-keyword-init : goal.loop-keyword-init
 loop-keyword-init g c = rw c.new-units.ensures.items (after_none _)
+
+pub compile_keyword-requires : goal.compile_keyword-requires
+compile_keyword-requires g c = built_at c.loop-keyword.keyword-index TypeKeyword c.loop-keyword-test.true
 
 pub loop-keyword-preserved : goal.loop-keyword-preserved
 loop-keyword-preserved g c =

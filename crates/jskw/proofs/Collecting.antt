@@ -1,0 +1,32 @@
+-- Errors that are appended, one keyword after another.
+use Rattle.std.proofs.Common.{◌≡◌, List, [], ◌++◌, Result, Ok, Err, IsErrAnd, refl, subst, sym, ap, ◌∙◌, append_assoc, append-nil}
+use Rattle.jskw_value.specs.Tree.{Tree}
+use Rattle.jskw_report.specs.Fail.{Failure}
+use Rattle.jskw_report.specs.Observe.{Collects, IsFirst}
+use Rattle.jskw_report.specs.declared.error.Fault.{Fault}
+use Rattle.jskw_report.specs.declared.error.Fault.TheVariants.{Invalid, Memory}
+
+-- nothing is appended yet
+pub collects_nothing : (old all : List Failure) → Collects old old all all
+collects_nothing old all = record { so_far = []; is_now = sym (append-nil old); is_all = refl }
+
+-- the first part of what was left is appended
+pub collects_more : {old now new all : List Failure} (first rest : List Failure) → Collects old now (first ++ rest) all → new ≡ now ++ first → Collects old new rest all
+collects_more {old} {now} {new} first rest c e = record {
+  so_far = c.so_far ++ first;
+  is_now = e ∙ ap (λ xs. xs ++ first) c.is_now ∙ append_assoc old c.so_far first;
+  is_all = append_assoc c.so_far first rest ∙ c.is_all;
+}
+
+-- nothing is left
+pub collects_all : {old now rest all : List Failure} → Collects old now rest all → rest ≡ [] → now ≡ old ++ all
+collects_all {old} {now} {rest} {all} c e = c.is_now ∙ ap (λ xs. old ++ xs) (sym (append-nil c.so_far) ∙ ap (λ xs. c.so_far ++ xs) (sym e) ∙ c.is_all)
+
+-- the first of some failures is the first of them and others behind them, and what hands it on gives it too
+pub first_before : {F N O P : Type 0} (tree : N → Tree) (r : Result Unit (Fault F N O P)) (x : Fault F N O P) (fs rest all : List Failure) → IsErrAnd r (λ y. y ≡ x) → IsFirst tree fs (Err x) → fs ++ rest ≡ all → IsFirst tree all r
+first_before tree (Ok u) x fs rest all is first so = absurd is
+first_before {F} {N} {O} {P} tree (Err y) x fs rest all is first so = subst (λ z. IsFirst tree all (Err z)) (sym is) (behind x first)
+  where
+    behind : (z : Fault F N O P) → IsFirst tree fs (Err z) → IsFirst tree all (Err z)
+    behind (Invalid e) (more, is) = (more ++ rest, sym so ∙ ap (λ xs. xs ++ rest) is)
+    behind (Memory m) first = tt
