@@ -2,6 +2,7 @@
 ghost use Rattle.std.specs.Prelude.{◌<◌};
 
 mod devices;
+mod names;
 mod node;
 mod numbers;
 mod options;

@@ -7,7 +7,7 @@ ghost use Rattle.std.specs.Prelude.{IsTrue};
 ghost use Rattle.jskw_value.specs.Serde.{value_tree};
 ghost use Rattle.jskw_value.specs.Tree.{is_lawful};
 
-use jskw_leaf::{LeafValidator, const_, enum_, type_, unique_items};
+use jskw_leaf::{LeafValidator, const_, enum_, required, type_, unique_items};
 use jskw_report::{
     CompilationResult, Context, Draft, Settings, Validate, ValidationContext, VocabularySet,
 };
@@ -54,8 +54,19 @@ fn compile<'a>(
         "uniqueItems" => unique_items::compile(alloc, ctx, parent, schema),
         "const" => const_::compile(alloc, ctx, parent, schema),
         "enum" => enum_::compile(alloc, ctx, parent, schema),
+        "required" => compile_required(alloc, ctx, schema),
         _ => None,
     }
+}
+
+// `required` as it is where nothing is handed on.
+fn compile_required<'a>(
+    alloc: Global,
+    ctx: &Context<'_, SerdeJson>,
+    schema: &'a Value,
+) -> Option<CompilationResult<'a, LeafValidator<SerdeJson>>> {
+    let location = ctx.location().copy(alloc).ok()?;
+    required::compile_with_path(alloc, schema, location)
 }
 
 // The validator of the schema's one keyword.
