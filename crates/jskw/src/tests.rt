@@ -6,6 +6,7 @@ mod names;
 mod node;
 mod numbers;
 mod options;
+mod refused;
 mod requests;
 
 use crate::memory::{ArraySink, SliceSource};

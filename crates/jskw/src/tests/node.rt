@@ -4,8 +4,7 @@ use super::row;
 use crate::node::{SchemaNode, compile};
 use crate::request::{Request, request_of};
 use jskw_report::{
-    CompileFault, Context, Draft, Fault, LazyLocation, Settings, ValidationContext,
-    ValidationError, VocabularySet,
+    CompileFault, Context, Fault, LazyLocation, Settings, ValidationContext, ValidationError,
 };
 use jskw_value::{Decimal, DecimalJson, DecimalTree, InsertFault, Json, Members, Node, SerdeJson};
 use serde_json::{Map, Value};
@@ -165,39 +164,6 @@ pub(super) fn check_decimals(rt: &impl Abort, alloc: Global, table: &str) -> Res
         let found = said::<DecimalJson>(rt, alloc, settings, request.schema, &tree)?;
         assert_eq!(rt; found.as_str(), answer, "{line}");
     }
-    Ok(())
-}
-
-// The validators have what they need: with `rt try --test --fail-alloc 1..` each growth is refused in turn, and what
-// is said here is said all the same.
-#[test]
-fn is_valid_needs_no_memory(rt: HostRuntime) -> Result<(), Fail> {
-    let schema =
-        r#"{"type":["array","null"],"minItems":1,"maxItems":9,"const":[1,{"a":"b"}],"minimum":5}"#;
-    let Ok(schema) = Value::from_str(rt.alloc(), schema) else {
-        return Ok(());
-    };
-    let Ok(instance) = Value::from_str(rt.alloc(), r#"[1,{"a":"b"}]"#) else {
-        return Ok(());
-    };
-    let settings = Settings::new(
-        Draft::Draft202012,
-        VocabularySet::all(),
-        Vec::new(rt.alloc()),
-    );
-    let ctx: Context<SerdeJson> = Context::new(rt.alloc(), &settings);
-    let Ok(node) = compile(rt.alloc(), &ctx, &schema) else {
-        return Ok(());
-    };
-    let mut ctx = ValidationContext::new();
-    assert!(rt; instance.is_lawful());
-    assert!(rt; node.is_valid(&instance, &mut ctx));
-    assert!(rt; !node.is_valid(&Value::Null, &mut ctx));
-    let mut location = LazyLocation::new(rt.alloc());
-    let mut errors = Vec::new(rt.alloc());
-    assert!(rt; node.validate(&instance, &mut location, &mut ctx).is_ok());
-    let collected = node.collect_errors(&instance, &mut location, &mut ctx, &mut errors);
-    assert!(rt; collected.is_ok() && errors.is_empty());
     Ok(())
 }
 
