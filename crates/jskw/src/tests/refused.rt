@@ -1,5 +1,5 @@
-// Want of memory. With `rt try --test --fail-alloc N` the Nth growth is refused, and these tests pass for every N: what is
-// said is said as with ample memory, or it is said that memory was wanted.
+// Want of memory. With `rt try --test --fail-alloc N` the Nth growth is refused, and these tests are to pass for every N:
+// what is said is said as with ample memory, or it is said that memory was wanted.
 use super::ALWAYS;
 use crate::memory::{ArraySink, SliceSource};
 use crate::node::{SchemaNode, compile};

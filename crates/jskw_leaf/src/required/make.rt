@@ -28,11 +28,8 @@ use std::alloc::{AllocError, Global};
 use std::collections::BTreeSet;
 
 /// Compiles `required`, whose value is `schema` and stands in `parent`; `ctx` is at the location of that object, and the
-/// keyword stands. None where it is left to the keywords of objects beside it, and its items are then not looked at: with
-/// the applicator vocabulary and without `patternProperties`, either one item beside `properties` and an
-/// `additionalProperties` of `false` that isn't overridden, or two items beside a `properties` that isn't overridden, an
-/// object of fewer than 15 members, where `additionalProperties` is neither `false` nor an object. Else what
-/// [`compile_with_path`] answers.
+/// keyword stands. None where [`is_handed_on`](super::is_handed_on) says that it is left to the keywords of objects beside
+/// it, and its items are then not looked at. Else what [`compile_with_path`] answers.
 pub fn compile<'a, F: Json>(
     alloc: Global,
     ctx: &Context<'_, F>,
