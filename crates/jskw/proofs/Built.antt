@@ -1,11 +1,11 @@
 -- The keywords that the program has.
-use Rattle.std.proofs.Common.{◌≡◌, ℕ, suc, zero, ◌<◌, List, [], ◌∷◌, length, get_or, Bool, true, Some, refl, ◌∙◌, arith}
+use Rattle.std.proofs.Common.{◌≡◌, ℕ, suc, zero, ◌<◌, length, get_or, true, Some, refl, ◌∙◌, arith}
 use Rattle.serde_json.specs.Data.{Data, Members}
 use Rattle.serde_json.specs.Find.{get_member}
 use Rattle.jskw_report.proofs.Reading.{read_standing}
 use Rattle.jskw_report.specs.Compile.{reading}
 use Rattle.jskw_report.specs.Read.{asserted, part, part_named, read_word}
-use Rattle.jskw_report.specs.Setting.{Spot, keywords, name_of, stands}
+use Rattle.jskw_report.specs.Setting.{Spot, name_of, stands}
 use Rattle.jskw_report.specs.declared.keyword.KeywordName.{KeywordName}
 use Rattle.jskw_report.specs.declared.keyword.KeywordName.TheVariants.{TypeKeyword, MinItems, MaxItems, UniqueItems, Const, Enum, Minimum, Maximum, ExclusiveMinimum, ExclusiveMaximum, MultipleOf, MinProperties, MaxProperties, Required}
 use Rattle.jskw.specs.Answer.{is_built, program_keywords}

@@ -1,5 +1,5 @@
 -- Vocabularies and names of a request, item by item.
-use Rattle.std.proofs.Common.{◌≡◌, Bool, true, false, ◌||◌, Option, Some, None, option_map, List, ℕ, [], ◌∷◌, ◌++◌, refl, ap}
+use Rattle.std.proofs.Common.{◌||◌}
 use Rattle.jskw_report.specs.declared.settings.VocabularySet.{VocabularySet}
 
 abbrev pub joined : VocabularySet → VocabularySet → VocabularySet

@@ -1,9 +1,9 @@
 -- The keywords of a node's units, one after another.
-use Rattle.std.proofs.Common.{◌≡◌, false, ℕ, ◌+◌, ◌<◌, List, [], ◌∷◌, ◌++◌, length, drop, get_or, Vec, Global, refl, sym, ap, ◌∙◌}
+use Rattle.std.proofs.Common.{◌≡◌, false, ℕ, ◌+◌, ◌<◌, List, [], ◌∷◌, ◌++◌, length, drop, get_or, Vec, Global, refl, ap}
 use Rattle.std.proofs.lemmas.List.{drop_more}
 use Rattle.jskw_value.specs.Pointer.{Pointer}
 use Rattle.jskw_value.specs.Tree.{Tree}
-use Rattle.jskw_report.specs.Fail.{Failure, all_fail, keyword_fail}
+use Rattle.jskw_report.specs.Fail.{all_fail, keyword_fail}
 use Rattle.jskw_report.specs.Keyword.{Keywords, keyword, no_keywords, all_hand_on}
 use Rattle.jskw.proofs.Turns.{append_keywords}
 use Rattle.jskw_leaf.proofs.Leaves.{leaf_hands_on_nothing}

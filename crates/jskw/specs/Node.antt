@@ -3,7 +3,6 @@ use Rattle.std.specs.Prelude.{List, [], ◌∷◌, Bool}
 use Rattle.jskw_value.specs.Pointer.{Pointer}
 use Rattle.jskw_report.specs.Keyword.{Schema, false_schema, schema_object, Keywords, no_keywords, keyword}
 use Rattle.jskw_leaf.specs.Meaning.{leaf_keyword}
-use Rattle.jskw_leaf.specs.declared.boolean.FalseValidator.{FalseValidator}
 use Rattle.jskw.specs.declared.node.Assertions.{Assertions}
 use Rattle.jskw.specs.declared.node.Assertions.TheVariants.{Never, Keywords as TheKeywords}
 use Rattle.jskw.specs.declared.node.SchemaNode.{SchemaNode}

@@ -1,14 +1,13 @@
-use Rattle.std.proofs.Common.{◌≡◌, ◌+◌, List, ℕ, Option, ap₂, ◌∙◌}
+use Rattle.std.proofs.Common.{List, ℕ, Option, ap₂, ◌∙◌}
 use Rattle.serde_json.specs.View.{members_view}
 use Rattle.jskw_value.specs.Pointer.{member_location}
-use Rattle.jskw_report.specs.Keyword.{keyword, no_keywords}
-use Rattle.jskw_report.specs.Read.{Part, keyword_location, part_named, read_words}
+use Rattle.jskw_report.specs.Read.{Part, part_named, read_words}
 use Rattle.jskw_report.specs.declared.keyword.KeywordName.TheVariants.{TypeKeyword}
 use Rattle.jskw_leaf.specs.Meaning.{leaf_keyword}
 use Rattle.jskw.specs.Answer.{program_keywords}
 use Rattle.jskw.specs.Node.{keywords_of}
 use Rattle.jskw.proofs.Built.{built_at}
-use Rattle.jskw.proofs.Turns.{after, after_none, append_keywords, turn_end, turn_made, turn_refused, turn_silent}
+use Rattle.jskw.proofs.Turns.{after_none, turn_end, turn_made, turn_refused, turn_silent}
 use Rattle.jskw.proofs.Units.{keywords_in, keywords_of_more}
 use Rattle.jskw.proofs.node.compile_keywords.Goals as goal
 use Rattle.jskw.proofs.node.compile_keywords.Goals.{in-None, in-Some-Ok+in_ok-location-in-Some-Ok+in_ok-push-in-Some-Ok}

@@ -1,4 +1,4 @@
-use Rattle.std.proofs.Common.{◌≡◌, ◌++◌, ◌+◌, ◌∙◌, Err, drop, subst, sym, ap}
+use Rattle.std.proofs.Common.{◌++◌, ◌+◌, ◌∙◌, Err, drop, subst, sym, ap}
 use Rattle.jskw_report.specs.Fail.{all_fail, keyword_fail}
 use Rattle.jskw_report.specs.Observe.{IsFirst}
 use Rattle.jskw_report.specs.Paths.{path_of}
