@@ -1,9 +1,9 @@
 -- Which names an object has, and the errors of those that it lacks.
-use Rattle.std.specs.Prelude.{◌≡◌, ℕ, List, Bool, not, ◌&&◌, ◌||◌, codes, Some, Result, Ok, cond, slice_get}
+use Rattle.std.specs.Prelude.{◌≡◌, ℕ, List, Bool, Some, Result, Ok, cond, slice_get}
 use Rattle.std.specs.Int.{bit_at}
 use Rattle.std.specs.List.{list_any}
 use Rattle.std.specs.Str.{bytes_eq}
-use Rattle.serde_json.specs.Data.{Data, string, Members}
+use Rattle.serde_json.specs.Data.{Data, string}
 use Rattle.jskw_value.specs.Pointer.{Pointer}
 use Rattle.jskw_value.specs.Tree.{Tree, has_name}
 use Rattle.jskw_value.specs.declared.types.JsonType.TheVariants.{String}
@@ -12,9 +12,6 @@ use Rattle.jskw_report.specs.Fault.{Fault, of_type, wrong, required_value}
 use Rattle.jskw_report.specs.Keyword.{assertion, required}
 use Rattle.jskw_report.specs.Kind.{Required}
 use Rattle.jskw_report.specs.Read.{Asserts, asserts}
-use Rattle.jskw_report.specs.Setting.{Setting, has_vocabulary, is_overridden}
-use Rattle.jskw_report.specs.declared.settings.Vocabulary.TheVariants.{Applicator}
-use Rattle.jskw_report.specs.Sibling.{has_few_members, has_items, is_absent, is_false, is_object, member_passes}
 
 -- the name is one of the list
 abbrev pub is_among : List (List ℕ) → List ℕ → Bool
@@ -40,18 +37,3 @@ name_value p d = wrong (of_type String) p d
 -- what the value d of `required` at q asserts, whatever stands beside it
 abbrev pub required_at : Pointer → Data → Asserts
 required_at q d = asserts (λ names. assertion q (required names)) (required_value q d)
-
--- there are `properties` beside it, and `additionalProperties` is `false`
-abbrev pub closes_properties : Setting → Members → Bool
-closes_properties s ms = not (is_absent (codes "properties") ms) && member_passes is_false (codes "additionalProperties") ms
-    && not (is_overridden s (codes "additionalProperties"))
-
--- there are a few `properties` beside it, and `additionalProperties` isn't `false` and no object
-abbrev pub has_few_properties : Setting → Members → Bool
-has_few_properties s ms = member_passes has_few_members (codes "properties") ms && not (is_overridden s (codes "properties"))
-    && not (member_passes is_false (codes "additionalProperties") ms) && not (member_passes is_object (codes "additionalProperties") ms)
-
--- where `required` stands and has the value d, it is left to the keywords of objects beside it
-abbrev pub is_left : Setting → Members → Data → Bool
-is_left s ms d = has_vocabulary s Applicator && is_absent (codes "patternProperties") ms
-    && (has_items 1 d && closes_properties s ms || has_items 2 d && has_few_properties s ms)

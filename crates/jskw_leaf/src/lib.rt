@@ -12,6 +12,3 @@ pub mod type_;
 pub mod unique_items;
 
 pub use leaf::LeafValidator;
-
-#[cfg(test)]
-mod tests;

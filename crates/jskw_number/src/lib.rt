@@ -12,6 +12,3 @@ pub mod multiple_of;
 pub mod number;
 
 pub use number::NumberValidator;
-
-#[cfg(test)]
-mod tests;

@@ -3,9 +3,18 @@ ghost use Rattle.std.specs.Prelude.{◌≡◌, IsTrue, Some, codes, not};
 ghost use Rattle.serde_json.specs.Find.{get_member};
 ghost use Rattle.serde_json.specs.View.{view, members_view};
 ghost use Rattle.jskw_report.specs.Setting.{stands};
-ghost use Rattle.jskw_report.specs.Sibling.{has_few_members, has_items, is_absent, is_false, is_handed_on, is_object, member_passes};
+ghost use Rattle.jskw_report.specs.Sibling.{
+  has_few_members,
+  has_items,
+  is_absent,
+  is_false,
+  is_handed_on,
+  is_object,
+  member_passes,
+  requires_one_of_properties,
+  requires_two_of_properties,
+};
 ghost use Rattle.jskw_report.specs.declared.keyword.KeywordName.TheVariants.{Required};
-ghost use Rattle.jskw_leaf.specs.Required.{closes_properties, has_few_properties, is_left};
 
 use jskw_report::compiler::member_of;
 use jskw_report::{Context, Vocabulary};
@@ -30,34 +39,42 @@ pub fn is_handed_on<F: Json>(
     requires member { get_member (codes "required") (members_view parent.now.entries) ≡ Some (view schema.now) }
     ensures { result ≡ is_handed_on ctx.now.setting (members_view parent.now.entries) }
 {
-    is_left(ctx, parent, schema)
-}
-
-/// The same, whether or not the keyword stands.
-fn is_left<F: Json>(ctx: &Context<'_, F>, parent: &Map<String, Value>, schema: &Value) -> bool
-    ensures { result ≡ is_left ctx.now.setting (members_view parent.now.entries) (view schema.now) }
-{
     ctx.has_vocabulary(Vocabulary::Applicator)
         && !has_member(parent, "patternProperties")
-        && ((has_items(schema, 1) && closes_properties(ctx, parent))
-            || (has_items(schema, 2) && has_few_properties(ctx, parent)))
+        && (requires_one_of_properties(ctx, parent, schema)
+            || requires_two_of_properties(ctx, parent, schema))
 }
 
-/// Whether there are `properties`, and no other members are allowed by an `additionalProperties` that isn't overridden.
-fn closes_properties<F: Json>(ctx: &Context<'_, F>, parent: &Map<String, Value>) -> bool
-    ensures { result ≡ closes_properties ctx.now.setting (members_view parent.now.entries) }
+/// Whether `schema`, the value of `required`, has one item, there are `properties`, and no other members are allowed by an
+/// `additionalProperties` that isn't overridden.
+#[tactic(auto, using(crate::proofs::HandedOn::passes_at))]
+fn requires_one_of_properties<F: Json>(
+    ctx: &Context<'_, F>,
+    parent: &Map<String, Value>,
+    schema: &Value,
+) -> bool
+    requires { get_member (codes "required") (members_view parent.now.entries) ≡ Some (view schema.now) }
+    ensures { result ≡ requires_one_of_properties ctx.now.setting (members_view parent.now.entries) }
 {
-    has_member(parent, "properties")
+    has_items(schema, 1)
+        && has_member(parent, "properties")
         && has_false(parent, "additionalProperties")
         && !ctx.is_keyword_overridden("additionalProperties")
 }
 
-/// Whether there are few `properties`, which aren't overridden, and `additionalProperties` is neither `false` nor an
-/// object.
-fn has_few_properties<F: Json>(ctx: &Context<'_, F>, parent: &Map<String, Value>) -> bool
-    ensures { result ≡ has_few_properties ctx.now.setting (members_view parent.now.entries) }
+/// Whether `schema`, the value of `required`, has two items, there are few `properties`, which aren't overridden, and
+/// `additionalProperties` is neither `false` nor an object.
+#[tactic(auto, using(crate::proofs::HandedOn::passes_at))]
+fn requires_two_of_properties<F: Json>(
+    ctx: &Context<'_, F>,
+    parent: &Map<String, Value>,
+    schema: &Value,
+) -> bool
+    requires { get_member (codes "required") (members_view parent.now.entries) ≡ Some (view schema.now) }
+    ensures { result ≡ requires_two_of_properties ctx.now.setting (members_view parent.now.entries) }
 {
-    has_small_object(parent, "properties")
+    has_items(schema, 2)
+        && has_small_object(parent, "properties")
         && !ctx.is_keyword_overridden("properties")
         && !has_false(parent, "additionalProperties")
         && !has_object(parent, "additionalProperties")

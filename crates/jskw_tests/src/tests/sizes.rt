@@ -1,18 +1,18 @@
 // Bounds on sizes.
-use super::{array_of, check_rows, fault_text, object_of, said, settings};
-use crate::helpers::{fail_on_non_positive_integer, map_get_u64, size_limit};
+use super::texts::fault_text;
+use super::{all_of, check_rows};
+use jskw_number::helpers::{fail_on_non_positive_integer, map_get_u64, size_limit};
 use jskw_report::{Context, Draft, Location};
-use jskw_value::{DecimalJson, DecimalTree, SerdeJson};
+use jskw_value::SerdeJson;
 use serde_json::Value;
 use std::alloc::Global;
-use std::process::Abort;
 use std::test::Fail;
 
 // The bound or its error, as text.
 fn bound_text(alloc: Global, schema: &str, name: &str) -> Result<String, Fail> {
     let schema = Value::from_str(alloc, schema)?;
     let parent = schema.as_object().ok_or("no object")?;
-    let settings = settings(alloc, Draft::Draft202012);
+    let settings = all_of(alloc, Draft::Draft202012);
     let ctx: Context<SerdeJson> = Context::new(alloc, &settings);
     match map_get_u64(alloc, parent, &ctx, name) {
         None => Ok(String::from_str(alloc, "absent")?),
@@ -117,78 +117,8 @@ fn sizes_around_their_bounds(rt: HostRuntime) -> Result<(), Fail> {
     check_rows(
         &rt,
         rt.alloc(),
-        &settings(rt.alloc(), Draft::Draft202012),
+        &all_of(rt.alloc(), Draft::Draft202012),
         SIZES,
     )?;
-    check_rows(&rt, rt.alloc(), &settings(rt.alloc(), Draft::Draft4), SIZES)
-}
-
-// The outcome over decimals.
-fn said_of_decimals(
-    rt: &impl Abort,
-    alloc: Global,
-    schema: &str,
-    name: &str,
-    instance: &DecimalTree,
-) -> Result<String, Fail> {
-    said::<DecimalJson>(
-        rt,
-        alloc,
-        &settings(alloc, Draft::Draft7),
-        schema,
-        name,
-        instance,
-    )
-}
-
-#[test]
-fn sizes_over_decimals(rt: HostRuntime) -> Result<(), Fail> {
-    let alloc = rt.alloc();
-    for (schema, name, counts) in [
-        (
-            "{\"minItems\":3}",
-            "minItems",
-            [false, false, false, true, true],
-        ),
-        (
-            "{\"maxItems\":3}",
-            "maxItems",
-            [true, true, true, true, false],
-        ),
-    ] {
-        for (count, is_valid) in counts.iter().enumerate() {
-            let found = said_of_decimals(&rt, alloc, schema, name, &array_of(alloc, count)?)?;
-            assert_eq!(rt;
-                found.as_str() == "valid",
-                *is_valid,
-                "{schema} on {count} items"
-            );
-        }
-        let found = said_of_decimals(&rt, alloc, schema, name, &object_of(alloc, 2)?)?;
-        assert_eq!(rt; found.as_str(), "valid");
-    }
-    for (schema, name, counts) in [
-        (
-            "{\"minProperties\":3}",
-            "minProperties",
-            [false, false, false, true, true],
-        ),
-        (
-            "{\"maxProperties\":3}",
-            "maxProperties",
-            [true, true, true, true, false],
-        ),
-    ] {
-        for (count, is_valid) in counts.iter().enumerate() {
-            let found = said_of_decimals(&rt, alloc, schema, name, &object_of(alloc, count)?)?;
-            assert_eq!(rt;
-                found.as_str() == "valid",
-                *is_valid,
-                "{schema} on {count} members"
-            );
-        }
-        let found = said_of_decimals(&rt, alloc, schema, name, &array_of(alloc, 2)?)?;
-        assert_eq!(rt; found.as_str(), "valid");
-    }
-    Ok(())
+    check_rows(&rt, rt.alloc(), &all_of(rt.alloc(), Draft::Draft4), SIZES)
 }

@@ -1,8 +1,6 @@
 // Relations and divisors around the ends of the ranges, and around 2^53, where a double starts to lose digits.
-use super::{decimal_of, said, settings};
+use super::{all_of, check};
 use jskw_report::{Draft, Settings};
-use jskw_value::{DecimalJson, SerdeJson};
-use serde_json::Value;
 use std::alloc::Global;
 use std::process::Abort;
 use std::test::Fail;
@@ -87,8 +85,8 @@ const NUMBERS: &str = r#"-9223372036854775808 0:=<<<<<<<<<< yynnnn
 5 1:>>><<<<<<<< nnnnnn
 90071992547409920 1:>>>>>=<<<<< yynnnn"#;
 
-// A keyword with a bound, asked of a number; over both representations, where the number is whole.
-fn check(
+// A keyword with a bound, asked of a number, and where it is whole, of its JSON text too.
+fn check_bound(
     rt: &impl Abort,
     alloc: Global,
     settings: &Settings,
@@ -98,18 +96,21 @@ fn check(
     holds: bool,
 ) -> Result<(), Fail> {
     let schema = format!(in alloc; "{{\"{keyword}\":{bound}}}")?;
-    let wanted = if holds {
-        String::from_str(alloc, "valid")?
-    } else {
-        format!(in alloc; "{keyword} {bound} at /7 by /items/{keyword}")?
-    };
-    let tree = decimal_of(number)?;
-    let found = said::<DecimalJson>(rt, alloc, settings, schema.as_str(), keyword, &tree)?;
-    assert_eq!(rt; found.as_str(), wanted.as_str(), "{number}");
+    let schema = schema.as_str();
+    let failure = format!(in alloc; "{keyword} {bound} at /7 by /items/{keyword}")?;
+    let wanted = if holds { "valid" } else { failure.as_str() };
+    let decimal = format!(in alloc; "#{number}")?;
+    check(
+        rt,
+        alloc,
+        settings,
+        schema,
+        keyword,
+        decimal.as_str(),
+        wanted,
+    )?;
     if let Some(whole) = number.strip_suffix(" 0") {
-        let value = Value::from_str(alloc, whole)?;
-        let found = said::<SerdeJson>(rt, alloc, settings, schema.as_str(), keyword, &value)?;
-        assert_eq!(rt; found.as_str(), wanted.as_str(), "{whole}");
+        check(rt, alloc, settings, schema, keyword, whole, wanted)?;
     }
     Ok(())
 }
@@ -123,7 +124,7 @@ fn check_limits(
 ) -> Result<(), Fail> {
     for (limit, symbol) in LIMITS.iter().zip(stands.chars()) {
         for (keyword, allowed) in RELATIONS {
-            check(
+            check_bound(
                 rt,
                 alloc,
                 settings,
@@ -145,7 +146,7 @@ fn check_divisors(
     divides: &str,
 ) -> Result<(), Fail> {
     for (divisor, letter) in DIVISORS.iter().zip(divides.chars()) {
-        check(
+        check_bound(
             rt,
             alloc,
             settings,
@@ -160,7 +161,7 @@ fn check_divisors(
 
 #[test]
 fn numbers_around_boundaries(rt: HostRuntime) -> Result<(), Fail> {
-    let settings = settings(rt.alloc(), Draft::Draft202012);
+    let settings = all_of(rt.alloc(), Draft::Draft202012);
     for line in NUMBERS.lines() {
         let (number, rest) = line.split_once(':').ok_or("no relations")?;
         let (stands, divides) = rest.split_once(' ').ok_or("no divisors")?;

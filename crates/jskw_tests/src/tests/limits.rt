@@ -1,6 +1,6 @@
 // Limits and divisors.
-use super::{check_rows, settings};
-use crate::minmax::{ExclusiveMaximum, ExclusiveMinimum, Maximum, Minimum};
+use super::{all_of, check_rows};
+use jskw_number::minmax::{ExclusiveMaximum, ExclusiveMinimum, Maximum, Minimum};
 use jskw_report::{Draft, Location, Settings, VocabularySet};
 use serde_json::Value;
 use std::test::Fail;
@@ -28,17 +28,17 @@ const LIMITS: &str = r#"{"minimum":1}|#9 1|minimum|minimum 1 at /7 by /items/min
 {"exclusiveMaximum":18446744073709551615}|18446744073709551615|exclusiveMaximum|exclusiveMaximum 18446744073709551615 at /7 by /items/exclusiveMaximum
 {"exclusiveMaximum":-9223372036854775808}|-9223372036854775808|exclusiveMaximum|exclusiveMaximum -9223372036854775808 at /7 by /items/exclusiveMaximum
 {"exclusiveMaximum":-9223372036854775808}|"a"|exclusiveMaximum|valid
-{"minimum":1.5}|0|minimum|refused: compileError at /items/minimum, float
-{"minimum":1.0}|0|minimum|refused: compileError at /items/minimum, float
+{"minimum":1.5}|0|minimum|refused: compileError Not a whole number of 64 bits at /items/minimum, float
+{"minimum":1.0}|0|minimum|refused: compileError Not a whole number of 64 bits at /items/minimum, float
 {"minimum":"x"}|0|minimum|refused: type Number at /items/minimum, "x"
 {"minimum":"x","exclusiveMinimum":true}|0|minimum|refused: type Number at /items/minimum, "x"
-{"maximum":18446744073709551616}|0|maximum|refused: compileError at /items/maximum, float
-{"maximum":-9223372036854775809}|0|maximum|refused: compileError at /items/maximum, float
+{"maximum":18446744073709551616}|0|maximum|refused: compileError Not a whole number of 64 bits at /items/maximum, float
+{"maximum":-9223372036854775809}|0|maximum|refused: compileError Not a whole number of 64 bits at /items/maximum, float
 {"maximum":null}|0|maximum|refused: type Number at /items/maximum, null
 {"exclusiveMinimum":true}|0|exclusiveMinimum|refused: type Number at /items/exclusiveMinimum, true
-{"exclusiveMinimum":-0.5}|0|exclusiveMinimum|refused: compileError at /items/exclusiveMinimum, float
+{"exclusiveMinimum":-0.5}|0|exclusiveMinimum|refused: compileError Not a whole number of 64 bits at /items/exclusiveMinimum, float
 {"exclusiveMaximum":[1]}|0|exclusiveMaximum|refused: type Number at /items/exclusiveMaximum, [1]
-{"exclusiveMaximum":-0}|0|exclusiveMaximum|refused: compileError at /items/exclusiveMaximum, float"#;
+{"exclusiveMaximum":-0}|0|exclusiveMaximum|refused: compileError Not a whole number of 64 bits at /items/exclusiveMaximum, float"#;
 
 // In Draft 4.
 const LIMITS_DRAFT_4: &str =
@@ -57,8 +57,8 @@ const LIMITS_DRAFT_4: &str =
 {"minimum":-5,"exclusiveMinimum":true}|-5|minimum|exclusiveMinimum -5 at /7 by /items/exclusiveMinimum
 {"minimum":"x","exclusiveMinimum":true}|5|minimum|refused: type Number at /items/exclusiveMinimum, "x"
 {"minimum":"x","exclusiveMinimum":1}|5|minimum|refused: type Number at /items/minimum, "x"
-{"minimum":1.5,"exclusiveMinimum":true}|5|minimum|refused: compileError at /items/exclusiveMinimum, float
-{"minimum":1.5}|5|minimum|refused: compileError at /items/minimum, float
+{"minimum":1.5,"exclusiveMinimum":true}|5|minimum|refused: compileError Not a whole number of 64 bits at /items/exclusiveMinimum, float
+{"minimum":1.5}|5|minimum|refused: compileError Not a whole number of 64 bits at /items/minimum, float
 {"maximum":5,"exclusiveMaximum":true}|5|maximum|exclusiveMaximum 5 at /7 by /items/exclusiveMaximum
 {"maximum":5,"exclusiveMaximum":true}|4|maximum|valid
 {"maximum":5,"exclusiveMaximum":true}|#49 1|maximum|valid
@@ -68,7 +68,7 @@ const LIMITS_DRAFT_4: &str =
 {"maximum":5}|6|maximum|maximum 5 at /7 by /items/maximum
 {"maximum":-9223372036854775808,"exclusiveMaximum":true}|-9223372036854775808|maximum|exclusiveMaximum -9223372036854775808 at /7 by /items/exclusiveMaximum
 {"maximum":{},"exclusiveMaximum":true}|5|maximum|refused: type Number at /items/exclusiveMaximum, {}
-{"maximum":0.5}|5|maximum|refused: compileError at /items/maximum, float"#;
+{"maximum":0.5}|5|maximum|refused: compileError Not a whole number of 64 bits at /items/maximum, float"#;
 
 // In every draft.
 const DIVISORS: &str = r#"{"multipleOf":9007199254740993}|18014398509481986|multipleOf|valid
@@ -83,9 +83,9 @@ const DIVISORS: &str = r#"{"multipleOf":9007199254740993}|18014398509481986|mult
 {"multipleOf":0}|5|multipleOf|refused: exclusiveMinimum 0 at /items/multipleOf, 0
 {"multipleOf":-2}|5|multipleOf|refused: exclusiveMinimum 0 at /items/multipleOf, -2
 {"multipleOf":-9223372036854775808}|5|multipleOf|refused: exclusiveMinimum 0 at /items/multipleOf, -9223372036854775808
-{"multipleOf":0.5}|5|multipleOf|refused: compileError at /items/multipleOf, float
-{"multipleOf":-0}|5|multipleOf|refused: compileError at /items/multipleOf, float
-{"multipleOf":18446744073709551616}|5|multipleOf|refused: compileError at /items/multipleOf, float
+{"multipleOf":0.5}|5|multipleOf|refused: compileError Not a whole number of 64 bits at /items/multipleOf, float
+{"multipleOf":-0}|5|multipleOf|refused: compileError Not a whole number of 64 bits at /items/multipleOf, float
+{"multipleOf":18446744073709551616}|5|multipleOf|refused: compileError Not a whole number of 64 bits at /items/multipleOf, float
 {"multipleOf":"2"}|5|multipleOf|refused: type Number at /items/multipleOf, "2"
 {"multipleOf":null}|5|multipleOf|refused: type Number at /items/multipleOf, null"#;
 
@@ -97,15 +97,15 @@ fn limits_after_draft_4(rt: HostRuntime) -> Result<(), Fail> {
         Draft::Draft201909,
         Draft::Draft202012,
     ] {
-        check_rows(&rt, rt.alloc(), &settings(rt.alloc(), draft), LIMITS)?;
-        check_rows(&rt, rt.alloc(), &settings(rt.alloc(), draft), DIVISORS)?;
+        check_rows(&rt, rt.alloc(), &all_of(rt.alloc(), draft), LIMITS)?;
+        check_rows(&rt, rt.alloc(), &all_of(rt.alloc(), draft), DIVISORS)?;
     }
     Ok(())
 }
 
 #[test]
 fn limits_in_draft_4(rt: HostRuntime) -> Result<(), Fail> {
-    let settings = settings(rt.alloc(), Draft::Draft4);
+    let settings = all_of(rt.alloc(), Draft::Draft4);
     check_rows(&rt, rt.alloc(), &settings, LIMITS_DRAFT_4)?;
     check_rows(&rt, rt.alloc(), &settings, DIVISORS)
 }

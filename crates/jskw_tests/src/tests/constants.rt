@@ -1,0 +1,69 @@
+// `const`.
+use super::{all_of, check_rows};
+use jskw_report::Draft;
+use std::test::Fail;
+
+// A value of each type, and what is equal to it.
+const VALUES: &str = r#"{"const":null}|null|const|valid
+{"const":null}|3|const|const null at /7 by /items/const
+{"const":null}|false|const|const null at /7 by /items/const
+{"const":true}|true|const|valid
+{"const":true}|false|const|const true at /7 by /items/const
+{"const":false}|null|const|const false at /7 by /items/const
+{"const":false}|0|const|const false at /7 by /items/const
+{"const":2}|2|const|valid
+{"const":2}|-2|const|const 2 at /7 by /items/const
+{"const":2}|"2"|const|const 2 at /7 by /items/const
+{"const":18446744073709551615}|18446744073709551615|const|valid
+{"const":18446744073709551615}|-1|const|const 18446744073709551615 at /7 by /items/const
+{"const":-9223372036854775808}|-9223372036854775808|const|valid
+{"const":"ab"}|"ab"|const|valid
+{"const":"ab"}|"a"|const|const "ab" at /7 by /items/const
+{"const":""}|""|const|valid
+{"const":""}|null|const|const "" at /7 by /items/const
+{"const":[1,2]}|[1,2]|const|valid
+{"const":[1,2]}|[2,1]|const|const [1,2] at /7 by /items/const
+{"const":[1,2]}|[1]|const|const [1,2] at /7 by /items/const
+{"const":[1,2]}|[1,2,3]|const|const [1,2] at /7 by /items/const
+{"const":[1]}|[]|const|const [1] at /7 by /items/const
+{"const":[]}|[]|const|valid
+{"const":[]}|{}|const|const [] at /7 by /items/const
+{"const":{"a":1,"b":2}}|{"b":2,"a":1}|const|valid
+{"const":{"a":1,"b":2}}|{"a":1}|const|const {"a":1,"b":2} at /7 by /items/const
+{"const":{"a":1}}|{"a":1,"b":2}|const|const {"a":1} at /7 by /items/const
+{"const":{"a":[{"b":1}]}}|{"a":[{"b":2}]}|const|const {"a":[{"b":1}]} at /7 by /items/const
+{"const":{}}|[]|const|const {} at /7 by /items/const"#;
+
+// The value 2, and decimals.
+const FRACTIONS: &str = r#"{"const":2}|#2 0|const|valid
+{"const":2}|#20 1|const|valid
+{"const":2}|#2000000000000000000 18|const|valid
+{"const":2}|#25 1|const|const 2 at /7 by /items/const
+{"const":2}|#20 2|const|const 2 at /7 by /items/const
+{"const":2}|#-20 1|const|const 2 at /7 by /items/const"#;
+
+// Floats in the value.
+const FLOATS: &str =
+    r#"{"const":1.5}|null|const|refused: compileError Not a whole number of 64 bits at /items/const, float
+{"const":2.0}|null|const|refused: compileError Not a whole number of 64 bits at /items/const, float
+{"const":[1,{"a":1.5}]}|null|const|refused: compileError Not a whole number of 64 bits at /items/const, float
+{"const":{"a":[],"b":{"c":[[18446744073709551616]]}}}|null|const|refused: compileError Not a whole number of 64 bits at /items/const, float
+{"const":{"a":[1],"b":"2.0"}}|null|const|const {"a":[1],"b":"2.0"} at /7 by /items/const"#;
+
+#[test]
+fn each_form_by_the_type_of_its_value(rt: HostRuntime) -> Result<(), Fail> {
+    let settings = all_of(rt.alloc(), Draft::Draft202012);
+    check_rows(&rt, rt.alloc(), &settings, VALUES)
+}
+
+#[test]
+fn numbers_with_a_fraction(rt: HostRuntime) -> Result<(), Fail> {
+    let settings = all_of(rt.alloc(), Draft::Draft6);
+    check_rows(&rt, rt.alloc(), &settings, FRACTIONS)
+}
+
+#[test]
+fn floats_are_refused(rt: HostRuntime) -> Result<(), Fail> {
+    let settings = all_of(rt.alloc(), Draft::Draft202012);
+    check_rows(&rt, rt.alloc(), &settings, FLOATS)
+}

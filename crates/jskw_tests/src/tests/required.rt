@@ -1,0 +1,338 @@
+// `required`: its forms, and where it is handed on.
+use super::keywords::outcome;
+use super::{all_of, check, check_rows};
+use jskw_leaf::{LeafValidator, required};
+use jskw_report::{Draft, Location, LocationSegment, Settings, Vocabulary, VocabularySet};
+use jskw_value::{Json, SerdeJson};
+use serde_json::Value;
+use std::alloc::{AllocError, Global};
+use std::process::Abort;
+use std::test::Fail;
+
+// By the number of names.
+const FORMS: &str = r#"{"required":["a"]}|{"a":null}|required|valid
+{"required":["a"]}|{"b":1,"a":{}}|required|valid
+{"required":["a"]}|{}|required|required a at /7 by /items/required
+{"required":["a"]}|{"b":1}|required|required a at /7 by /items/required
+{"required":["a"]}|{"aa":1,"A":1,"":1}|required|required a at /7 by /items/required
+{"required":["a","b"]}|{"a":1,"b":2}|required|valid
+{"required":["a","b"]}|{"b":1}|required|required a at /7 by /items/required
+{"required":["a","b"]}|{"a":1}|required|required b at /7 by /items/required
+{"required":["a","b"]}|{"c":1,"d":2}|required|required a at /7 by /items/required, required b at /7 by /items/required
+{"required":["a","b"]}|{}|required|required a at /7 by /items/required, required b at /7 by /items/required
+{"required":["a","b","c"]}|{"c":1,"b":2,"a":3}|required|valid
+{"required":["a","b","c"]}|{"a":1,"c":3,"d":4,"e":5,"f":6,"g":7,"h":8}|required|required b at /7 by /items/required
+{"required":["a","b","c"]}|{"b":1}|required|required a at /7 by /items/required, required c at /7 by /items/required
+{"required":["a","b","c","d"]}|{"b":1,"d":2}|required|required a at /7 by /items/required, required c at /7 by /items/required
+{"required":["a","b","c","d"]}|{"d":1,"c":2,"b":3,"a":4}|required|valid
+{"required":["a","b","c","d"]}|{"e":1,"d":2,"x":3,"y":4,"c":5}|required|required a at /7 by /items/required, required b at /7 by /items/required"#;
+
+// The errors stand in the order of the list.
+const ORDER: &str =
+    r#"{"required":["c","a"]}|{"b":1}|required|required c at /7 by /items/required, required a at /7 by /items/required
+{"required":["z","b","a","y"]}|{"b":1}|required|required z at /7 by /items/required, required a at /7 by /items/required, required y at /7 by /items/required"#;
+
+// Each name once.
+const REPEATED: &str = r#"{"required":["a","a"]}|{"a":1}|required|valid
+{"required":["a","a"]}|{}|required|required a at /7 by /items/required
+{"required":["a","b","a"]}|{"a":1,"b":2}|required|valid
+{"required":["a","b","a"]}|{}|required|required a at /7 by /items/required, required b at /7 by /items/required
+{"required":["a","a","b","b"]}|{"c":1}|required|required a at /7 by /items/required, required b at /7 by /items/required
+{"required":["a","a","b","a","c","b"]}|{"b":1}|required|required a at /7 by /items/required, required c at /7 by /items/required
+{"required":["a","b","a","c","d","d"]}|{"b":1,"d":2}|required|required a at /7 by /items/required, required c at /7 by /items/required"#;
+
+// It holds of what is no object, and without a name of every object.
+const OTHER_TYPES: &str = r#"{"required":[]}|null|required|valid
+{"required":[]}|true|required|valid
+{"required":[]}|5|required|valid
+{"required":[]}|"a"|required|valid
+{"required":[]}|[]|required|valid
+{"required":[]}|[{"b":1}]|required|valid
+{"required":["a"]}|null|required|valid
+{"required":["a"]}|true|required|valid
+{"required":["a"]}|5|required|valid
+{"required":["a"]}|"a"|required|valid
+{"required":["a"]}|[]|required|valid
+{"required":["a"]}|[{"b":1}]|required|valid
+{"required":["a","b"]}|null|required|valid
+{"required":["a","b"]}|true|required|valid
+{"required":["a","b"]}|5|required|valid
+{"required":["a","b"]}|"a"|required|valid
+{"required":["a","b"]}|[]|required|valid
+{"required":["a","b"]}|[{"b":1}]|required|valid
+{"required":["a","b","c"]}|null|required|valid
+{"required":["a","b","c"]}|true|required|valid
+{"required":["a","b","c"]}|5|required|valid
+{"required":["a","b","c"]}|"a"|required|valid
+{"required":["a","b","c"]}|[]|required|valid
+{"required":["a","b","c"]}|[{"b":1}]|required|valid
+{"required":["a","b","c","d"]}|null|required|valid
+{"required":["a","b","c","d"]}|true|required|valid
+{"required":["a","b","c","d"]}|5|required|valid
+{"required":["a","b","c","d"]}|"a"|required|valid
+{"required":["a","b","c","d"]}|[]|required|valid
+{"required":["a","b","c","d"]}|[{"b":1}]|required|valid
+{"required":[]}|{}|required|valid
+{"required":[]}|{"a":1}|required|valid"#;
+
+const BAD_VALUES: &str = r#"{"required":5}|{}|required|refused: type Array at /items/required, 5
+{"required":"a","properties":{},"additionalProperties":false}|{}|required|refused: type Array at /items/required, "a"
+{"required":["a",5]}|{}|required|refused: type String at /items/required, 5
+{"required":["a",1,"c"]}|{}|required|refused: type String at /items/required, 1
+{"required":["a",null,5]}|{}|required|refused: type String at /items/required, null
+{"required":["a","a","b","c",["d"]]}|{}|required|refused: type String at /items/required, ["d"]
+{"required":[1.5]}|{}|required|refused: type String at /items/required, float"#;
+
+#[test]
+fn each_form_by_the_number_of_names(rt: HostRuntime) -> Result<(), Fail> {
+    let settings = all_of(rt.alloc(), Draft::Draft202012);
+    check_rows(&rt, rt.alloc(), &settings, FORMS)
+}
+
+#[test]
+fn errors_stand_in_the_order_of_the_list(rt: HostRuntime) -> Result<(), Fail> {
+    let settings = all_of(rt.alloc(), Draft::Draft202012);
+    check_rows(&rt, rt.alloc(), &settings, ORDER)
+}
+
+#[test]
+fn each_name_once(rt: HostRuntime) -> Result<(), Fail> {
+    let settings = all_of(rt.alloc(), Draft::Draft202012);
+    check_rows(&rt, rt.alloc(), &settings, REPEATED)
+}
+
+#[test]
+fn it_holds_of_what_is_no_object(rt: HostRuntime) -> Result<(), Fail> {
+    let settings = all_of(rt.alloc(), Draft::Draft202012);
+    check_rows(&rt, rt.alloc(), &settings, OTHER_TYPES)
+}
+
+#[test]
+fn bad_values_are_refused(rt: HostRuntime) -> Result<(), Fail> {
+    let settings = all_of(rt.alloc(), Draft::Draft202012);
+    check_rows(&rt, rt.alloc(), &settings, BAD_VALUES)
+}
+
+// The texts `prefix0000suffix00` and so on, so many, which have the same length, beginning and end; each quoted, and
+// followed by `behind`.
+fn colliding(alloc: Global, count: usize, behind: &str) -> Result<String, AllocError> {
+    let mut text = String::new(alloc);
+    for index in 0..count {
+        let zero = if index < 10 { "0" } else { "" };
+        let comma = if index == 0 { "" } else { "," };
+        let name = format!(in alloc; "{comma}\"prefix00{zero}{index}suffix00\"{behind}")?;
+        text.push_str(name.as_str())?;
+    }
+    Ok(text)
+}
+
+// What the first so many colliding names say of an object that has the first so many.
+fn check_colliding(
+    rt: &impl Abort,
+    alloc: Global,
+    count: usize,
+    members: usize,
+    wanted: &str,
+) -> Result<(), Fail> {
+    let settings = all_of(alloc, Draft::Draft202012);
+    let names = colliding(alloc, count, "")?;
+    let object = colliding(alloc, members, ":1")?;
+    let schema = format!(in alloc; "{{\"required\":[{names}]}}")?;
+    let instance = format!(in alloc; "{{{object}}}")?;
+    check(
+        rt,
+        alloc,
+        &settings,
+        schema.as_str(),
+        "required",
+        instance.as_str(),
+        wanted,
+    )
+}
+
+#[test]
+fn names_that_collide(rt: HostRuntime) -> Result<(), Fail> {
+    let alloc = rt.alloc();
+    let settings = all_of(alloc, Draft::Draft202012);
+    let schema = r#"{"required":["abcdefghijklX","p","q"]}"#;
+    let instance = r#"{"abcdefghijklY":1,"p":1,"q":1}"#;
+    let wanted = "required abcdefghijklX at /7 by /items/required";
+    check(&rt, alloc, &settings, schema, "required", instance, wanted)?;
+    for (count, members, wanted) in [
+        (
+            16,
+            15,
+            "required prefix0015suffix00 at /7 by /items/required",
+        ),
+        (16, 16, "valid"),
+        (16, 40, "valid"),
+        (
+            17,
+            16,
+            "required prefix0016suffix00 at /7 by /items/required",
+        ),
+        (17, 17, "valid"),
+        (3, 2, "required prefix0002suffix00 at /7 by /items/required"),
+        (2, 1, "required prefix0001suffix00 at /7 by /items/required"),
+        (2, 2, "valid"),
+        (1, 40, "valid"),
+    ] {
+        check_colliding(&rt, alloc, count, members, wanted)?;
+    }
+    Ok(())
+}
+
+// One item beside `properties` and `additionalProperties`.
+const ONE_ITEM: &str =
+    r#"{"required":["a"],"properties":{"a":{}},"additionalProperties":false}|{}|required|nothing is asserted
+{"required":["a"],"properties":5,"additionalProperties":false}|{}|required|nothing is asserted
+{"required":[5],"properties":{"a":{}},"additionalProperties":false}|{}|required|nothing is asserted
+{"required":["a"],"additionalProperties":false}|{}|required|required a at /7 by /items/required
+{"required":["a"],"properties":{"a":{}}}|{}|required|required a at /7 by /items/required
+{"required":["a"],"properties":{"a":{}},"additionalProperties":true}|{}|required|required a at /7 by /items/required
+{"required":["a"],"properties":{"a":{}},"additionalProperties":{}}|{}|required|required a at /7 by /items/required
+{"required":["a"],"properties":{"a":{}},"additionalProperties":null}|{}|required|required a at /7 by /items/required
+{"required":["a"],"properties":{"a":{}},"additionalProperties":false,"patternProperties":{}}|{}|required|required a at /7 by /items/required
+{"required":["a","b","b"],"properties":{"a":{}},"additionalProperties":false}|{}|required|required a at /7 by /items/required, required b at /7 by /items/required
+{"required":[],"properties":{"a":{}},"additionalProperties":false}|{}|required|valid"#;
+
+// Two items beside `properties`.
+const TWO_ITEMS: &str =
+    r#"{"required":["a","b"],"properties":{"a":{}}}|{}|required|nothing is asserted
+{"required":["a","b"],"properties":{}}|{}|required|nothing is asserted
+{"required":["a","a"],"properties":{"a":{}}}|{}|required|nothing is asserted
+{"required":["a",5],"properties":{"a":{}}}|{}|required|nothing is asserted
+{"required":[1,2],"properties":{"a":{}}}|{}|required|nothing is asserted
+{"required":["a","b"],"properties":{"a":{}},"additionalProperties":true}|{}|required|nothing is asserted
+{"required":["a","b"],"properties":{"a":{}},"additionalProperties":5}|{}|required|nothing is asserted
+{"required":["a","b"]}|{}|required|required a at /7 by /items/required, required b at /7 by /items/required
+{"required":["a","b"],"properties":[]}|{}|required|required a at /7 by /items/required, required b at /7 by /items/required
+{"required":["a","b"],"properties":true}|{}|required|required a at /7 by /items/required, required b at /7 by /items/required
+{"required":["a","a"],"properties":{"a":{}},"additionalProperties":false}|{}|required|required a at /7 by /items/required
+{"required":["a","b"],"properties":{"a":{}},"additionalProperties":{}}|{}|required|required a at /7 by /items/required, required b at /7 by /items/required
+{"required":["a","b"],"properties":{"a":{}},"patternProperties":{}}|{}|required|required a at /7 by /items/required, required b at /7 by /items/required
+{"required":["a","b","a"],"properties":{"a":{}}}|{}|required|required a at /7 by /items/required, required b at /7 by /items/required
+{"required":["a"],"properties":{"a":{}}}|{}|required|required a at /7 by /items/required"#;
+
+#[test]
+fn one_item_is_handed_on(rt: HostRuntime) -> Result<(), Fail> {
+    let settings = all_of(rt.alloc(), Draft::Draft202012);
+    check_rows(&rt, rt.alloc(), &settings, ONE_ITEM)
+}
+
+#[test]
+fn two_items_are_handed_on(rt: HostRuntime) -> Result<(), Fail> {
+    let settings = all_of(rt.alloc(), Draft::Draft202012);
+    check_rows(&rt, rt.alloc(), &settings, TWO_ITEMS)
+}
+
+const HANDED_ON: &str = "nothing is asserted";
+
+const A: &str = "required a at /7 by /items/required";
+
+const A_AND_B: &str = "required a at /7 by /items/required, required b at /7 by /items/required";
+
+#[test]
+fn two_items_beside_many_properties(rt: HostRuntime) -> Result<(), Fail> {
+    let alloc = rt.alloc();
+    let settings = all_of(alloc, Draft::Draft202012);
+    for (count, wanted) in [(14, HANDED_ON), (15, A_AND_B), (16, A_AND_B)] {
+        let properties = colliding(alloc, count, ":{}")?;
+        let schema = format!(in alloc;
+            "{{\"required\":[\"a\",\"b\"],\"properties\":{{{properties}}}}}"
+        )?;
+        check(
+            &rt,
+            alloc,
+            &settings,
+            schema.as_str(),
+            "required",
+            "{}",
+            wanted,
+        )?;
+    }
+    Ok(())
+}
+
+#[test]
+fn overridden_siblings(rt: HostRuntime) -> Result<(), Fail> {
+    let alloc = rt.alloc();
+    let one = r#"{"required":["a"],"properties":{"a":{}},"additionalProperties":false}"#;
+    let two = r#"{"required":["a","b"],"properties":{"a":{}}}"#;
+    let closed = r#"{"required":["a","b"],"properties":{"a":{}},"additionalProperties":false}"#;
+    let schemas = r#"{"required":["a","b"],"properties":{"a":{}},"additionalProperties":{}}"#;
+    for (name, schema, wanted) in [
+        ("additionalProperties", one, A),
+        ("properties", one, HANDED_ON),
+        ("patternProperties", one, HANDED_ON),
+        ("properties", two, A_AND_B),
+        ("additionalProperties", two, HANDED_ON),
+        ("additionalProperties", closed, A_AND_B),
+        ("additionalProperties", schemas, A_AND_B),
+    ] {
+        let mut overridden = Vec::new(alloc);
+        overridden.push(String::from_str(alloc, name)?)?;
+        let settings = Settings::new(Draft::Draft202012, VocabularySet::all(), overridden);
+        check(&rt, alloc, &settings, schema, "required", "{}", wanted)?;
+    }
+    Ok(())
+}
+
+#[test]
+fn without_the_applicator_vocabulary(rt: HostRuntime) -> Result<(), Fail> {
+    let alloc = rt.alloc();
+    let one = r#"{"required":["a"],"properties":{"a":{}},"additionalProperties":false}"#;
+    let two = r#"{"properties":{"a":false},"required":["a","b"]}"#;
+    let bad = r#"{"properties":{"a":false},"required":["a",5]}"#;
+    for (draft, schema, wanted) in [
+        (Draft::Draft202012, one, A),
+        (Draft::Draft201909, one, A),
+        (Draft::Draft202012, two, A_AND_B),
+        (Draft::Draft201909, two, A_AND_B),
+        (
+            Draft::Draft201909,
+            bad,
+            "refused: type String at /items/required, 5",
+        ),
+        (Draft::Draft7, one, HANDED_ON),
+        (Draft::Draft6, one, HANDED_ON),
+        (Draft::Draft4, two, HANDED_ON),
+    ] {
+        let vocabularies = VocabularySet::empty().insert(Vocabulary::Validation);
+        let settings = Settings::new(draft, vocabularies, Vec::new(alloc));
+        check(&rt, alloc, &settings, schema, "required", "{}", wanted)?;
+    }
+    Ok(())
+}
+
+// What `required` of a value at a location says of an instance, over one representation.
+fn answer_at<F: Json>(
+    rt: &impl Abort,
+    alloc: Global,
+    value: &str,
+    instance: &F::Node,
+) -> Result<String, Fail> {
+    let schema = Value::from_str(alloc, value)?;
+    let segment = LocationSegment::Name("dependentRequired");
+    let location = Location::new(alloc).join(alloc, segment)?;
+    let compiled = required::compile_with_path::<F>(alloc, &schema, location);
+    outcome::<F, LeafValidator<F>>(rt, alloc, compiled, instance)
+}
+
+#[test]
+fn at_a_location_nothing_is_handed_on(rt: HostRuntime) -> Result<(), Fail> {
+    let alloc = rt.alloc();
+    let instance = Value::from_str(alloc, r#"{"b":1}"#)?;
+    for (value, wanted) in [
+        (r#"["a"]"#, "required a at /7 by /dependentRequired"),
+        (r#"["b"]"#, "valid"),
+        (r#"["a","b"]"#, "required a at /7 by /dependentRequired"),
+        ("[]", "valid"),
+        ("[5]", "refused: type String at /dependentRequired, 5"),
+        ("5", "refused: type Array at /dependentRequired, 5"),
+    ] {
+        let found = answer_at::<SerdeJson>(&rt, alloc, value, &instance)?;
+        assert_eq!(rt; found.as_str(), wanted, "{value}");
+    }
+    Ok(())
+}

@@ -1,0 +1,68 @@
+// `uniqueItems`.
+use super::keywords::said;
+use super::trees::number;
+use super::{all_of, check_rows};
+use jskw_report::Draft;
+use jskw_value::{DecimalJson, DecimalTree};
+use std::test::Fail;
+
+const ITEMS: &str = r#"{"uniqueItems":true}|[]|uniqueItems|valid
+{"uniqueItems":true}|[1]|uniqueItems|valid
+{"uniqueItems":true}|[1,2]|uniqueItems|valid
+{"uniqueItems":true}|[1,1]|uniqueItems|uniqueItems at /7 by /items/uniqueItems
+{"uniqueItems":true}|[1,2,1]|uniqueItems|uniqueItems at /7 by /items/uniqueItems
+{"uniqueItems":true}|[1,2,3,4,5,3]|uniqueItems|uniqueItems at /7 by /items/uniqueItems
+{"uniqueItems":true}|["a","b"]|uniqueItems|valid
+{"uniqueItems":true}|["a","b","a"]|uniqueItems|uniqueItems at /7 by /items/uniqueItems
+{"uniqueItems":true}|[{"a":1,"b":2},{"b":2,"a":1}]|uniqueItems|uniqueItems at /7 by /items/uniqueItems
+{"uniqueItems":true}|[{"a":1,"b":2},{"a":1}]|uniqueItems|valid
+{"uniqueItems":true}|[[1],[1]]|uniqueItems|uniqueItems at /7 by /items/uniqueItems
+{"uniqueItems":true}|[[1,2],[2,1]]|uniqueItems|valid
+{"uniqueItems":true}|[null,null]|uniqueItems|uniqueItems at /7 by /items/uniqueItems
+{"uniqueItems":true}|[null,false,0,"",[],{}]|uniqueItems|valid
+{"uniqueItems":true}|[1,true,"1"]|uniqueItems|valid
+{"uniqueItems":true}|[18446744073709551615,18446744073709551614]|uniqueItems|valid
+{"uniqueItems":true}|null|uniqueItems|valid
+{"uniqueItems":true}|"aa"|uniqueItems|valid
+{"uniqueItems":true}|{"a":1,"b":1}|uniqueItems|valid"#;
+
+// It asserts nothing unless it is true.
+const OTHER_VALUES: &str = r#"{"uniqueItems":false}|[1,1]|uniqueItems|nothing is asserted
+{"uniqueItems":5}|[1,1]|uniqueItems|nothing is asserted
+{"uniqueItems":1.5}|[1,1]|uniqueItems|nothing is asserted
+{"uniqueItems":null}|[1,1]|uniqueItems|nothing is asserted
+{"uniqueItems":"true"}|[1,1]|uniqueItems|nothing is asserted
+{"uniqueItems":[true]}|[1,1]|uniqueItems|nothing is asserted"#;
+
+#[test]
+fn unique_items(rt: HostRuntime) -> Result<(), Fail> {
+    let settings = all_of(rt.alloc(), Draft::Draft202012);
+    check_rows(&rt, rt.alloc(), &settings, ITEMS)
+}
+
+#[test]
+fn unique_items_asserts_nothing_unless_it_is_true(rt: HostRuntime) -> Result<(), Fail> {
+    let settings = all_of(rt.alloc(), Draft::Draft202012);
+    check_rows(&rt, rt.alloc(), &settings, OTHER_VALUES)
+}
+
+#[test]
+fn items_are_equal_by_their_value(rt: HostRuntime) -> Result<(), Fail> {
+    let alloc = rt.alloc();
+    let settings = all_of(alloc, Draft::Draft202012);
+    let invalid = "uniqueItems at /7 by /items/uniqueItems";
+    for (coefficient, scale, wanted) in [
+        (10, 1, invalid),
+        (1, 0, invalid),
+        (1000000000000000000, 18, invalid),
+        (1, 1, "valid"),
+        (-10, 1, "valid"),
+    ] {
+        let items = [number(1, 0)?, number(coefficient, scale)?];
+        let instance = DecimalTree::Array(Vec::from_array(alloc, items)?);
+        let schema = r#"{"uniqueItems":true}"#;
+        let found = said::<DecimalJson>(&rt, alloc, &settings, schema, "uniqueItems", &instance)?;
+        assert_eq!(rt; found.as_str(), wanted, "{coefficient}, {scale}");
+    }
+    Ok(())
+}
