@@ -1,9 +1,6 @@
 // `enum`.
-use super::keywords::said;
 use super::{all_of, check, check_rows};
 use jskw_report::Draft;
-use jskw_value::SerdeJson;
-use serde_json::Value;
 use std::alloc::{AllocError, Global};
 use std::process::Abort;
 use std::test::Fail;
@@ -194,15 +191,6 @@ fn options_text(
     Ok(text)
 }
 
-// Whether some of many options is the instance, over the values of `serde_json` alone, for the time that it takes.
-fn is_among(rt: &impl Abort, alloc: Global, options: &str, instance: &str) -> Result<bool, Fail> {
-    let schema = format!(in alloc; "{{\"enum\":{options}}}")?;
-    let instance = Value::from_str(alloc, instance)?;
-    let settings = all_of(alloc, Draft::Draft202012);
-    let found = said::<SerdeJson>(rt, alloc, &settings, schema.as_str(), "enum", &instance)?;
-    Ok(found.as_str() == "valid")
-}
-
 #[test]
 fn ten_thousand_integers(rt: HostRuntime) -> Result<(), Fail> {
     let alloc = rt.alloc();
@@ -216,11 +204,7 @@ fn ten_thousand_integers(rt: HostRuntime) -> Result<(), Fail> {
         (&integers_or_null, "0", true),
         (&integers_or_null, "null", true),
     ] {
-        assert_eq!(rt;
-            is_among(&rt, alloc, options.as_str(), instance)?,
-            holds,
-            "{instance}"
-        );
+        check_options(&rt, alloc, options.as_str(), instance, holds)?;
     }
     Ok(())
 }
@@ -238,11 +222,7 @@ fn ten_thousand_strings(rt: HostRuntime) -> Result<(), Fail> {
         (&strings_or_null, r#""n0""#, true),
         (&strings_or_null, "null", true),
     ] {
-        assert_eq!(rt;
-            is_among(&rt, alloc, options.as_str(), instance)?,
-            holds,
-            "{instance}"
-        );
+        check_options(&rt, alloc, options.as_str(), instance, holds)?;
     }
     Ok(())
 }

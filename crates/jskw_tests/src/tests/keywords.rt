@@ -37,18 +37,6 @@ fn compile_leaf<'a, F: Json>(
     }
 }
 
-fn compile_required<'a, F: Json>(
-    alloc: Global,
-    ctx: &Context<'_, F>,
-    parent: &'a Map<String, Value>,
-) -> Option<CompilationResult<'a, LeafValidator<F>>> {
-    if !KeywordName::Required.stands(ctx) {
-        return None;
-    }
-    let schema = member_of(parent, "required")?;
-    required::compile(alloc, ctx, parent, schema)
-}
-
 fn compile_number<'a, F: Json>(
     alloc: Global,
     ctx: &Context<'_, F>,
@@ -110,7 +98,13 @@ pub(super) fn said<F: Json>(
             outcome::<F, LeafValidator<F>>(rt, alloc, compiled, instance)
         }
         "required" => {
-            let compiled = compile_required(alloc, &ctx, parent);
+            if !KeywordName::Required.stands(&ctx) {
+                return Err("it does not stand")?;
+            }
+            let Some(value) = member_of(parent, "required") else {
+                return Err("no such member")?;
+            };
+            let compiled = required::compile(alloc, &ctx, parent, value);
             outcome::<F, LeafValidator<F>>(rt, alloc, compiled, instance)
         }
         _ => {

@@ -9,7 +9,7 @@ use std::alloc::Global;
 use std::test::Fail;
 
 // The bound or its error, as text.
-fn bound_text(alloc: Global, schema: &str, name: &str) -> Result<String, Fail> {
+fn bound_of(alloc: Global, schema: &str, name: &str) -> Result<String, Fail> {
     let schema = Value::from_str(alloc, schema)?;
     let parent = schema.as_object().ok_or("no object")?;
     let settings = all_of(alloc, Draft::Draft202012);
@@ -44,7 +44,7 @@ fn bounds_of_a_schema(rt: HostRuntime) -> Result<(), Fail> {
         let (schema, rest) = line.split_once('|').ok_or("no name")?;
         let (name, wanted) = rest.split_once('|').ok_or("no bound")?;
         assert_eq!(rt;
-            bound_text(rt.alloc(), schema, name)?.as_str(),
+            bound_of(rt.alloc(), schema, name)?.as_str(),
             wanted,
             "{line}"
         );
@@ -121,4 +121,36 @@ fn sizes_around_their_bounds(rt: HostRuntime) -> Result<(), Fail> {
         SIZES,
     )?;
     check_rows(&rt, rt.alloc(), &all_of(rt.alloc(), Draft::Draft4), SIZES)
+}
+
+// From no item or member to one more than the bound.
+const SIZES_AROUND_THREE: &str = r#"{"minItems":3}|[]|minItems|minItems 3 at /7 by /items/minItems
+{"minItems":3}|[null]|minItems|minItems 3 at /7 by /items/minItems
+{"minItems":3}|[null,null]|minItems|minItems 3 at /7 by /items/minItems
+{"minItems":3}|[null,null,null]|minItems|valid
+{"minItems":3}|[null,null,null,null]|minItems|valid
+{"minItems":3}|{"a":null,"b":null}|minItems|valid
+{"maxItems":3}|[]|maxItems|valid
+{"maxItems":3}|[null]|maxItems|valid
+{"maxItems":3}|[null,null]|maxItems|valid
+{"maxItems":3}|[null,null,null]|maxItems|valid
+{"maxItems":3}|[null,null,null,null]|maxItems|maxItems 3 at /7 by /items/maxItems
+{"maxItems":3}|{"a":null,"b":null}|maxItems|valid
+{"minProperties":3}|{}|minProperties|minProperties 3 at /7 by /items/minProperties
+{"minProperties":3}|{"a":null}|minProperties|minProperties 3 at /7 by /items/minProperties
+{"minProperties":3}|{"a":null,"b":null}|minProperties|minProperties 3 at /7 by /items/minProperties
+{"minProperties":3}|{"a":null,"b":null,"c":null}|minProperties|valid
+{"minProperties":3}|{"a":null,"b":null,"c":null,"d":null}|minProperties|valid
+{"minProperties":3}|[null,null]|minProperties|valid
+{"maxProperties":3}|{}|maxProperties|valid
+{"maxProperties":3}|{"a":null}|maxProperties|valid
+{"maxProperties":3}|{"a":null,"b":null}|maxProperties|valid
+{"maxProperties":3}|{"a":null,"b":null,"c":null}|maxProperties|valid
+{"maxProperties":3}|{"a":null,"b":null,"c":null,"d":null}|maxProperties|maxProperties 3 at /7 by /items/maxProperties
+{"maxProperties":3}|[null,null]|maxProperties|valid"#;
+
+#[test]
+fn each_size_around_a_bound(rt: HostRuntime) -> Result<(), Fail> {
+    let settings = all_of(rt.alloc(), Draft::Draft7);
+    check_rows(&rt, rt.alloc(), &settings, SIZES_AROUND_THREE)
 }
