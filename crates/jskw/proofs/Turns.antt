@@ -4,7 +4,7 @@ use Rattle.std.proofs.lemmas.List.{at_drop_more, drop_all}
 use Rattle.serde_json.specs.Data.{Members}
 use Rattle.jskw_value.specs.Pointer.{Pointer, member_location}
 use Rattle.jskw_report.specs.Compile.{Makes, Compiles}
-use Rattle.jskw_report.specs.Fault.{Fault, map_ok}
+use Rattle.jskw_report.specs.KeywordValue.{Refusal, map_ok}
 use Rattle.jskw_report.specs.Keyword.{Keyword, Keywords, no_keywords, keyword}
 use Rattle.jskw_report.specs.Read.{Asserts, Part, before, read_word, read_words}
 use Rattle.jskw_report.specs.Setting.{Setting, name_of}
@@ -19,7 +19,7 @@ append_keywords no_keywords ks = ks
 append_keywords (keyword q k js) ks = keyword q k (append_keywords js ks)
 
 -- those that were read after others
-abbrev pub after : Keywords → Result Keywords Fault → Result Keywords Fault
+abbrev pub after : Keywords → Result Keywords Refusal → Result Keywords Refusal
 after done r = map_ok (append_keywords done) r
 
 append_one : (js : Keywords) (q : Pointer) (k : Keyword) (ks : Keywords) → append_keywords js (keyword q k ks) ≡ append_keywords (append_keywords js (keyword q k no_keywords)) ks
@@ -30,26 +30,26 @@ append_none : (ks : Keywords) → append_keywords ks no_keywords ≡ ks
 append_none no_keywords = refl
 append_none (keyword q k ks) = ap (keyword q k) (append_none ks)
 
-pub after_none : (r : Result Keywords Fault) → after no_keywords r ≡ r
+pub after_none : (r : Result Keywords Refusal) → after no_keywords r ≡ r
 after_none (Ok ks) = refl
 after_none (Err e) = refl
 
 -- nothing is left
-pub turn_end : (done : Keywords) (all : Result Keywords Fault) (s : Setting) (p : Pointer) (ms : Members) (parts : List ℕ → Option Part) (ws : List KeywordName) (i : ℕ) → length ws ≤ i → after done (read_words (drop i ws) s p ms parts) ≡ all → all ≡ Ok done
+pub turn_end : (done : Keywords) (all : Result Keywords Refusal) (s : Setting) (p : Pointer) (ms : Members) (parts : List ℕ → Option Part) (ws : List KeywordName) (i : ℕ) → length ws ≤ i → after done (read_words (drop i ws) s p ms parts) ≡ all → all ≡ Ok done
 turn_end done all s p ms parts ws i past e = sym e ∙ ap (λ xs. after done (read_words xs s p ms parts)) (drop_all i ws past) ∙ ap Ok (append_none done)
 
-after_made : (done : Keywords) (q : Pointer) (k : Keyword) (r : Result Keywords Fault) → after done (before q (Some (Ok k)) r) ≡ after (append_keywords done (keyword q k no_keywords)) r
+after_made : (done : Keywords) (q : Pointer) (k : Keyword) (r : Result Keywords Refusal) → after done (before q (Some (Ok k)) r) ≡ after (append_keywords done (keyword q k no_keywords)) r
 after_made done q k (Ok ks) = ap Ok (append_one done q k ks)
 after_made done q k (Err e) = refl
 
 -- ---- the turn at the keyword of index i
 
-module _ {V : Type 0} (means : V → Keyword) (done : Keywords) (all : Result Keywords Fault) (s : Setting) (p : Pointer) (ms : Members) (parts : List ℕ → Option Part) (ws : List KeywordName) (i : ℕ) (w : KeywordName)
+module _ {V : Type 0} (means : V → Keyword) (done : Keywords) (all : Result Keywords Refusal) (s : Setting) (p : Pointer) (ms : Members) (parts : List ℕ → Option Part) (ws : List KeywordName) (i : ℕ) (w : KeywordName)
     (within : i < length ws) (e : after done (read_words (drop i ws) s p ms parts) ≡ all) where
   abbrev read_here : Asserts
   read_here = read_word (get_or ws i w) s p ms (parts (name_of (get_or ws i w)))
 
-  abbrev rest : Result Keywords Fault
+  abbrev rest : Result Keywords Refusal
   rest = read_words (drop (i + 1) ws) s p ms parts
 
   step : after done (before (member_location p (name_of (get_or ws i w))) read_here rest) ≡ all

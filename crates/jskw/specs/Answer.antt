@@ -5,7 +5,7 @@ use Rattle.jskw_value.specs.Pointer.{Pointer}
 use Rattle.jskw_value.specs.Serde.{tree_of}
 use Rattle.jskw_value.specs.Tree.{Tree}
 use Rattle.jskw_report.specs.Fail.{Failure, fail}
-use Rattle.jskw_report.specs.Fault.{Fault}
+use Rattle.jskw_report.specs.KeywordValue.{Refusal}
 use Rattle.jskw_report.specs.Kind.{keyword_of}
 use Rattle.jskw_report.specs.Read.{Reading, read}
 use Rattle.jskw_report.specs.declared.keyword.KeywordName.{KeywordName}
@@ -44,7 +44,7 @@ pub data Answer : Type 0 where
   -- the input is no request
   no_request : Answer
   -- the schema does not compile
-  bad_schema : Fault → Answer
+  bad_schema : Refusal → Answer
   -- the instance holds a float, first at this location
   float_at : Pointer → Answer
   -- the errors of the instance, none where it is valid

@@ -2,7 +2,7 @@
 ghost use Rattle.std.specs.Prelude.{◌≡◌, ◌++◌, [], ◌∷◌, IfOk, OnOk, OnErr, IsErrOf, Some, false, true, option_map, string_bytes};
 ghost use Rattle.serde_json.specs.View.{view};
 ghost use Rattle.jskw_value.specs.Serde.{value_tree};
-ghost use Rattle.jskw_report.specs.Compile.{fault_of};
+ghost use Rattle.jskw_report.specs.Compile.{refusal_of};
 ghost use Rattle.jskw_report.specs.Errors.{failures_of};
 ghost use Rattle.jskw.specs.Answer.{answer, bad_schema, error_lines, errors, no_request, output, output_of, verdict, verdict_of};
 ghost use Rattle.jskw.specs.Request.{value_of};
@@ -188,8 +188,8 @@ fn reply_to_request(alloc: Global, request: &Request<'_>) -> Result<Reply, Alloc
 
 /// The reply to a schema that does not compile.
 fn refuse_schema(alloc: Global, error: &ValidationError<'_, SerdeJson>) -> Result<Reply, AllocError>
-    ensures verdict { IfOk result (λ reply. verdict_in reply ≡ verdict_of (bad_schema (fault_of error.now))) }
-    ensures text { IfOk result (λ reply. text_in reply ≡ output_of (bad_schema (fault_of error.now))) }
+    ensures verdict { IfOk result (λ reply. verdict_in reply ≡ verdict_of (bad_schema (refusal_of error.now))) }
+    ensures text { IfOk result (λ reply. text_in reply ≡ output_of (bad_schema (refusal_of error.now))) }
 {
     let keyword = error.kind().keyword();
     let location = error.schema_path().as_str();

@@ -15,7 +15,7 @@ use Rattle.serde_json.specs.Data.{Data, string, Items, item}
 use Rattle.serde_json.specs.View.{view, items_view}
 use Rattle.serde_json.specs.declared.value.Value.{Value}
 use Rattle.jskw_value.specs.Pointer.{Pointer}
-use Rattle.jskw_report.specs.Fault.{Fault, map_ok, texts, distinct}
+use Rattle.jskw_report.specs.KeywordValue.{Refusal, map_ok, texts, distinct}
 use Rattle.jskw_value.proofs.MembersByPlace.{distinct_none}
 use Rattle.jskw_leaf.specs.Required.{is_among, name_value}
 
@@ -93,11 +93,11 @@ first_text p (string s) ds n e = let is : s ≡ n = cc in ap (λ x. map_ok (λ n
 first_text p _ ds n e = cc
 
 -- the first item is at fault
-first_fault : (p : Pointer) (d : Data) (ds : Items) (f : Fault) → name_value p d ≡ Err f → texts p (item d ds) ≡ Err f
+first_fault : (p : Pointer) (d : Data) (ds : Items) (f : Refusal) → name_value p d ≡ Err f → texts p (item d ds) ≡ Err f
 first_fault p (string s) ds f e = cc
 first_fault p _ ds f e = cc
 
-map_map : (f g h : List (List ℕ) → List (List ℕ)) (r : Result (List (List ℕ)) Fault) → ((ns : List (List ℕ)) → f (g ns) ≡ h ns) → map_ok f (map_ok g r) ≡ map_ok h r
+map_map : (f g h : List (List ℕ) → List (List ℕ)) (r : Result (List (List ℕ)) Refusal) → ((ns : List (List ℕ)) → f (g ns) ≡ h ns) → map_ok f (map_ok g r) ≡ map_ok h r
 map_map f g h (Ok ns) e = ap Ok (e ns)
 map_map f g h (Err x) e = refl
 
@@ -119,11 +119,11 @@ next_anew p vs i d done n h e is a =
     ∙ map_map (and_later done) (λ ns. n ∷ ns) (and_later (done ++ n ∷ [])) (texts p (items_view (drop (i + 1) vs))) (λ ns. anew done n ns a)
 
 -- it is no name
-pub next_fault : (p : Pointer) (vs : List Value) (i : ℕ) (d : Value) (done : List (List ℕ)) (f : Fault) → i < length vs → d ≡ get_or vs i d → name_value p (view d) ≡ Err f
+pub next_fault : (p : Pointer) (vs : List Value) (i : ℕ) (d : Value) (done : List (List ℕ)) (f : Refusal) → i < length vs → d ≡ get_or vs i d → name_value p (view d) ≡ Err f
     → map_ok (and_later done) (texts p (items_view (drop i vs))) ≡ Err f
 next_fault p vs i d done f h e is = ap (map_ok (and_later done)) (at_item p vs i d h e ∙ first_fault p (view d) (items_view (drop (i + 1) vs)) f is)
 
-pub none_before : (r : Result (List (List ℕ)) Fault) → map_ok (and_later []) r ≡ map_ok distinct r
+pub none_before : (r : Result (List (List ℕ)) Refusal) → map_ok (and_later []) r ≡ map_ok distinct r
 none_before (Ok ns) = ap Ok (filter_all (distinct ns))
 none_before (Err x) = refl
 
@@ -202,6 +202,6 @@ pub one_once : (n : List ℕ) → IsDistinct bytes_eq (n ∷ [])
 one_once n = IsDistinct-cons bytes_eq n [] tt distinct_none
 
 -- the names that were read are distinct
-pub read_once : (r : Result (List (List ℕ)) Fault) (ns : List (List ℕ)) → map_ok distinct r ≡ Ok ns → IsDistinct bytes_eq ns
+pub read_once : (r : Result (List (List ℕ)) Refusal) (ns : List (List ℕ)) → map_ok distinct r ≡ Ok ns → IsDistinct bytes_eq ns
 read_once (Ok ms) ns e = let is : distinct ms ≡ ns = cc in subst (IsDistinct bytes_eq) is (each_once ms)
 read_once (Err f) ns e = cc

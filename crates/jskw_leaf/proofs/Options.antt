@@ -21,7 +21,7 @@ use Rattle.jskw_value.specs.declared.types.JsonType.{JsonType}
 use Rattle.jskw_value.specs.declared.types.JsonType.TheVariants.{Array, Boolean, Integer, Null, Number, Object, String}
 use Rattle.jskw_value.specs.declared.types.JsonTypeSet.{JsonTypeSet}
 use Rattle.jskw_value.specs.Pointer.{Pointer}
-use Rattle.jskw_report.specs.Fault.{map_ok, unless_float, const_value, enum_value, first_float_item}
+use Rattle.jskw_report.specs.KeywordValue.{map_ok, unless_float, const_value, enum_value, first_float_item}
 use Rattle.jskw_report.specs.Holds.{is_option}
 use Rattle.jskw_leaf.specs.Options.{options_of, option_types, AreOptions, some_text, some_integer, picked, only, has_null, integer_of}
 

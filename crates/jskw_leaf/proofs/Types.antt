@@ -10,13 +10,13 @@ use Rattle.jskw_value.specs.declared.types.JsonType.{JsonType}
 use Rattle.jskw_value.specs.declared.types.JsonType.TheVariants.{Array, Boolean, Integer, Null, Number, Object, String}
 use Rattle.jskw_value.specs.declared.types.JsonTypeSet.{JsonTypeSet}
 use Rattle.jskw_report.specs.Kind.{Enum, TypeNames}
-use Rattle.jskw_report.specs.Fault.{Fault, map_ok, with_type, one_type, type_set, array_types, named_type}
+use Rattle.jskw_report.specs.KeywordValue.{Refusal, map_ok, with_type, one_type, type_set, array_types, named_type}
 
 abbrev pub union : JsonTypeSet → JsonTypeSet → JsonTypeSet
 union a b = record { arrays = a.arrays || b.arrays; booleans = a.booleans || b.booleans; integers = a.integers || b.integers; nulls = a.nulls || b.nulls; numbers = a.numbers || b.numbers; objects = a.objects || b.objects; strings = a.strings || b.strings }
 
 -- a set with the types that were read after it
-abbrev pub with_types : JsonTypeSet → Result JsonTypeSet Fault → Result JsonTypeSet Fault
+abbrev pub with_types : JsonTypeSet → Result JsonTypeSet Refusal → Result JsonTypeSet Refusal
 with_types s r = map_ok (union s) r
 
 pub array_of_one : (q : Pointer) (vs : List Value) (d : Value) → length vs ≡ 1 → array_types q (items_view vs) ≡ one_type q (view (get_or vs 0 d))
@@ -29,7 +29,7 @@ array_of_others q [] h = refl
 array_of_others q (v ∷ []) h = absurd (h refl)
 array_of_others q (v ∷ w ∷ vs) h = refl
 
-pub with_no_types : (r : Result JsonTypeSet Fault) → with_types no_types r ≡ r
+pub with_no_types : (r : Result JsonTypeSet Refusal) → with_types no_types r ≡ r
 with_no_types (Ok s) = refl
 with_no_types (Err e) = refl
 
@@ -47,7 +47,7 @@ union_insert Object a b = ap (λ x. record (union a b) { objects = x }) (or_true
 union_insert String a b = ap (λ x. record (union a b) { strings = x }) (or_true a.strings)
 
 -- one type more, and those after it
-with_one : (j : JsonType) (s : JsonTypeSet) (r : Result JsonTypeSet Fault) → with_types s (with_type (Ok j) r) ≡ with_types (insert j s) r
+with_one : (j : JsonType) (s : JsonTypeSet) (r : Result JsonTypeSet Refusal) → with_types s (with_type (Ok j) r) ≡ with_types (insert j s) r
 with_one j s (Ok t) = ap Ok (union_insert j s t)
 with_one j s (Err e) = refl
 

@@ -8,7 +8,7 @@ use Rattle.jskw_value.specs.Pointer.{Pointer}
 use Rattle.jskw_value.specs.Tree.{Tree, has_name}
 use Rattle.jskw_value.specs.declared.types.JsonType.TheVariants.{String}
 use Rattle.jskw_report.specs.Fail.{Failure, keyword_fail}
-use Rattle.jskw_report.specs.Fault.{Fault, of_type, wrong, required_value}
+use Rattle.jskw_report.specs.KeywordValue.{Refusal, of_type, wrong, required_value}
 use Rattle.jskw_report.specs.Keyword.{assertion, required}
 use Rattle.jskw_report.specs.Kind.{Required}
 use Rattle.jskw_report.specs.Read.{Asserts, asserts}
@@ -30,7 +30,7 @@ abbrev pub required_fails : Pointer → Tree → Pointer → List (List ℕ) →
 required_fails q t p names = keyword_fail (assertion q (required names)) t p
 
 -- the name that an item is
-abbrev pub name_value : Pointer → Data → Result (List ℕ) Fault
+abbrev pub name_value : Pointer → Data → Result (List ℕ) Refusal
 name_value p (string s) = Ok s
 name_value p d = wrong (of_type String) p d
 

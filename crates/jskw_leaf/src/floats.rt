@@ -2,7 +2,7 @@
 ghost use Rattle.std.specs.Prelude.{◌≡◌, option_map};
 ghost use Rattle.serde_json.specs.View.{view, items_view, members_view};
 ghost use Rattle.jskw_report.specs.Compile.{Makes};
-ghost use Rattle.jskw_report.specs.Fault.{const_value, first_float, first_float_item, first_float_member};
+ghost use Rattle.jskw_report.specs.KeywordValue.{const_value, first_float, first_float_item, first_float_member};
 
 use jskw_report::{
     CompilationResult, CompileFault, Location, ValidationError, ValidationErrorKind,

@@ -8,7 +8,7 @@ ghost use Rattle.jskw_report.specs.declared.error.TypeKind.TheVariants.{Single, 
 ghost use Rattle.jskw_value.specs.Pointer.{member_location};
 ghost use Rattle.jskw_report.specs.Compile.{Makes, Compiles, reading};
 ghost use Rattle.jskw_report.specs.Errors.{kind_of};
-ghost use Rattle.jskw_report.specs.Fault.{type_value, array_types, one_type, type_set, named_type};
+ghost use Rattle.jskw_report.specs.KeywordValue.{type_value, array_types, one_type, type_set, named_type};
 ghost use Rattle.jskw_report.specs.Read.{type_keyword};
 ghost use Rattle.jskw_report.specs.Setting.{is_after_draft_4};
 ghost use Rattle.jskw_report.specs.declared.keyword.KeywordName.TheVariants.{TypeKeyword};

@@ -7,7 +7,7 @@ use Rattle.jskw_value.specs.Number.{Num, exact, float, is_multiple_of}
 use Rattle.jskw_value.specs.Pointer.{Pointer}
 use Rattle.jskw_value.specs.Tree.{Tree, number, as_number}
 use Rattle.jskw_value.specs.declared.decimal.Decimal.{Decimal}
-use Rattle.jskw_report.specs.Fault.{Fault, wrong, limit_value, divisor_value}
+use Rattle.jskw_report.specs.KeywordValue.{Refusal, wrong, limit_value, divisor_value}
 use Rattle.jskw_report.specs.Holds.{multiple_holds}
 use Rattle.jskw_report.specs.Kind.{ExclusiveMinimum}
 use Rattle.jskw_number.specs.Size.{size_of}
@@ -39,7 +39,7 @@ divisor_below_0 q (json.number (unsigned n)) w h e = cc
 divisor_below_0 q _ w h e = cc
 
 -- what is no limit is no divisor
-pub no_divisor : (q : Pointer) (d : Data) (e : Fault) → limit_value q d ≡ Err e → divisor_value q d ≡ Err e
+pub no_divisor : (q : Pointer) (d : Data) (e : Refusal) → limit_value q d ≡ Err e → divisor_value q d ≡ Err e
 no_divisor q (json.number (json.float x)) e h = cc
 no_divisor q (json.number (unsigned n)) e h = cc
 no_divisor q (json.number (negative z)) e h = cc

@@ -3,7 +3,7 @@ use Rattle.std.proofs.Common.{◌≡◌, ◌∙◌, ℤ, List, ℕ, Bool, true, 
 use Rattle.std.specs.Prelude.{codes, if◌then◌else◌}
 use Rattle.serde_json.specs.Data.{Data, Members}
 use Rattle.jskw_value.specs.Pointer.{Pointer, member_location}
-use Rattle.jskw_report.specs.Fault.{Fault, map_ok, limit_value}
+use Rattle.jskw_report.specs.KeywordValue.{Refusal, map_ok, limit_value}
 use Rattle.jskw_report.specs.Keyword.{Keyword, Relation, assertion, limit, Minimum, Maximum, ExclusiveMinimum, ExclusiveMaximum}
 use Rattle.jskw_report.specs.Read.{Part, asserted, limit_keyword}
 use Rattle.jskw_report.specs.Setting.{Setting, is_after_draft_4}
@@ -13,7 +13,7 @@ use Rattle.jskw_report.specs.declared.settings.Draft.{Draft}
 use Rattle.jskw_report.specs.declared.settings.Draft.TheVariants.{Draft4, Draft6, Draft7, Draft201909, Draft202012}
 
 -- the limit of a relation that d is, failing at the member of a name of the schema at p
-abbrev pub named_limit : Relation → List ℕ → Pointer → Data → Result Keyword Fault
+abbrev pub named_limit : Relation → List ℕ → Pointer → Data → Result Keyword Refusal
 named_limit r name p d = map_ok (λ z. assertion (member_location p name) (limit r z)) (limit_value (member_location p name) d)
 
 -- what is the same in each draft after Draft 4

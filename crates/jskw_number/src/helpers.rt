@@ -4,7 +4,7 @@ ghost use Rattle.serde_json.specs.Find.{get_member};
 ghost use Rattle.serde_json.specs.View.{view, members_view};
 ghost use Rattle.jskw_value.specs.Pointer.{member_location};
 ghost use Rattle.jskw_report.specs.Compile.{Compiles, Makes};
-ghost use Rattle.jskw_report.specs.Fault.{size_value, limit_value};
+ghost use Rattle.jskw_report.specs.KeywordValue.{size_value, limit_value};
 ghost use Rattle.jskw_report.specs.Sibling.{is_true, member_passes};
 ghost use Rattle.jskw_number.specs.Limit.{whole_of};
 ghost use Rattle.jskw_number.specs.Size.{size_of};

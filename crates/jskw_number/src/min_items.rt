@@ -3,7 +3,7 @@ ghost use Rattle.std.specs.Prelude.{codes};
 ghost use Rattle.serde_json.specs.View.{view, members_view};
 ghost use Rattle.jskw_value.specs.Pointer.{member_location};
 ghost use Rattle.jskw_report.specs.Compile.{Makes, Compiles, reading};
-ghost use Rattle.jskw_report.specs.Fault.{map_ok, size_value};
+ghost use Rattle.jskw_report.specs.KeywordValue.{map_ok, size_value};
 ghost use Rattle.jskw_report.specs.Keyword.{assertion, size};
 ghost use Rattle.jskw_report.specs.Keyword as which;
 ghost use Rattle.jskw_report.specs.declared.keyword.KeywordName.TheVariants as word;

@@ -5,7 +5,7 @@ ghost use Rattle.serde_json.specs.View.{view, members_view};
 ghost use Rattle.jskw_value.specs.Pointer.{member_location};
 ghost use Rattle.jskw_value.specs.Tree.{is_lawful};
 ghost use Rattle.jskw_report.specs.Compile.{Makes, Compiles, reading};
-ghost use Rattle.jskw_report.specs.Fault.{map_ok, limit_value};
+ghost use Rattle.jskw_report.specs.KeywordValue.{map_ok, limit_value};
 ghost use Rattle.jskw_report.specs.Keyword.{assertion, limit};
 ghost use Rattle.jskw_report.specs.Keyword as relation;
 ghost use Rattle.jskw_report.specs.declared.keyword.KeywordName.TheVariants as word;

@@ -4,7 +4,7 @@ ghost use Rattle.std.specs.Int.NonZero.{non_zero_u64_get};
 ghost use Rattle.serde_json.specs.View.{view, members_view};
 ghost use Rattle.jskw_value.specs.Pointer.{member_location};
 ghost use Rattle.jskw_report.specs.Compile.{Makes, Compiles, reading};
-ghost use Rattle.jskw_report.specs.Fault.{map_ok, divisor_value};
+ghost use Rattle.jskw_report.specs.KeywordValue.{map_ok, divisor_value};
 ghost use Rattle.jskw_report.specs.Keyword.{assertion, multiple_of};
 ghost use Rattle.jskw_report.specs.declared.keyword.KeywordName.TheVariants as word;
 ghost use Rattle.jskw_number.specs.Meaning.{number_keyword};

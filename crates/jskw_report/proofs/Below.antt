@@ -8,7 +8,7 @@ use Rattle.jskw_report.specs.Kind.{ErrorKind}
 use Rattle.jskw_report.specs.Kind as kind
 use Rattle.jskw_report.specs.Keyword.{Schema, false_schema, schema_object, Keywords, no_keywords, keyword, Keyword, assertion, contains, items_list, prefix_items, items_from, additional_items, Schemas, no_schemas, schema, Bounds}
 use Rattle.jskw_report.specs.Holds.{holds}
-use Rattle.jskw_report.specs.Fail.{Failure, faults, count_fault, contains_fails, each_item, fail, all_fail, keyword_fail, each_fails}
+use Rattle.jskw_report.specs.Fail.{Failure, error_kinds, failing_bound, contains_fails, each_item, fail, all_fail, keyword_fail, each_fails}
 use Rattle.jskw_report.specs.Laws.{below}
 
 -- a list of failures f of each location, alike below every r
@@ -39,7 +39,7 @@ each_below f e i (t ∷ ts) r p = joined r _ _ _ _ (at_item (f t) (e t) r p i) (
 
 -- of `contains`
 contains_below : (b : Bounds) (n : ℕ) (t : Tree) (array : Bool) → AlikeBelow (λ p. if array then contains_fails b n t p else [])
-contains_below b n t true r p = map-map (λ q p. record { kind = kind.Contains; instance_location = p; keyword_location = q; tree = t }) r p (λ q. refl) (count_fault b n)
+contains_below b n t true r p = map-map (λ q p. record { kind = kind.Contains; instance_location = p; keyword_location = q; tree = t }) r p (λ q. refl) (failing_bound b n)
 contains_below b n t false r p = refl
 
 mutual
@@ -55,7 +55,7 @@ mutual
 
   -- of a keyword
   keyword_below : (k : Keyword) (t : Tree) → AlikeBelow (keyword_fail k t)
-  keyword_below (assertion q a) t r p = map-map (λ k p. record { kind = k; instance_location = p; keyword_location = q; tree = t }) r p (λ k. refl) (faults a t)
+  keyword_below (assertion q a) t r p = map-map (λ k p. record { kind = k; instance_location = p; keyword_location = q; tree = t }) r p (λ k. refl) (error_kinds a t)
   keyword_below (contains s b) t r p = contains_below b (count_by (holds s) (items t)) t (is_array t) r p
   keyword_below (items_list ss) t r p = pairs_below ss 0 (items t) r p
   keyword_below (prefix_items ss) t r p = pairs_below ss 0 (items t) r p

@@ -13,7 +13,7 @@ use Rattle.jskw_value.specs.Tree as tree
 use Rattle.jskw_value.specs.Types.{json_type}
 use Rattle.jskw_value.specs.declared.types.JsonType.{JsonType}
 use Rattle.jskw_value.specs.declared.types.JsonType.TheVariants.{Array, Number, Object}
-use Rattle.jskw_report.specs.Fault.{Fault, map_ok, join_ok, size_value, limit_value, divisor_value, required_value}
+use Rattle.jskw_report.specs.KeywordValue.{Refusal, map_ok, join_ok, size_value, limit_value, divisor_value, required_value}
 use Rattle.jskw_report.specs.Holds.{holds, keyword_holds, each_holds, count_holds}
 use Rattle.jskw_report.specs.Keyword.{Schemas, no_schemas, schema, Keyword, assertion, contains, items_list, prefix_items, items_from, additional_items, size, MinItems, MaxItems, MinProperties, MaxProperties, Relation, Minimum, Maximum, ExclusiveMinimum, ExclusiveMaximum, limit, multiple_of, unique, required, at_most, Bounds}
 use Rattle.jskw_report.specs.Laws.{HoldsElsewhere, concerns}
@@ -65,7 +65,7 @@ gives c (Some (Err e)) = true
 gives c (Some (Ok k)) = c k
 
 -- where each keyword that f makes passes
-gives_map : {A : Type 0} (c : Keyword → Bool) (f : A → Keyword) (r : Result A Fault) → ((a : A) → IsTrue (c (f a))) → IsTrue (gives c (Some (map_ok f r)))
+gives_map : {A : Type 0} (c : Keyword → Bool) (f : A → Keyword) (r : Result A Refusal) → ((a : A) → IsTrue (c (f a))) → IsTrue (gives c (Some (map_ok f r)))
 gives_map c f (Ok a) h = h a
 gives_map c f (Err e) h = refl
 
@@ -81,7 +81,7 @@ gives_if c true x y h k = h
 gives_if c false x y h k = k
 
 -- `contains` is of arrays
-gives_contains : (b : Result Bounds Fault) (r : Reading) → IsTrue (gives is_of_arrays (Some (join_ok (λ b sub. contains sub b) b r)))
+gives_contains : (b : Result Bounds Refusal) (r : Reading) → IsTrue (gives is_of_arrays (Some (join_ok (λ b sub. contains sub b) b r)))
 gives_contains (Err e) r = refl
 gives_contains (Ok b) (Err e) = refl
 gives_contains (Ok b) (Ok sub) = refl

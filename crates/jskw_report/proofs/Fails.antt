@@ -9,7 +9,7 @@ use Rattle.jskw_report.specs.Kind.{ErrorKind}
 use Rattle.jskw_report.specs.Kind as kind
 use Rattle.jskw_report.specs.Keyword.{Schema, false_schema, schema_object, Keywords, no_keywords, keyword, Keyword, assertion, contains, items_list, prefix_items, items_from, additional_items, Schemas, no_schemas, schema, Assertion, never, type_is, size, constant, among, limit, multiple_of, unique, required, at_most, Bounds}
 use Rattle.jskw_report.specs.Holds.{assertion_holds, required_holds, within, count_holds, holds, all_hold, keyword_holds, each_holds}
-use Rattle.jskw_report.specs.Fail.{Failure, unless, missing, faults, passes, count_fault, contains_fails, each_item, fail, all_fail, keyword_fail, each_fails, is_empty}
+use Rattle.jskw_report.specs.Fail.{Failure, unless, missing, error_kinds, passes, failing_bound, contains_fails, each_item, fail, all_fail, keyword_fail, each_fails, is_empty}
 
 -- ---- empty lists
 
@@ -53,17 +53,17 @@ missing_empty names t = go (is_object t)
     go false = refl
 
 -- of an assertion
-pub faults_empty : (a : Assertion) (t : Tree) → assertion_holds a t ≡ is_empty (faults a t)
-faults_empty never t = refl
-faults_empty (type_is k rule) t = unless_empty (assertion_holds (type_is k rule) t) _
-faults_empty (size which n) t = unless_empty (assertion_holds (size which n) t) _
-faults_empty (constant d) t = unless_empty (assertion_holds (constant d) t) _
-faults_empty (among ds) t = unless_empty (assertion_holds (among ds) t) _
-faults_empty (limit r n) t = unless_empty (assertion_holds (limit r n) t) _
-faults_empty (multiple_of m) t = unless_empty (assertion_holds (multiple_of m) t) _
-faults_empty unique t = unless_empty (assertion_holds unique t) _
-faults_empty (required names) t = missing_empty names t
-faults_empty (at_most n) t = unless_empty (assertion_holds (at_most n) t) _
+pub error_kinds_empty : (a : Assertion) (t : Tree) → assertion_holds a t ≡ is_empty (error_kinds a t)
+error_kinds_empty never t = refl
+error_kinds_empty (type_is k rule) t = unless_empty (assertion_holds (type_is k rule) t) _
+error_kinds_empty (size which n) t = unless_empty (assertion_holds (size which n) t) _
+error_kinds_empty (constant d) t = unless_empty (assertion_holds (constant d) t) _
+error_kinds_empty (among ds) t = unless_empty (assertion_holds (among ds) t) _
+error_kinds_empty (limit r n) t = unless_empty (assertion_holds (limit r n) t) _
+error_kinds_empty (multiple_of m) t = unless_empty (assertion_holds (multiple_of m) t) _
+error_kinds_empty unique t = unless_empty (assertion_holds unique t) _
+error_kinds_empty (required names) t = missing_empty names t
+error_kinds_empty (at_most n) t = unless_empty (assertion_holds (at_most n) t) _
 
 -- ---- `contains`
 
@@ -83,7 +83,7 @@ within_passes n None = refl
 within_passes n (Some u) = nat_le-not_lt n u
 
 -- of the number of items that match
-count_empty : (b : Bounds) (n : ℕ) → count_holds b n ≡ is_empty (count_fault b n)
+count_empty : (b : Bounds) (n : ℕ) → count_holds b n ≡ is_empty (failing_bound b n)
 count_empty b n = ap (λ w. nat_le b.lower n && w) (within_passes n b.upper) ∙ go (nat_le b.lower n) (passes n b.upper)
   where
     go : (low over : Bool) → (low && not over) ≡ is_empty (if over then b.many ∷ [] else (if low then [] else b.few ∷ []))
@@ -97,7 +97,7 @@ contains_empty : (b : Bounds) (n : ℕ) (t : Tree) (p : Pointer) → (not (is_ar
 contains_empty b n t p = go (is_array t)
   where
     go : (array : Bool) → (not array || count_holds b n) ≡ is_empty (if array then contains_fails b n t p else [])
-    go true = count_empty b n ∙ sym (is_empty-map _ (count_fault b n))
+    go true = count_empty b n ∙ sym (is_empty-map _ (failing_bound b n))
     go false = refl
 
 -- ---- items
@@ -123,7 +123,7 @@ mutual
 
   -- of a keyword
   pub keyword_empty : (k : Keyword) (t : Tree) (p : Pointer) → keyword_holds k t ≡ is_empty (keyword_fail k t p)
-  keyword_empty (assertion q a) t p = faults_empty a t ∙ sym (is_empty-map _ (faults a t))
+  keyword_empty (assertion q a) t p = error_kinds_empty a t ∙ sym (is_empty-map _ (error_kinds a t))
   keyword_empty (contains s b) t p = contains_empty b (count_by (holds s) (items t)) t p
   keyword_empty (items_list ss) t p = each_empty ss 0 (items t) p
   keyword_empty (prefix_items ss) t p = each_empty ss 0 (items t) p

@@ -7,7 +7,7 @@ use Rattle.serde_json.specs.Data.{Data, number, float, array, object, Items, no_
 use Rattle.jskw_value.specs.FirstFloat as location_of
 use Rattle.jskw_value.specs.Pointer.{Pointer, name_token, index_token}
 use Rattle.jskw_value.specs.Serde.{tree_of, items_of, members_of}
-use Rattle.jskw_report.specs.Fault.{first_float, first_float_item, first_float_member}
+use Rattle.jskw_report.specs.KeywordValue.{first_float, first_float_item, first_float_member}
 use Rattle.jskw_report.specs.Laws.{Found, under_token, found_in, found_in_items, found_in_members, is_float_value, FirstFloatIsOne}
 
 -- the first float of a list

@@ -9,7 +9,7 @@ use Rattle.std.proofs.lemmas.List.Sums.{sum_by-cons}
 use Rattle.serde_json.specs.Data.{Data, Members, number, unsigned}
 use Rattle.jskw_value.specs.Pointer.{Pointer, member_location}
 use Rattle.jskw_value.specs.Tree.{Tree, items, is_array}
-use Rattle.jskw_report.specs.Fault.{Fault, join_ok}
+use Rattle.jskw_report.specs.KeywordValue.{Refusal, join_ok}
 use Rattle.jskw_report.specs.Holds.{holds, keyword_holds}
 use Rattle.jskw_report.specs.Keyword.{Schema, Keyword, contains, Bounds}
 use Rattle.jskw_report.specs.Laws.{ContainsMatches, IsKeywordOf, has_match}
@@ -112,12 +112,12 @@ bounds_beside s p ms l u e f = ap₂ (λ l u. join_ok (bounds_of p) (bound_value
 without_lower : (s : Setting) (p : Pointer) (ms : Members) (k : Keyword) → IsKeywordOf word.Contains s p ms k → bound_beside s ms min_contains ≡ None → (u : Option ℕ) × HasBounds (bounds_of p None u) k
 without_lower s p ms k e l = go (bound_value (member_location p max_contains) (bound_beside s ms max_contains)) (bounds_beside s p ms None (bound_beside s ms max_contains) l refl)
   where
-    go : (r : Result (Option ℕ) Fault) → read_bounds s p ms ≡ join_ok (bounds_of p) (Ok None) r → (u : Option ℕ) × HasBounds (bounds_of p None u) k
+    go : (r : Result (Option ℕ) Refusal) → read_bounds s p ms ≡ join_ok (bounds_of p) (Ok None) r → (u : Option ℕ) × HasBounds (bounds_of p None u) k
     go (Ok u) f = (u, with_bounds s p ms k (bounds_of p None u) e f)
     go (Err x) f = let a = read_asserted s p ms (part_named keywords (name_of word.Contains) ms) k e
         in absurd (refused x a.0 (subst (λ y. ◌≡◌ {A = Asserts} (Some (join_ok (λ b sub. contains sub b) y a.0)) (Some (Ok k))) f a.1))
       where
-        refused : (x : Fault) (r : Reading) → ◌≡◌ {A = Asserts} (Some (join_ok (λ b sub. contains sub b) (Err x) r)) (Some (Ok k)) → ⊥
+        refused : (x : Refusal) (r : Reading) → ◌≡◌ {A = Asserts} (Some (join_ok (λ b sub. contains sub b) (Err x) r)) (Some (Ok k)) → ⊥
         refused x r g = cc
 
 -- with `minContains` 0

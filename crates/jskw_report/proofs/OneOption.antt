@@ -8,7 +8,7 @@ use Rattle.jskw_value.specs.Equality.{equal}
 use Rattle.jskw_value.specs.Pointer.{Pointer}
 use Rattle.jskw_value.specs.Serde.{tree_of}
 use Rattle.jskw_value.specs.Tree.{Tree}
-use Rattle.jskw_report.specs.Fault.{map_ok, unless_float}
+use Rattle.jskw_report.specs.KeywordValue.{map_ok, unless_float}
 use Rattle.jskw_report.specs.Keyword.{no_keywords, constant, among, assertion}
 use Rattle.jskw_report.specs.Laws.{ConstIsOneOption, verdict_of}
 use Rattle.jskw_report.specs.Read.{asserted, read_word, before, whole}

@@ -5,7 +5,7 @@ use Rattle.std.proofs.Common.{refl}
 use Rattle.jskw_value.specs.declared.types.JsonType.TheVariants.{Boolean, Integer, Number, Object}
 use Rattle.jskw_report.specs.declared.settings.Draft.TheVariants.{Draft4, Draft201909}
 use Rattle.jskw_report.specs.Evaluation.{flag, index, indices, of_errors}
-use Rattle.jskw_report.specs.Fault.{of_type, of_types, not_whole, unknown_type}
+use Rattle.jskw_report.specs.KeywordValue.{of_type, of_types, not_whole, unknown_type}
 use Rattle.jskw_report.specs.Keyword.{assertion, required}
 use Rattle.jskw_report.specs.Kind.{Enum, TypeNames, ExclusiveMinimum, Minimum}
 use Rattle.jskw_report.specs.Read.{asserted, read_word}

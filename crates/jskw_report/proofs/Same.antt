@@ -28,7 +28,7 @@ use Rattle.jskw_report.specs.Kind.{ErrorKind, types_of, keyword_of}
 use Rattle.jskw_report.specs.Kind as kind
 use Rattle.jskw_report.specs.Keyword.{Schema, false_schema, schema_object, Keywords, no_keywords, keyword, Keyword, assertion, contains, items_list, prefix_items, items_from, additional_items, Schemas, no_schemas, schema, Integers, by_value, as_written, Assertion, never, type_is, Size, size, MinItems, MaxItems, MinProperties, MaxProperties, constant, among, limit, multiple_of, unique, required, at_most, Bounds}
 use Rattle.jskw_report.specs.Holds.{is_integer, is_of, size_holds, limit_holds, multiple_holds, is_option, assertion_holds, count_holds, holds, all_hold, keyword_holds, each_holds}
-use Rattle.jskw_report.specs.Fail.{Failure, faults, unless, contains_fails, count_fault, each_item, fail, all_fail, keyword_fail, each_fails, is_empty}
+use Rattle.jskw_report.specs.Fail.{Failure, error_kinds, unless, contains_fails, failing_bound, each_item, fail, all_fail, keyword_fail, each_fails, is_empty}
 use Rattle.jskw_report.specs.Evaluation.{Evaluation, node_at, of_errors, of_children, evaluate_each, evaluate_matching, matching_indices, tree, units, unit, evaluate_pairs, prefix_annotation, schema_count, flag, indices}
 use Rattle.jskw_report.specs.Applications.{pairs, all_pairs, keyword_pairs, each_pairs, needed, all_needed, keyword_needed, each_needed, sum_to_failure}
 use Rattle.jskw_report.specs.Laws.{SameFailures, SaysTheSame, SameTreesAreOne}
@@ -230,17 +230,17 @@ unless_same : (k : ErrorKind) {a b : Bool} → a ≡ b → unless a k ≡ unless
 unless_same k e = ap (λ b. unless b k) e
 
 -- the errors of an assertion
-faults_same : (a : Assertion) → Shared (faults a)
-faults_same never t u w = refl
-faults_same (type_is k rule) t u w = unless_same _ (assertion_same (type_is k rule) t u w)
-faults_same (size which n) t u w = unless_same _ (assertion_same (size which n) t u w)
-faults_same (constant d) t u w = unless_same _ (assertion_same (constant d) t u w)
-faults_same (among ds) t u w = unless_same _ (assertion_same (among ds) t u w)
-faults_same (limit r n) t u w = unless_same _ (assertion_same (limit r n) t u w)
-faults_same (multiple_of m) t u w = unless_same _ (assertion_same (multiple_of m) t u w)
-faults_same unique t u w = unless_same _ (assertion_same unique t u w)
-faults_same (required names) t u w = ap₂ (λ b missing. if b then map kind.Required missing else []) (object_same t u w) (missing_names_same names t u w)
-faults_same (at_most n) t u w = unless_same _ (assertion_same (at_most n) t u w)
+error_kinds_same : (a : Assertion) → Shared (error_kinds a)
+error_kinds_same never t u w = refl
+error_kinds_same (type_is k rule) t u w = unless_same _ (assertion_same (type_is k rule) t u w)
+error_kinds_same (size which n) t u w = unless_same _ (assertion_same (size which n) t u w)
+error_kinds_same (constant d) t u w = unless_same _ (assertion_same (constant d) t u w)
+error_kinds_same (among ds) t u w = unless_same _ (assertion_same (among ds) t u w)
+error_kinds_same (limit r n) t u w = unless_same _ (assertion_same (limit r n) t u w)
+error_kinds_same (multiple_of m) t u w = unless_same _ (assertion_same (multiple_of m) t u w)
+error_kinds_same unique t u w = unless_same _ (assertion_same unique t u w)
+error_kinds_same (required names) t u w = ap₂ (λ b missing. if b then map kind.Required missing else []) (object_same t u w) (missing_names_same names t u w)
+error_kinds_same (at_most n) t u w = unless_same _ (assertion_same (at_most n) t u w)
 
 -- ---- verdicts
 
@@ -296,7 +296,7 @@ of_locations p t u w (q ∷ qs) = (record { kind = refl; instance_location = ref
 
 -- of `contains`, where as many items match
 contains_same : (b : Bounds) (m n : ℕ) (t u : Tree) (p : Pointer) (a c : Bool) → m ≡ n → a ≡ c → Twin t u → SameFailures (if a then contains_fails b m t p else []) (if c then contains_fails b n u p else [])
-contains_same b m n t u p true true e f w = subst (λ n. SameFailures (contains_fails b m t p) (contains_fails b n u p)) e (of_locations p t u w (count_fault b m))
+contains_same b m n t u p true true e f w = subst (λ n. SameFailures (contains_fails b m t p) (contains_fails b n u p)) e (of_locations p t u w (failing_bound b m))
 contains_same b m n t u p false false e f w = tt
 contains_same b m n t u p true false e f w = absurd (true≢false f)
 contains_same b m n t u p false true e f w = absurd (true≢false (sym f))
@@ -325,7 +325,7 @@ mutual
 
   -- of a keyword
   pub keyword_fail_same : (k : Keyword) → FailsAlike (keyword_fail k)
-  keyword_fail_same (assertion q a) t u w p = of_kinds p q t u w (faults a t) (faults a u) (faults_same a t u w)
+  keyword_fail_same (assertion q a) t u w p = of_kinds p q t u w (error_kinds a t) (error_kinds a u) (error_kinds_same a t u w)
   keyword_fail_same (contains s b) t u w p = contains_same b _ _ t u p (is_array t) (is_array u) (matches_same (holds s) (holds_same s) _ _ (twin_items t u w)) (array_same t u w) w
   keyword_fail_same (items_list ss) t u w p = each_fails_same ss 0 _ _ p (twin_items t u w)
   keyword_fail_same (prefix_items ss) t u w p = each_fails_same ss 0 _ _ p (twin_items t u w)

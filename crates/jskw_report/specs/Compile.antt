@@ -4,7 +4,7 @@ use Rattle.serde_json.specs.Data.{Data, Members}
 use Rattle.serde_json.specs.View.{view}
 use Rattle.serde_json.specs.declared.value.Value.{Value}
 use Rattle.jskw_report.specs.Errors.{kind_of, schema_path_of}
-use Rattle.jskw_report.specs.Fault.{Fault}
+use Rattle.jskw_report.specs.KeywordValue.{Refusal}
 use Rattle.jskw_report.specs.Read.{Asserts, asserted, part}
 use Rattle.jskw_report.specs.Setting.{Spot, keywords}
 use Rattle.jskw_report.specs.declared.keyword.KeywordName.{KeywordName}
@@ -13,21 +13,21 @@ use Rattle.jskw_report.specs.declared.error.CompileFault.{CompileFault}
 use Rattle.jskw_report.specs.declared.error.CompileFault.TheVariants.{Bad, Memory}
 
 -- a compile error, over the values of `serde_json`: F, O and P are the types of that representation
-abbrev pub fault_of : {F O P : Type 0} → ValidationError F Value O P → Fault
-fault_of e = record { kind = kind_of e.kind; location = schema_path_of e.schema_path; value = view e.instance.now }
+abbrev pub refusal_of : {F O P : Type 0} → ValidationError F Value O P → Refusal
+refusal_of e = record { kind = kind_of e.kind; location = schema_path_of e.schema_path; value = view e.instance.now }
 
 -- what the keyword w asserts: the schema that has it stands at the spot, ms are its members, and d is the keyword's value
 abbrev pub reading : KeywordName → Spot → Members → Data → Asserts
 reading w spot ms d = asserted w spot.setting spot.location ms (part keywords d)
 
 -- the fault is the one that is read, or what was made means what is read
-abbrev pub Makes : {V K : Type 0} → (V → K) → Result V CompileFault → Result K Fault → Type 0
+abbrev pub Makes : {V K : Type 0} → (V → K) → Result V CompileFault → Result K Refusal → Type 0
 Makes means (Ok v) read = read ≡ Ok (means v)
-Makes means (Err (Bad e)) read = read ≡ Err (fault_of e)
+Makes means (Err (Bad e)) read = read ≡ Err (refusal_of e)
 Makes means (Err (Memory e)) read = ⊤
 
 -- nothing is made exactly where nothing is asserted
-abbrev pub Compiles : {V K : Type 0} → (V → K) → Option (Result V CompileFault) → Option (Result K Fault) → Type 0
+abbrev pub Compiles : {V K : Type 0} → (V → K) → Option (Result V CompileFault) → Option (Result K Refusal) → Type 0
 Compiles means None None = ⊤
 Compiles means (Some made) (Some read) = Makes means made read
 Compiles means None (Some read) = ⊥

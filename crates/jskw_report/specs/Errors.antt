@@ -4,7 +4,7 @@ use Rattle.serde_json.specs.View.{view}
 use Rattle.jskw_value.specs.Pointer.{Pointer}
 use Rattle.jskw_value.specs.Tree.{Tree}
 use Rattle.jskw_report.specs.Fail.{Failure}
-use Rattle.jskw_report.specs.Fault as reading
+use Rattle.jskw_report.specs.KeywordValue as reading
 use Rattle.jskw_report.specs.Kind.{ErrorKind}
 use Rattle.jskw_report.specs.Kind as kind
 use Rattle.jskw_report.specs.declared.error.EnumOptions as declared_options

@@ -41,17 +41,17 @@ abbrev pub missing : List (List ℕ) → Tree → List ErrorKind
 missing names t = if is_object t then map kind.Required (filter (λ name. not (has_name t name)) names) else []
 
 -- the kinds of an assertion's errors: none where it holds, else one, but for `required`
-abbrev pub faults : Assertion → Tree → List ErrorKind
-faults never t = kind.FalseSchema ∷ []
-faults (type_is k rule) t = unless (assertion_holds (type_is k rule) t) (WrongType k)
-faults (size which n) t = unless (assertion_holds (size which n) t) (size_kind which n)
-faults (constant d) t = unless (assertion_holds (constant d) t) (kind.Constant d)
-faults (among ds) t = unless (assertion_holds (among ds) t) (kind.Enum (Listed (value.array ds)))
-faults (limit r n) t = unless (assertion_holds (limit r n) t) (limit_kind r n)
-faults (multiple_of m) t = unless (assertion_holds (multiple_of m) t) (kind.MultipleOf m)
-faults unique t = unless (assertion_holds unique t) kind.UniqueItems
-faults (required names) t = missing names t
-faults (at_most n) t = unless (assertion_holds (at_most n) t) (kind.AdditionalItems n)
+abbrev pub error_kinds : Assertion → Tree → List ErrorKind
+error_kinds never t = kind.FalseSchema ∷ []
+error_kinds (type_is k rule) t = unless (assertion_holds (type_is k rule) t) (WrongType k)
+error_kinds (size which n) t = unless (assertion_holds (size which n) t) (size_kind which n)
+error_kinds (constant d) t = unless (assertion_holds (constant d) t) (kind.Constant d)
+error_kinds (among ds) t = unless (assertion_holds (among ds) t) (kind.Enum (Listed (value.array ds)))
+error_kinds (limit r n) t = unless (assertion_holds (limit r n) t) (limit_kind r n)
+error_kinds (multiple_of m) t = unless (assertion_holds (multiple_of m) t) (kind.MultipleOf m)
+error_kinds unique t = unless (assertion_holds unique t) kind.UniqueItems
+error_kinds (required names) t = missing names t
+error_kinds (at_most n) t = unless (assertion_holds (at_most n) t) (kind.AdditionalItems n)
 
 -- ---- `contains`
 
@@ -61,12 +61,12 @@ passes n None = false
 passes n (Some u) = nat_lt u n
 
 -- where `contains` fails if n items match: where too many do, else where too few do
-abbrev pub count_fault : Bounds → ℕ → List Pointer
-count_fault b n = if passes n b.upper then b.many ∷ [] else (if nat_le b.lower n then [] else b.few ∷ [])
+abbrev pub failing_bound : Bounds → ℕ → List Pointer
+failing_bound b n = if passes n b.upper then b.many ∷ [] else (if nat_le b.lower n then [] else b.few ∷ [])
 
 -- the error of `contains` of the array t at p, if n of its items match
 abbrev pub contains_fails : Bounds → ℕ → Tree → Pointer → List Failure
-contains_fails b n t p = map (λ q. record { kind = kind.Contains; instance_location = p; keyword_location = q; tree = t }) (count_fault b n)
+contains_fails b n t p = map (λ q. record { kind = kind.Contains; instance_location = p; keyword_location = q; tree = t }) (failing_bound b n)
 
 -- ---- keywords and schemas
 
@@ -88,7 +88,7 @@ abbrev mutual
 
   -- those of the keyword: its own, or those of its subschemas over the items in turn
   pub keyword_fail : Keyword → Tree → Pointer → List Failure
-  keyword_fail (assertion q a) t p = map (λ k. record { kind = k; instance_location = p; keyword_location = q; tree = t }) (faults a t)
+  keyword_fail (assertion q a) t p = map (λ k. record { kind = k; instance_location = p; keyword_location = q; tree = t }) (error_kinds a t)
   keyword_fail (contains s b) t p = if is_array t then contains_fails b (count_by (holds s) (items t)) t p else []
   keyword_fail (items_list ss) t p = each_fails ss 0 (items t) p
   keyword_fail (prefix_items ss) t p = each_fails ss 0 (items t) p

@@ -13,7 +13,7 @@ use Rattle.jskw_value.specs.declared.types.JsonType.TheVariants.{Array, Number, 
 use Rattle.jskw_report.specs.Applications.{needed, pairs, height, sum_of_products, schemas_at, trees_at}
 use Rattle.jskw_report.specs.Evaluation.{tree, unit, is_valid}
 use Rattle.jskw_report.specs.Fail.{Failure, fail, keyword_fail}
-use Rattle.jskw_report.specs.Fault.{first_float}
+use Rattle.jskw_report.specs.KeywordValue.{first_float}
 use Rattle.jskw_report.specs.Holds.{holds, keyword_holds}
 use Rattle.jskw_report.specs.Keyword.{Schema, Keyword, contains}
 use Rattle.jskw_report.specs.Read.{Reading, read, read_word, part_named, bound_beside, min_contains, max_contains}

@@ -1,7 +1,7 @@
 pub mod Setting
 pub mod Kind
 pub mod Keyword
-pub mod Fault
+pub mod KeywordValue
 pub mod Sibling
 pub mod Read
 pub mod Holds

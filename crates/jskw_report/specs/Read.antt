@@ -11,7 +11,7 @@ use Rattle.jskw_value.specs.Types as types
 use Rattle.jskw_value.specs.declared.types.JsonType.TheVariants.{Array, Boolean, Integer, Object}
 use Rattle.jskw_report.specs.declared.settings.Draft.{Draft}
 use Rattle.jskw_report.specs.declared.settings.Vocabulary.TheVariants.{Validation}
-use Rattle.jskw_report.specs.Fault.{Fault, wrong, map_ok, join_ok, of_type, of_types, size_value, limit_value, divisor_value, type_value, required_value, const_value, enum_value}
+use Rattle.jskw_report.specs.KeywordValue.{Refusal, wrong, map_ok, join_ok, of_type, of_types, size_value, limit_value, divisor_value, type_value, required_value, const_value, enum_value}
 use Rattle.jskw_report.specs.Keyword.{Schema, false_schema, schema_object, Keywords, no_keywords, keyword, Keyword, assertion, contains, items_list, prefix_items, items_from, additional_items, Schemas, no_schemas, schema, Integers, by_value, as_written, type_is, size, constant, among, limit, multiple_of, unique, required, at_most, Bounds, Size, MinItems, MaxItems, MinProperties, MaxProperties, Relation, Minimum, Maximum, ExclusiveMinimum, ExclusiveMaximum}
 use Rattle.jskw_report.specs.Kind.{TypeKind, types_of}
 use Rattle.jskw_report.specs.Setting.{Setting, has_vocabulary, stands, name_of, is_after_draft_4, is_after_draft_7, is_2020_12}
@@ -21,20 +21,20 @@ use Rattle.jskw_report.specs.Sibling.{is_true, item_count, member_passes, is_bar
 
 -- a schema, or its first fault
 abbrev pub Reading : Type 0
-Reading = Result Schema Fault
+Reading = Result Schema Refusal
 
 -- nothing, where the keyword asserts nothing; else the keyword, or its first fault
 abbrev pub Asserts : Type 0
-Asserts = Option (Result Keyword Fault)
+Asserts = Option (Result Keyword Refusal)
 
 -- a keyword's value: as it stands, as a schema, and as an array of schemas
 pub record Part : Type 0 where
   pub value : Data
   pub schema : Setting → Pointer → Reading
-  pub schemas : Setting → Pointer → Result Schemas Fault
+  pub schemas : Setting → Pointer → Result Schemas Refusal
 
 -- the keyword of the value, or the value's fault
-abbrev pub asserts : {A : Type 0} → (A → Keyword) → Result A Fault → Asserts
+abbrev pub asserts : {A : Type 0} → (A → Keyword) → Result A Refusal → Asserts
 asserts f r = Some (map_ok f r)
 
 -- the keyword location of the keyword w of the schema at p (Core 12.3.1)
@@ -48,7 +48,7 @@ abbrev pub integers_of : Draft → TypeKind → Integers
 integers_of draft k = if not (is_after_draft_4 draft) && types.contains (types_of k) Integer then as_written else by_value
 
 -- `type` at q, by a rule on integers
-abbrev pub type_keyword : (TypeKind → Integers) → Pointer → Data → Result Keyword Fault
+abbrev pub type_keyword : (TypeKind → Integers) → Pointer → Data → Result Keyword Refusal
 type_keyword rule q d = map_ok (λ k. assertion q (type_is k (rule k))) (type_value q d)
 
 -- ---- sizes and limits
@@ -93,7 +93,7 @@ abbrev pub bound_beside : Setting → Members → List ℕ → Option Data
 bound_beside s ms name = if is_after_draft_7 s.draft && has_vocabulary s Validation then get_member name ms else None
 
 -- the bound, where it is there
-abbrev pub bound_value : Pointer → Option Data → Result (Option ℕ) Fault
+abbrev pub bound_value : Pointer → Option Data → Result (Option ℕ) Refusal
 bound_value q None = Ok None
 bound_value q (Some d) = map_ok Some (size_value q d)
 
@@ -105,7 +105,7 @@ bounds_of p None (Some u) = let q = member_location p max_contains in record { l
 bounds_of p (Some l) (Some u) = record { lower = l; upper = Some u; few = member_location p min_contains; many = member_location p max_contains; bounded = true }
 
 -- `minContains` is judged before `maxContains`
-abbrev pub read_bounds : Setting → Pointer → Members → Result Bounds Fault
+abbrev pub read_bounds : Setting → Pointer → Members → Result Bounds Refusal
 read_bounds s p ms = join_ok (bounds_of p) (bound_value (member_location p min_contains) (bound_beside s ms min_contains))
     (bound_value (member_location p max_contains) (bound_beside s ms max_contains))
 
@@ -174,17 +174,17 @@ read_word w s p ms (Some part) = if stands s w then asserted w s p ms part else 
 -- ---- a schema (Core 4.3)
 
 -- a keyword at q before others: the first fault comes first
-abbrev pub before : Pointer → Asserts → Result Keywords Fault → Result Keywords Fault
+abbrev pub before : Pointer → Asserts → Result Keywords Refusal → Result Keywords Refusal
 before q None rest = rest
 before q (Some r) rest = join_ok (keyword q) r rest
 
 -- the keywords of the list, in its order
-abbrev pub read_words : List KeywordName → Setting → Pointer → Members → (List ℕ → Option Part) → Result Keywords Fault
+abbrev pub read_words : List KeywordName → Setting → Pointer → Members → (List ℕ → Option Part) → Result Keywords Refusal
 read_words [] s p ms parts = Ok no_keywords
 read_words (w ∷ ws) s p ms parts = before (keyword_location p w) (read_word w s p ms (parts (name_of w))) (read_words ws s p ms parts)
 
 -- the schema at p of these keywords
-abbrev pub whole : Pointer → Bool → Result Keywords Fault → Reading
+abbrev pub whole : Pointer → Bool → Result Keywords Refusal → Reading
 whole p hands_on r = map_ok (schema_object p hands_on) r
 
 -- `required` is handed on, if it is one of the keywords that are read
@@ -202,12 +202,12 @@ abbrev mutual
   read words d s p = wrong (of_types Boolean Object) p d
 
   -- the items of the array d at p, each as a schema
-  pub read_items : List KeywordName → Data → Setting → Pointer → Result Schemas Fault
+  pub read_items : List KeywordName → Data → Setting → Pointer → Result Schemas Refusal
   read_items words (array ds) s p = read_each words ds s p 0
   read_items words d s p = Ok no_schemas
 
   -- those from index i on
-  pub read_each : List KeywordName → Items → Setting → Pointer → ℕ → Result Schemas Fault
+  pub read_each : List KeywordName → Items → Setting → Pointer → ℕ → Result Schemas Refusal
   read_each words no_items s p i = Ok no_schemas
   read_each words (item d ds) s p i = join_ok schema (read words d s (item_location p i)) (read_each words ds s p (suc i))
 

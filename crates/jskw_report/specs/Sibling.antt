@@ -8,7 +8,7 @@ use Rattle.serde_json.specs.Find.{get_member}
 use Rattle.jskw_value.specs.Types.{type_name}
 use Rattle.jskw_value.specs.declared.types.JsonType.TheVariants.{Array, Boolean, Integer, Number, String}
 use Rattle.jskw_report.specs.declared.settings.Vocabulary.TheVariants.{Applicator}
-use Rattle.jskw_report.specs.Fault.{size_value}
+use Rattle.jskw_report.specs.KeywordValue.{size_value}
 use Rattle.jskw_report.specs.Setting.{Setting, has_vocabulary, is_overridden, stands, name_of, is_2020_12}
 use Rattle.jskw_report.specs.declared.keyword.KeywordName.{KeywordName}
 use Rattle.jskw_report.specs.declared.keyword.KeywordName.TheVariants as word

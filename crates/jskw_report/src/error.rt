@@ -3,7 +3,7 @@ ghost use Rattle.std.specs.Prelude.{◌≡◌, [], alloc_error};
 ghost use Rattle.jskw_report.specs.Kind.{keyword_of};
 ghost use Rattle.serde_json.specs.View.{view};
 ghost use Rattle.jskw_value.specs.Serde.{value_tree};
-ghost use Rattle.jskw_report.specs.Compile.{fault_of};
+ghost use Rattle.jskw_report.specs.Compile.{refusal_of};
 ghost use Rattle.jskw_report.specs.Errors.{kind_of, failure_of};
 ghost use Rattle.jskw_report.specs.declared.error.CompileFault.TheVariants as compile_fault;
 ghost use Rattle.jskw_report.specs.declared.error.Fault.TheVariants as fault;
@@ -196,7 +196,7 @@ impl<'a> ValidationError<'a, SerdeJson> {
         schema_path: Location,
         value: &'a Value,
     ) -> ValidationError<'a, SerdeJson>
-        ensures fault { fault_of result ≡ record {
+        ensures fault { refusal_of result ≡ record {
           kind = kind_of kind.entry;
           location = schema_path;
           value = view value.now;

@@ -3,7 +3,7 @@ ghost use Rattle.std.specs.Prelude.{◌≡◌, codes};
 ghost use Rattle.serde_json.specs.View.{view, members_view};
 ghost use Rattle.jskw_value.specs.Pointer.{member_location};
 ghost use Rattle.jskw_report.specs.Compile.{Makes, Compiles, reading};
-ghost use Rattle.jskw_report.specs.Fault.{const_value, map_ok};
+ghost use Rattle.jskw_report.specs.KeywordValue.{const_value, map_ok};
 ghost use Rattle.jskw_report.specs.Keyword.{assertion, constant};
 ghost use Rattle.jskw_report.specs.declared.keyword.KeywordName.TheVariants.{Const};
 ghost use Rattle.jskw_leaf.specs.Meaning.{constant_at, leaf_keyword};

@@ -6,7 +6,7 @@ ghost use Rattle.serde_json.specs.View.{view, items_view, members_view};
 ghost use Rattle.jskw_value.specs.Pointer.{member_location};
 ghost use Rattle.jskw_value.specs.Types.{no_types};
 ghost use Rattle.jskw_report.specs.Compile.{Makes, Compiles, reading};
-ghost use Rattle.jskw_report.specs.Fault.{enum_value, map_ok};
+ghost use Rattle.jskw_report.specs.KeywordValue.{enum_value, map_ok};
 ghost use Rattle.jskw_report.specs.Keyword.{assertion, among};
 ghost use Rattle.jskw_report.specs.declared.keyword.KeywordName.TheVariants.{Enum};
 ghost use Rattle.jskw_leaf.specs.Meaning.{among_at, leaf_keyword};

@@ -5,7 +5,7 @@ ghost use Rattle.std.specs.Str.{bytes_eq};
 ghost use Rattle.serde_json.specs.Find.{get_member};
 ghost use Rattle.serde_json.specs.View.{view, items_view, members_view};
 ghost use Rattle.jskw_report.specs.Compile.{Makes, Compiles, reading};
-ghost use Rattle.jskw_report.specs.Fault.{required_value, map_ok, texts, distinct};
+ghost use Rattle.jskw_report.specs.KeywordValue.{required_value, map_ok, texts, distinct};
 ghost use Rattle.jskw_report.specs.Keyword.{assertion, required};
 ghost use Rattle.jskw_report.specs.Setting.{stands};
 ghost use Rattle.jskw_report.specs.declared.keyword.KeywordName.TheVariants.{Required};

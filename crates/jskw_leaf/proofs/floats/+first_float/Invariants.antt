@@ -1,6 +1,6 @@
 use Rattle.std.proofs.Common.{◌≡◌, drop}
 use Rattle.serde_json.specs.View.{items_view, members_view}
-use Rattle.jskw_report.specs.Fault.{first_float_item, first_float_member}
+use Rattle.jskw_report.specs.KeywordValue.{first_float_item, first_float_member}
 use Rattle.jskw_leaf.proofs.floats.+first_float.Given as goal
 
 abbrev pub invariant-float_in_items-loop-item : goal.invariant-float_in_items-loop-item

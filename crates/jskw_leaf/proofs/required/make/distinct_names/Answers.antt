@@ -1,7 +1,7 @@
 use Rattle.std.proofs.Common.{◌≡◌, ◌+◌, ◌++◌, ◌∷◌, [], true, false, map, drop, refl, ap, sym, ◌∙◌}
 use Rattle.std.proofs.lemmas.List.{map-append}
 use Rattle.serde_json.specs.View.{items_view}
-use Rattle.jskw_report.specs.Fault.{map_ok, texts, distinct}
+use Rattle.jskw_report.specs.KeywordValue.{map_ok, texts, distinct}
 use Rattle.jskw_leaf.specs.Required.{is_among}
 use Rattle.jskw_leaf.proofs.Distinct.{and_later, next_again, next_anew, none_before, seen_again, seen_anew}
 use Rattle.jskw_leaf.proofs.Lacking.{not_true, not_false}

@@ -1,6 +1,6 @@
 use Rattle.std.proofs.Common.{◌≡◌, ℕ, List, drop, map}
 use Rattle.serde_json.specs.View.{items_view}
-use Rattle.jskw_report.specs.Fault.{map_ok, texts, distinct}
+use Rattle.jskw_report.specs.KeywordValue.{map_ok, texts, distinct}
 use Rattle.jskw_leaf.specs.Required.{is_among}
 use Rattle.jskw_leaf.proofs.Distinct.{and_later, sees}
 use Rattle.jskw_leaf.proofs.required.make.distinct_names.Given as goal

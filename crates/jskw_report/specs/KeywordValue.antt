@@ -1,4 +1,4 @@
--- The value that each keyword takes in a schema, and what is at fault with every other.
+-- The value that each keyword takes in a schema, and how every other is refused.
 use Rattle.std.specs.Prelude.{ℕ, zero, suc, ℤ, pos, List, [], ◌∷◌, filter, not, codes, bytes_eq, Option, Some, None, Result, Ok, Err, ok_or}
 use Rattle.std.specs.Option.{option_or}
 use Rattle.serde_json.specs.Data.{unsigned, negative, float, Data, number, string, array, object, Items, no_items, item, Members, no_members, member}
@@ -10,25 +10,25 @@ use Rattle.jskw_value.specs.declared.types.JsonTypeSet.{JsonTypeSet}
 use Rattle.jskw_report.specs.Kind.{ErrorKind, TypeKind, Single, Multiple, CompileError, Enum, TypeNames, WrongType}
 use Rattle.jskw_report.specs.Kind as kind
 
--- ---- faults
+-- ---- refusals
 
--- what is at fault in a schema: the kind, the keyword location, and the value
-pub record Fault : Type 0 where
+-- a value of a schema that its keyword does not take: the kind of the error, the keyword location, and the value
+pub record Refusal : Type 0 where
   pub kind : ErrorKind
   pub location : Pointer
   pub value : Data
 
--- the value d at p is at fault
-abbrev pub wrong : {A : Type 0} → ErrorKind → Pointer → Data → Result A Fault
+-- the value d at p is refused
+abbrev pub wrong : {A : Type 0} → ErrorKind → Pointer → Data → Result A Refusal
 wrong k p d = Err (record { kind = k; location = p; value = d })
 
--- f of the value, or its fault
-abbrev pub map_ok : {A B : Type 0} → (A → B) → Result A Fault → Result B Fault
+-- f of the value, or its refusal
+abbrev pub map_ok : {A B : Type 0} → (A → B) → Result A Refusal → Result B Refusal
 map_ok f (Ok a) = Ok (f a)
 map_ok f (Err e) = Err e
 
--- f of both values, or the first fault
-abbrev pub join_ok : {A B C : Type 0} → (A → B → C) → Result A Fault → Result B Fault → Result C Fault
+-- f of both values, or the first refusal
+abbrev pub join_ok : {A B C : Type 0} → (A → B → C) → Result A Refusal → Result B Refusal → Result C Refusal
 join_ok f (Ok a) r = map_ok (f a) r
 join_ok f (Err e) r = Err e
 
@@ -51,20 +51,20 @@ unknown_type = CompileError (codes "Unexpected type")
 -- ---- numbers
 
 -- a bound on a number of items or members: a whole number that isn't negative (Validation 6.4.1, 6.4.2, 6.4.4, 6.4.5, 6.5.1, 6.5.2)
-abbrev pub size_value : Pointer → Data → Result ℕ Fault
+abbrev pub size_value : Pointer → Data → Result ℕ Refusal
 size_value p (number (unsigned n)) = Ok n
 size_value p (number (negative z)) = wrong (kind.Minimum (pos 0)) p (number (negative z))
 size_value p d = wrong (of_type Integer) p d
 
 -- a limit: a number (Validation 6.2.2 to 6.2.5), here a whole one
-abbrev pub limit_value : Pointer → Data → Result ℤ Fault
+abbrev pub limit_value : Pointer → Data → Result ℤ Refusal
 limit_value p (number (unsigned n)) = Ok (pos n)
 limit_value p (number (negative z)) = Ok z
 limit_value p (number (float x)) = wrong not_whole p (number (float x))
 limit_value p d = wrong (of_type Number) p d
 
 -- a divisor: a number above 0 (Validation 6.2.1), here a whole one
-abbrev pub divisor_value : Pointer → Data → Result ℕ Fault
+abbrev pub divisor_value : Pointer → Data → Result ℕ Refusal
 divisor_value p (number (unsigned (suc n))) = Ok (suc n)
 divisor_value p (number (unsigned zero)) = wrong (kind.ExclusiveMinimum (pos 0)) p (number (unsigned zero))
 divisor_value p (number (negative z)) = wrong (kind.ExclusiveMinimum (pos 0)) p (number (negative z))
@@ -74,30 +74,30 @@ divisor_value p d = wrong (of_type Number) p d
 -- ---- `type` (Validation 6.1.1)
 
 -- the type that the value names; a name of no type is a fault of the given kind
-abbrev pub named_type : ErrorKind → Pointer → Data → Result JsonType Fault
+abbrev pub named_type : ErrorKind → Pointer → Data → Result JsonType Refusal
 named_type unknown p (string s) = ok_or (type_named s) (record { kind = unknown; location = p; value = string s })
 named_type unknown p d = wrong (of_type String) p d
 
 -- the only type
-abbrev pub one_type : Pointer → Data → Result TypeKind Fault
+abbrev pub one_type : Pointer → Data → Result TypeKind Refusal
 one_type p d = map_ok Single (named_type unknown_type p d)
 
 -- one type more
-abbrev pub with_type : Result JsonType Fault → Result JsonTypeSet Fault → Result JsonTypeSet Fault
+abbrev pub with_type : Result JsonType Refusal → Result JsonTypeSet Refusal → Result JsonTypeSet Refusal
 with_type j r = join_ok insert j r
 
 -- the types of a list of names
-abbrev pub type_set : Pointer → Items → Result JsonTypeSet Fault
+abbrev pub type_set : Pointer → Items → Result JsonTypeSet Refusal
 type_set p no_items = Ok no_types
 type_set p (item d ds) = with_type (named_type (Enum TypeNames) p d) (type_set p ds)
 
 -- an array of one name says what the name says
-abbrev pub array_types : Pointer → Items → Result TypeKind Fault
+abbrev pub array_types : Pointer → Items → Result TypeKind Refusal
 array_types p (item d no_items) = one_type p d
 array_types p ds = map_ok Multiple (type_set p ds)
 
 -- a name, or an array of names
-abbrev pub type_value : Pointer → Data → Result TypeKind Fault
+abbrev pub type_value : Pointer → Data → Result TypeKind Refusal
 type_value p (string s) = one_type p (string s)
 type_value p (array ds) = array_types p ds
 type_value p d = wrong (of_types String Array) p d
@@ -105,7 +105,7 @@ type_value p d = wrong (of_types String Array) p d
 -- ---- `required` (Validation 6.5.3)
 
 -- the items, each a string
-abbrev pub texts : Pointer → Items → Result (List (List ℕ)) Fault
+abbrev pub texts : Pointer → Items → Result (List (List ℕ)) Refusal
 texts p no_items = Ok []
 texts p (item (string s) ds) = map_ok (λ names. s ∷ names) (texts p ds)
 texts p (item d ds) = wrong (of_type String) p d
@@ -116,7 +116,7 @@ distinct [] = []
 distinct (n ∷ ns) = n ∷ filter (λ m. not (bytes_eq n m)) (distinct ns)
 
 -- an array of names
-abbrev pub required_value : Pointer → Data → Result (List (List ℕ)) Fault
+abbrev pub required_value : Pointer → Data → Result (List (List ℕ)) Refusal
 required_value p (array ds) = map_ok distinct (texts p ds)
 required_value p d = wrong (of_type Array) p d
 
@@ -141,15 +141,15 @@ abbrev mutual
   first_float_member (member k d ms) = option_or (first_float d) (first_float_member ms)
 
 -- a, but for a float that was found
-abbrev pub unless_float : {A : Type 0} → Pointer → Option Data → A → Result A Fault
+abbrev pub unless_float : {A : Type 0} → Pointer → Option Data → A → Result A Refusal
 unless_float p None a = Ok a
 unless_float p (Some d) a = wrong not_whole p d
 
 -- any value, here one without a float
-abbrev pub const_value : Pointer → Data → Result Data Fault
+abbrev pub const_value : Pointer → Data → Result Data Refusal
 const_value p d = unless_float p (first_float d) d
 
 -- an array of any values, here without a float
-abbrev pub enum_value : Pointer → Data → Result Items Fault
+abbrev pub enum_value : Pointer → Data → Result Items Refusal
 enum_value p (array ds) = unless_float p (first_float_item ds) ds
 enum_value p d = wrong (of_type Array) p d
