@@ -9,4 +9,3 @@ pub mod Options
 pub mod Sizes
 pub mod Tables
 pub mod Types
-pub mod Units

@@ -1,11 +1,34 @@
--- Lists of failures that are appended one part after another.
-use Rattle.std.proofs.Common.{◌≡◌, List, [], ◌++◌, Result, Ok, Err, OnErr, refl, sym, ap, ◌∙◌, append_assoc, append-nil}
+-- Lists of failures that are appended, one part after another.
+use Rattle.std.proofs.Common.{◌≡◌, List, [], ◌∷◌, ◌++◌, Result, Ok, Err, IsErrAnd, refl, subst, sym, ap, ◌∙◌, append_assoc, append-nil}
+use Rattle.jskw_value.specs.Tree.{Tree}
 use Rattle.jskw_report.specs.Fail.{Failure}
-use Rattle.jskw_report.specs.Observe.{Collects, AppendsBeginning}
+use Rattle.jskw_report.specs.Observe.{Collects, AppendsBeginning, IsFirst}
+use Rattle.jskw_report.specs.declared.error.Fault.{Fault}
+use Rattle.jskw_report.specs.declared.error.Fault.TheVariants.{Invalid, Memory}
+
+-- at first all is still to come
+pub collects_nothing : (old all : List Failure) → Collects old old all all
+collects_nothing old all = record { so_far = []; is_now = sym (append-nil old); is_all = refl }
+
+-- the first part of what was left is appended
+pub collects_more : {old now new all : List Failure} (first rest : List Failure) → Collects old now (first ++ rest) all → new ≡ now ++ first → Collects old new rest all
+collects_more {old} {now} {new} first rest c e = record {
+  so_far = c.so_far ++ first;
+  is_now = e ∙ ap (λ xs. xs ++ first) c.is_now ∙ append_assoc old c.so_far first;
+  is_all = append_assoc c.so_far first rest ∙ c.is_all;
+}
+
+-- nothing is left
+pub collects_all : {old now rest all : List Failure} → Collects old now rest all → rest ≡ [] → now ≡ old ++ all
+collects_all {old} {now} {rest} {all} c e = c.is_now ∙ ap (λ xs. old ++ xs) (sym (append-nil c.so_far) ∙ ap (λ xs. c.so_far ++ xs) (sym e) ∙ c.is_all)
+
+-- what was collected so far is a beginning of all
+pub collects_stopped : {old now rest all : List Failure} → Collects old now rest all → AppendsBeginning old now all
+collects_stopped {rest = rest} c = record { rest = rest; collects = c }
 
 -- nothing is a beginning of all
 pub appends_nothing : (old all : List Failure) → AppendsBeginning old old all
-appends_nothing old all = record { rest = all; collects = record { so_far = []; is_now = sym (append-nil old); is_all = refl } }
+appends_nothing old all = collects_stopped (collects_nothing old all)
 
 -- the first part of what was left was begun
 pub collects_part : {old now new all : List Failure} (first rest : List Failure) → Collects old now (first ++ rest) all → AppendsBeginning now new first → AppendsBeginning old new all
@@ -18,7 +41,11 @@ collects_part {old} {now} {new} first rest c b = record {
   };
 }
 
--- a fact that is there at every outcome is there at an error
-pub on_err_given : {T E : Type 0} {P : Type 0} (r : Result T E) → P → OnErr r P
-on_err_given (Ok x) p = tt
-on_err_given (Err e) p = p
+-- the first of some failures is the first of them and others behind them, and what hands it on gives it too
+pub first_before : {F N O P : Type 0} (tree : N → Tree) (r : Result Unit (Fault F N O P)) (x : Fault F N O P) (fs rest all : List Failure) → IsErrAnd r (λ y. y ≡ x) → IsFirst tree fs (Err x) → fs ++ rest ≡ all → IsFirst tree all r
+first_before tree (Ok u) x fs rest all is first so = absurd is
+first_before {F} {N} {O} {P} tree (Err y) x fs rest all is first so = subst (λ z. IsFirst tree all (Err z)) (sym is) (behind x first)
+  where
+    behind : (z : Fault F N O P) → IsFirst tree fs (Err z) → IsFirst tree all (Err z)
+    behind (Invalid e) (more, is) = (more ++ rest, sym so ∙ ap (λ xs. xs ++ rest) is)
+    behind (Memory m) first = tt

@@ -108,7 +108,7 @@ gives_additional s q (Some _) part d = refl
 gives_additional s q None part d = refl
 
 -- a limit is of numbers
-gives_limit : (r : Relation) (p : Pointer) (d : Data) → IsTrue (gives is_of_numbers (limit_keyword r p d))
+gives_limit : (r : Relation) (p : Pointer) (d : Data) → IsTrue (gives is_of_numbers (Some (limit_keyword r p d)))
 gives_limit r p d = gives_map is_of_numbers _ (limit_value (keyword_location p (limit_word r)) d) (λ z. refl)
 
 -- what a keyword asserts is of its type

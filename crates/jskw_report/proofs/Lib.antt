@@ -13,5 +13,6 @@ pub mod RowsErrors
 pub mod RowsReading
 pub mod Same
 pub mod TypeReading
+pub mod Units
 pub mod Valid
 pub mod Worked

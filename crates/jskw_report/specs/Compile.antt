@@ -20,7 +20,12 @@ refusal_of e = record { kind = kind_of e.kind; location = schema_path_of e.schem
 abbrev pub reading : KeywordName → Spot → Members → Data → Asserts
 reading w spot ms d = asserted w spot.setting spot.location ms (part keywords d)
 
--- the fault is the one that is read, or what was made means what is read
+-- the fault is this refusal, or want of memory
+abbrev pub Refuses : CompileFault → Refusal → Type 0
+Refuses (Bad e) r = refusal_of e ≡ r
+Refuses (Memory e) r = ⊤
+
+-- the fault is the refusal that is read, or want of memory; or what was made means what is read
 abbrev pub Makes : {V K : Type 0} → (V → K) → Result V CompileFault → Result K Refusal → Type 0
 Makes means (Ok v) read = read ≡ Ok (means v)
 Makes means (Err (Bad e)) read = read ≡ Err (refusal_of e)

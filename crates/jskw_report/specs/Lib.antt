@@ -12,6 +12,7 @@ pub mod Laws
 pub mod Paths
 pub mod Errors
 pub mod Observe
+pub mod Meaning
 pub mod Compile
 pub mod Description
 pub mod EvaluationView

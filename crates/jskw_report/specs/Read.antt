@@ -1,4 +1,4 @@
--- What a schema says, read from its `serde_json` value: its keywords one by one, or the first fault.
+-- What a schema says, read from its `serde_json` value: its keywords one by one, or the first refusal.
 use Rattle.std.specs.Prelude.{ℕ, suc, List, [], ◌∷◌, Bool, true, false, not, ◌&&◌, codes, Option, Some, None, Result, Ok, if◌then◌else◌}
 use Rattle.std.specs.Cmp.Lexicographic.{slice_cmp}
 use Rattle.std.specs.Option.{option_map_or}
@@ -19,11 +19,11 @@ use Rattle.jskw_report.specs.declared.keyword.KeywordName.{KeywordName}
 use Rattle.jskw_report.specs.declared.keyword.KeywordName.TheVariants as word
 use Rattle.jskw_report.specs.Sibling.{is_true, item_count, member_passes, is_bare, is_handed_on}
 
--- a schema, or its first fault
+-- a schema, or its first refusal
 abbrev pub Reading : Type 0
 Reading = Result Schema Refusal
 
--- nothing, where the keyword asserts nothing; else the keyword, or its first fault
+-- nothing, where the keyword asserts nothing; else the keyword, or its first refusal
 abbrev pub Asserts : Type 0
 Asserts = Option (Result Keyword Refusal)
 
@@ -33,7 +33,7 @@ pub record Part : Type 0 where
   pub schema : Setting → Pointer → Reading
   pub schemas : Setting → Pointer → Result Schemas Refusal
 
--- the keyword of the value, or the value's fault
+-- the keyword of the value, or the value's refusal
 abbrev pub asserts : {A : Type 0} → (A → Keyword) → Result A Refusal → Asserts
 asserts f r = Some (map_ok f r)
 
@@ -41,21 +41,41 @@ asserts f r = Some (map_ok f r)
 abbrev pub keyword_location : Pointer → KeywordName → Pointer
 keyword_location p w = member_location p (name_of w)
 
--- ---- `type`
+-- ---- keywords without subschemas, each at its keyword location q
 
 -- how `type` tells integers: by their value, but in Draft 4 as they are written (Draft 4 Core 3.5); it makes no difference where `integer` isn't named
 abbrev pub integers_of : Draft → TypeKind → Integers
 integers_of draft k = if not (is_after_draft_4 draft) && types.contains (types_of k) Integer then as_written else by_value
 
--- `type` at q, by a rule on integers
+-- `type` (Validation 6.1.1), by a rule on integers
 abbrev pub type_keyword : (TypeKind → Integers) → Pointer → Data → Result Keyword Refusal
 type_keyword rule q d = map_ok (λ k. assertion q (type_is k (rule k))) (type_value q d)
 
--- ---- sizes and limits
+-- a bound on a size (Validation 6.4.1, 6.4.2, 6.5.1, 6.5.2)
+abbrev pub size_keyword : Size → Pointer → Data → Result Keyword Refusal
+size_keyword which q d = map_ok (λ n. assertion q (size which n)) (size_value q d)
 
--- a bound on a size, at q
-abbrev pub size_keyword : Size → Pointer → Data → Asserts
-size_keyword which q d = asserts (λ n. assertion q (size which n)) (size_value q d)
+-- `const` (Validation 6.1.3)
+abbrev pub const_keyword : Pointer → Data → Result Keyword Refusal
+const_keyword q d = map_ok (λ d. assertion q (constant d)) (const_value q d)
+
+-- `enum` (Validation 6.1.2)
+abbrev pub enum_keyword : Pointer → Data → Result Keyword Refusal
+enum_keyword q d = map_ok (λ ds. assertion q (among ds)) (enum_value q d)
+
+-- `multipleOf` (Validation 6.2.1)
+abbrev pub divisor_keyword : Pointer → Data → Result Keyword Refusal
+divisor_keyword q d = map_ok (λ n. assertion q (multiple_of n)) (divisor_value q d)
+
+-- `required` (Validation 6.5.3), whatever stands beside it
+abbrev pub required_keyword : Pointer → Data → Result Keyword Refusal
+required_keyword q d = map_ok (λ names. assertion q (required names)) (required_value q d)
+
+-- a limit on numbers (Validation 6.2.2 to 6.2.5)
+abbrev pub limit_at : Relation → Pointer → Data → Result Keyword Refusal
+limit_at r q d = map_ok (λ z. assertion q (limit r z)) (limit_value q d)
+
+-- ---- limits of a schema
 
 -- the keyword of a limit
 abbrev pub limit_word : Relation → KeywordName
@@ -64,7 +84,7 @@ limit_word Maximum = word.Maximum
 limit_word ExclusiveMinimum = word.ExclusiveMinimum
 limit_word ExclusiveMaximum = word.ExclusiveMaximum
 
--- the same limit without the number itself
+-- the limit that the number itself is not within
 abbrev pub exclusive : Relation → Relation
 exclusive Minimum = ExclusiveMinimum
 exclusive Maximum = ExclusiveMaximum
@@ -74,9 +94,9 @@ exclusive r = r
 abbrev pub relation_beside : Setting → Members → Relation → Relation
 relation_beside s ms r = if not (is_after_draft_4 s.draft) && member_passes is_true (name_of (limit_word (exclusive r))) ms then exclusive r else r
 
--- a limit, which is judged and fails at the keyword of its relation
-abbrev pub limit_keyword : Relation → Pointer → Data → Asserts
-limit_keyword r p d = let q = keyword_location p (limit_word r) in asserts (λ z. assertion q (limit r z)) (limit_value q d)
+-- a limit of the schema at p, which is judged and fails at the keyword of its relation
+abbrev pub limit_keyword : Relation → Pointer → Data → Result Keyword Refusal
+limit_keyword r p d = limit_at r (keyword_location p (limit_word r)) d
 
 -- ---- `contains` (Core 10.3.1.3) with `maxContains` and `minContains` (Validation 6.4.4, 6.4.5)
 
@@ -147,33 +167,32 @@ additional_keyword s q _ part d = None
 -- what the keyword w asserts under the setting s: p is the location of the schema, ms are its members, and part is the keyword's value
 unfoldable pub asserted : KeywordName → Setting → Pointer → Members → Part → Asserts
 asserted word.TypeKeyword s p ms part = Some (type_keyword (integers_of s.draft) (keyword_location p word.TypeKeyword) part.value)
-asserted word.MinItems s p ms part = size_keyword MinItems (keyword_location p word.MinItems) part.value
-asserted word.MaxItems s p ms part = size_keyword MaxItems (keyword_location p word.MaxItems) part.value
+asserted word.MinItems s p ms part = Some (size_keyword MinItems (keyword_location p word.MinItems) part.value)
+asserted word.MaxItems s p ms part = Some (size_keyword MaxItems (keyword_location p word.MaxItems) part.value)
 asserted word.Items s p ms part = items_keyword s (keyword_location p word.Items) ms part part.value
 asserted word.PrefixItems s p ms part = prefix_keyword s (keyword_location p word.PrefixItems) part part.value
 asserted word.AdditionalItems s p ms part = additional_keyword s (keyword_location p word.AdditionalItems) (get_member (name_of word.Items) ms) part part.value
 asserted word.Contains s p ms part = contains_keyword s p ms part
 asserted word.UniqueItems s p ms part = if is_true part.value then Some (Ok (assertion (keyword_location p word.UniqueItems) unique)) else None
-asserted word.Const s p ms part = let q = keyword_location p word.Const in asserts (λ d. assertion q (constant d)) (const_value q part.value)
-asserted word.Enum s p ms part = let q = keyword_location p word.Enum in asserts (λ ds. assertion q (among ds)) (enum_value q part.value)
-asserted word.Minimum s p ms part = limit_keyword (relation_beside s ms Minimum) p part.value
-asserted word.Maximum s p ms part = limit_keyword (relation_beside s ms Maximum) p part.value
-asserted word.ExclusiveMinimum s p ms part = limit_keyword ExclusiveMinimum p part.value
-asserted word.ExclusiveMaximum s p ms part = limit_keyword ExclusiveMaximum p part.value
-asserted word.MultipleOf s p ms part = let q = keyword_location p word.MultipleOf in asserts (λ n. assertion q (multiple_of n)) (divisor_value q part.value)
-asserted word.MinProperties s p ms part = size_keyword MinProperties (keyword_location p word.MinProperties) part.value
-asserted word.MaxProperties s p ms part = size_keyword MaxProperties (keyword_location p word.MaxProperties) part.value
-asserted word.Required s p ms part = let q = keyword_location p word.Required in
-    if is_handed_on s ms then None else asserts (λ names. assertion q (required names)) (required_value q part.value)
+asserted word.Const s p ms part = Some (const_keyword (keyword_location p word.Const) part.value)
+asserted word.Enum s p ms part = Some (enum_keyword (keyword_location p word.Enum) part.value)
+asserted word.Minimum s p ms part = Some (limit_keyword (relation_beside s ms Minimum) p part.value)
+asserted word.Maximum s p ms part = Some (limit_keyword (relation_beside s ms Maximum) p part.value)
+asserted word.ExclusiveMinimum s p ms part = Some (limit_keyword ExclusiveMinimum p part.value)
+asserted word.ExclusiveMaximum s p ms part = Some (limit_keyword ExclusiveMaximum p part.value)
+asserted word.MultipleOf s p ms part = Some (divisor_keyword (keyword_location p word.MultipleOf) part.value)
+asserted word.MinProperties s p ms part = Some (size_keyword MinProperties (keyword_location p word.MinProperties) part.value)
+asserted word.MaxProperties s p ms part = Some (size_keyword MaxProperties (keyword_location p word.MaxProperties) part.value)
+asserted word.Required s p ms part = if is_handed_on s ms then None else Some (required_keyword (keyword_location p word.Required) part.value)
 
--- the same of a keyword that may be absent or not stand, which then asserts nothing
+-- what the keyword w asserts, of a value that may be absent; it asserts nothing then, nor where it does not stand
 unfoldable pub read_word : KeywordName → Setting → Pointer → Members → Option Part → Asserts
 read_word w s p ms None = None
 read_word w s p ms (Some part) = if stands s w then asserted w s p ms part else None
 
 -- ---- a schema (Core 4.3)
 
--- a keyword at q before others: the first fault comes first
+-- a keyword at q before others: the first refusal comes first
 abbrev pub before : Pointer → Asserts → Result Keywords Refusal → Result Keywords Refusal
 before q None rest = rest
 before q (Some r) rest = join_ok (keyword q) r rest

@@ -4,7 +4,9 @@ ghost use Rattle.serde_json.specs.Find.{get_member};
 ghost use Rattle.serde_json.specs.View.{view, members_view};
 ghost use Rattle.jskw_report.specs.Setting.{has_vocabulary, is_overridden};
 ghost use Rattle.jskw_report.specs.Paths.{segment_location};
+ghost use Rattle.jskw_report.specs.Read.{keyword_location};
 
+use crate::keyword::KeywordName;
 use crate::paths::{Location, LocationSegment};
 use crate::settings::{Draft, Settings, Vocabulary};
 use jskw_value::Json;
@@ -72,6 +74,20 @@ impl<'s, F: Json> Context<'s, F> {
             location: self.location.join(alloc, segment)?,
             representation: PhantomData,
         })
+    }
+
+    /// The keyword location of a keyword of the schema that stands here (Core 12.3.1). Only memory
+    /// can fail.
+    pub fn keyword_location(
+        &self,
+        alloc: Global,
+        keyword: KeywordName,
+    ) -> Result<Location, AllocError>
+        ensures { IfOk result (λ location. location
+            ≡ keyword_location self.now.location keyword) }
+    {
+        self.location
+            .join(alloc, LocationSegment::Name(keyword.as_str()))
     }
 
     /// Whether the vocabulary is present: always in Drafts 4, 6 and 7, else where the setting has

@@ -1,9 +1,10 @@
 //! Errors: what is wrong with an instance, or with a schema.
 ghost use Rattle.std.specs.Prelude.{◌≡◌, [], alloc_error};
-ghost use Rattle.jskw_report.specs.Kind.{keyword_of};
+ghost use Rattle.jskw_report.specs.Kind.{keyword_of, Single, Multiple, WrongType};
+ghost use Rattle.jskw_report.specs.KeywordValue.{not_whole};
 ghost use Rattle.serde_json.specs.View.{view};
 ghost use Rattle.jskw_value.specs.Serde.{value_tree};
-ghost use Rattle.jskw_report.specs.Compile.{refusal_of};
+ghost use Rattle.jskw_report.specs.Compile.{Refuses, refusal_of};
 ghost use Rattle.jskw_report.specs.Errors.{kind_of, failure_of};
 ghost use Rattle.jskw_report.specs.declared.error.CompileFault.TheVariants as compile_fault;
 ghost use Rattle.jskw_report.specs.declared.error.Fault.TheVariants as fault;
@@ -76,7 +77,34 @@ pub enum ValidationErrorKind<'i> {
     UniqueItems,
 }
 
-impl ValidationErrorKind<'_> {
+impl<'i> ValidationErrorKind<'i> {
+    /// The kind where a value was to be of one type.
+    pub fn of_type(json_type: JsonType) -> ValidationErrorKind<'i>
+        ensures { kind_of result ≡ WrongType (Single json_type) }
+    {
+        ValidationErrorKind::WrongType {
+            kind: TypeKind::Single(json_type),
+        }
+    }
+
+    /// The kind where a value was to be of one of the types.
+    pub fn of_types(types: JsonTypeSet) -> ValidationErrorKind<'i>
+        ensures { kind_of result ≡ WrongType (Multiple types) }
+    {
+        ValidationErrorKind::WrongType {
+            kind: TypeKind::Multiple(types),
+        }
+    }
+
+    /// The kind where a schema has a number that is no whole number from -2^63 to 2^64-1.
+    pub fn not_whole() -> ValidationErrorKind<'i>
+        ensures { kind_of result ≡ not_whole }
+    {
+        ValidationErrorKind::CompileError {
+            message: "Not a whole number of 64 bits",
+        }
+    }
+
     /// The name of the keyword that the kind is told by; `falseSchema` for the schema `false`, and
     /// `compileError` for a value of the schema that no keyword of its own speaks of.
     pub fn keyword(&self) -> &'static str
@@ -228,6 +256,30 @@ pub enum CompileFault<'a> {
     Bad(ValidationError<'a, SerdeJson>),
     /// Memory was wanting; nothing is said of the schema.
     Memory(AllocError),
+}
+
+impl<'a> CompileFault<'a> {
+    /// A schema's value that its keyword does not take: the error of the kind, at the keyword
+    /// location. It is want of memory where the location could not be copied.
+    pub fn wrong(
+        alloc: Global,
+        kind: ValidationErrorKind<'a>,
+        location: &Location,
+        value: &'a Value,
+    ) -> CompileFault<'a>
+        ensures { Refuses result (record {
+          kind = kind_of kind.entry;
+          location = location.now;
+          value = view value.now;
+        }) }
+    {
+        match location.copy(alloc) {
+            Ok(location) => {
+                CompileFault::Bad(ValidationError::refused(alloc, kind, location, value))
+            }
+            Err(error) => CompileFault::Memory(error),
+        }
+    }
 }
 
 /// What a compile gives: a validator, or why there is none.

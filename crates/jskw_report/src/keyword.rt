@@ -16,7 +16,7 @@ pub enum KeywordName {
     MinItems,
     /// `maxItems` (Validation 6.4.1)
     MaxItems,
-    /// `items` (Core 10.3.1.2; in Drafts 4 to 2019-09 an array of schemas too)
+    /// `items` (Core 10.3.1.2; an array of schemas too, as in Drafts 4 to 2019-09)
     Items,
     /// `prefixItems` (Core 10.3.1.1)
     PrefixItems,
@@ -49,6 +49,28 @@ pub enum KeywordName {
 }
 
 impl KeywordName {
+    /// Every keyword, in the order in which a schema is read.
+    pub const ALL: [KeywordName; 18] = [
+        KeywordName::TypeKeyword,
+        KeywordName::MinItems,
+        KeywordName::MaxItems,
+        KeywordName::Items,
+        KeywordName::PrefixItems,
+        KeywordName::AdditionalItems,
+        KeywordName::Contains,
+        KeywordName::UniqueItems,
+        KeywordName::Const,
+        KeywordName::Enum,
+        KeywordName::Minimum,
+        KeywordName::Maximum,
+        KeywordName::ExclusiveMinimum,
+        KeywordName::ExclusiveMaximum,
+        KeywordName::MultipleOf,
+        KeywordName::MinProperties,
+        KeywordName::MaxProperties,
+        KeywordName::Required,
+    ];
+
     /// The name that the keyword has in a schema.
     pub fn as_str(self) -> &'static str
         ensures { result.now ≡ name_of self }

@@ -3,10 +3,12 @@
 //!
 //! [`Settings`] say under which draft and vocabularies a schema is read, a [`Context`] where in it
 //! a keyword is compiled. A validator implements [`Validate`], the four observers of one keyword,
-//! whose contract speaks of the definitions in `specs/`. Sections of the standard are those of JSON
+//! whose contract speaks of the definitions in `specs/`; one that fails at most once implements
+//! [`Assertion`], and has the observers from there. Sections of the standard are those of JSON
 //! Schema Core and Validation 2020-12, unless a draft is named.
 #![tactic(auto)]
 
+pub mod assertion;
 pub mod compiler;
 pub mod error;
 pub mod evaluation;
@@ -17,6 +19,7 @@ pub mod paths;
 pub mod settings;
 pub mod validator;
 
+pub use assertion::Assertion;
 pub use compiler::Context;
 pub use error::{
     CompilationResult, CompileFault, EnumOptions, Fault, TypeKind, ValidationError,

@@ -1,14 +1,20 @@
 //! What every validator answers of an instance.
-ghost use Rattle.std.specs.Prelude.{◌≡◌, ◌+◌, ◌≤◌, ◌++◌, length, IfOk, OnOk, OnErr, IsOk, List, IsTrue};
+ghost use Rattle.std.specs.Prelude.{◌≡◌, ◌≤◌, length, IfOk, IsOk, List, IsTrue};
 ghost use Rattle.jskw_value.specs.Tree.{is_lawful};
-ghost use Rattle.jskw_report.specs.Applications.{keyword_needed, keyword_pairs};
 ghost use Rattle.jskw_report.specs.Errors.{kind_of, failures_of};
-ghost use Rattle.jskw_report.specs.Evaluation.{of_errors, unit};
+ghost use Rattle.jskw_report.specs.Evaluation.{of_errors};
 ghost use Rattle.jskw_report.specs.EvaluationView.{result_of};
-ghost use Rattle.jskw_report.specs.Fail.{Failure, keyword_fail};
-ghost use Rattle.jskw_report.specs.Holds.{keyword_holds};
-ghost use Rattle.jskw_report.specs.Keyword.{Keyword};
-ghost use Rattle.jskw_report.specs.Observe.{AppendsBeginning, IsFirst, failures_unless};
+ghost use Rattle.jskw_report.specs.Fail.{Failure};
+ghost use Rattle.jskw_report.specs.Meaning.{
+  Meaning,
+  is_assertion,
+  meaning_holds,
+  meaning_fail,
+  meaning_unit,
+  meaning_pairs,
+  meaning_needed,
+};
+ghost use Rattle.jskw_report.specs.Observe.{Appends, CountsUpTo, IsFirst, failures_unless};
 ghost use Rattle.jskw_report.specs.Paths.{path_of};
 
 use crate::error::{Fault, ValidationError, ValidationErrorKind};
@@ -45,22 +51,22 @@ impl ValidationContext {
 /// What a validator answers of an instance over the representation `F`: the four observers, which
 /// agree. Each asks that the instance be lawful, that is, hold no float; `Node::is_lawful` tells.
 /// The count that goes along grows by the number of subschemas that were applied, which is at most
-/// the number of pairs of a subschema and an item that meet.
+/// the number of pairs of a subschema and an item that meet. `location` is the instance's (Core
+/// 12.3.3), and at every return it is as at the call.
 pub trait Validate<F: Json> {
-    /// The keyword that the validator stands for.
-    ghost keyword: { Self → Keyword };
+    /// What the validator stands for.
+    ghost meaning: { Self → Meaning };
 
-    /// Whether the keyword holds of the instance. It takes no memory, and looks no further than the
-    /// first failure.
+    /// Whether it holds of the instance. It takes no memory, and looks no further than the first
+    /// failure.
     fn is_valid(&self, instance: &F::Node, ctx: &mut ValidationContext) -> bool
         requires { IsTrue (is_lawful (F.Node.tree instance.now)) }
-        ensures answer { result ≡ keyword_holds (keyword self.now) (F.Node.tree instance.now) }
-        ensures counted_from { ctx.old ≤ ctx.new }
-        ensures counted_to { ctx.new
-            ≤ ctx.old + keyword_needed (keyword self.now) (F.Node.tree instance.now) };
+        ensures answer { result ≡ meaning_holds (meaning self.now) (F.Node.tree instance.now) }
+        ensures counted { CountsUpTo ctx.old ctx.new
+            (meaning_needed (meaning self.now) (F.Node.tree instance.now)) };
 
-    /// Ok where the keyword holds, and else its first error; want of memory says nothing of the
-    /// instance. `location` is the instance's, and at every return it is as at the call.
+    /// Ok where it holds, and else its first error; want of memory says nothing of the instance. A
+    /// keyword without subschemas takes no memory where it holds.
     fn validate<'i>(
         &'i self,
         instance: &'i F::Node,
@@ -68,16 +74,18 @@ pub trait Validate<F: Json> {
         ctx: &mut ValidationContext,
     ) -> Result<(), Fault<'i, F>>
         requires { IsTrue (is_lawful (F.Node.tree instance.now)) }
+        ensures quiet { IsTrue (is_assertion (meaning self.now))
+            → IsTrue (meaning_holds (meaning self.now) (F.Node.tree instance.now))
+            → IsOk result }
         ensures first { IsFirst F.Node.tree
-            (keyword_fail (keyword self.now) (F.Node.tree instance.now) (path_of location.old))
+            (meaning_fail (meaning self.now) (F.Node.tree instance.now) (path_of location.old))
             result }
         ensures location { location.new ≡ location.old }
-        ensures counted_from { ctx.old ≤ ctx.new }
-        ensures counted_to { ctx.new
-            ≤ ctx.old + keyword_needed (keyword self.now) (F.Node.tree instance.now) };
+        ensures counted { CountsUpTo ctx.old ctx.new
+            (meaning_needed (meaning self.now) (F.Node.tree instance.now)) };
 
     /// Appends every error, in order. After want of memory the list is as it was, followed by a
-    /// beginning of them. `location` is as in `validate`.
+    /// beginning of them. A keyword without subschemas takes no memory where it holds.
     fn collect_errors<'i>(
         &'i self,
         instance: &'i F::Node,
@@ -86,19 +94,17 @@ pub trait Validate<F: Json> {
         errors: &mut Vec<ValidationError<'i, F>>,
     ) -> Result<(), AllocError>
         requires { IsTrue (is_lawful (F.Node.tree instance.now)) }
-        ensures appended { OnOk result (failures_of F.Node.tree errors.new.items
-            ≡ failures_of F.Node.tree errors.old.items
-            ++ keyword_fail (keyword self.now) (F.Node.tree instance.now) (path_of location.old)) }
-        ensures begun { OnErr result (AppendsBeginning (failures_of F.Node.tree errors.old.items)
-            (failures_of F.Node.tree errors.new.items)
-            (keyword_fail (keyword self.now) (F.Node.tree instance.now) (path_of location.old))) }
+        ensures quiet { IsTrue (is_assertion (meaning self.now))
+            → IsTrue (meaning_holds (meaning self.now) (F.Node.tree instance.now))
+            → IsOk result }
+        ensures appended { Appends F.Node.tree errors.old.items errors.new.items
+            (meaning_fail (meaning self.now) (F.Node.tree instance.now) (path_of location.old))
+            result }
         ensures location { location.new ≡ location.old }
-        ensures counted_from { ctx.old ≤ ctx.new }
-        ensures counted_to { ctx.new
-            ≤ ctx.old + keyword_pairs (keyword self.now) (F.Node.tree instance.now) };
+        ensures counted { CountsUpTo ctx.old ctx.new
+            (meaning_pairs (meaning self.now) (F.Node.tree instance.now)) };
 
-    /// The keyword's unit of the evaluation tree (Core 12.3). Only memory can fail. `location` is
-    /// as in `validate`.
+    /// Its unit of the evaluation tree (Core 12.3). Only memory can fail.
     fn evaluate(
         &self,
         alloc: Global,
@@ -108,11 +114,10 @@ pub trait Validate<F: Json> {
     ) -> Result<EvaluationResult, AllocError>
         requires { IsTrue (is_lawful (F.Node.tree instance.now)) }
         ensures gives { IfOk result (λ r. result_of r
-            ≡ unit (keyword self.now) (F.Node.tree instance.now) (path_of location.old)) }
+            ≡ meaning_unit (meaning self.now) (F.Node.tree instance.now) (path_of location.old)) }
         ensures location { location.new ≡ location.old }
-        ensures counted_from { ctx.old ≤ ctx.new }
-        ensures counted_to { ctx.new
-            ≤ ctx.old + keyword_pairs (keyword self.now) (F.Node.tree instance.now) };
+        ensures counted { CountsUpTo ctx.old ctx.new
+            (meaning_pairs (meaning self.now) (F.Node.tree instance.now)) };
 }
 
 /// Ok where the assertion holds, which takes no memory, and else its one error: what `validate`
@@ -144,11 +149,7 @@ pub fn append_first<'i, F: Json>(
     errors: &mut Vec<ValidationError<'i, F>>,
 ) -> Result<(), AllocError>
     ensures appended { (fs : List Failure) → length fs ≤ 1 → IsFirst F.Node.tree fs answer.entry
-        → OnOk result (failures_of F.Node.tree errors.new.items
-        ≡ failures_of F.Node.tree errors.old.items ++ fs) }
-    ensures begun { (fs : List Failure) → length fs ≤ 1 → IsFirst F.Node.tree fs answer.entry
-        → OnErr result (AppendsBeginning (failures_of F.Node.tree errors.old.items)
-        (failures_of F.Node.tree errors.new.items) fs) }
+        → Appends F.Node.tree errors.old.items errors.new.items fs result }
     ensures ok { IsOk answer.entry → IsOk result }
 {
     match answer {
@@ -181,4 +182,23 @@ pub fn evaluate_first<F: Json>(
         }
         Err(Fault::Memory(error)) => Err(error),
     }
+}
+
+/// The unit of errors that were collected: what `evaluate` gives of a keyword that may fail more
+/// than once and has no nodes below. It is valid where there are none, which takes no memory, and
+/// else invalid with a description for each. Only memory can fail.
+pub fn evaluate_errors<F: Json>(
+    alloc: Global,
+    errors: &[ValidationError<'_, F>],
+) -> Result<EvaluationResult, AllocError>
+    ensures { IfOk result (λ r. result_of r ≡ of_errors (failures_of F.Node.tree errors.now)) }
+{
+    if errors.is_empty() {
+        return Ok(EvaluationResult::valid_empty());
+    }
+    let mut descriptions = Vec::new(alloc);
+    for error in errors {
+        descriptions.push(ErrorDescription::from_validation_error(alloc, error)?)?;
+    }
+    Ok(EvaluationResult::invalid_empty(descriptions))
 }

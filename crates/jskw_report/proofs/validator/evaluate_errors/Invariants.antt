@@ -1,8 +1,8 @@
 use Rattle.std.proofs.Common.{◌≡◌, ◌++◌, drop}
 use Rattle.jskw_report.specs.Errors.{failures_of}
 use Rattle.jskw_report.specs.EvaluationView.{keywords_of}
-use Rattle.jskw_leaf.proofs.Units.{keywords}
-use Rattle.jskw_leaf.proofs.required.missing.evaluate_errors.Given as goal
+use Rattle.jskw_report.proofs.Units.{keywords}
+use Rattle.jskw_report.proofs.validator.evaluate_errors.Given as goal
 
 -- the keywords so far, with those of the errors that are left
 abbrev pub invariant-loop-error : goal.invariant-loop-error

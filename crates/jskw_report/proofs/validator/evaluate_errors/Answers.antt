@@ -1,7 +1,7 @@
 use Rattle.std.proofs.Common.{◌∙◌, sym}
 use Rattle.jskw_report.specs.Errors.{failure_of}
-use Rattle.jskw_leaf.proofs.Units.{no_errors, some_errors}
-use Rattle.jskw_leaf.proofs.required.missing.evaluate_errors.Goals as goal
+use Rattle.jskw_report.proofs.Units.{no_errors, some_errors}
+use Rattle.jskw_report.proofs.validator.evaluate_errors.Goals as goal
 
 pub returns-then-is_empty : goal.returns-then-is_empty
 returns-then-is_empty g c =
