@@ -1,5 +1,4 @@
 pub mod Built
-pub mod Collecting
 pub mod Reading
 pub mod Requests
 pub mod Turns

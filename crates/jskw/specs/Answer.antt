@@ -1,5 +1,5 @@
 -- What is answered to a request, and how it is written.
-use Rattle.std.specs.Prelude.{ℕ, List, [], ◌∷◌, ◌++◌, codes, Bool, true, false, Option, Some, None, Ok, Err}
+use Rattle.std.specs.Prelude.{ℕ, List, [], ◌∷◌, ◌++◌, codes, Option, Some, None, Ok, Err}
 use Rattle.jskw_value.specs.FirstFloat.{first_float}
 use Rattle.jskw_value.specs.Pointer.{Pointer}
 use Rattle.jskw_value.specs.Serde.{tree_of}
@@ -17,28 +17,6 @@ use Rattle.jskw.specs.declared.service.Verdict.TheVariants.{Valid, Invalid, Refu
 -- the keywords that the program has so far, in the order in which a schema is read; the others assert nothing here
 abbrev pub program_keywords : List KeywordName
 program_keywords = TypeKeyword ∷ MinItems ∷ MaxItems ∷ UniqueItems ∷ Const ∷ Enum ∷ Minimum ∷ Maximum ∷ ExclusiveMinimum ∷ ExclusiveMaximum ∷ MultipleOf ∷ MinProperties ∷ MaxProperties ∷ Required ∷ []
-
--- of numbers and sizes
-abbrev pub is_of_numbers : KeywordName → Bool
-is_of_numbers MinItems = true
-is_of_numbers MaxItems = true
-is_of_numbers Minimum = true
-is_of_numbers Maximum = true
-is_of_numbers ExclusiveMinimum = true
-is_of_numbers ExclusiveMaximum = true
-is_of_numbers MultipleOf = true
-is_of_numbers MinProperties = true
-is_of_numbers MaxProperties = true
-is_of_numbers _ = false
-
--- one of the program's keywords
-abbrev pub is_built : KeywordName → Bool
-is_built TypeKeyword = true
-is_built UniqueItems = true
-is_built Const = true
-is_built Enum = true
-is_built Required = true
-is_built w = is_of_numbers w
 
 pub data Answer : Type 0 where
   -- the input is no request

@@ -1,5 +1,17 @@
 //! Where bytes come from and where they go, as a caller without `std` may have them.
-ghost use Rattle.std.specs.Prelude.{◌≡◌, ◌<◌, ◌≤◌, ◌||◌, ℕ, List, Bool, Option, length, is_err, IfOk};
+ghost use Rattle.std.specs.Prelude.{
+  ◌≡◌,
+  ◌<◌,
+  ◌≤◌,
+  ◌||◌,
+  ℕ,
+  List,
+  Bool,
+  Option,
+  length,
+  is_err,
+  IfOk,
+};
 ghost use Rattle.std.specs.Io.KnownBytes.{ReadConsumes, WriteAppends};
 
 /// A device failed.

@@ -1,39 +1,38 @@
 //! A compiled schema: the validators of its keywords, in the order in which a schema is read.
-ghost use Rattle.std.specs.Prelude.{◌≡◌, ◌++◌, OnOk, OnErr, IsTrue, true, false};
+ghost use Rattle.std.specs.Prelude.{◌≡◌, IsTrue, true, false};
 ghost use Rattle.serde_json.specs.View.{view, members_view};
 ghost use Rattle.jskw_value.specs.Tree.{is_lawful};
-ghost use Rattle.jskw_report.specs.Compile.{Compiles, Makes, reading};
-ghost use Rattle.jskw_report.specs.Errors.{failures_of};
+ghost use Rattle.jskw_report.specs.Compile.{Compiles, Makes};
 ghost use Rattle.jskw_report.specs.Fail.{all_fail, fail};
 ghost use Rattle.jskw_report.specs.Holds.{all_hold, holds};
-ghost use Rattle.jskw_report.specs.Observe.{AppendsBeginning, IsFirst};
+ghost use Rattle.jskw_report.specs.Observe.{Appends, IsFirst};
 ghost use Rattle.jskw_report.specs.Paths.{path_of};
-ghost use Rattle.jskw_report.specs.Keyword.{false_schema, hands_on_required, no_keywords, schema_object};
+ghost use Rattle.jskw_report.specs.Keyword.{
+  false_schema,
+  hands_on_required,
+  no_keywords,
+  schema_object,
+};
 ghost use Rattle.jskw_report.specs.Sibling.{is_handed_on};
-ghost use Rattle.jskw_report.specs.Read.{Asserts, part_named, read, read_word, read_words, whole};
+ghost use Rattle.jskw_report.specs.Read.{part_named, read, read_word, read_words, whole};
 ghost use Rattle.jskw_report.specs.Setting.{name_of};
-ghost use Rattle.jskw_number.specs.Meaning.{number_keyword};
 ghost use Rattle.jskw_leaf.specs.Meaning.{leaf_keyword};
-ghost use Rattle.jskw.specs.Answer.{is_built, is_of_numbers, program_keywords};
+ghost use Rattle.jskw_leaf.specs.Names.{is_leaf};
+ghost use Rattle.jskw.specs.Answer.{program_keywords};
 ghost use Rattle.jskw.specs.Node.{keywords_of, node_schema};
 
 use jskw_leaf::boolean::FalseValidator;
-use jskw_leaf::legacy::type_draft_4;
-use jskw_leaf::{LeafValidator, const_, enum_, required, type_, unique_items};
-use jskw_number::legacy::{maximum_draft_4, minimum_draft_4};
-use jskw_number::{
-    NumberValidator, max_items, max_properties, min_items, min_properties, minmax, multiple_of,
-};
+use jskw_leaf::{LeafValidator, required};
 use jskw_report::compiler::member_of;
 use jskw_report::{
-    CompilationResult, CompileFault, Context, Draft, Fault, KeywordName, LazyLocation, Location,
-    LocationSegment, TypeKind, Validate, ValidationContext, ValidationError, ValidationErrorKind,
+    CompilationResult, CompileFault, Context, Fault, KeywordName, LazyLocation, Location, Validate,
+    ValidationContext, ValidationError, ValidationErrorKind,
 };
 use jskw_value::{Json, JsonType, JsonTypeSet};
 use serde_json::{Map, Value};
 use std::alloc::{AllocError, Global};
 
-/// A compiled schema over the representation `F`, with its keyword location.
+// A compiled schema over the representation `F`, with its keyword location.
 #[derive(Drop)]
 pub(crate) struct SchemaNode<F: Json> {
     location: Location,
@@ -49,7 +48,7 @@ enum Assertions<F: Json> {
     Keywords(Vec<Unit<F>>),
 }
 
-/// A keyword's validator, with its keyword location.
+// A keyword's validator, with its keyword location.
 #[derive(Drop)]
 struct Unit<F: Json> {
     location: Location,
@@ -73,14 +72,15 @@ const KEYWORDS: [KeywordName; 14] = [
     KeywordName::Required,
 ];
 
-/// Compiles a schema: a boolean, or an object by its keywords in their order. The first value that a keyword does not take
-/// is the error.
+// Compiles a schema: a boolean, or an object by its keywords in their order. The first value that a
+// keyword does not take is the error.
 pub(crate) fn compile<'a, F: Json>(
     alloc: Global,
     ctx: &Context<'_, F>,
     schema: &'a Value,
 ) -> CompilationResult<'a, SchemaNode<F>>
-    ensures { Makes node_schema result (read program_keywords (view schema.now) ctx.now.setting ctx.now.location) }
+    ensures { Makes node_schema result
+        (read program_keywords (view schema.now) ctx.now.setting ctx.now.location) }
 {
     let location = ctx.location().copy(alloc)?;
     match schema {
@@ -91,10 +91,8 @@ pub(crate) fn compile<'a, F: Json>(
             let types = JsonTypeSet::empty()
                 .insert(JsonType::Object)
                 .insert(JsonType::Boolean);
-            let kind = ValidationErrorKind::WrongType {
-                kind: TypeKind::Multiple(types),
-            };
-            Err(CompileFault::Bad(ValidationError::refused(alloc, kind, location, schema)))
+            let kind = ValidationErrorKind::of_types(types);
+            Err(CompileFault::wrong(alloc, kind, &location, schema))
         }
     }
 }
@@ -127,7 +125,8 @@ fn node_of_object<'a, F: Json>(
 ) -> CompilationResult<'a, SchemaNode<F>>
     ensures { let ms = members_view parent.now.entries in Makes node_schema result
         (whole location (is_handed_on ctx.now.setting ms)
-        (read_words program_keywords ctx.now.setting ctx.now.location ms (λ name. part_named program_keywords name ms))) }
+        (read_words program_keywords ctx.now.setting ctx.now.location ms
+        (λ name. part_named program_keywords name ms))) }
 {
     let hands_on_required = is_handed_on(ctx, parent);
     let units = compile_keywords(alloc, ctx, parent)?;
@@ -138,8 +137,14 @@ fn node_of_object<'a, F: Json>(
     })
 }
 
-/// Whether the schema leaves its `required` to the keywords of objects.
-#[tactic(auto, using(jskw_leaf::proofs::HandedOn::not_handed_on, jskw_leaf::proofs::HandedOn::absent_not_handed_on))]
+// Whether the schema leaves its `required` to the keywords of objects.
+#[tactic(
+    auto,
+    using(
+        jskw_leaf::proofs::HandedOn::not_handed_on,
+        jskw_leaf::proofs::HandedOn::absent_not_handed_on
+    )
+)]
 fn is_handed_on<F: Json>(ctx: &Context<'_, F>, parent: &Map<String, Value>) -> bool
     ensures { result ≡ is_handed_on ctx.now.setting (members_view parent.now.entries) }
 {
@@ -158,16 +163,17 @@ fn compile_keywords<'a, F: Json>(
     ctx: &Context<'_, F>,
     parent: &'a Map<String, Value>,
 ) -> CompilationResult<'a, Vec<Unit<F>>>
-    ensures { let ms = members_view parent.now.entries in Makes (λ units. keywords_of units.items) result
-        (read_words program_keywords ctx.now.setting ctx.now.location ms (λ name. part_named program_keywords name ms)) }
+    ensures { let ms = members_view parent.now.entries in
+        Makes (λ units. keywords_of units.items) result
+        (read_words program_keywords ctx.now.setting ctx.now.location ms
+        (λ name. part_named program_keywords name ms)) }
 {
     let mut units = Vec::new(alloc);
     for keyword in KEYWORDS {
         match compile_keyword(alloc, ctx, parent, keyword) {
             None => {}
             Some(Ok(validator)) => {
-                let segment = LocationSegment::Name(keyword.as_str());
-                let location = ctx.location().join(alloc, segment)?;
+                let location = ctx.keyword_location(alloc, keyword)?;
                 units.push(Unit {
                     location,
                     validator,
@@ -179,84 +185,35 @@ fn compile_keywords<'a, F: Json>(
     Ok(units)
 }
 
-#[tactic(auto, using(jskw_report::proofs::Reading::read_absent, jskw_report::proofs::Reading::read_not_standing, crate::proofs::Built::read_built))]
+#[tactic(
+    auto,
+    using(
+        jskw_report::proofs::Reading::read_absent,
+        jskw_report::proofs::Reading::read_not_standing,
+        crate::proofs::Built::read_built
+    )
+)]
 fn compile_keyword<'a, F: Json>(
     alloc: Global,
     ctx: &Context<'_, F>,
     parent: &'a Map<String, Value>,
     keyword: KeywordName,
 ) -> Option<CompilationResult<'a, LeafValidator<F>>>
-    requires { is_built keyword ≡ true }
+    requires { is_leaf keyword ≡ true }
     ensures { let ms = members_view parent.now.entries in Compiles leaf_keyword result
-        (read_word keyword ctx.now.setting ctx.now.location ms (part_named program_keywords (name_of keyword) ms)) }
+        (read_word keyword ctx.now.setting ctx.now.location ms
+        (part_named program_keywords (name_of keyword) ms)) }
 {
     let schema = member_of(parent, keyword.as_str())?;
     if !keyword.stands(ctx) {
         return None;
     }
-    match keyword {
-        KeywordName::TypeKeyword => match ctx.draft() {
-            Draft::Draft4 => type_draft_4::compile(alloc, ctx, parent, schema),
-            _ => type_::compile(alloc, ctx, parent, schema),
-        },
-        KeywordName::UniqueItems => unique_items::compile(alloc, ctx, parent, schema),
-        KeywordName::Const => const_::compile(alloc, ctx, parent, schema),
-        KeywordName::Enum => enum_::compile(alloc, ctx, parent, schema),
-        KeywordName::Required => required::compile(alloc, ctx, parent, schema),
-        _ => of_number(compile_number(alloc, ctx, parent, keyword, schema)),
-    }
-}
-
-/// Compiles a bound on a size, a limit or a divisor.
-fn compile_number<'a, F: Json>(
-    alloc: Global,
-    ctx: &Context<'_, F>,
-    parent: &'a Map<String, Value>,
-    keyword: KeywordName,
-    schema: &'a Value,
-) -> Option<CompilationResult<'a, NumberValidator>>
-    requires { is_of_numbers keyword ≡ true }
-    ensures { Compiles number_keyword result (reading keyword ctx.now (members_view parent.now.entries) (view schema.now)) }
-{
-    match keyword {
-        KeywordName::MinItems => min_items::compile(alloc, ctx, parent, schema),
-        KeywordName::MaxItems => max_items::compile(alloc, ctx, parent, schema),
-        KeywordName::Minimum => match ctx.draft() {
-            Draft::Draft4 => minimum_draft_4::compile(alloc, ctx, parent, schema),
-            _ => minmax::compile_minimum(alloc, ctx, parent, schema),
-        },
-        KeywordName::Maximum => match ctx.draft() {
-            Draft::Draft4 => maximum_draft_4::compile(alloc, ctx, parent, schema),
-            _ => minmax::compile_maximum(alloc, ctx, parent, schema),
-        },
-        KeywordName::ExclusiveMinimum => {
-            minmax::compile_exclusive_minimum(alloc, ctx, parent, schema)
-        }
-        KeywordName::ExclusiveMaximum => {
-            minmax::compile_exclusive_maximum(alloc, ctx, parent, schema)
-        }
-        KeywordName::MultipleOf => multiple_of::compile(alloc, ctx, parent, schema),
-        KeywordName::MinProperties => min_properties::compile(alloc, ctx, parent, schema),
-        KeywordName::MaxProperties => max_properties::compile(alloc, ctx, parent, schema),
-        _ => unreachable!(),
-    }
-}
-
-/// The same as a validator of any keyword.
-fn of_number<'a, F: Json>(
-    compiled: Option<CompilationResult<'a, NumberValidator>>,
-) -> Option<CompilationResult<'a, LeafValidator<F>>>
-    ensures { (read : Asserts) → Compiles number_keyword compiled.entry read → Compiles leaf_keyword result read }
-{
-    match compiled {
-        None => None,
-        Some(Ok(validator)) => Some(Ok(LeafValidator::Number(validator))),
-        Some(Err(fault)) => Some(Err(fault)),
-    }
+    jskw_leaf::compile(alloc, ctx, parent, keyword, schema)
 }
 
 impl<F: Json> SchemaNode<F> {
-    /// Whether the schema's `required` is handed on: it asserts nothing here, and is left to the keywords of objects.
+    // Whether the schema's `required` is handed on: it asserts nothing here, and is left to the
+    // keywords of objects.
     #[tactic(auto, using(crate::proofs::Units::leaves_hand_on_nothing))]
     pub(crate) fn hands_on_required(&self) -> bool
         ensures { result ≡ hands_on_required (node_schema self.now) }
@@ -267,7 +224,8 @@ impl<F: Json> SchemaNode<F> {
         }
     }
 
-    /// Whether the schema holds of the instance. Takes no memory, and looks no further than the first failure.
+    // Whether the schema holds of the instance. Takes no memory, and looks no further than the
+    // first failure.
     pub(crate) fn is_valid(&self, instance: &F::Node, ctx: &mut ValidationContext) -> bool
         requires { IsTrue (is_lawful (F.Node.tree instance.now)) }
         ensures { result ≡ holds (node_schema self.now) (F.Node.tree instance.now) }
@@ -278,8 +236,8 @@ impl<F: Json> SchemaNode<F> {
         }
     }
 
-    /// Ok where the schema holds, and else the first error. `location` is the instance's, and at every return it is as at
-    /// the call.
+    // Ok where the schema holds, and else the first error. `location` is the instance's, and at
+    // every return it is as at the call.
     pub(crate) fn validate<'i>(
         &'i self,
         instance: &'i F::Node,
@@ -297,8 +255,9 @@ impl<F: Json> SchemaNode<F> {
         }
     }
 
-    /// Appends every error of the instance, in order. After want of memory the list is as it was, followed by a beginning
-    /// of them. `location` is the instance's, and at every return it is as at the call.
+    // Appends every error of the instance, in order. After want of memory the list is as it was,
+    // followed by a beginning of them. `location` is the instance's, and at every return it is as
+    // at the call.
     pub(crate) fn collect_errors<'i>(
         &'i self,
         instance: &'i F::Node,
@@ -307,12 +266,9 @@ impl<F: Json> SchemaNode<F> {
         errors: &mut Vec<ValidationError<'i, F>>,
     ) -> Result<(), AllocError>
         requires { IsTrue (is_lawful (F.Node.tree instance.now)) }
-        ensures appended { OnOk result (failures_of F.Node.tree errors.new.items
-            ≡ failures_of F.Node.tree errors.old.items
-            ++ fail (node_schema self.now) (F.Node.tree instance.now) (path_of location.old)) }
-        ensures begun { OnErr result (AppendsBeginning (failures_of F.Node.tree errors.old.items)
-            (failures_of F.Node.tree errors.new.items)
-            (fail (node_schema self.now) (F.Node.tree instance.now) (path_of location.old))) }
+        ensures appended { Appends F.Node.tree errors.old.items errors.new.items
+            (fail (node_schema self.now) (F.Node.tree instance.now) (path_of location.old))
+            result }
         ensures location { location.new ≡ location.old }
     {
         match &self.assertions {
@@ -350,7 +306,8 @@ fn validate_all<'i, F: Json>(
 ) -> Result<(), Fault<'i, F>>
     requires { IsTrue (is_lawful (F.Node.tree instance.now)) }
     ensures first { IsFirst F.Node.tree
-        (all_fail (keywords_of units.now) (F.Node.tree instance.now) (path_of location.old)) result }
+        (all_fail (keywords_of units.now) (F.Node.tree instance.now) (path_of location.old))
+        result }
     ensures location { location.new ≡ location.old }
 {
     for unit in units {
@@ -367,12 +324,9 @@ fn collect_all<'i, F: Json>(
     errors: &mut Vec<ValidationError<'i, F>>,
 ) -> Result<(), AllocError>
     requires { IsTrue (is_lawful (F.Node.tree instance.now)) }
-    ensures appended { OnOk result (failures_of F.Node.tree errors.new.items
-        ≡ failures_of F.Node.tree errors.old.items
-        ++ all_fail (keywords_of units.now) (F.Node.tree instance.now) (path_of location.old)) }
-    ensures begun { OnErr result (AppendsBeginning (failures_of F.Node.tree errors.old.items)
-        (failures_of F.Node.tree errors.new.items)
-        (all_fail (keywords_of units.now) (F.Node.tree instance.now) (path_of location.old))) }
+    ensures appended { Appends F.Node.tree errors.old.items errors.new.items
+        (all_fail (keywords_of units.now) (F.Node.tree instance.now) (path_of location.old))
+        result }
     ensures location { location.new ≡ location.old }
 {
     for unit in units {

@@ -1,7 +1,19 @@
 //! What the input asks for.
 ghost use Rattle.std.specs.Prelude.{◌≡◌, IfOk, option_map, map, string_bytes};
 ghost use Rattle.serde_json.specs.View.{view, items_view, members_view};
-ghost use Rattle.jskw.specs.Request.{draft_of, draft_named, overridden_of, request_of, setting_of, text_of, texts_of, vocabularies_of, vocabulary_named, vocabulary_of, vocabulary_set};
+ghost use Rattle.jskw.specs.Request.{
+  draft_of,
+  draft_named,
+  overridden_of,
+  request_of,
+  setting_of,
+  text_of,
+  texts_of,
+  vocabularies_of,
+  vocabulary_named,
+  vocabulary_of,
+  vocabulary_set,
+};
 ghost use Rattle.jskw.specs.RequestView.{request_view};
 
 use jskw_report::compiler::member_of;
@@ -9,7 +21,7 @@ use jskw_report::{Draft, Settings, Vocabulary, VocabularySet};
 use serde_json::{Map, Value};
 use std::alloc::{AllocError, Global};
 
-/// A schema, an instance and a setting.
+// A schema, an instance and a setting.
 #[derive(Drop)]
 pub(crate) struct Request<'v> {
     pub(crate) schema: &'v Value,
@@ -17,8 +29,8 @@ pub(crate) struct Request<'v> {
     pub(crate) settings: Settings,
 }
 
-/// The request that the value is, if it is one: an object with the members `schema` and `instance`, and none of `draft`,
-/// `vocabularies` and `overridden` that is not as it is to be.
+// The request that the value is, if it is one: an object with the members `schema` and `instance`,
+// and none of `draft`, `vocabularies` and `overridden` that is not as it is to be.
 pub(crate) fn request_of<'v>(
     alloc: Global,
     value: &'v Value,
@@ -44,7 +56,7 @@ pub(crate) fn request_of<'v>(
     }))
 }
 
-/// The setting, where none of its members is wrong.
+// The setting, where none of its members is wrong.
 fn settings_of(alloc: Global, members: &Map<String, Value>) -> Result<Option<Settings>, AllocError>
     ensures { IfOk result (λ s. s ≡ setting_of (members_view members.now.entries)) }
 {
@@ -135,7 +147,8 @@ fn overridden_of(alloc: Global, member: Option<&Value>) -> Result<Option<Vec<Str
 }
 
 fn texts_of(alloc: Global, items: &[Value]) -> Result<Option<Vec<String>>, AllocError>
-    ensures { IfOk result (λ o. option_map (λ names. map string_bytes names.items) o ≡ texts_of (items_view items.now)) }
+    ensures { IfOk result (λ o. option_map (λ names. map string_bytes names.items) o
+        ≡ texts_of (items_view items.now)) }
 {
     let mut texts = Vec::new(alloc);
     for item in items {

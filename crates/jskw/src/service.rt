@@ -1,10 +1,34 @@
 //! From the bytes of a request to the bytes of its answer.
-ghost use Rattle.std.specs.Prelude.{◌≡◌, ◌++◌, [], ◌∷◌, IfOk, OnOk, OnErr, IsErrOf, Some, false, true, option_map, string_bytes};
+ghost use Rattle.std.specs.Prelude.{
+  ◌≡◌,
+  ◌++◌,
+  [],
+  ◌∷◌,
+  IfOk,
+  OnOk,
+  OnErr,
+  IsErrOf,
+  Some,
+  false,
+  true,
+  option_map,
+  string_bytes,
+};
 ghost use Rattle.serde_json.specs.View.{view};
 ghost use Rattle.jskw_value.specs.Serde.{value_tree};
 ghost use Rattle.jskw_report.specs.Compile.{refusal_of};
 ghost use Rattle.jskw_report.specs.Errors.{failures_of};
-ghost use Rattle.jskw.specs.Answer.{answer, bad_schema, error_lines, errors, no_request, output, output_of, verdict, verdict_of};
+ghost use Rattle.jskw.specs.Answer.{
+  answer,
+  bad_schema,
+  error_lines,
+  errors,
+  no_request,
+  output,
+  output_of,
+  verdict,
+  verdict_of,
+};
 ghost use Rattle.jskw.specs.Request.{value_of};
 ghost use Rattle.jskw.specs.RequestView.{request_view};
 ghost use Rattle.jskw.specs.Reply.{text_in, verdict_in};
@@ -26,8 +50,8 @@ pub enum Verdict {
     Valid,
     /// The instance has errors.
     Invalid,
-    /// There is no verdict: the input is no request, the schema does not compile, the instance holds a float, or memory
-    /// was wanting.
+    /// There is no verdict: the input is no request, the schema does not compile, the instance
+    /// holds a float, or memory was wanting.
     Refused,
 }
 
@@ -40,10 +64,11 @@ pub enum RunFault {
     Write,
 }
 
-/// Reads a request to its end, and writes the answer to it and nothing else. The request is one JSON object with the
-/// members `schema` and `instance`; `draft` (`"4"`, `"6"`, `"7"`, `"2019-09"` or `"2020-12"`, the default), `vocabularies`
-/// (an array of `"core"`, `"applicator"` and `"validation"`; all by default) and `overridden` (an array of names; none by
-/// default) may be there. All output is built before the first write. Neither device has failed yet.
+/// Reads a request to its end, and writes the answer to it and nothing else. The request is one
+/// JSON object with the members `schema` and `instance`; `draft` (`"4"`, `"6"`, `"7"`, `"2019-09"`
+/// or `"2020-12"`, the default), `vocabularies` (an array of `"core"`, `"applicator"` and
+/// `"validation"`; all by default) and `overridden` (an array of names; none by default) may be
+/// there. All output is built before the first write. Neither device has failed yet.
 pub fn run<R: Source, W: Sink>(
     alloc: Global,
     reader: &mut R,
@@ -74,7 +99,8 @@ pub fn run<R: Source, W: Sink>(
     Ok(reply.verdict())
 }
 
-/// The status that the program ends with: 0 where the instance is valid, 1 where it has errors, else 2.
+/// The status that the program ends with: 0 where the instance is valid, 1 where it has errors,
+/// else 2.
 pub fn status(outcome: &Result<Verdict, RunFault>) -> u8
     ensures { result ≡ status_of outcome.now }
 {
@@ -85,7 +111,7 @@ pub fn status(outcome: &Result<Verdict, RunFault>) -> u8
     }
 }
 
-/// A verdict, and all that is written for it.
+// A verdict, and all that is written for it.
 #[derive(Drop)]
 enum Reply {
     Answer(Verdict, String),
@@ -112,7 +138,7 @@ impl Reply {
     }
 }
 
-/// The reply to all that the reader gives.
+// The reply to all that the reader gives.
 fn reply_to_all<R: Source>(alloc: Global, reader: &mut R) -> Result<Reply, DeviceFault>
     requires { R.has_failed reader.old ≡ false }
     ensures output { IfOk result (λ reply. IsOutput (verdict_in reply) (text_in reply)
@@ -143,7 +169,7 @@ fn reply_to(alloc: Global, input: &[u8]) -> Result<Reply, AllocError>
     reply_to_request(alloc, &request)
 }
 
-/// What these bytes are, where they are JSON.
+// What these bytes are, where they are JSON.
 fn read_value(alloc: Global, bytes: &[u8]) -> Result<Option<Value>, AllocError>
     ensures { IfOk result (λ value. option_map view value ≡ value_of bytes.now) }
 {
@@ -162,7 +188,7 @@ fn refuse_request(alloc: Global) -> Result<Reply, AllocError>
     Ok(Reply::Answer(Verdict::Refused, text))
 }
 
-/// The schema first, then the floats of the instance, then its errors.
+// The schema first, then the floats of the instance, then its errors.
 fn reply_to_request(alloc: Global, request: &Request<'_>) -> Result<Reply, AllocError>
     ensures verdict { IfOk result
         (λ reply. verdict_in reply ≡ verdict_of (answer (Some (request_view request.now)))) }
@@ -186,10 +212,12 @@ fn reply_to_request(alloc: Global, request: &Request<'_>) -> Result<Reply, Alloc
     reply_of_errors(alloc, errors.as_slice())
 }
 
-/// The reply to a schema that does not compile.
+// The reply to a schema that does not compile.
 fn refuse_schema(alloc: Global, error: &ValidationError<'_, SerdeJson>) -> Result<Reply, AllocError>
-    ensures verdict { IfOk result (λ reply. verdict_in reply ≡ verdict_of (bad_schema (refusal_of error.now))) }
-    ensures text { IfOk result (λ reply. text_in reply ≡ output_of (bad_schema (refusal_of error.now))) }
+    ensures verdict { IfOk result (λ reply. verdict_in reply
+        ≡ verdict_of (bad_schema (refusal_of error.now))) }
+    ensures text { IfOk result (λ reply. text_in reply
+        ≡ output_of (bad_schema (refusal_of error.now))) }
 {
     let keyword = error.kind().keyword();
     let location = error.schema_path().as_str();
@@ -197,7 +225,7 @@ fn refuse_schema(alloc: Global, error: &ValidationError<'_, SerdeJson>) -> Resul
     Ok(Reply::Answer(Verdict::Refused, text))
 }
 
-/// The reply with a line for each error.
+// The reply with a line for each error.
 fn reply_of_errors(
     alloc: Global,
     found: &[ValidationError<'_, SerdeJson>],
@@ -218,7 +246,7 @@ fn reply_of_errors(
     Ok(Reply::Answer(Verdict::Invalid, text))
 }
 
-/// Appends the line of an error: its keyword, the instance location and the keyword location.
+// Appends the line of an error: its keyword, the instance location and the keyword location.
 fn push_line(text: &mut String, error: &ValidationError<'_, SerdeJson>) -> Result<(), AllocError>
     ensures { OnOk result (string_bytes text.new
         ≡ string_bytes text.old ++ error_lines (failures_of value_tree (error.now ∷ []))) }

@@ -1,5 +1,18 @@
 //! Reading all there is, and writing all of a text.
-ghost use Rattle.std.specs.Prelude.{◌≡◌, ℕ, ◌||◌, false, true, length, take, is_err, OnOk, OnErr, IfOk, IsErrOf};
+ghost use Rattle.std.specs.Prelude.{
+  ◌≡◌,
+  ℕ,
+  ◌||◌,
+  false,
+  true,
+  length,
+  take,
+  is_err,
+  OnOk,
+  OnErr,
+  IfOk,
+  IsErrOf,
+};
 ghost use Rattle.std.specs.Io.KnownBytes.{Consumes, Appends, IsAtEnd};
 ghost use Rattle.jskw.specs.declared.whole.ReadFault.TheVariants.{Memory, Device};
 
@@ -8,7 +21,7 @@ use std::alloc::{AllocError, Global};
 
 const BLOCK: usize = 65536;
 
-/// Why not all was read.
+// Why not all was read.
 #[derive(Clone, Copy, Debug, PartialEq, Eq)]
 pub(crate) enum ReadFault {
     Memory,
@@ -31,7 +44,7 @@ impl From<DeviceFault> for ReadFault {
     }
 }
 
-/// Reads to the end.
+// Reads to the end.
 pub(crate) fn read_all<R: Source>(alloc: Global, reader: &mut R) -> Result<Vec<u8>, ReadFault>
     requires { R.has_failed reader.old ≡ false }
     ensures bytes { IfOk result
@@ -52,7 +65,7 @@ pub(crate) fn read_all<R: Source>(alloc: Global, reader: &mut R) -> Result<Vec<u
     }
 }
 
-/// Writes all of the bytes.
+// Writes all of the bytes.
 pub(crate) fn write_all<W: Sink>(writer: &mut W, bytes: &[u8]) -> Result<(), DeviceFault>
     requires { W.has_failed writer.old ≡ false }
     ensures ok { OnOk result (Appends (W.contents writer.old) (W.contents writer.new) bytes.now) }

@@ -1,18 +1,20 @@
-//! Times single keywords over the values of `serde_json`. A line `check` has the answers of the cases behind it printed,
-//! and a line `time` the nanoseconds of a compile and of a call of `is_valid` too. Each other line is a case: its name,
-//! a schema of one keyword, and an instance, with a tab between each two.
+//! Times single keywords over the values of `serde_json`. A line `check` has the answers of the
+//! cases behind it printed, and a line `time` the nanoseconds of a compile and of a call of
+//! `is_valid` too. Each other line is a case: its name, a schema of one keyword, and an instance,
+//! with a tab between each two.
 #![tactic(auto)]
 
 ghost use Rattle.std.specs.Prelude.{IsTrue};
 ghost use Rattle.jskw_value.specs.Serde.{value_tree};
 ghost use Rattle.jskw_value.specs.Tree.{is_lawful};
 
-use jskw_leaf::{LeafValidator, const_, enum_, required, type_, unique_items};
+use jskw_leaf::{LeafValidator, compile, is_leaf};
+use jskw_report::compiler::member_of;
 use jskw_report::{
-    CompilationResult, Context, Draft, Settings, Validate, ValidationContext, VocabularySet,
+    Context, Draft, KeywordName, Settings, Validate, ValidationContext, VocabularySet,
 };
 use jskw_value::{Node, SerdeJson};
-use serde_json::{Map, Value};
+use serde_json::Value;
 use std::alloc::{AllocError, Global};
 use std::io;
 use std::time::Instant;
@@ -39,46 +41,22 @@ impl Instance {
     }
 }
 
-fn compile<'a>(
-    alloc: Global,
-    ctx: &Context<'_, SerdeJson>,
-    parent: &'a Map<String, Value>,
-    name: &str,
-    schema: &'a Value,
-) -> Option<CompilationResult<'a, LeafValidator<SerdeJson>>> {
-    match name {
-        "type" => match ctx.draft() {
-            Draft::Draft4 => None,
-            _ => type_::compile(alloc, ctx, parent, schema),
-        },
-        "uniqueItems" => unique_items::compile(alloc, ctx, parent, schema),
-        "const" => const_::compile(alloc, ctx, parent, schema),
-        "enum" => enum_::compile(alloc, ctx, parent, schema),
-        "required" => compile_required(alloc, ctx, schema),
-        _ => None,
-    }
-}
-
-// `required` as it is where nothing is handed on.
-fn compile_required<'a>(
-    alloc: Global,
-    ctx: &Context<'_, SerdeJson>,
-    schema: &'a Value,
-) -> Option<CompilationResult<'a, LeafValidator<SerdeJson>>> {
-    let location = ctx.location().copy(alloc).ok()?;
-    required::compile_with_path(alloc, schema, location)
-}
-
 // The validator of the schema's one keyword.
-fn compiled<'a>(
+fn compiled(
     alloc: Global,
     settings: &Settings,
-    schema: &'a Value,
+    schema: &Value,
 ) -> Option<LeafValidator<SerdeJson>> {
     let ctx: Context<SerdeJson> = Context::new(alloc, settings);
     let parent = schema.as_object()?;
-    let (name, value) = parent.iter().next()?;
-    compile(alloc, &ctx, parent, name.as_str(), value)?.ok()
+    for keyword in KeywordName::ALL {
+        if let Some(value) = member_of(parent, keyword.as_str()) {
+            if is_leaf(keyword) && keyword.stands(&ctx) {
+                return compile(alloc, &ctx, parent, keyword, value)?.ok();
+            }
+        }
+    }
+    None
 }
 
 // Equal instances of a text.

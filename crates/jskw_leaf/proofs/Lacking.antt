@@ -8,7 +8,6 @@ use Rattle.jskw_value.proofs.Booleans.{left_of, right_of}
 use Rattle.jskw_report.specs.Holds.{required_holds}
 use Rattle.jskw_report.specs.Fail.{Failure, missing}
 use Rattle.jskw_report.specs.Kind.{ErrorKind, Required}
-use Rattle.jskw_report.specs.Observe.{Collects, AppendsBeginning}
 use Rattle.jskw_leaf.specs.Required.{required_fail, required_fails}
 
 -- ---- their kinds
@@ -61,24 +60,6 @@ fails_end q t p ns n h = at_drop_all (required_fails q t p) ns n h ∙ none t
 
 pub fails_elsewhere : (q : Pointer) (t : Tree) (p : Pointer) (ns : List (List ℕ)) → is_object t ≡ false → required_fails q t p ns ≡ []
 fails_elsewhere q t p ns h = ap (fails_of q t p) (nothing_lacks t ns h)
-
--- ---- a list of them that grows
-
-pub collects_nothing : (old all : List Failure) → Collects old old all all
-collects_nothing old all = record { so_far = []; is_now = sym (append-nil old); is_all = refl }
-
-pub collects_one : {old now new all : List Failure} (f : Failure) (rest : List Failure) → Collects old now (f ∷ rest) all → new ≡ now ++ f ∷ [] → Collects old new rest all
-collects_one {old} f rest c e = record {
-  so_far = c.so_far ++ f ∷ [];
-  is_now = e ∙ ap (λ fs. fs ++ f ∷ []) c.is_now ∙ append_assoc old c.so_far (f ∷ []);
-  is_all = append_assoc c.so_far (f ∷ []) rest ∙ c.is_all;
-}
-
-pub collects_all : {old now all : List Failure} → Collects old now [] all → now ≡ old ++ all
-collects_all {old} c = c.is_now ∙ ap (λ fs. old ++ fs) (sym (append-nil c.so_far) ∙ c.is_all)
-
-pub collects_stopped : {old now rest all : List Failure} → Collects old now rest all → AppendsBeginning old now all
-collects_stopped {rest = rest} c = record { rest = rest; collects = c }
 
 -- ---- tests
 

@@ -8,10 +8,9 @@ use Rattle.jskw_value.specs.Pointer.{Pointer}
 use Rattle.jskw_value.specs.Tree.{Tree, has_name}
 use Rattle.jskw_value.specs.declared.types.JsonType.TheVariants.{String}
 use Rattle.jskw_report.specs.Fail.{Failure, keyword_fail}
-use Rattle.jskw_report.specs.KeywordValue.{Refusal, of_type, wrong, required_value}
+use Rattle.jskw_report.specs.KeywordValue.{Refusal, of_type, wrong}
 use Rattle.jskw_report.specs.Keyword.{assertion, required}
 use Rattle.jskw_report.specs.Kind.{Required}
-use Rattle.jskw_report.specs.Read.{Asserts, asserts}
 
 -- the name is one of the list
 abbrev pub is_among : List (List ℕ) → List ℕ → Bool
@@ -33,7 +32,3 @@ required_fails q t p names = keyword_fail (assertion q (required names)) t p
 abbrev pub name_value : Pointer → Data → Result (List ℕ) Refusal
 name_value p (string s) = Ok s
 name_value p d = wrong (of_type String) p d
-
--- what the value d of `required` at q asserts, whatever stands beside it
-abbrev pub required_at : Pointer → Data → Asserts
-required_at q d = asserts (λ names. assertion q (required names)) (required_value q d)

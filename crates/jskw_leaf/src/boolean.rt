@@ -1,15 +1,10 @@
 //! The schema `false` (Core 4.3.2).
-ghost use Rattle.std.specs.Prelude.{◌≡◌};
-ghost use Rattle.jskw_report.specs.Keyword.{assertion, never};
-ghost use Rattle.jskw_leaf.specs.Meaning.{false_keyword};
+ghost use Rattle.std.specs.Prelude.{◌≡◌, refl};
+ghost use Rattle.jskw_report.specs.Kind as kind;
+ghost use Rattle.jskw_leaf.specs.Meaning.{false_at, false_schema};
 
-use jskw_report::validator::{append_first, evaluate_first, fail_unless};
-use jskw_report::{
-    EvaluationResult, Fault, LazyLocation, Location, Validate, ValidationContext, ValidationError,
-    ValidationErrorKind,
-};
+use jskw_report::{Assertion, Location, ValidationErrorKind};
 use jskw_value::Json;
-use std::alloc::{AllocError, Global};
 
 /// The validator of `false`: it holds of nothing.
 #[derive(Drop)]
@@ -20,55 +15,26 @@ pub struct FalseValidator {
 impl FalseValidator {
     /// The validator that fails at the location.
     pub fn new(location: Location) -> FalseValidator
-        ensures { false_keyword result ≡ assertion location never }
+        ensures { false_schema result ≡ false_at location }
     {
         FalseValidator { location }
     }
 }
 
-#[tactic(auto, using(jskw_report::proofs::Once::once))]
-impl<F: Json> Validate<F> for FalseValidator {
-    ghost keyword = { false_keyword };
+impl Assertion for FalseValidator {
+    ghost asserts = { false_schema };
+    ghost error = { λ _. kind.FalseSchema };
+    ghost fails_once = { λ _ _. refl };
 
-    fn is_valid(&self, _instance: &F::Node, _ctx: &mut ValidationContext) -> bool {
+    fn holds<F: Json>(&self, _instance: &F::Node) -> bool {
         false
     }
 
-    fn validate<'i>(
-        &'i self,
-        instance: &'i F::Node,
-        location: &mut LazyLocation,
-        _ctx: &mut ValidationContext,
-    ) -> Result<(), Fault<'i, F>> {
-        fail_unless(
-            false,
-            ValidationErrorKind::FalseSchema,
-            &self.location,
-            instance,
-            location,
-        )
+    fn kind(&self) -> ValidationErrorKind<'_> {
+        ValidationErrorKind::FalseSchema
     }
 
-    fn collect_errors<'i>(
-        &'i self,
-        instance: &'i F::Node,
-        location: &mut LazyLocation,
-        ctx: &mut ValidationContext,
-        errors: &mut Vec<ValidationError<'i, F>>,
-    ) -> Result<(), AllocError> {
-        append_first(self.validate(instance, location, ctx), errors)
-    }
-
-    fn evaluate(
-        &self,
-        alloc: Global,
-        instance: &F::Node,
-        location: &mut LazyLocation,
-        ctx: &mut ValidationContext,
-    ) -> Result<EvaluationResult, AllocError> {
-        evaluate_first(
-            alloc,
-            <FalseValidator as Validate<F>>::validate(self, instance, location, ctx),
-        )
+    fn location(&self) -> &Location {
+        &self.location
     }
 }

@@ -1,21 +1,31 @@
 //! `const` (Validation 6.1.3): the instance equals the schema's value.
-ghost use Rattle.std.specs.Prelude.{◌≡◌, IsSome};
+ghost use Rattle.std.specs.Prelude.{◌≡◌, IsSome, refl};
 ghost use Rattle.serde_json.specs.Find.{as_bool, as_null, as_str};
-ghost use Rattle.serde_json.specs.View.{view};
-ghost use Rattle.jskw_report.specs.Errors.{kind_of};
-ghost use Rattle.jskw_report.specs.Kind.{Constant};
+ghost use Rattle.serde_json.specs.View.{view, members_view};
+ghost use Rattle.jskw_report.specs.Compile.{Makes, Compiles, reading};
+ghost use Rattle.jskw_report.specs.Kind as kind;
+ghost use Rattle.jskw_report.specs.Meaning.{placed};
+ghost use Rattle.jskw_report.specs.Read.{const_keyword, keyword_location};
+ghost use Rattle.jskw_report.specs.declared.keyword.KeywordName.TheVariants.{Const};
+ghost use Rattle.jskw_leaf.specs.Meaning.{
+  constant_at,
+  const_array,
+  const_boolean,
+  const_null,
+  const_number,
+  const_object,
+  const_string,
+  leaf_keyword,
+};
 
-mod make;
-
-use jskw_report::validator::{append_first, evaluate_first, fail_unless};
+use crate::floats::refuse_floats;
+use crate::leaf::LeafValidator;
 use jskw_report::{
-    EvaluationResult, Fault, LazyLocation, Location, Validate, ValidationContext, ValidationError,
-    ValidationErrorKind,
+    Assertion, CompilationResult, Context, KeywordName, Location, ValidationErrorKind,
 };
 use jskw_value::{Json, Node};
-pub use make::compile;
-use serde_json::Value;
-use std::alloc::{AllocError, Global};
+use serde_json::{Map, Value};
+use std::alloc::Global;
 
 /// The validator of an array.
 #[derive(Drop)]
@@ -24,52 +34,23 @@ pub struct ConstArrayValidator {
     location: Location,
 }
 
-#[tactic(auto, using(jskw_report::proofs::Once::once))]
-impl<F: Json> Validate<F> for ConstArrayValidator {
-    ghost use Rattle.jskw_leaf.specs.Meaning.{const_array};
+impl Assertion for ConstArrayValidator {
+    ghost asserts = { const_array };
+    ghost error = { λ v. kind.Constant (view v.value) };
+    ghost fails_once = { λ _ _. refl };
 
-    ghost keyword = { const_array };
-
-    fn is_valid(&self, instance: &F::Node, _ctx: &mut ValidationContext) -> bool {
-        let items = &self.value;
-        instance.equals_value(items)
+    fn holds<F: Json>(&self, instance: &F::Node) -> bool {
+        instance.equals_value(&self.value)
     }
 
-    fn validate<'i>(
-        &'i self,
-        instance: &'i F::Node,
-        location: &mut LazyLocation,
-        ctx: &mut ValidationContext,
-    ) -> Result<(), Fault<'i, F>> {
-        let holds = <Self as Validate<F>>::is_valid(self, instance, ctx);
-        fail_unless(
-            holds,
-            unequal(&self.value),
-            &self.location,
-            instance,
-            location,
-        )
+    fn kind(&self) -> ValidationErrorKind<'_> {
+        ValidationErrorKind::Constant {
+            expected_value: &self.value,
+        }
     }
 
-    fn collect_errors<'i>(
-        &'i self,
-        instance: &'i F::Node,
-        location: &mut LazyLocation,
-        ctx: &mut ValidationContext,
-        errors: &mut Vec<ValidationError<'i, F>>,
-    ) -> Result<(), AllocError> {
-        append_first(self.validate(instance, location, ctx), errors)
-    }
-
-    fn evaluate(
-        &self,
-        alloc: Global,
-        instance: &F::Node,
-        location: &mut LazyLocation,
-        ctx: &mut ValidationContext,
-    ) -> Result<EvaluationResult, AllocError> {
-        let answer = <Self as Validate<F>>::validate(self, instance, location, ctx);
-        evaluate_first(alloc, answer)
+    fn location(&self) -> &Location {
+        &self.location
     }
 }
 
@@ -81,51 +62,23 @@ pub struct ConstBooleanValidator {
     ghost is_boolean: { IsSome (as_bool (view value)) },
 }
 
-#[tactic(auto, using(jskw_report::proofs::Once::once))]
-impl<F: Json> Validate<F> for ConstBooleanValidator {
-    ghost use Rattle.jskw_leaf.specs.Meaning.{const_boolean};
+impl Assertion for ConstBooleanValidator {
+    ghost asserts = { const_boolean };
+    ghost error = { λ v. kind.Constant (view v.value) };
+    ghost fails_once = { λ _ _. refl };
 
-    ghost keyword = { const_boolean };
-
-    fn is_valid(&self, instance: &F::Node, _ctx: &mut ValidationContext) -> bool {
+    fn holds<F: Json>(&self, instance: &F::Node) -> bool {
         instance.as_boolean() == self.value.as_bool()
     }
 
-    fn validate<'i>(
-        &'i self,
-        instance: &'i F::Node,
-        location: &mut LazyLocation,
-        ctx: &mut ValidationContext,
-    ) -> Result<(), Fault<'i, F>> {
-        let holds = <Self as Validate<F>>::is_valid(self, instance, ctx);
-        fail_unless(
-            holds,
-            unequal(&self.value),
-            &self.location,
-            instance,
-            location,
-        )
+    fn kind(&self) -> ValidationErrorKind<'_> {
+        ValidationErrorKind::Constant {
+            expected_value: &self.value,
+        }
     }
 
-    fn collect_errors<'i>(
-        &'i self,
-        instance: &'i F::Node,
-        location: &mut LazyLocation,
-        ctx: &mut ValidationContext,
-        errors: &mut Vec<ValidationError<'i, F>>,
-    ) -> Result<(), AllocError> {
-        append_first(self.validate(instance, location, ctx), errors)
-    }
-
-    fn evaluate(
-        &self,
-        alloc: Global,
-        instance: &F::Node,
-        location: &mut LazyLocation,
-        ctx: &mut ValidationContext,
-    ) -> Result<EvaluationResult, AllocError> {
-        let answer = <Self as Validate<F>>::validate(self, instance, location, ctx);
-        evaluate_first(alloc, answer)
+    fn location(&self) -> &Location {
+        &self.location
     }
 }
 
@@ -137,51 +90,23 @@ pub struct ConstNullValidator {
     ghost is_null: { IsSome (as_null (view value)) },
 }
 
-#[tactic(auto, using(jskw_report::proofs::Once::once))]
-impl<F: Json> Validate<F> for ConstNullValidator {
-    ghost use Rattle.jskw_leaf.specs.Meaning.{const_null};
+impl Assertion for ConstNullValidator {
+    ghost asserts = { const_null };
+    ghost error = { λ v. kind.Constant (view v.value) };
+    ghost fails_once = { λ _ _. refl };
 
-    ghost keyword = { const_null };
-
-    fn is_valid(&self, instance: &F::Node, _ctx: &mut ValidationContext) -> bool {
+    fn holds<F: Json>(&self, instance: &F::Node) -> bool {
         instance.is_null()
     }
 
-    fn validate<'i>(
-        &'i self,
-        instance: &'i F::Node,
-        location: &mut LazyLocation,
-        ctx: &mut ValidationContext,
-    ) -> Result<(), Fault<'i, F>> {
-        let holds = <Self as Validate<F>>::is_valid(self, instance, ctx);
-        fail_unless(
-            holds,
-            unequal(&self.value),
-            &self.location,
-            instance,
-            location,
-        )
+    fn kind(&self) -> ValidationErrorKind<'_> {
+        ValidationErrorKind::Constant {
+            expected_value: &self.value,
+        }
     }
 
-    fn collect_errors<'i>(
-        &'i self,
-        instance: &'i F::Node,
-        location: &mut LazyLocation,
-        ctx: &mut ValidationContext,
-        errors: &mut Vec<ValidationError<'i, F>>,
-    ) -> Result<(), AllocError> {
-        append_first(self.validate(instance, location, ctx), errors)
-    }
-
-    fn evaluate(
-        &self,
-        alloc: Global,
-        instance: &F::Node,
-        location: &mut LazyLocation,
-        ctx: &mut ValidationContext,
-    ) -> Result<EvaluationResult, AllocError> {
-        let answer = <Self as Validate<F>>::validate(self, instance, location, ctx);
-        evaluate_first(alloc, answer)
+    fn location(&self) -> &Location {
+        &self.location
     }
 }
 
@@ -192,52 +117,23 @@ pub struct ConstNumberValidator {
     location: Location,
 }
 
-#[tactic(auto, using(jskw_report::proofs::Once::once))]
-impl<F: Json> Validate<F> for ConstNumberValidator {
-    ghost use Rattle.jskw_leaf.specs.Meaning.{const_number};
+impl Assertion for ConstNumberValidator {
+    ghost asserts = { const_number };
+    ghost error = { λ v. kind.Constant (view v.value) };
+    ghost fails_once = { λ _ _. refl };
 
-    ghost keyword = { const_number };
-
-    fn is_valid(&self, instance: &F::Node, _ctx: &mut ValidationContext) -> bool {
-        let number = &self.value;
-        instance.equals_value(number)
+    fn holds<F: Json>(&self, instance: &F::Node) -> bool {
+        instance.equals_value(&self.value)
     }
 
-    fn validate<'i>(
-        &'i self,
-        instance: &'i F::Node,
-        location: &mut LazyLocation,
-        ctx: &mut ValidationContext,
-    ) -> Result<(), Fault<'i, F>> {
-        let holds = <Self as Validate<F>>::is_valid(self, instance, ctx);
-        fail_unless(
-            holds,
-            unequal(&self.value),
-            &self.location,
-            instance,
-            location,
-        )
+    fn kind(&self) -> ValidationErrorKind<'_> {
+        ValidationErrorKind::Constant {
+            expected_value: &self.value,
+        }
     }
 
-    fn collect_errors<'i>(
-        &'i self,
-        instance: &'i F::Node,
-        location: &mut LazyLocation,
-        ctx: &mut ValidationContext,
-        errors: &mut Vec<ValidationError<'i, F>>,
-    ) -> Result<(), AllocError> {
-        append_first(self.validate(instance, location, ctx), errors)
-    }
-
-    fn evaluate(
-        &self,
-        alloc: Global,
-        instance: &F::Node,
-        location: &mut LazyLocation,
-        ctx: &mut ValidationContext,
-    ) -> Result<EvaluationResult, AllocError> {
-        let answer = <Self as Validate<F>>::validate(self, instance, location, ctx);
-        evaluate_first(alloc, answer)
+    fn location(&self) -> &Location {
+        &self.location
     }
 }
 
@@ -248,52 +144,23 @@ pub struct ConstObjectValidator {
     location: Location,
 }
 
-#[tactic(auto, using(jskw_report::proofs::Once::once))]
-impl<F: Json> Validate<F> for ConstObjectValidator {
-    ghost use Rattle.jskw_leaf.specs.Meaning.{const_object};
+impl Assertion for ConstObjectValidator {
+    ghost asserts = { const_object };
+    ghost error = { λ v. kind.Constant (view v.value) };
+    ghost fails_once = { λ _ _. refl };
 
-    ghost keyword = { const_object };
-
-    fn is_valid(&self, instance: &F::Node, _ctx: &mut ValidationContext) -> bool {
-        let members = &self.value;
-        instance.equals_value(members)
+    fn holds<F: Json>(&self, instance: &F::Node) -> bool {
+        instance.equals_value(&self.value)
     }
 
-    fn validate<'i>(
-        &'i self,
-        instance: &'i F::Node,
-        location: &mut LazyLocation,
-        ctx: &mut ValidationContext,
-    ) -> Result<(), Fault<'i, F>> {
-        let holds = <Self as Validate<F>>::is_valid(self, instance, ctx);
-        fail_unless(
-            holds,
-            unequal(&self.value),
-            &self.location,
-            instance,
-            location,
-        )
+    fn kind(&self) -> ValidationErrorKind<'_> {
+        ValidationErrorKind::Constant {
+            expected_value: &self.value,
+        }
     }
 
-    fn collect_errors<'i>(
-        &'i self,
-        instance: &'i F::Node,
-        location: &mut LazyLocation,
-        ctx: &mut ValidationContext,
-        errors: &mut Vec<ValidationError<'i, F>>,
-    ) -> Result<(), AllocError> {
-        append_first(self.validate(instance, location, ctx), errors)
-    }
-
-    fn evaluate(
-        &self,
-        alloc: Global,
-        instance: &F::Node,
-        location: &mut LazyLocation,
-        ctx: &mut ValidationContext,
-    ) -> Result<EvaluationResult, AllocError> {
-        let answer = <Self as Validate<F>>::validate(self, instance, location, ctx);
-        evaluate_first(alloc, answer)
+    fn location(&self) -> &Location {
+        &self.location
     }
 }
 
@@ -305,57 +172,66 @@ pub struct ConstStringValidator {
     ghost is_string: { IsSome (as_str (view value)) },
 }
 
-#[tactic(auto, using(jskw_report::proofs::Once::once))]
-impl<F: Json> Validate<F> for ConstStringValidator {
-    ghost use Rattle.jskw_leaf.specs.Meaning.{const_string};
+impl Assertion for ConstStringValidator {
+    ghost asserts = { const_string };
+    ghost error = { λ v. kind.Constant (view v.value) };
+    ghost fails_once = { λ _ _. refl };
 
-    ghost keyword = { const_string };
-
-    fn is_valid(&self, instance: &F::Node, _ctx: &mut ValidationContext) -> bool {
+    fn holds<F: Json>(&self, instance: &F::Node) -> bool {
         instance.as_string() == self.value.as_str()
     }
 
-    fn validate<'i>(
-        &'i self,
-        instance: &'i F::Node,
-        location: &mut LazyLocation,
-        ctx: &mut ValidationContext,
-    ) -> Result<(), Fault<'i, F>> {
-        let holds = <Self as Validate<F>>::is_valid(self, instance, ctx);
-        fail_unless(
-            holds,
-            unequal(&self.value),
-            &self.location,
-            instance,
-            location,
-        )
+    fn kind(&self) -> ValidationErrorKind<'_> {
+        ValidationErrorKind::Constant {
+            expected_value: &self.value,
+        }
     }
 
-    fn collect_errors<'i>(
-        &'i self,
-        instance: &'i F::Node,
-        location: &mut LazyLocation,
-        ctx: &mut ValidationContext,
-        errors: &mut Vec<ValidationError<'i, F>>,
-    ) -> Result<(), AllocError> {
-        append_first(self.validate(instance, location, ctx), errors)
-    }
-
-    fn evaluate(
-        &self,
-        alloc: Global,
-        instance: &F::Node,
-        location: &mut LazyLocation,
-        ctx: &mut ValidationContext,
-    ) -> Result<EvaluationResult, AllocError> {
-        let answer = <Self as Validate<F>>::validate(self, instance, location, ctx);
-        evaluate_first(alloc, answer)
+    fn location(&self) -> &Location {
+        &self.location
     }
 }
 
-/// The kind of an error of an expected value.
-fn unequal<'i>(expected_value: &'i Value) -> ValidationErrorKind<'i>
-    ensures { kind_of result ≡ Constant (view expected_value.now) }
+/// Compiles `const`. Always Some: any value is taken that holds no float, and the validator is
+/// chosen by its type. A value that holds a float is a compile error with the message `Not a whole
+/// number of 64 bits`, whose value at fault is the first float.
+#[tactic(auto, unfolding(jskw_report::specs::Read::asserted))]
+pub fn compile<'a, F: Json>(
+    alloc: Global,
+    ctx: &Context<'_, F>,
+    parent: &'a Map<String, Value>,
+    schema: &'a Value,
+) -> Option<CompilationResult<'a, LeafValidator<F>>>
+    ensures { Compiles leaf_keyword result
+        (reading Const ctx.now (members_view parent.now.entries) (view schema.now)) }
 {
-    ValidationErrorKind::Constant { expected_value }
+    let _ = parent;
+    Some(const_validator(alloc, ctx, schema))
+}
+
+fn const_validator<'a, F: Json>(
+    alloc: Global,
+    ctx: &Context<'_, F>,
+    schema: &'a Value,
+) -> CompilationResult<'a, LeafValidator<F>>
+    ensures { Makes leaf_keyword result
+        (const_keyword (keyword_location ctx.now.location Const) (view schema.now)) }
+{
+    let location = ctx.keyword_location(alloc, KeywordName::Const)?;
+    refuse_floats(alloc, &location, schema)?;
+    Ok(validator_of(schema.clone()?, location))
+}
+
+// The validator of a value, by its type.
+fn validator_of<F: Json>(value: Value, location: Location) -> LeafValidator<F>
+    ensures { leaf_keyword result ≡ placed (constant_at location value) }
+{
+    match value {
+        Value::Array(_) => LeafValidator::ConstArray(ConstArrayValidator { value, location }),
+        Value::Bool(_) => LeafValidator::ConstBoolean(ConstBooleanValidator { value, location }),
+        Value::Null => LeafValidator::ConstNull(ConstNullValidator { value, location }),
+        Value::Number(_) => LeafValidator::ConstNumber(ConstNumberValidator { value, location }),
+        Value::Object(_) => LeafValidator::ConstObject(ConstObjectValidator { value, location }),
+        Value::String(_) => LeafValidator::ConstString(ConstStringValidator { value, location }),
+    }
 }

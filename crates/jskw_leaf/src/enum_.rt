@@ -1,5 +1,5 @@
 //! `enum` (Validation 6.1.2): the instance equals one of the schema's values.
-ghost use Rattle.std.specs.Prelude.{◌≡◌, ◌&&◌, IsSome};
+ghost use Rattle.std.specs.Prelude.{◌≡◌, ◌&&◌, IsSome, refl};
 ghost use Rattle.serde_json.specs.Find.{as_array};
 ghost use Rattle.serde_json.specs.View.{view, items_view};
 ghost use Rattle.jskw_value.specs.Equality.{equal};
@@ -8,7 +8,7 @@ ghost use Rattle.jskw_value.specs.Tree.{Tree, is_null};
 ghost use Rattle.jskw_value.specs.Types.{no_types};
 ghost use Rattle.jskw_report.specs.Errors.{kind_of};
 ghost use Rattle.jskw_report.specs.Holds.{is_option};
-ghost use Rattle.jskw_report.specs.Kind.{Enum, Listed};
+ghost use Rattle.jskw_leaf.specs.Meaning.{enum_any, enum_single, not_among};
 ghost use Rattle.jskw_leaf.specs.Options.{options_of, option_types};
 
 mod integers;
@@ -16,19 +16,15 @@ mod make;
 mod strings;
 
 pub use integers::IntegerEnumValidator;
-use jskw_report::validator::{append_first, evaluate_first, fail_unless};
-use jskw_report::{
-    EnumOptions, EvaluationResult, Fault, LazyLocation, Location, Validate, ValidationContext,
-    ValidationError, ValidationErrorKind,
-};
+use jskw_report::{Assertion, EnumOptions, Location, ValidationErrorKind};
 use jskw_value::{Json, JsonTypeSet, Node, Nullability};
 pub use make::compile;
 use serde_json::Value;
-use std::alloc::{AllocError, Global};
 use std::marker::{Model, PhantomData};
 pub use strings::{BigStringEnumValidator, SmallStringEnumValidator};
 
-/// The validator of options of any types. An instance whose type no option has is compared with none.
+/// The validator of options of any types. An instance whose type no option has is compared with
+/// none.
 #[derive(Drop)]
 pub struct EnumValidator {
     options: Value,
@@ -38,51 +34,21 @@ pub struct EnumValidator {
     ghost typed: { types ≡ option_types no_types (options_of (view options)) },
 }
 
-#[tactic(auto, using(jskw_report::proofs::Once::once, crate::proofs::Options::listed))]
-impl<F: Json> Validate<F> for EnumValidator {
-    ghost use Rattle.jskw_leaf.specs.Meaning.{enum_any};
+impl Assertion for EnumValidator {
+    ghost asserts = { enum_any };
+    ghost error = { λ v. not_among v.options };
+    ghost fails_once = { λ _ _. refl };
 
-    ghost keyword = { enum_any };
-
-    fn is_valid(&self, instance: &F::Node, _ctx: &mut ValidationContext) -> bool {
+    fn holds<F: Json>(&self, instance: &F::Node) -> bool {
         self.types.contains_value_type::<F>(instance) && is_listed::<F>(&self.options, instance)
     }
 
-    fn validate<'i>(
-        &'i self,
-        instance: &'i F::Node,
-        location: &mut LazyLocation,
-        ctx: &mut ValidationContext,
-    ) -> Result<(), Fault<'i, F>> {
-        let holds = <Self as Validate<F>>::is_valid(self, instance, ctx);
-        fail_unless(
-            holds,
-            unlisted(&self.options),
-            &self.location,
-            instance,
-            location,
-        )
+    fn kind(&self) -> ValidationErrorKind<'_> {
+        not_among(&self.options)
     }
 
-    fn collect_errors<'i>(
-        &'i self,
-        instance: &'i F::Node,
-        location: &mut LazyLocation,
-        ctx: &mut ValidationContext,
-        errors: &mut Vec<ValidationError<'i, F>>,
-    ) -> Result<(), AllocError> {
-        append_first(self.validate(instance, location, ctx), errors)
-    }
-
-    fn evaluate(
-        &self,
-        alloc: Global,
-        instance: &F::Node,
-        location: &mut LazyLocation,
-        ctx: &mut ValidationContext,
-    ) -> Result<EvaluationResult, AllocError> {
-        let answer = <Self as Validate<F>>::validate(self, instance, location, ctx);
-        evaluate_first(alloc, answer)
+    fn location(&self) -> &Location {
+        &self.location
     }
 }
 
@@ -93,58 +59,29 @@ pub struct SingleValueEnumValidator {
     value: Value,
     location: Location,
     ghost array: { IsSome (as_array (view options)) },
-    ghost one: { (t : Tree) → is_option (options_of (view options)) t ≡ equal (value_tree value) t },
+    ghost one: { (t : Tree) → is_option (options_of (view options)) t
+        ≡ equal (value_tree value) t },
 }
 
-#[tactic(auto, using(jskw_report::proofs::Once::once, crate::proofs::Options::listed))]
-impl<F: Json> Validate<F> for SingleValueEnumValidator {
-    ghost use Rattle.jskw_leaf.specs.Meaning.{enum_single};
+impl Assertion for SingleValueEnumValidator {
+    ghost asserts = { enum_single };
+    ghost error = { λ v. not_among v.options };
+    ghost fails_once = { λ _ _. refl };
 
-    ghost keyword = { enum_single };
-
-    fn is_valid(&self, instance: &F::Node, _ctx: &mut ValidationContext) -> bool {
+    fn holds<F: Json>(&self, instance: &F::Node) -> bool {
         instance.equals_value(&self.value)
     }
 
-    fn validate<'i>(
-        &'i self,
-        instance: &'i F::Node,
-        location: &mut LazyLocation,
-        ctx: &mut ValidationContext,
-    ) -> Result<(), Fault<'i, F>> {
-        let holds = <Self as Validate<F>>::is_valid(self, instance, ctx);
-        fail_unless(
-            holds,
-            unlisted(&self.options),
-            &self.location,
-            instance,
-            location,
-        )
+    fn kind(&self) -> ValidationErrorKind<'_> {
+        not_among(&self.options)
     }
 
-    fn collect_errors<'i>(
-        &'i self,
-        instance: &'i F::Node,
-        location: &mut LazyLocation,
-        ctx: &mut ValidationContext,
-        errors: &mut Vec<ValidationError<'i, F>>,
-    ) -> Result<(), AllocError> {
-        append_first(self.validate(instance, location, ctx), errors)
-    }
-
-    fn evaluate(
-        &self,
-        alloc: Global,
-        instance: &F::Node,
-        location: &mut LazyLocation,
-        ctx: &mut ValidationContext,
-    ) -> Result<EvaluationResult, AllocError> {
-        let answer = <Self as Validate<F>>::validate(self, instance, location, ctx);
-        evaluate_first(alloc, answer)
+    fn location(&self) -> &Location {
+        &self.location
     }
 }
 
-/// Whether null is an option, as the type tells. Contracts see the answer.
+// Whether null is an option, as the type tells. Contracts see the answer.
 #[derive(Drop)]
 pub(crate) struct NullOption<N: Nullability> {
     nullability: PhantomData<N>,
@@ -167,7 +104,7 @@ impl<N: Nullability> NullOption<N> {
         }
     }
 
-    /// Whether null is an option and the instance is null.
+    // Whether null is an option and the instance is null.
     pub(crate) fn accepts<F: Json>(&self, instance: &F::Node) -> bool
         ensures { result ≡ (self.now && is_null (F.Node.tree instance.now)) }
     {
@@ -177,7 +114,7 @@ impl<N: Nullability> NullOption<N> {
     }
 }
 
-/// Whether an option that the value lists equals the instance.
+// Whether an option that the value lists equals the instance.
 fn is_listed<F: Json>(options: &Value, instance: &F::Node) -> bool
     ensures { result ≡ is_option (options_of (view options.now)) (F.Node.tree instance.now) }
 {
@@ -187,7 +124,7 @@ fn is_listed<F: Json>(options: &Value, instance: &F::Node) -> bool
     }
 }
 
-/// Whether one of the items equals the instance.
+// Whether one of the items equals the instance.
 fn is_among<F: Json>(items: &[Value], instance: &F::Node) -> bool
     ensures { result ≡ is_option (items_view items.now) (F.Node.tree instance.now) }
 {
@@ -199,9 +136,11 @@ fn is_among<F: Json>(items: &[Value], instance: &F::Node) -> bool
     false
 }
 
-/// The kind of an error of the options that a value lists.
-fn unlisted<'i>(options: &'i Value) -> ValidationErrorKind<'i>
-    ensures { kind_of result ≡ Enum (Listed (view options.now)) }
+// The kind of the error where the instance is none of the options that a value lists.
+#[tactic(auto, using(crate::proofs::Options::listed))]
+fn not_among<'i>(options: &'i Value) -> ValidationErrorKind<'i>
+    requires { IsSome (as_array (view options.now)) }
+    ensures { kind_of result ≡ not_among options.now }
 {
     ValidationErrorKind::Enum {
         options: EnumOptions::Listed(options),

@@ -2,17 +2,21 @@
 ghost use Rattle.std.specs.Prelude.{◌≡◌, option_map};
 ghost use Rattle.serde_json.specs.View.{view, items_view, members_view};
 ghost use Rattle.jskw_report.specs.Compile.{Makes};
-ghost use Rattle.jskw_report.specs.KeywordValue.{const_value, first_float, first_float_item, first_float_member};
-
-use jskw_report::{
-    CompilationResult, CompileFault, Location, ValidationError, ValidationErrorKind,
+ghost use Rattle.jskw_report.specs.KeywordValue.{
+  const_value,
+  first_float,
+  first_float_item,
+  first_float_member,
 };
+
+use jskw_report::{CompilationResult, CompileFault, Location, ValidationErrorKind};
 use serde_json::{Map, Value};
 use std::alloc::Global;
 
-/// The first float of a value: depth first, items by index, members in the order of their names' bytes.
+// The first float of a value: depth first, items by index, members in the order of their names'
+// bytes.
 #[cycle(first_float)]
-pub fn first_float(value: &Value) -> Option<&Value>
+pub(crate) fn first_float(value: &Value) -> Option<&Value>
     ensures { option_map (λ v. view v.now) result ≡ first_float (view value.now) }
 {
     match value {
@@ -37,7 +41,8 @@ fn float_in_items(items: &Vec<Value>) -> Option<&Value>
 
 #[cycle(first_float)]
 fn float_in_members(members: &Map<String, Value>) -> Option<&Value>
-    ensures { option_map (λ v. view v.now) result ≡ first_float_member (members_view members.now.entries) }
+    ensures { option_map (λ v. view v.now) result
+        ≡ first_float_member (members_view members.now.entries) }
 {
     for (_, member) in members.iter() {
         if let Some(float) = first_float(member) {
@@ -47,8 +52,9 @@ fn float_in_members(members: &Map<String, Value>) -> Option<&Value>
     None
 }
 
-/// Ok where the value, that of the keyword at the location, holds no float, and else the compile error of the first one.
-pub fn refuse_floats<'a>(
+// Ok where the value, that of the keyword at the location, holds no float, and else the compile
+// error of the first one.
+pub(crate) fn refuse_floats<'a>(
     alloc: Global,
     location: &Location,
     value: &'a Value,
@@ -58,9 +64,5 @@ pub fn refuse_floats<'a>(
     let Some(float) = first_float(value) else {
         return Ok(());
     };
-    let kind = ValidationErrorKind::CompileError {
-        message: "Not a whole number of 64 bits",
-    };
-    let location = location.copy(alloc)?;
-    Err(CompileFault::Bad(ValidationError::refused(alloc, kind, location, float)))
+    Err(CompileFault::wrong(alloc, ValidationErrorKind::not_whole(), location, float))
 }

@@ -1,4 +1,5 @@
 //! The validators of the keywords without subschemas, as one type.
+ghost use Rattle.jskw_report.specs.Meaning.{one};
 ghost use Rattle.jskw_leaf.specs.Meaning.{leaf_keyword};
 
 use crate::boolean::FalseValidator;
@@ -26,7 +27,10 @@ use jskw_report::{
 use jskw_value::{Json, NotNullable, Nullable};
 use std::alloc::{AllocError, Global};
 
-/// A validator of one keyword without subschemas, over the representation `F`.
+/// A validator of one keyword without subschemas, over the representation `F`. [`compile`] makes
+/// one of each but `False`, which is for the schema that is `false`.
+///
+/// [`compile`]: crate::compile
 #[derive(Drop)]
 pub enum LeafValidator<F: Json> {
     False(FalseValidator),
@@ -62,47 +66,26 @@ pub enum LeafValidator<F: Json> {
     Required3(Required3Validator<F>),
 }
 
-/// What is said of the validator, whichever it is.
+// What is said of the validator, whichever it is.
 macro_rules! whichever {
     ($leaf:expr, $validator:ident => $answer:expr) => {
+        whichever!(@ $leaf, $validator => $answer;
+            False Number MultipleTypes ArrayType BooleanType IntegerType NullType NumberType
+            ObjectType StringType MultipleTypesDraft4 IntegerTypeDraft4 ConstArray ConstBoolean
+            ConstNull ConstNumber ConstObject ConstString Enum SingleValueEnum SmallStringEnum
+            NullableSmallStringEnum BigStringEnum NullableBigStringEnum IntegerEnum
+            NullableIntegerEnum UniqueItems Required SingleItemRequired Required2 Required3
+        )
+    };
+    (@ $leaf:expr, $validator:ident => $answer:expr; $($variant:ident)+) => {
         match $leaf {
-            LeafValidator::False($validator) => $answer,
-            LeafValidator::Number($validator) => $answer,
-            LeafValidator::MultipleTypes($validator) => $answer,
-            LeafValidator::ArrayType($validator) => $answer,
-            LeafValidator::BooleanType($validator) => $answer,
-            LeafValidator::IntegerType($validator) => $answer,
-            LeafValidator::NullType($validator) => $answer,
-            LeafValidator::NumberType($validator) => $answer,
-            LeafValidator::ObjectType($validator) => $answer,
-            LeafValidator::StringType($validator) => $answer,
-            LeafValidator::MultipleTypesDraft4($validator) => $answer,
-            LeafValidator::IntegerTypeDraft4($validator) => $answer,
-            LeafValidator::ConstArray($validator) => $answer,
-            LeafValidator::ConstBoolean($validator) => $answer,
-            LeafValidator::ConstNull($validator) => $answer,
-            LeafValidator::ConstNumber($validator) => $answer,
-            LeafValidator::ConstObject($validator) => $answer,
-            LeafValidator::ConstString($validator) => $answer,
-            LeafValidator::Enum($validator) => $answer,
-            LeafValidator::SingleValueEnum($validator) => $answer,
-            LeafValidator::SmallStringEnum($validator) => $answer,
-            LeafValidator::NullableSmallStringEnum($validator) => $answer,
-            LeafValidator::BigStringEnum($validator) => $answer,
-            LeafValidator::NullableBigStringEnum($validator) => $answer,
-            LeafValidator::IntegerEnum($validator) => $answer,
-            LeafValidator::NullableIntegerEnum($validator) => $answer,
-            LeafValidator::UniqueItems($validator) => $answer,
-            LeafValidator::Required($validator) => $answer,
-            LeafValidator::SingleItemRequired($validator) => $answer,
-            LeafValidator::Required2($validator) => $answer,
-            LeafValidator::Required3($validator) => $answer,
+            $(LeafValidator::$variant($validator) => $answer,)+
         }
     };
 }
 
 impl<F: Json> Validate<F> for LeafValidator<F> {
-    ghost keyword = { leaf_keyword };
+    ghost meaning = { λ v. one (leaf_keyword v) };
 
     fn is_valid(&self, instance: &F::Node, ctx: &mut ValidationContext) -> bool {
         whichever!(self, validator => Validate::<F>::is_valid(validator, instance, ctx))
@@ -134,6 +117,8 @@ impl<F: Json> Validate<F> for LeafValidator<F> {
         location: &mut LazyLocation,
         ctx: &mut ValidationContext,
     ) -> Result<EvaluationResult, AllocError> {
-        whichever!(self, validator => Validate::<F>::evaluate(validator, alloc, instance, location, ctx))
+        whichever!(self, validator => Validate::<F>::evaluate(
+            validator, alloc, instance, location, ctx,
+        ))
     }
 }

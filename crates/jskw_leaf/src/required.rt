@@ -1,4 +1,7 @@
 //! `required` (Validation 6.5.3): an object has a member of each name.
+ghost use Rattle.jskw_report.specs.Meaning.{one, placed};
+ghost use Rattle.jskw_leaf.specs.Meaning.{required_names};
+
 mod beside;
 mod found;
 mod make;
@@ -8,173 +11,41 @@ mod prepared;
 
 pub use beside::is_handed_on;
 use found::has_all;
+use jskw_report::validator::evaluate_errors;
 use jskw_report::{
     EvaluationResult, Fault, LazyLocation, Location, Validate, ValidationContext, ValidationError,
 };
 use jskw_value::{Json, Node};
 pub use make::{compile, compile_with_path};
-use missing::{append_missing, evaluate_errors, fail_first};
-use names::{NameList, OneName, ThreeNames, TwoNames};
+use missing::{append_missing, fail_first};
+use names::{NameList, Names, OneName, ThreeNames, TwoNames};
 use std::alloc::{AllocError, Global};
 
-/// The validator of any number of names.
+/// The validator of the names that `L` holds, each once. It fails once for each name that an object
+/// lacks.
 #[derive(Drop)]
-pub struct RequiredValidator<F: Json> {
-    required: NameList<F>,
+pub struct RequiredNames<L> {
+    names: L,
     location: Location,
 }
 
-impl<F: Json> Validate<F> for RequiredValidator<F> {
-    ghost use Rattle.jskw_leaf.specs.Meaning.{several_names};
-
-    ghost keyword = { several_names };
-
-    fn is_valid(&self, instance: &F::Node, _ctx: &mut ValidationContext) -> bool {
-        !instance.is_object() || has_all(&self.required, instance)
-    }
-
-    fn validate<'i>(
-        &'i self,
-        instance: &'i F::Node,
-        location: &mut LazyLocation,
-        _ctx: &mut ValidationContext,
-    ) -> Result<(), Fault<'i, F>> {
-        fail_first(&self.required, &self.location, instance, location)
-    }
-
-    fn collect_errors<'i>(
-        &'i self,
-        instance: &'i F::Node,
-        location: &mut LazyLocation,
-        _ctx: &mut ValidationContext,
-        errors: &mut Vec<ValidationError<'i, F>>,
-    ) -> Result<(), AllocError> {
-        append_missing(&self.required, &self.location, instance, location, errors)
-    }
-
-    fn evaluate(
-        &self,
-        alloc: Global,
-        instance: &F::Node,
-        location: &mut LazyLocation,
-        ctx: &mut ValidationContext,
-    ) -> Result<EvaluationResult, AllocError> {
-        let mut errors = Vec::new(alloc);
-        self.collect_errors(instance, location, ctx, &mut errors)?;
-        evaluate_errors(alloc, &errors)
-    }
-}
+/// The validator of any number of names.
+pub type RequiredValidator<F> = RequiredNames<NameList<F>>;
 
 /// The validator of one name.
-#[derive(Drop)]
-pub struct SingleItemRequiredValidator<F: Json> {
-    name: OneName<F>,
-    location: Location,
-}
-
-impl<F: Json> Validate<F> for SingleItemRequiredValidator<F> {
-    ghost use Rattle.jskw_leaf.specs.Meaning.{one_name};
-
-    ghost keyword = { one_name };
-
-    fn is_valid(&self, instance: &F::Node, _ctx: &mut ValidationContext) -> bool {
-        !instance.is_object() || has_all(&self.name, instance)
-    }
-
-    fn validate<'i>(
-        &'i self,
-        instance: &'i F::Node,
-        location: &mut LazyLocation,
-        _ctx: &mut ValidationContext,
-    ) -> Result<(), Fault<'i, F>> {
-        fail_first(&self.name, &self.location, instance, location)
-    }
-
-    fn collect_errors<'i>(
-        &'i self,
-        instance: &'i F::Node,
-        location: &mut LazyLocation,
-        _ctx: &mut ValidationContext,
-        errors: &mut Vec<ValidationError<'i, F>>,
-    ) -> Result<(), AllocError> {
-        append_missing(&self.name, &self.location, instance, location, errors)
-    }
-
-    fn evaluate(
-        &self,
-        alloc: Global,
-        instance: &F::Node,
-        location: &mut LazyLocation,
-        ctx: &mut ValidationContext,
-    ) -> Result<EvaluationResult, AllocError> {
-        let mut errors = Vec::new(alloc);
-        self.collect_errors(instance, location, ctx, &mut errors)?;
-        evaluate_errors(alloc, &errors)
-    }
-}
+pub type SingleItemRequiredValidator<F> = RequiredNames<OneName<F>>;
 
 /// The validator of two names.
-#[derive(Drop)]
-pub struct Required2Validator<F: Json> {
-    pair: TwoNames<F>,
-    location: Location,
-}
-
-impl<F: Json> Validate<F> for Required2Validator<F> {
-    ghost use Rattle.jskw_leaf.specs.Meaning.{two_names};
-
-    ghost keyword = { two_names };
-
-    fn is_valid(&self, instance: &F::Node, _ctx: &mut ValidationContext) -> bool {
-        !instance.is_object() || has_all(&self.pair, instance)
-    }
-
-    fn validate<'i>(
-        &'i self,
-        instance: &'i F::Node,
-        location: &mut LazyLocation,
-        _ctx: &mut ValidationContext,
-    ) -> Result<(), Fault<'i, F>> {
-        fail_first(&self.pair, &self.location, instance, location)
-    }
-
-    fn collect_errors<'i>(
-        &'i self,
-        instance: &'i F::Node,
-        location: &mut LazyLocation,
-        _ctx: &mut ValidationContext,
-        errors: &mut Vec<ValidationError<'i, F>>,
-    ) -> Result<(), AllocError> {
-        append_missing(&self.pair, &self.location, instance, location, errors)
-    }
-
-    fn evaluate(
-        &self,
-        alloc: Global,
-        instance: &F::Node,
-        location: &mut LazyLocation,
-        ctx: &mut ValidationContext,
-    ) -> Result<EvaluationResult, AllocError> {
-        let mut errors = Vec::new(alloc);
-        self.collect_errors(instance, location, ctx, &mut errors)?;
-        evaluate_errors(alloc, &errors)
-    }
-}
+pub type Required2Validator<F> = RequiredNames<TwoNames<F>>;
 
 /// The validator of three names.
-#[derive(Drop)]
-pub struct Required3Validator<F: Json> {
-    triple: ThreeNames<F>,
-    location: Location,
-}
+pub type Required3Validator<F> = RequiredNames<ThreeNames<F>>;
 
-impl<F: Json> Validate<F> for Required3Validator<F> {
-    ghost use Rattle.jskw_leaf.specs.Meaning.{three_names};
-
-    ghost keyword = { three_names };
+impl<F: Json, L: Names<F>> Validate<F> for RequiredNames<L> {
+    ghost meaning = { λ v. one (placed (required_names L.names v)) };
 
     fn is_valid(&self, instance: &F::Node, _ctx: &mut ValidationContext) -> bool {
-        !instance.is_object() || has_all(&self.triple, instance)
+        !instance.is_object() || has_all(&self.names, instance)
     }
 
     fn validate<'i>(
@@ -183,7 +54,7 @@ impl<F: Json> Validate<F> for Required3Validator<F> {
         location: &mut LazyLocation,
         _ctx: &mut ValidationContext,
     ) -> Result<(), Fault<'i, F>> {
-        fail_first(&self.triple, &self.location, instance, location)
+        fail_first(&self.names, &self.location, instance, location)
     }
 
     fn collect_errors<'i>(
@@ -193,7 +64,7 @@ impl<F: Json> Validate<F> for Required3Validator<F> {
         _ctx: &mut ValidationContext,
         errors: &mut Vec<ValidationError<'i, F>>,
     ) -> Result<(), AllocError> {
-        append_missing(&self.triple, &self.location, instance, location, errors)
+        append_missing(&self.names, &self.location, instance, location, errors)
     }
 
     fn evaluate(

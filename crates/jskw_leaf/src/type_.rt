@@ -1,31 +1,47 @@
-//! `type` (Validation 6.1.1): the instance is of one of the types that the schema names. A number with a zero fractional
-//! part is an integer, however it is written.
-ghost use Rattle.std.specs.Prelude.{◌≡◌, IsTrue, codes, true};
+//! `type` (Validation 6.1.1): the instance is of one of the types that the schema names. A number
+//! with a zero fractional part is an integer, however it is written.
+ghost use Rattle.std.specs.Prelude.{◌≡◌, IsTrue, refl, true};
 ghost use Rattle.serde_json.specs.View.{view, items_view, members_view};
 ghost use Rattle.jskw_value.specs.Number.{is_exact, is_integer};
-ghost use Rattle.jskw_value.specs.declared.types.JsonType.TheVariants.{Array, Boolean, Integer, Null, Number, Object, String};
-ghost use Rattle.jskw_report.specs.declared.error.TypeKind.TheVariants.{Single, Multiple};
-ghost use Rattle.jskw_value.specs.Pointer.{member_location};
+ghost use Rattle.jskw_value.specs.Tree.{is_lawful};
+ghost use Rattle.jskw_value.specs.declared.types.JsonType.{JsonType};
+ghost use Rattle.jskw_value.specs.declared.types.JsonType.TheVariants.{
+  Array,
+  Boolean,
+  Integer,
+  Null,
+  Number,
+  Object,
+  String,
+};
 ghost use Rattle.jskw_report.specs.Compile.{Makes, Compiles, reading};
 ghost use Rattle.jskw_report.specs.Errors.{kind_of};
-ghost use Rattle.jskw_report.specs.KeywordValue.{type_value, array_types, one_type, type_set, named_type};
-ghost use Rattle.jskw_report.specs.Read.{type_keyword};
-ghost use Rattle.jskw_report.specs.Setting.{is_after_draft_4};
-ghost use Rattle.jskw_report.specs.declared.keyword.KeywordName.TheVariants.{TypeKeyword};
+ghost use Rattle.jskw_report.specs.Holds.{assertion_holds};
+ghost use Rattle.jskw_report.specs.Keyword.{Integers, by_value, type_is};
+ghost use Rattle.jskw_report.specs.KeywordValue.{
+  type_value,
+  array_types,
+  one_type,
+  type_set,
+  named_type,
+};
 ghost use Rattle.jskw_report.specs.Kind.{WrongType};
-ghost use Rattle.jskw_report.specs.Keyword.{by_value};
-ghost use Rattle.jskw_leaf.specs.Meaning.{multiple_types, array_type, boolean_type, integer_type, null_type, number_type, object_type, string_type, single_type, leaf_keyword};
+ghost use Rattle.jskw_report.specs.Meaning.{placed};
+ghost use Rattle.jskw_report.specs.Read.{keyword_location, type_keyword};
+ghost use Rattle.jskw_report.specs.Setting.{is_after_draft_4};
+ghost use Rattle.jskw_report.specs.declared.error.TypeKind.TheVariants.{Single, Multiple};
+ghost use Rattle.jskw_report.specs.declared.keyword.KeywordName.TheVariants.{TypeKeyword};
+ghost use Rattle.jskw_leaf.specs.Meaning.{leaf_keyword, multiple_types, single_type, type_at};
 
 use crate::leaf::LeafValidator;
-use jskw_report::validator::{append_first, evaluate_first, fail_unless};
 use jskw_report::{
-    CompilationResult, CompileFault, Context, EnumOptions, EvaluationResult, Fault, LazyLocation,
-    Location, LocationSegment, TypeKind, Validate, ValidationContext, ValidationError,
-    ValidationErrorKind,
+    Assertion, CompilationResult, CompileFault, Context, EnumOptions, KeywordName, Location,
+    TypeKind, ValidationErrorKind,
 };
 use jskw_value::{Json, JsonNumber, JsonType, JsonTypeSet, Node};
 use serde_json::{Map, Value};
-use std::alloc::{AllocError, Global};
+use std::alloc::Global;
+use std::marker::PhantomData;
 use std::str::FromStr;
 
 /// The validator of a set of types, that of an array of names.
@@ -35,481 +51,222 @@ pub struct MultipleTypesValidator {
     location: Location,
 }
 
-#[tactic(auto, using(jskw_report::proofs::Once::once))]
-impl<F: Json> Validate<F> for MultipleTypesValidator {
-    ghost keyword = { multiple_types };
+impl Assertion for MultipleTypesValidator {
+    ghost asserts = { multiple_types };
+    ghost error = { λ v. WrongType (Multiple v.types) };
+    ghost fails_once = { λ _ _. refl };
 
-    fn is_valid(&self, instance: &F::Node, _ctx: &mut ValidationContext) -> bool {
+    fn holds<F: Json>(&self, instance: &F::Node) -> bool {
         self.types.contains_value_type::<F>(instance)
     }
 
-    fn validate<'i>(
-        &'i self,
-        instance: &'i F::Node,
-        location: &mut LazyLocation,
-        ctx: &mut ValidationContext,
-    ) -> Result<(), Fault<'i, F>> {
-        let holds = <Self as Validate<F>>::is_valid(self, instance, ctx);
-        fail_unless(
-            holds,
-            multiple(self.types),
-            &self.location,
-            instance,
-            location,
-        )
+    fn kind(&self) -> ValidationErrorKind<'_> {
+        ValidationErrorKind::of_types(self.types)
     }
 
-    fn collect_errors<'i>(
-        &'i self,
-        instance: &'i F::Node,
-        location: &mut LazyLocation,
-        ctx: &mut ValidationContext,
-        errors: &mut Vec<ValidationError<'i, F>>,
-    ) -> Result<(), AllocError> {
-        append_first(self.validate(instance, location, ctx), errors)
-    }
-
-    fn evaluate(
-        &self,
-        alloc: Global,
-        instance: &F::Node,
-        location: &mut LazyLocation,
-        ctx: &mut ValidationContext,
-    ) -> Result<EvaluationResult, AllocError> {
-        let answer = <Self as Validate<F>>::validate(self, instance, location, ctx);
-        evaluate_first(alloc, answer)
+    fn location(&self) -> &Location {
+        &self.location
     }
 }
 
-/// The validator of the type array.
+/// One type, as a test of instances that is known where the code is compiled.
+pub trait TypeTest {
+    /// The type.
+    ghost json_type: { JsonType };
+
+    /// How it tells integers.
+    ghost rule: { Integers };
+
+    /// The type.
+    fn json_type() -> JsonType
+        ensures { result ≡ json_type };
+
+    /// Whether the instance, which is lawful, is of the type. It takes no memory.
+    fn matches<F: Json>(instance: &F::Node) -> bool
+        requires { IsTrue (is_lawful (F.Node.tree instance.now)) }
+        ensures { result
+            ≡ assertion_holds (type_is (Single json_type) rule) (F.Node.tree instance.now) };
+}
+
+/// The validator of the one type that `T` tells.
 #[derive(Drop)]
-pub struct ArrayTypeValidator {
+pub struct SingleTypeValidator<T: TypeTest> {
     location: Location,
+    test: PhantomData<T>,
 }
 
-impl ArrayTypeValidator {
+impl<T: TypeTest> SingleTypeValidator<T> {
     /// The validator that fails at the location.
-    pub fn new(location: Location) -> ArrayTypeValidator
-        ensures { array_type result ≡ single_type Array by_value location }
+    pub fn new(location: Location) -> SingleTypeValidator<T>
+        ensures { single_type T.json_type T.rule result ≡ type_at T.json_type T.rule location }
     {
-        ArrayTypeValidator { location }
+        SingleTypeValidator {
+            location,
+            test: PhantomData,
+        }
     }
 }
 
-#[tactic(auto, using(jskw_report::proofs::Once::once))]
-impl<F: Json> Validate<F> for ArrayTypeValidator {
-    ghost keyword = { array_type };
+impl<T: TypeTest> Assertion for SingleTypeValidator<T> {
+    ghost asserts = { single_type T.json_type T.rule };
+    ghost error = { λ _. WrongType (Single T.json_type) };
+    ghost fails_once = { λ _ _. refl };
 
-    fn is_valid(&self, instance: &F::Node, _ctx: &mut ValidationContext) -> bool {
-        instance.is_array()
+    fn holds<F: Json>(&self, instance: &F::Node) -> bool {
+        T::matches::<F>(instance)
     }
 
-    fn validate<'i>(
-        &'i self,
-        instance: &'i F::Node,
-        location: &mut LazyLocation,
-        ctx: &mut ValidationContext,
-    ) -> Result<(), Fault<'i, F>> {
-        let holds = <Self as Validate<F>>::is_valid(self, instance, ctx);
-        fail_unless(
-            holds,
-            single(JsonType::Array),
-            &self.location,
-            instance,
-            location,
-        )
+    fn kind(&self) -> ValidationErrorKind<'_> {
+        ValidationErrorKind::of_type(T::json_type())
     }
 
-    fn collect_errors<'i>(
-        &'i self,
-        instance: &'i F::Node,
-        location: &mut LazyLocation,
-        ctx: &mut ValidationContext,
-        errors: &mut Vec<ValidationError<'i, F>>,
-    ) -> Result<(), AllocError> {
-        append_first(self.validate(instance, location, ctx), errors)
+    fn location(&self) -> &Location {
+        &self.location
+    }
+}
+
+/// The type null.
+#[derive(Drop)]
+pub struct NullType;
+
+impl TypeTest for NullType {
+    ghost json_type = { Null };
+    ghost rule = { by_value };
+
+    fn json_type() -> JsonType {
+        JsonType::Null
     }
 
-    fn evaluate(
-        &self,
-        alloc: Global,
-        instance: &F::Node,
-        location: &mut LazyLocation,
-        ctx: &mut ValidationContext,
-    ) -> Result<EvaluationResult, AllocError> {
-        let answer = <Self as Validate<F>>::validate(self, instance, location, ctx);
-        evaluate_first(alloc, answer)
+    fn matches<F: Json>(instance: &F::Node) -> bool {
+        instance.is_null()
+    }
+}
+
+/// The validator of the type null.
+pub type NullTypeValidator = SingleTypeValidator<NullType>;
+
+/// The type boolean.
+#[derive(Drop)]
+pub struct BooleanType;
+
+impl TypeTest for BooleanType {
+    ghost json_type = { Boolean };
+    ghost rule = { by_value };
+
+    fn json_type() -> JsonType {
+        JsonType::Boolean
+    }
+
+    fn matches<F: Json>(instance: &F::Node) -> bool {
+        instance.as_boolean().is_some()
     }
 }
 
 /// The validator of the type boolean.
+pub type BooleanTypeValidator = SingleTypeValidator<BooleanType>;
+
+/// The type integer: a number with a zero fraction is one.
 #[derive(Drop)]
-pub struct BooleanTypeValidator {
-    location: Location,
-}
+pub struct IntegerType;
 
-impl BooleanTypeValidator {
-    /// The validator that fails at the location.
-    pub fn new(location: Location) -> BooleanTypeValidator
-        ensures { boolean_type result ≡ single_type Boolean by_value location }
-    {
-        BooleanTypeValidator { location }
-    }
-}
+impl TypeTest for IntegerType {
+    ghost json_type = { Integer };
+    ghost rule = { by_value };
 
-#[tactic(auto, using(jskw_report::proofs::Once::once))]
-impl<F: Json> Validate<F> for BooleanTypeValidator {
-    ghost keyword = { boolean_type };
-
-    fn is_valid(&self, instance: &F::Node, _ctx: &mut ValidationContext) -> bool {
-        instance.as_boolean().is_some()
+    fn json_type() -> JsonType {
+        JsonType::Integer
     }
 
-    fn validate<'i>(
-        &'i self,
-        instance: &'i F::Node,
-        location: &mut LazyLocation,
-        ctx: &mut ValidationContext,
-    ) -> Result<(), Fault<'i, F>> {
-        let holds = <Self as Validate<F>>::is_valid(self, instance, ctx);
-        fail_unless(
-            holds,
-            single(JsonType::Boolean),
-            &self.location,
-            instance,
-            location,
-        )
-    }
-
-    fn collect_errors<'i>(
-        &'i self,
-        instance: &'i F::Node,
-        location: &mut LazyLocation,
-        ctx: &mut ValidationContext,
-        errors: &mut Vec<ValidationError<'i, F>>,
-    ) -> Result<(), AllocError> {
-        append_first(self.validate(instance, location, ctx), errors)
-    }
-
-    fn evaluate(
-        &self,
-        alloc: Global,
-        instance: &F::Node,
-        location: &mut LazyLocation,
-        ctx: &mut ValidationContext,
-    ) -> Result<EvaluationResult, AllocError> {
-        let answer = <Self as Validate<F>>::validate(self, instance, location, ctx);
-        evaluate_first(alloc, answer)
-    }
-}
-
-/// The validator of the type integer.
-#[derive(Drop)]
-pub struct IntegerTypeValidator {
-    location: Location,
-}
-
-impl IntegerTypeValidator {
-    /// The validator that fails at the location.
-    pub fn new(location: Location) -> IntegerTypeValidator
-        ensures { integer_type result ≡ single_type Integer by_value location }
-    {
-        IntegerTypeValidator { location }
-    }
-}
-
-#[tactic(auto, using(jskw_report::proofs::Once::once))]
-impl<F: Json> Validate<F> for IntegerTypeValidator {
-    ghost keyword = { integer_type };
-
-    fn is_valid(&self, instance: &F::Node, _ctx: &mut ValidationContext) -> bool {
+    fn matches<F: Json>(instance: &F::Node) -> bool {
         match instance.as_number() {
             Some(number) => is_integer(number),
             None => false,
         }
     }
-
-    fn validate<'i>(
-        &'i self,
-        instance: &'i F::Node,
-        location: &mut LazyLocation,
-        ctx: &mut ValidationContext,
-    ) -> Result<(), Fault<'i, F>> {
-        let holds = <Self as Validate<F>>::is_valid(self, instance, ctx);
-        fail_unless(
-            holds,
-            single(JsonType::Integer),
-            &self.location,
-            instance,
-            location,
-        )
-    }
-
-    fn collect_errors<'i>(
-        &'i self,
-        instance: &'i F::Node,
-        location: &mut LazyLocation,
-        ctx: &mut ValidationContext,
-        errors: &mut Vec<ValidationError<'i, F>>,
-    ) -> Result<(), AllocError> {
-        append_first(self.validate(instance, location, ctx), errors)
-    }
-
-    fn evaluate(
-        &self,
-        alloc: Global,
-        instance: &F::Node,
-        location: &mut LazyLocation,
-        ctx: &mut ValidationContext,
-    ) -> Result<EvaluationResult, AllocError> {
-        let answer = <Self as Validate<F>>::validate(self, instance, location, ctx);
-        evaluate_first(alloc, answer)
-    }
 }
 
-/// The validator of the type null.
+/// The validator of the type integer.
+pub type IntegerTypeValidator = SingleTypeValidator<IntegerType>;
+
+/// The type number.
 #[derive(Drop)]
-pub struct NullTypeValidator {
-    location: Location,
-}
+pub struct NumberType;
 
-impl NullTypeValidator {
-    /// The validator that fails at the location.
-    pub fn new(location: Location) -> NullTypeValidator
-        ensures { null_type result ≡ single_type Null by_value location }
-    {
-        NullTypeValidator { location }
-    }
-}
+impl TypeTest for NumberType {
+    ghost json_type = { Number };
+    ghost rule = { by_value };
 
-#[tactic(auto, using(jskw_report::proofs::Once::once))]
-impl<F: Json> Validate<F> for NullTypeValidator {
-    ghost keyword = { null_type };
-
-    fn is_valid(&self, instance: &F::Node, _ctx: &mut ValidationContext) -> bool {
-        instance.is_null()
+    fn json_type() -> JsonType {
+        JsonType::Number
     }
 
-    fn validate<'i>(
-        &'i self,
-        instance: &'i F::Node,
-        location: &mut LazyLocation,
-        ctx: &mut ValidationContext,
-    ) -> Result<(), Fault<'i, F>> {
-        let holds = <Self as Validate<F>>::is_valid(self, instance, ctx);
-        fail_unless(
-            holds,
-            single(JsonType::Null),
-            &self.location,
-            instance,
-            location,
-        )
-    }
-
-    fn collect_errors<'i>(
-        &'i self,
-        instance: &'i F::Node,
-        location: &mut LazyLocation,
-        ctx: &mut ValidationContext,
-        errors: &mut Vec<ValidationError<'i, F>>,
-    ) -> Result<(), AllocError> {
-        append_first(self.validate(instance, location, ctx), errors)
-    }
-
-    fn evaluate(
-        &self,
-        alloc: Global,
-        instance: &F::Node,
-        location: &mut LazyLocation,
-        ctx: &mut ValidationContext,
-    ) -> Result<EvaluationResult, AllocError> {
-        let answer = <Self as Validate<F>>::validate(self, instance, location, ctx);
-        evaluate_first(alloc, answer)
+    fn matches<F: Json>(instance: &F::Node) -> bool {
+        instance.is_number()
     }
 }
 
 /// The validator of the type number.
+pub type NumberTypeValidator = SingleTypeValidator<NumberType>;
+
+/// The type string.
 #[derive(Drop)]
-pub struct NumberTypeValidator {
-    location: Location,
-}
+pub struct StringType;
 
-impl NumberTypeValidator {
-    /// The validator that fails at the location.
-    pub fn new(location: Location) -> NumberTypeValidator
-        ensures { number_type result ≡ single_type Number by_value location }
-    {
-        NumberTypeValidator { location }
-    }
-}
+impl TypeTest for StringType {
+    ghost json_type = { String };
+    ghost rule = { by_value };
 
-#[tactic(auto, using(jskw_report::proofs::Once::once))]
-impl<F: Json> Validate<F> for NumberTypeValidator {
-    ghost keyword = { number_type };
-
-    fn is_valid(&self, instance: &F::Node, _ctx: &mut ValidationContext) -> bool {
-        instance.is_number()
+    fn json_type() -> JsonType {
+        JsonType::String
     }
 
-    fn validate<'i>(
-        &'i self,
-        instance: &'i F::Node,
-        location: &mut LazyLocation,
-        ctx: &mut ValidationContext,
-    ) -> Result<(), Fault<'i, F>> {
-        let holds = <Self as Validate<F>>::is_valid(self, instance, ctx);
-        fail_unless(
-            holds,
-            single(JsonType::Number),
-            &self.location,
-            instance,
-            location,
-        )
-    }
-
-    fn collect_errors<'i>(
-        &'i self,
-        instance: &'i F::Node,
-        location: &mut LazyLocation,
-        ctx: &mut ValidationContext,
-        errors: &mut Vec<ValidationError<'i, F>>,
-    ) -> Result<(), AllocError> {
-        append_first(self.validate(instance, location, ctx), errors)
-    }
-
-    fn evaluate(
-        &self,
-        alloc: Global,
-        instance: &F::Node,
-        location: &mut LazyLocation,
-        ctx: &mut ValidationContext,
-    ) -> Result<EvaluationResult, AllocError> {
-        let answer = <Self as Validate<F>>::validate(self, instance, location, ctx);
-        evaluate_first(alloc, answer)
-    }
-}
-
-/// The validator of the type object.
-#[derive(Drop)]
-pub struct ObjectTypeValidator {
-    location: Location,
-}
-
-impl ObjectTypeValidator {
-    /// The validator that fails at the location.
-    pub fn new(location: Location) -> ObjectTypeValidator
-        ensures { object_type result ≡ single_type Object by_value location }
-    {
-        ObjectTypeValidator { location }
-    }
-}
-
-#[tactic(auto, using(jskw_report::proofs::Once::once))]
-impl<F: Json> Validate<F> for ObjectTypeValidator {
-    ghost keyword = { object_type };
-
-    fn is_valid(&self, instance: &F::Node, _ctx: &mut ValidationContext) -> bool {
-        instance.is_object()
-    }
-
-    fn validate<'i>(
-        &'i self,
-        instance: &'i F::Node,
-        location: &mut LazyLocation,
-        ctx: &mut ValidationContext,
-    ) -> Result<(), Fault<'i, F>> {
-        let holds = <Self as Validate<F>>::is_valid(self, instance, ctx);
-        fail_unless(
-            holds,
-            single(JsonType::Object),
-            &self.location,
-            instance,
-            location,
-        )
-    }
-
-    fn collect_errors<'i>(
-        &'i self,
-        instance: &'i F::Node,
-        location: &mut LazyLocation,
-        ctx: &mut ValidationContext,
-        errors: &mut Vec<ValidationError<'i, F>>,
-    ) -> Result<(), AllocError> {
-        append_first(self.validate(instance, location, ctx), errors)
-    }
-
-    fn evaluate(
-        &self,
-        alloc: Global,
-        instance: &F::Node,
-        location: &mut LazyLocation,
-        ctx: &mut ValidationContext,
-    ) -> Result<EvaluationResult, AllocError> {
-        let answer = <Self as Validate<F>>::validate(self, instance, location, ctx);
-        evaluate_first(alloc, answer)
+    fn matches<F: Json>(instance: &F::Node) -> bool {
+        instance.is_string()
     }
 }
 
 /// The validator of the type string.
+pub type StringTypeValidator = SingleTypeValidator<StringType>;
+
+/// The type array.
 #[derive(Drop)]
-pub struct StringTypeValidator {
-    location: Location,
-}
+pub struct ArrayType;
 
-impl StringTypeValidator {
-    /// The validator that fails at the location.
-    pub fn new(location: Location) -> StringTypeValidator
-        ensures { string_type result ≡ single_type String by_value location }
-    {
-        StringTypeValidator { location }
+impl TypeTest for ArrayType {
+    ghost json_type = { Array };
+    ghost rule = { by_value };
+
+    fn json_type() -> JsonType {
+        JsonType::Array
+    }
+
+    fn matches<F: Json>(instance: &F::Node) -> bool {
+        instance.is_array()
     }
 }
 
-#[tactic(auto, using(jskw_report::proofs::Once::once))]
-impl<F: Json> Validate<F> for StringTypeValidator {
-    ghost keyword = { string_type };
+/// The validator of the type array.
+pub type ArrayTypeValidator = SingleTypeValidator<ArrayType>;
 
-    fn is_valid(&self, instance: &F::Node, _ctx: &mut ValidationContext) -> bool {
-        instance.is_string()
+/// The type object.
+#[derive(Drop)]
+pub struct ObjectType;
+
+impl TypeTest for ObjectType {
+    ghost json_type = { Object };
+    ghost rule = { by_value };
+
+    fn json_type() -> JsonType {
+        JsonType::Object
     }
 
-    fn validate<'i>(
-        &'i self,
-        instance: &'i F::Node,
-        location: &mut LazyLocation,
-        ctx: &mut ValidationContext,
-    ) -> Result<(), Fault<'i, F>> {
-        let holds = <Self as Validate<F>>::is_valid(self, instance, ctx);
-        fail_unless(
-            holds,
-            single(JsonType::String),
-            &self.location,
-            instance,
-            location,
-        )
-    }
-
-    fn collect_errors<'i>(
-        &'i self,
-        instance: &'i F::Node,
-        location: &mut LazyLocation,
-        ctx: &mut ValidationContext,
-        errors: &mut Vec<ValidationError<'i, F>>,
-    ) -> Result<(), AllocError> {
-        append_first(self.validate(instance, location, ctx), errors)
-    }
-
-    fn evaluate(
-        &self,
-        alloc: Global,
-        instance: &F::Node,
-        location: &mut LazyLocation,
-        ctx: &mut ValidationContext,
-    ) -> Result<EvaluationResult, AllocError> {
-        let answer = <Self as Validate<F>>::validate(self, instance, location, ctx);
-        evaluate_first(alloc, answer)
+    fn matches<F: Json>(instance: &F::Node) -> bool {
+        instance.is_object()
     }
 }
+
+/// The validator of the type object.
+pub type ObjectTypeValidator = SingleTypeValidator<ObjectType>;
 
 /// What the number's `is_integer` answers. The number is a decimal.
 pub fn is_integer<N: JsonNumber>(number: &N) -> bool
@@ -519,9 +276,14 @@ pub fn is_integer<N: JsonNumber>(number: &N) -> bool
     number.is_integer()
 }
 
-/// Compiles `type`, the keyword of `parent` whose value is `schema`. Always Some. A name that is no type is an error, and
-/// so is a value that is neither a name nor an array of names.
-#[tactic(auto, using(jskw_report::proofs::TypeReading::type_after_draft_4), unfolding(jskw_report::specs::Read::asserted))]
+/// Compiles `type` of the drafts after Draft 4. Always Some. The value is a name or an array of
+/// names. A name by itself that no type has is a compile error with the message `Unexpected type`;
+/// one among others is an error of the options `TypeNames`.
+#[tactic(
+    auto,
+    using(jskw_report::proofs::TypeReading::type_after_draft_4),
+    unfolding(jskw_report::specs::Read::asserted)
+)]
 pub fn compile<'a, F: Json>(
     alloc: Global,
     ctx: &Context<'_, F>,
@@ -533,17 +295,18 @@ pub fn compile<'a, F: Json>(
         (reading TypeKeyword ctx.now (members_view parent.now.entries) (view schema.now)) }
 {
     let _ = parent;
-    Some(make(alloc, ctx.location(), schema))
+    Some(type_validator(alloc, ctx, schema))
 }
 
-fn make<'a, F: Json>(
+fn type_validator<'a, F: Json>(
     alloc: Global,
-    parent: &Location,
+    ctx: &Context<'_, F>,
     schema: &'a Value,
 ) -> CompilationResult<'a, LeafValidator<F>>
-    ensures { Makes leaf_keyword result (type_keyword (λ k. by_value) (member_location parent.now (codes "type")) (view schema.now)) }
+    ensures { Makes leaf_keyword result (type_keyword (λ _. by_value)
+        (keyword_location ctx.now.location TypeKeyword) (view schema.now)) }
 {
-    let location = parent.join(alloc, LocationSegment::Name("type"))?;
+    let location = ctx.keyword_location(alloc, KeywordName::TypeKeyword)?;
     match type_kind(alloc, &location, schema)? {
         TypeKind::Single(json_type) => Ok(single_validator(json_type, location)),
         TypeKind::Multiple(types) => Ok(LeafValidator::MultipleTypes(MultipleTypesValidator {
@@ -553,21 +316,22 @@ fn make<'a, F: Json>(
     }
 }
 
+// The validator of one type, by the rule of the drafts after Draft 4.
 pub(crate) fn single_validator<F: Json>(json_type: JsonType, location: Location) -> LeafValidator<F>
-    ensures { leaf_keyword result ≡ single_type json_type by_value location }
+    ensures { leaf_keyword result ≡ placed (type_at json_type by_value location) }
 {
     match json_type {
-        JsonType::Array => LeafValidator::ArrayType(ArrayTypeValidator { location }),
-        JsonType::Boolean => LeafValidator::BooleanType(BooleanTypeValidator { location }),
-        JsonType::Integer => LeafValidator::IntegerType(IntegerTypeValidator { location }),
-        JsonType::Null => LeafValidator::NullType(NullTypeValidator { location }),
-        JsonType::Number => LeafValidator::NumberType(NumberTypeValidator { location }),
-        JsonType::Object => LeafValidator::ObjectType(ObjectTypeValidator { location }),
-        JsonType::String => LeafValidator::StringType(StringTypeValidator { location }),
+        JsonType::Array => LeafValidator::ArrayType(ArrayTypeValidator::new(location)),
+        JsonType::Boolean => LeafValidator::BooleanType(BooleanTypeValidator::new(location)),
+        JsonType::Integer => LeafValidator::IntegerType(IntegerTypeValidator::new(location)),
+        JsonType::Null => LeafValidator::NullType(NullTypeValidator::new(location)),
+        JsonType::Number => LeafValidator::NumberType(NumberTypeValidator::new(location)),
+        JsonType::Object => LeafValidator::ObjectType(ObjectTypeValidator::new(location)),
+        JsonType::String => LeafValidator::StringType(StringTypeValidator::new(location)),
     }
 }
 
-/// The types that the value of `type` names, or its fault.
+// The types that the value of `type` names, or its refusal.
 pub(crate) fn type_kind<'a>(
     alloc: Global,
     location: &Location,
@@ -582,18 +346,13 @@ pub(crate) fn type_kind<'a>(
             let types = JsonTypeSet::empty()
                 .insert(JsonType::Array)
                 .insert(JsonType::String);
-            let location = location.copy(alloc)?;
-            Err(CompileFault::Bad(ValidationError::refused(
-                alloc,
-                multiple(types),
-                location,
-                schema,
-            )))
+            let kind = ValidationErrorKind::of_types(types);
+            Err(CompileFault::wrong(alloc, kind, location, schema))
         }
     }
 }
 
-/// The types that an array names; one name is as good without the array.
+// The types that an array names; one name is as good without the array.
 #[tactic(auto, using(crate::proofs::Types::array_of_one, crate::proofs::Types::array_of_others))]
 fn array_types<'a>(
     alloc: Global,
@@ -608,7 +367,7 @@ fn array_types<'a>(
     Ok(TypeKind::Multiple(type_set(alloc, location, items)?))
 }
 
-/// The one type that a value names.
+// The one type that a value names.
 fn one_type<'a>(
     alloc: Global,
     location: &Location,
@@ -622,7 +381,7 @@ fn one_type<'a>(
     Ok(TypeKind::Single(named_type(alloc, unknown, location, value)?))
 }
 
-/// The types that the items name.
+// The types that the items name.
 #[tactic(auto, using(crate::proofs::Types::next_type, crate::proofs::Types::with_no_types))]
 fn type_set<'a>(
     alloc: Global,
@@ -641,43 +400,22 @@ fn type_set<'a>(
     Ok(types)
 }
 
-/// The type that the value names, or its fault, which is of the kind `unknown` where no type has the name.
+// The type that the value names, or its refusal, of the kind `unknown` where no type has the name.
 fn named_type<'a>(
     alloc: Global,
     unknown: ValidationErrorKind<'a>,
     location: &Location,
     value: &'a Value,
 ) -> CompilationResult<'a, JsonType>
-    ensures { Makes (λ j. j) result (named_type (kind_of unknown.entry) location.now (view value.now)) }
+    ensures { Makes (λ j. j) result
+        (named_type (kind_of unknown.entry) location.now (view value.now)) }
 {
     let Value::String(name) = value else {
-        let kind = single(JsonType::String);
-        let location = location.copy(alloc)?;
-        return Err(CompileFault::Bad(ValidationError::refused(alloc, kind, location, value)));
+        let kind = ValidationErrorKind::of_type(JsonType::String);
+        return Err(CompileFault::wrong(alloc, kind, location, value));
     };
     match JsonType::from_str(name.as_str()) {
         Ok(json_type) => Ok(json_type),
-        Err(()) => {
-            let location = location.copy(alloc)?;
-            Err(CompileFault::Bad(ValidationError::refused(alloc, unknown, location, value)))
-        }
-    }
-}
-
-/// The kind of an error of one type.
-pub(crate) fn single<'i>(json_type: JsonType) -> ValidationErrorKind<'i>
-    ensures { kind_of result ≡ WrongType (Single json_type) }
-{
-    ValidationErrorKind::WrongType {
-        kind: TypeKind::Single(json_type),
-    }
-}
-
-/// The kind of an error of a set of types.
-pub(crate) fn multiple<'i>(types: JsonTypeSet) -> ValidationErrorKind<'i>
-    ensures { kind_of result ≡ WrongType (Multiple types) }
-{
-    ValidationErrorKind::WrongType {
-        kind: TypeKind::Multiple(types),
+        Err(()) => Err(CompileFault::wrong(alloc, unknown, location, value)),
     }
 }

@@ -1,5 +1,5 @@
 //! Options that are integers of 64 bits with a sign, and perhaps null.
-ghost use Rattle.std.specs.Prelude.{◌≡◌, IsSome, IfOk, true};
+ghost use Rattle.std.specs.Prelude.{◌≡◌, IsSome, IfOk, refl, true};
 ghost use Rattle.std.specs.List.Sorted.{IsSorted, IsPermutation};
 ghost use Rattle.std.specs.Ordering.{int_cmp};
 ghost use Rattle.serde_json.specs.Data.{array};
@@ -7,20 +7,27 @@ ghost use Rattle.serde_json.specs.Find.{as_array};
 ghost use Rattle.serde_json.specs.View.{view, items_view};
 ghost use Rattle.jskw_value.specs.Decimal.{value};
 ghost use Rattle.jskw_value.specs.Tree.{as_number};
-ghost use Rattle.jskw_leaf.specs.Options.{options_of, AreOptions, some_integer, integer_against, integer_of, picked, only, has_null};
-
-use super::{NullOption, unlisted};
-use jskw_report::validator::{append_first, evaluate_first, fail_unless};
-use jskw_report::{
-    EvaluationResult, Fault, LazyLocation, Location, Validate, ValidationContext, ValidationError,
+ghost use Rattle.jskw_leaf.specs.Meaning.{among_at, enum_integer, not_among};
+ghost use Rattle.jskw_leaf.specs.Options.{
+  options_of,
+  AreOptions,
+  some_integer,
+  integer_against,
+  integer_of,
+  picked,
+  only,
+  has_null,
 };
+
+use super::{NullOption, not_among};
+use jskw_report::{Assertion, Location, ValidationErrorKind};
 use jskw_value::{Decimal, Json, JsonNumber, Node, Nullability};
 use serde_json::Value;
 use std::alloc::{AllocError, Global};
 use std::cmp::Ordering;
 
-/// The validator of integers, and of null where the type says so. The integers are sorted, and a number is looked up by
-/// its value, by halves: 1.0 is 1.
+/// The validator of integers, and of null where the type says so. The integers are sorted, and a
+/// number is looked up by its value, by halves: 1.0 is 1.
 #[derive(Drop)]
 pub struct IntegerEnumValidator<N: Nullability> {
     options: Value,
@@ -29,14 +36,13 @@ pub struct IntegerEnumValidator<N: Nullability> {
     location: Location,
     ghost array: { IsSome (as_array (view options)) },
     ghost sorted: { IsSorted int_cmp integers.items },
-    ghost listed: { AreOptions as_number (some_integer integers.items) null (options_of (view options)) },
+    ghost listed: { AreOptions as_number (some_integer integers.items) null
+        (options_of (view options)) },
 }
 
 impl<N: Nullability> IntegerEnumValidator<N> {
-    ghost use Rattle.jskw_leaf.specs.Meaning.{among_at, enum_integer};
-
-    /// The validator of these items of the options, each an integer from -2^63 to 2^63 - 1 or null, with null among
-    /// them where the type says so. Only memory can fail.
+    // The validator of these items of the options, each an integer from -2^63 to 2^63 - 1 or null,
+    // with null among them where the type says so. Only memory can fail.
     pub(super) fn compile(
         alloc: Global,
         options: &Value,
@@ -57,58 +63,28 @@ impl<N: Nullability> IntegerEnumValidator<N> {
     }
 }
 
-#[tactic(auto, using(jskw_report::proofs::Once::once, crate::proofs::Options::listed))]
-impl<F: Json, N: Nullability> Validate<F> for IntegerEnumValidator<N> {
-    ghost use Rattle.jskw_leaf.specs.Meaning.{enum_integer};
+impl<N: Nullability> Assertion for IntegerEnumValidator<N> {
+    ghost asserts = { enum_integer };
+    ghost error = { λ v. not_among v.options };
+    ghost fails_once = { λ _ _. refl };
 
-    ghost keyword = { enum_integer };
-
-    fn is_valid(&self, instance: &F::Node, _ctx: &mut ValidationContext) -> bool {
+    fn holds<F: Json>(&self, instance: &F::Node) -> bool {
         match instance.as_number() {
             Some(number) => is_in_table(&self.integers, &number.decimal()),
             None => self.null.accepts::<F>(instance),
         }
     }
 
-    fn validate<'i>(
-        &'i self,
-        instance: &'i F::Node,
-        location: &mut LazyLocation,
-        ctx: &mut ValidationContext,
-    ) -> Result<(), Fault<'i, F>> {
-        let holds = <Self as Validate<F>>::is_valid(self, instance, ctx);
-        fail_unless(
-            holds,
-            unlisted(&self.options),
-            &self.location,
-            instance,
-            location,
-        )
+    fn kind(&self) -> ValidationErrorKind<'_> {
+        not_among(&self.options)
     }
 
-    fn collect_errors<'i>(
-        &'i self,
-        instance: &'i F::Node,
-        location: &mut LazyLocation,
-        ctx: &mut ValidationContext,
-        errors: &mut Vec<ValidationError<'i, F>>,
-    ) -> Result<(), AllocError> {
-        append_first(self.validate(instance, location, ctx), errors)
-    }
-
-    fn evaluate(
-        &self,
-        alloc: Global,
-        instance: &F::Node,
-        location: &mut LazyLocation,
-        ctx: &mut ValidationContext,
-    ) -> Result<EvaluationResult, AllocError> {
-        let answer = <Self as Validate<F>>::validate(self, instance, location, ctx);
-        evaluate_first(alloc, answer)
+    fn location(&self) -> &Location {
+        &self.location
     }
 }
 
-/// Whether the number is one of the sorted integers, by its value.
+// Whether the number is one of the sorted integers, by its value.
 fn is_in_table(table: &[i64], number: &Decimal) -> bool
     requires { IsSorted int_cmp table.now }
     ensures { result ≡ some_integer table.now (value number.now) }
@@ -125,17 +101,18 @@ fn compare(entry: i64, number: &Decimal) -> Ordering
     number.cmp_whole(i128::from(entry)).reverse()
 }
 
-/// The integers among the items, in rising order.
+// The integers among the items, in rising order.
 fn sorted_integers_of(alloc: Global, items: &[Value]) -> Result<Vec<i64>, AllocError>
     ensures sorted { IfOk result (λ v. IsSorted int_cmp v.items) }
-    ensures same { IfOk result (λ v. IsPermutation (picked integer_of (items_view items.now)) v.items) }
+    ensures same { IfOk result (λ v.
+        IsPermutation (picked integer_of (items_view items.now)) v.items) }
 {
     let mut integers = integers_of(alloc, items)?;
     integers.sort_unstable();
     Ok(integers)
 }
 
-/// The integers among the items.
+// The integers among the items.
 fn integers_of(alloc: Global, items: &[Value]) -> Result<Vec<i64>, AllocError>
     ensures { IfOk result (λ v. v.items ≡ picked integer_of (items_view items.now)) }
 {

@@ -1,13 +1,12 @@
 //! The validator of options.
-ghost use Rattle.std.specs.Prelude.{◌≡◌, true, codes, IfOk};
+ghost use Rattle.std.specs.Prelude.{◌≡◌, true, IfOk};
 ghost use Rattle.serde_json.specs.Data.{array, item, no_items};
 ghost use Rattle.serde_json.specs.Find.{as_str};
 ghost use Rattle.serde_json.specs.View.{view, items_view, members_view};
-ghost use Rattle.jskw_value.specs.Pointer.{member_location};
 ghost use Rattle.jskw_value.specs.Types.{no_types};
 ghost use Rattle.jskw_report.specs.Compile.{Makes, Compiles, reading};
-ghost use Rattle.jskw_report.specs.KeywordValue.{enum_value, map_ok};
-ghost use Rattle.jskw_report.specs.Keyword.{assertion, among};
+ghost use Rattle.jskw_report.specs.Meaning.{placed};
+ghost use Rattle.jskw_report.specs.Read.{enum_keyword, keyword_location};
 ghost use Rattle.jskw_report.specs.declared.keyword.KeywordName.TheVariants.{Enum};
 ghost use Rattle.jskw_leaf.specs.Meaning.{among_at, leaf_keyword};
 ghost use Rattle.jskw_leaf.specs.Options.{only, has_null, integer_of, option_types};
@@ -18,21 +17,20 @@ use super::{
 };
 use crate::floats::refuse_floats;
 use crate::leaf::LeafValidator;
-use crate::type_::single;
 use jskw_report::{
-    CompilationResult, CompileFault, Context, Location, LocationSegment, ValidationError,
+    CompilationResult, CompileFault, Context, KeywordName, Location, ValidationErrorKind,
 };
 use jskw_value::{Json, JsonType, JsonTypeSet};
 use serde_json::{Map, Value};
 use std::alloc::{AllocError, Global};
 
-/// Up to so many strings are compared one by one.
+// Up to so many strings are compared one by one.
 const STRING_ENUM_THRESHOLD: usize = 10;
 
-/// Compiles `enum`, whose value is `schema` and stands in `parent`; `ctx` is at the location of that object. The validator
-/// is chosen by the number and the types of the options, and there always is one. A value that is no array is an error of
-/// the type array. An array that holds a float is a compile error with the message `Not a whole number of 64 bits`, whose
-/// value at fault is the first float. Else only memory can fail.
+/// Compiles `enum`. Always Some: any array is taken that holds no float, and the validator is
+/// chosen by the number and the types of the options. A value that is no array is an error of the
+/// type array. An array that holds a float is a compile error with the message `Not a whole number
+/// of 64 bits`, whose value at fault is the first float.
 #[tactic(auto, unfolding(jskw_report::specs::Read::asserted))]
 pub fn compile<'a, F: Json>(
     alloc: Global,
@@ -44,28 +42,28 @@ pub fn compile<'a, F: Json>(
         (reading Enum ctx.now (members_view parent.now.entries) (view schema.now)) }
 {
     let _ = parent;
-    Some(make(alloc, ctx.location(), schema))
+    Some(enum_validator(alloc, ctx, schema))
 }
 
 #[tactic(auto, using(crate::proofs::Options::as_value))]
-fn make<'a, F: Json>(
+fn enum_validator<'a, F: Json>(
     alloc: Global,
-    parent: &Location,
+    ctx: &Context<'_, F>,
     schema: &'a Value,
 ) -> CompilationResult<'a, LeafValidator<F>>
-    ensures { let q = member_location parent.now (codes "enum") in
-        Makes leaf_keyword result (map_ok (λ ds. assertion q (among ds)) (enum_value q (view schema.now))) }
+    ensures { Makes leaf_keyword result
+        (enum_keyword (keyword_location ctx.now.location Enum) (view schema.now)) }
 {
-    let location = parent.join(alloc, LocationSegment::Name("enum"))?;
+    let location = ctx.keyword_location(alloc, KeywordName::Enum)?;
     let Value::Array(items) = schema else {
-        let kind = single(JsonType::Array);
-        return Err(CompileFault::Bad(ValidationError::refused(alloc, kind, location, schema)));
+        let kind = ValidationErrorKind::of_type(JsonType::Array);
+        return Err(CompileFault::wrong(alloc, kind, &location, schema));
     };
     refuse_floats(alloc, &location, schema)?;
     Ok(validator_of(alloc, schema, items.as_slice(), location)?)
 }
 
-/// The validator of these items of the options, by their number and types.
+// The validator of these items of the options, by their number and types.
 fn validator_of<F: Json>(
     alloc: Global,
     options: &Value,
@@ -73,7 +71,7 @@ fn validator_of<F: Json>(
     location: Location,
 ) -> Result<LeafValidator<F>, AllocError>
     requires { view options.now ≡ array (items_view items.now) }
-    ensures { IfOk result (λ v. leaf_keyword v ≡ among_at location options.now) }
+    ensures { IfOk result (λ v. leaf_keyword v ≡ placed (among_at location options.now)) }
 {
     if items.len() == 1 {
         return one_value(options, &items[0], location);
@@ -91,14 +89,14 @@ fn validator_of<F: Json>(
     }))
 }
 
-/// The validator of the only item.
+// The validator of the only item.
 fn one_value<F: Json>(
     options: &Value,
     value: &Value,
     location: Location,
 ) -> Result<LeafValidator<F>, AllocError>
     requires { view options.now ≡ array (item (view value.now) no_items) }
-    ensures { IfOk result (λ v. leaf_keyword v ≡ among_at location options.now) }
+    ensures { IfOk result (λ v. leaf_keyword v ≡ placed (among_at location options.now)) }
 {
     Ok(LeafValidator::SingleValueEnum(SingleValueEnumValidator {
         options: options.clone()?,
@@ -107,7 +105,7 @@ fn one_value<F: Json>(
     }))
 }
 
-/// The validator of items that are strings or null.
+// The validator of items that are strings or null.
 fn strings<F: Json>(
     alloc: Global,
     options: &Value,
@@ -116,7 +114,7 @@ fn strings<F: Json>(
 ) -> Result<LeafValidator<F>, AllocError>
     requires array { view options.now ≡ array (items_view items.now) }
     requires texts { only as_str (items_view items.now) ≡ true }
-    ensures { IfOk result (λ v. leaf_keyword v ≡ among_at location options.now) }
+    ensures { IfOk result (λ v. leaf_keyword v ≡ placed (among_at location options.now)) }
 {
     match (items.len() <= STRING_ENUM_THRESHOLD, has_null(items)) {
         (true, true) => Ok(LeafValidator::NullableSmallStringEnum(SmallStringEnumValidator::compile(
@@ -134,7 +132,7 @@ fn strings<F: Json>(
     }
 }
 
-/// The validator of items that are integers or null.
+// The validator of items that are integers or null.
 fn integers<F: Json>(
     alloc: Global,
     options: &Value,
@@ -143,7 +141,7 @@ fn integers<F: Json>(
 ) -> Result<LeafValidator<F>, AllocError>
     requires array { view options.now ≡ array (items_view items.now) }
     requires integers { only integer_of (items_view items.now) ≡ true }
-    ensures { IfOk result (λ v. leaf_keyword v ≡ among_at location options.now) }
+    ensures { IfOk result (λ v. leaf_keyword v ≡ placed (among_at location options.now)) }
 {
     if has_null(items) {
         Ok(LeafValidator::NullableIntegerEnum(IntegerEnumValidator::compile(
@@ -156,7 +154,7 @@ fn integers<F: Json>(
     }
 }
 
-/// Whether each item is a string or null.
+// Whether each item is a string or null.
 fn are_strings(items: &[Value]) -> bool
     ensures { result ≡ only as_str (items_view items.now) }
 {
@@ -168,7 +166,7 @@ fn are_strings(items: &[Value]) -> bool
     true
 }
 
-/// Whether each item is an integer from -2^63 to 2^63 - 1, or null.
+// Whether each item is an integer from -2^63 to 2^63 - 1, or null.
 fn are_integers(items: &[Value]) -> bool
     ensures { result ≡ only integer_of (items_view items.now) }
 {
@@ -180,7 +178,7 @@ fn are_integers(items: &[Value]) -> bool
     true
 }
 
-/// Whether an item is null.
+// Whether an item is null.
 fn has_null(items: &[Value]) -> bool
     ensures { result ≡ has_null (items_view items.now) }
 {
@@ -192,7 +190,7 @@ fn has_null(items: &[Value]) -> bool
     false
 }
 
-/// The types of the items.
+// The types of the items.
 fn types_of(items: &[Value]) -> JsonTypeSet
     ensures { result ≡ option_types no_types (items_view items.now) }
 {

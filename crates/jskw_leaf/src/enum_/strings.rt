@@ -1,23 +1,44 @@
 //! Options that are strings, and perhaps null.
-ghost use Rattle.std.specs.Prelude.{◌≡◌, IsSome, IfOk, true, map, string_bytes, string_cmp};
+ghost use Rattle.std.specs.Prelude.{
+  ◌≡◌,
+  IsSome,
+  IfOk,
+  true,
+  map,
+  refl,
+  string_bytes,
+  string_cmp,
+};
 ghost use Rattle.std.specs.List.Sorted.{IsSorted, IsPermutation};
 ghost use Rattle.serde_json.specs.Data.{array};
 ghost use Rattle.serde_json.specs.Find.{as_array, as_str};
 ghost use Rattle.serde_json.specs.View.{view, items_view};
 ghost use Rattle.jskw_value.specs.Tree.{as_string};
-ghost use Rattle.jskw_leaf.specs.Options.{options_of, AreOptions, some_text, text_against, picked, only, has_null};
-
-use super::{NullOption, unlisted};
-use jskw_report::validator::{append_first, evaluate_first, fail_unless};
-use jskw_report::{
-    EvaluationResult, Fault, LazyLocation, Location, Validate, ValidationContext, ValidationError,
+ghost use Rattle.jskw_leaf.specs.Meaning.{
+  among_at,
+  enum_big_string,
+  enum_small_string,
+  not_among,
 };
+ghost use Rattle.jskw_leaf.specs.Options.{
+  options_of,
+  AreOptions,
+  some_text,
+  text_against,
+  picked,
+  only,
+  has_null,
+};
+
+use super::{NullOption, not_among};
+use jskw_report::{Assertion, Location, ValidationErrorKind};
 use jskw_value::{Json, KeyHead, Node, Nullability, PropertyName};
 use serde_json::Value;
 use std::alloc::{AllocError, Global};
 use std::cmp::Ordering;
 
-/// The validator of a few strings, and of null where the type says so. A string is compared with each, by its head first.
+/// The validator of a few strings, and of null where the type says so. A string is compared with
+/// each, by its head first.
 #[derive(Drop)]
 pub struct SmallStringEnumValidator<N: Nullability> {
     options: Value,
@@ -25,14 +46,13 @@ pub struct SmallStringEnumValidator<N: Nullability> {
     null: NullOption<N>,
     location: Location,
     ghost array: { IsSome (as_array (view options)) },
-    ghost listed: { AreOptions as_string (some_text items.items) null (options_of (view options)) },
+    ghost listed: { AreOptions as_string (some_text items.items) null
+        (options_of (view options)) },
 }
 
 impl<N: Nullability> SmallStringEnumValidator<N> {
-    ghost use Rattle.jskw_leaf.specs.Meaning.{among_at, enum_small_string};
-
-    /// The validator of these items of the options, each a string or null, with null among them where the type says
-    /// so. Only memory can fail.
+    // The validator of these items of the options, each a string or null, with null among them
+    // where the type says so. Only memory can fail.
     pub(super) fn compile(
         alloc: Global,
         options: &Value,
@@ -53,59 +73,29 @@ impl<N: Nullability> SmallStringEnumValidator<N> {
     }
 }
 
-#[tactic(auto, using(jskw_report::proofs::Once::once, crate::proofs::Options::listed))]
-impl<F: Json, N: Nullability> Validate<F> for SmallStringEnumValidator<N> {
-    ghost use Rattle.jskw_leaf.specs.Meaning.{enum_small_string};
+impl<N: Nullability> Assertion for SmallStringEnumValidator<N> {
+    ghost asserts = { enum_small_string };
+    ghost error = { λ v. not_among v.options };
+    ghost fails_once = { λ _ _. refl };
 
-    ghost keyword = { enum_small_string };
-
-    fn is_valid(&self, instance: &F::Node, _ctx: &mut ValidationContext) -> bool {
+    fn holds<F: Json>(&self, instance: &F::Node) -> bool {
         match instance.as_string() {
             Some(text) => is_one_of(&self.items, text),
             None => self.null.accepts::<F>(instance),
         }
     }
 
-    fn validate<'i>(
-        &'i self,
-        instance: &'i F::Node,
-        location: &mut LazyLocation,
-        ctx: &mut ValidationContext,
-    ) -> Result<(), Fault<'i, F>> {
-        let holds = <Self as Validate<F>>::is_valid(self, instance, ctx);
-        fail_unless(
-            holds,
-            unlisted(&self.options),
-            &self.location,
-            instance,
-            location,
-        )
+    fn kind(&self) -> ValidationErrorKind<'_> {
+        not_among(&self.options)
     }
 
-    fn collect_errors<'i>(
-        &'i self,
-        instance: &'i F::Node,
-        location: &mut LazyLocation,
-        ctx: &mut ValidationContext,
-        errors: &mut Vec<ValidationError<'i, F>>,
-    ) -> Result<(), AllocError> {
-        append_first(self.validate(instance, location, ctx), errors)
-    }
-
-    fn evaluate(
-        &self,
-        alloc: Global,
-        instance: &F::Node,
-        location: &mut LazyLocation,
-        ctx: &mut ValidationContext,
-    ) -> Result<EvaluationResult, AllocError> {
-        let answer = <Self as Validate<F>>::validate(self, instance, location, ctx);
-        evaluate_first(alloc, answer)
+    fn location(&self) -> &Location {
+        &self.location
     }
 }
 
-/// The validator of many strings, and of null where the type says so. The strings are sorted, and one is looked up by
-/// halves.
+/// The validator of many strings, and of null where the type says so. The strings are sorted, and
+/// one is looked up by halves.
 #[derive(Drop)]
 pub struct BigStringEnumValidator<N: Nullability> {
     options: Value,
@@ -114,14 +104,13 @@ pub struct BigStringEnumValidator<N: Nullability> {
     location: Location,
     ghost array: { IsSome (as_array (view options)) },
     ghost sorted: { IsSorted string_cmp items.items },
-    ghost listed: { AreOptions as_string (some_text (map string_bytes items.items)) null (options_of (view options)) },
+    ghost listed: { AreOptions as_string (some_text (map string_bytes items.items)) null
+        (options_of (view options)) },
 }
 
 impl<N: Nullability> BigStringEnumValidator<N> {
-    ghost use Rattle.jskw_leaf.specs.Meaning.{among_at, enum_big_string};
-
-    /// The validator of these items of the options, each a string or null, with null among them where the type says
-    /// so. Only memory can fail.
+    // The validator of these items of the options, each a string or null, with null among them
+    // where the type says so. Only memory can fail.
     pub(super) fn compile(
         alloc: Global,
         options: &Value,
@@ -142,58 +131,28 @@ impl<N: Nullability> BigStringEnumValidator<N> {
     }
 }
 
-#[tactic(auto, using(jskw_report::proofs::Once::once, crate::proofs::Options::listed))]
-impl<F: Json, N: Nullability> Validate<F> for BigStringEnumValidator<N> {
-    ghost use Rattle.jskw_leaf.specs.Meaning.{enum_big_string};
+impl<N: Nullability> Assertion for BigStringEnumValidator<N> {
+    ghost asserts = { enum_big_string };
+    ghost error = { λ v. not_among v.options };
+    ghost fails_once = { λ _ _. refl };
 
-    ghost keyword = { enum_big_string };
-
-    fn is_valid(&self, instance: &F::Node, _ctx: &mut ValidationContext) -> bool {
+    fn holds<F: Json>(&self, instance: &F::Node) -> bool {
         match instance.as_string() {
             Some(text) => is_in_table(&self.items, text),
             None => self.null.accepts::<F>(instance),
         }
     }
 
-    fn validate<'i>(
-        &'i self,
-        instance: &'i F::Node,
-        location: &mut LazyLocation,
-        ctx: &mut ValidationContext,
-    ) -> Result<(), Fault<'i, F>> {
-        let holds = <Self as Validate<F>>::is_valid(self, instance, ctx);
-        fail_unless(
-            holds,
-            unlisted(&self.options),
-            &self.location,
-            instance,
-            location,
-        )
+    fn kind(&self) -> ValidationErrorKind<'_> {
+        not_among(&self.options)
     }
 
-    fn collect_errors<'i>(
-        &'i self,
-        instance: &'i F::Node,
-        location: &mut LazyLocation,
-        ctx: &mut ValidationContext,
-        errors: &mut Vec<ValidationError<'i, F>>,
-    ) -> Result<(), AllocError> {
-        append_first(self.validate(instance, location, ctx), errors)
-    }
-
-    fn evaluate(
-        &self,
-        alloc: Global,
-        instance: &F::Node,
-        location: &mut LazyLocation,
-        ctx: &mut ValidationContext,
-    ) -> Result<EvaluationResult, AllocError> {
-        let answer = <Self as Validate<F>>::validate(self, instance, location, ctx);
-        evaluate_first(alloc, answer)
+    fn location(&self) -> &Location {
+        &self.location
     }
 }
 
-/// Whether the text is one of the names.
+// Whether the text is one of the names.
 fn is_one_of(names: &[PropertyName], text: &str) -> bool
     ensures { result ≡ some_text names.now text.now }
 {
@@ -206,7 +165,7 @@ fn is_one_of(names: &[PropertyName], text: &str) -> bool
     false
 }
 
-/// Whether the text is one of the sorted ones.
+// Whether the text is one of the sorted ones.
 fn is_in_table(table: &[String], text: &str) -> bool
     requires { IsSorted string_cmp table.now }
     ensures { result ≡ some_text (map string_bytes table.now) text.now }
@@ -220,7 +179,7 @@ fn compare(entry: &String, text: &str) -> Ordering
     entry.as_str().cmp(text)
 }
 
-/// The strings among the items, as names.
+// The strings among the items, as names.
 fn names_of(alloc: Global, items: &[Value]) -> Result<Vec<PropertyName>, AllocError>
     ensures { IfOk result (λ v. v.items ≡ picked as_str (items_view items.now)) }
 {
@@ -233,17 +192,18 @@ fn names_of(alloc: Global, items: &[Value]) -> Result<Vec<PropertyName>, AllocEr
     Ok(names)
 }
 
-/// The strings among the items, in rising order.
+// The strings among the items, in rising order.
 fn sorted_texts_of(alloc: Global, items: &[Value]) -> Result<Vec<String>, AllocError>
     ensures sorted { IfOk result (λ v. IsSorted string_cmp v.items) }
-    ensures same { IfOk result (λ v. IsPermutation (picked as_str (items_view items.now)) (map string_bytes v.items)) }
+    ensures same { IfOk result (λ v.
+        IsPermutation (picked as_str (items_view items.now)) (map string_bytes v.items)) }
 {
     let mut texts = texts_of(alloc, items)?;
     texts.sort_unstable();
     Ok(texts)
 }
 
-/// The strings among the items.
+// The strings among the items.
 fn texts_of(alloc: Global, items: &[Value]) -> Result<Vec<String>, AllocError>
     ensures { IfOk result (λ v. map string_bytes v.items ≡ picked as_str (items_view items.now)) }
 {

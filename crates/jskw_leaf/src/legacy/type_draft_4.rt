@@ -1,27 +1,27 @@
-//! `type` in Draft 4 (Validation 5.5.2): a number is an integer where it is written without a fraction, so 1.0 is none.
-ghost use Rattle.std.specs.Prelude.{◌≡◌, IsTrue, codes, false};
+//! `type` in Draft 4 (Validation 5.5.2): a number is an integer where it is written without a
+//! fraction, so 1.0 is none.
+ghost use Rattle.std.specs.Prelude.{◌≡◌, IsTrue, refl, false};
 ghost use Rattle.serde_json.specs.View.{view, members_view};
 ghost use Rattle.jskw_value.specs.Number.{is_exact, is_written_as_integer};
-ghost use Rattle.jskw_value.specs.Pointer.{member_location};
 ghost use Rattle.jskw_value.specs.declared.types.JsonType.TheVariants.{Integer};
 ghost use Rattle.jskw_report.specs.Compile.{Makes, Compiles, reading};
 ghost use Rattle.jskw_report.specs.Keyword.{as_written};
-ghost use Rattle.jskw_report.specs.Read.{integers_of, type_keyword};
-ghost use Rattle.jskw_report.specs.declared.settings.Draft.TheVariants.{Draft4};
+ghost use Rattle.jskw_report.specs.Kind.{WrongType};
+ghost use Rattle.jskw_report.specs.Read.{integers_of, keyword_location, type_keyword};
 ghost use Rattle.jskw_report.specs.Setting.{is_after_draft_4};
+ghost use Rattle.jskw_report.specs.declared.error.TypeKind.TheVariants.{Multiple};
 ghost use Rattle.jskw_report.specs.declared.keyword.KeywordName.TheVariants.{TypeKeyword};
-ghost use Rattle.jskw_leaf.specs.Meaning.{multiple_types_draft_4, integer_type_draft_4, single_type, leaf_keyword};
+ghost use Rattle.jskw_report.specs.declared.settings.Draft.TheVariants.{Draft4};
+ghost use Rattle.jskw_leaf.specs.Meaning.{multiple_types_draft_4, leaf_keyword};
 
 use crate::leaf::LeafValidator;
-use crate::type_::{multiple, single, single_validator, type_kind};
-use jskw_report::validator::{append_first, evaluate_first, fail_unless};
+use crate::type_::{SingleTypeValidator, TypeTest, single_validator, type_kind};
 use jskw_report::{
-    CompilationResult, Context, EvaluationResult, Fault, LazyLocation, Location, LocationSegment,
-    TypeKind, Validate, ValidationContext, ValidationError,
+    Assertion, CompilationResult, Context, KeywordName, Location, TypeKind, ValidationErrorKind,
 };
 use jskw_value::{Json, JsonNumber, JsonType, JsonTypeSet, Node};
 use serde_json::{Map, Value};
-use std::alloc::{AllocError, Global};
+use std::alloc::Global;
 
 /// The validator of a set of types, that of an array of names.
 #[derive(Drop)]
@@ -30,11 +30,12 @@ pub struct MultipleTypesValidator {
     location: Location,
 }
 
-#[tactic(auto, using(jskw_report::proofs::Once::once))]
-impl<F: Json> Validate<F> for MultipleTypesValidator {
-    ghost keyword = { multiple_types_draft_4 };
+impl Assertion for MultipleTypesValidator {
+    ghost asserts = { multiple_types_draft_4 };
+    ghost error = { λ v. WrongType (Multiple v.types) };
+    ghost fails_once = { λ _ _. refl };
 
-    fn is_valid(&self, instance: &F::Node, _ctx: &mut ValidationContext) -> bool {
+    fn holds<F: Json>(&self, instance: &F::Node) -> bool {
         match instance.as_number() {
             Some(number) => {
                 self.types.contains(JsonType::Number)
@@ -44,107 +45,37 @@ impl<F: Json> Validate<F> for MultipleTypesValidator {
         }
     }
 
-    fn validate<'i>(
-        &'i self,
-        instance: &'i F::Node,
-        location: &mut LazyLocation,
-        ctx: &mut ValidationContext,
-    ) -> Result<(), Fault<'i, F>> {
-        let holds = <Self as Validate<F>>::is_valid(self, instance, ctx);
-        fail_unless(
-            holds,
-            multiple(self.types),
-            &self.location,
-            instance,
-            location,
-        )
+    fn kind(&self) -> ValidationErrorKind<'_> {
+        ValidationErrorKind::of_types(self.types)
     }
 
-    fn collect_errors<'i>(
-        &'i self,
-        instance: &'i F::Node,
-        location: &mut LazyLocation,
-        ctx: &mut ValidationContext,
-        errors: &mut Vec<ValidationError<'i, F>>,
-    ) -> Result<(), AllocError> {
-        append_first(self.validate(instance, location, ctx), errors)
-    }
-
-    fn evaluate(
-        &self,
-        alloc: Global,
-        instance: &F::Node,
-        location: &mut LazyLocation,
-        ctx: &mut ValidationContext,
-    ) -> Result<EvaluationResult, AllocError> {
-        let answer = <Self as Validate<F>>::validate(self, instance, location, ctx);
-        evaluate_first(alloc, answer)
+    fn location(&self) -> &Location {
+        &self.location
     }
 }
 
-/// The validator of the type integer.
+/// The type integer: a number that is written without a fraction is one.
 #[derive(Drop)]
-pub struct IntegerTypeValidator {
-    location: Location,
-}
+pub struct IntegerType;
 
-impl IntegerTypeValidator {
-    /// The validator that fails at the location.
-    pub fn new(location: Location) -> IntegerTypeValidator
-        ensures { integer_type_draft_4 result ≡ single_type Integer as_written location }
-    {
-        IntegerTypeValidator { location }
+impl TypeTest for IntegerType {
+    ghost json_type = { Integer };
+    ghost rule = { as_written };
+
+    fn json_type() -> JsonType {
+        JsonType::Integer
     }
-}
 
-#[tactic(auto, using(jskw_report::proofs::Once::once))]
-impl<F: Json> Validate<F> for IntegerTypeValidator {
-    ghost keyword = { integer_type_draft_4 };
-
-    fn is_valid(&self, instance: &F::Node, _ctx: &mut ValidationContext) -> bool {
+    fn matches<F: Json>(instance: &F::Node) -> bool {
         match instance.as_number() {
             Some(number) => is_integer(number),
             None => false,
         }
     }
-
-    fn validate<'i>(
-        &'i self,
-        instance: &'i F::Node,
-        location: &mut LazyLocation,
-        ctx: &mut ValidationContext,
-    ) -> Result<(), Fault<'i, F>> {
-        let holds = <Self as Validate<F>>::is_valid(self, instance, ctx);
-        fail_unless(
-            holds,
-            single(JsonType::Integer),
-            &self.location,
-            instance,
-            location,
-        )
-    }
-
-    fn collect_errors<'i>(
-        &'i self,
-        instance: &'i F::Node,
-        location: &mut LazyLocation,
-        ctx: &mut ValidationContext,
-        errors: &mut Vec<ValidationError<'i, F>>,
-    ) -> Result<(), AllocError> {
-        append_first(self.validate(instance, location, ctx), errors)
-    }
-
-    fn evaluate(
-        &self,
-        alloc: Global,
-        instance: &F::Node,
-        location: &mut LazyLocation,
-        ctx: &mut ValidationContext,
-    ) -> Result<EvaluationResult, AllocError> {
-        let answer = <Self as Validate<F>>::validate(self, instance, location, ctx);
-        evaluate_first(alloc, answer)
-    }
 }
+
+/// The validator of the type integer.
+pub type IntegerTypeValidator = SingleTypeValidator<IntegerType>;
 
 /// What the number's `is_written_as_integer` answers. The number is a decimal.
 pub fn is_integer<N: JsonNumber>(number: &N) -> bool
@@ -154,8 +85,13 @@ pub fn is_integer<N: JsonNumber>(number: &N) -> bool
     number.is_written_as_integer()
 }
 
-#[tactic(auto, using(jskw_report::proofs::TypeReading::type_in_draft_4), unfolding(jskw_report::specs::Read::asserted))]
-/// Compiles Draft 4's `type`, as [`type_::compile`](crate::type_::compile) does that of the later drafts.
+/// Compiles `type` of Draft 4, as [`type_::compile`](crate::type_::compile) does that of later
+/// drafts.
+#[tactic(
+    auto,
+    using(jskw_report::proofs::TypeReading::type_in_draft_4),
+    unfolding(jskw_report::specs::Read::asserted)
+)]
 pub fn compile<'a, F: Json>(
     alloc: Global,
     ctx: &Context<'_, F>,
@@ -167,21 +103,22 @@ pub fn compile<'a, F: Json>(
         (reading TypeKeyword ctx.now (members_view parent.now.entries) (view schema.now)) }
 {
     let _ = parent;
-    Some(make(alloc, ctx.location(), schema))
+    Some(type_validator(alloc, ctx, schema))
 }
 
-fn make<'a, F: Json>(
+fn type_validator<'a, F: Json>(
     alloc: Global,
-    parent: &Location,
+    ctx: &Context<'_, F>,
     schema: &'a Value,
 ) -> CompilationResult<'a, LeafValidator<F>>
-    ensures { Makes leaf_keyword result (type_keyword (integers_of Draft4) (member_location parent.now (codes "type")) (view schema.now)) }
+    ensures { Makes leaf_keyword result (type_keyword (integers_of Draft4)
+        (keyword_location ctx.now.location TypeKeyword) (view schema.now)) }
 {
-    let location = parent.join(alloc, LocationSegment::Name("type"))?;
+    let location = ctx.keyword_location(alloc, KeywordName::TypeKeyword)?;
     match type_kind(alloc, &location, schema)? {
-        TypeKind::Single(JsonType::Integer) => Ok(LeafValidator::IntegerTypeDraft4(
-            IntegerTypeValidator { location },
-        )),
+        TypeKind::Single(JsonType::Integer) => {
+            Ok(LeafValidator::IntegerTypeDraft4(IntegerTypeValidator::new(location)))
+        }
         TypeKind::Single(json_type) => Ok(single_validator(json_type, location)),
         TypeKind::Multiple(types) => Ok(LeafValidator::MultipleTypesDraft4(MultipleTypesValidator {
             types,

@@ -21,14 +21,16 @@ use jskw_report::{Context, Vocabulary};
 use jskw_value::Json;
 use serde_json::{Map, Value};
 
-/// The number of members of `properties` from which on two required names are not handed on.
+// The number of members of `properties` from which on two required names are not handed on.
 const HASHMAP_THRESHOLD: usize = 15;
 
-/// Whether `required`, whose value is `schema` and stands in `parent`, is left to the keywords of objects beside it: then
-/// [`compile`](super::compile) makes nothing. `ctx` is at the location of `parent`, and the keyword is read there. That is
-/// so under the applicator vocabulary without `patternProperties`, of one item beside `properties` and an
-/// `additionalProperties` of `false` that isn't overridden, and of two items beside `properties` of fewer than 15 members
-/// that aren't overridden, where `additionalProperties` is neither `false` nor an object. Items count as they are written.
+/// Whether `required`, whose value is `schema` and stands in `parent`, is left to the keywords of
+/// objects beside it: then [`compile`](super::compile) makes nothing. `ctx` is at the location of
+/// `parent`, and the keyword is read there. That is so under the applicator vocabulary without
+/// `patternProperties`, of one item beside `properties` and an `additionalProperties` of `false`
+/// that isn't overridden, and of two items beside `properties` of fewer than 15 members that aren't
+/// overridden, where `additionalProperties` is neither `false` nor an object. Items count as they
+/// are written.
 #[tactic(auto, using(crate::proofs::HandedOn::handed_on))]
 pub fn is_handed_on<F: Json>(
     ctx: &Context<'_, F>,
@@ -36,7 +38,8 @@ pub fn is_handed_on<F: Json>(
     schema: &Value,
 ) -> bool
     requires stands { IsTrue (stands ctx.now.setting Required) }
-    requires member { get_member (codes "required") (members_view parent.now.entries) ≡ Some (view schema.now) }
+    requires member { get_member (codes "required") (members_view parent.now.entries)
+        ≡ Some (view schema.now) }
     ensures { result ≡ is_handed_on ctx.now.setting (members_view parent.now.entries) }
 {
     ctx.has_vocabulary(Vocabulary::Applicator)
@@ -45,16 +48,18 @@ pub fn is_handed_on<F: Json>(
             || requires_two_of_properties(ctx, parent, schema))
 }
 
-/// Whether `schema`, the value of `required`, has one item, there are `properties`, and no other members are allowed by an
-/// `additionalProperties` that isn't overridden.
+// Whether `schema`, the value of `required`, has one item, there are `properties`, and no other
+// members are allowed by an `additionalProperties` that isn't overridden.
 #[tactic(auto, using(crate::proofs::HandedOn::passes_at))]
 fn requires_one_of_properties<F: Json>(
     ctx: &Context<'_, F>,
     parent: &Map<String, Value>,
     schema: &Value,
 ) -> bool
-    requires { get_member (codes "required") (members_view parent.now.entries) ≡ Some (view schema.now) }
-    ensures { result ≡ requires_one_of_properties ctx.now.setting (members_view parent.now.entries) }
+    requires { get_member (codes "required") (members_view parent.now.entries)
+        ≡ Some (view schema.now) }
+    ensures { result
+        ≡ requires_one_of_properties ctx.now.setting (members_view parent.now.entries) }
 {
     has_items(schema, 1)
         && has_member(parent, "properties")
@@ -62,16 +67,18 @@ fn requires_one_of_properties<F: Json>(
         && !ctx.is_keyword_overridden("additionalProperties")
 }
 
-/// Whether `schema`, the value of `required`, has two items, there are few `properties`, which aren't overridden, and
-/// `additionalProperties` is neither `false` nor an object.
+// Whether `schema`, the value of `required`, has two items, there are few `properties`, which
+// aren't overridden, and `additionalProperties` is neither `false` nor an object.
 #[tactic(auto, using(crate::proofs::HandedOn::passes_at))]
 fn requires_two_of_properties<F: Json>(
     ctx: &Context<'_, F>,
     parent: &Map<String, Value>,
     schema: &Value,
 ) -> bool
-    requires { get_member (codes "required") (members_view parent.now.entries) ≡ Some (view schema.now) }
-    ensures { result ≡ requires_two_of_properties ctx.now.setting (members_view parent.now.entries) }
+    requires { get_member (codes "required") (members_view parent.now.entries)
+        ≡ Some (view schema.now) }
+    ensures { result
+        ≡ requires_two_of_properties ctx.now.setting (members_view parent.now.entries) }
 {
     has_items(schema, 2)
         && has_small_object(parent, "properties")
@@ -80,7 +87,7 @@ fn requires_two_of_properties<F: Json>(
         && !has_object(parent, "additionalProperties")
 }
 
-/// Whether the value is an array of so many items.
+// Whether the value is an array of so many items.
 fn has_items(value: &Value, count: usize) -> bool
     ensures { result ≡ has_items count (view value.now) }
 {
@@ -90,28 +97,28 @@ fn has_items(value: &Value, count: usize) -> bool
     }
 }
 
-/// Whether `parent` has the name.
+// Whether `parent` has the name.
 fn has_member(parent: &Map<String, Value>, name: &str) -> bool
     ensures { result ≡ not (is_absent name.now (members_view parent.now.entries)) }
 {
     member_of(parent, name).is_some()
 }
 
-/// Whether `parent` has `false` under a name.
+// Whether `parent` has `false` under a name.
 fn has_false(parent: &Map<String, Value>, name: &str) -> bool
     ensures { result ≡ member_passes is_false name.now (members_view parent.now.entries) }
 {
     matches!(member_of(parent, name), Some(Value::Bool(false)))
 }
 
-/// Whether `parent` has an object under a name.
+// Whether `parent` has an object under a name.
 fn has_object(parent: &Map<String, Value>, name: &str) -> bool
     ensures { result ≡ member_passes is_object name.now (members_view parent.now.entries) }
 {
     matches!(member_of(parent, name), Some(Value::Object(_)))
 }
 
-/// Whether `parent` has an object of few members under a name.
+// Whether `parent` has an object of few members under a name.
 fn has_small_object(parent: &Map<String, Value>, name: &str) -> bool
     ensures { result ≡ member_passes has_few_members name.now (members_view parent.now.entries) }
 {
@@ -121,7 +128,7 @@ fn has_small_object(parent: &Map<String, Value>, name: &str) -> bool
     }
 }
 
-/// Whether the value is an object of few members.
+// Whether the value is an object of few members.
 fn has_few_members(value: &Value) -> bool
     ensures { result ≡ has_few_members (view value.now) }
 {

@@ -1,6 +1,21 @@
-//! Which of some names an object has. A few names are looked for in one walk over an object of not too many members; else
-//! each is looked up by its key.
-ghost use Rattle.std.specs.Prelude.{◌≡◌, ◌<◌, ◌≤◌, ◌==◌, ◌^◌, [], IfSome, Some, IsTrue, is_some, not, length, slice_get, slice_index_or};
+//! Which of some names an object has. A few names are looked for in one walk over an object of not
+//! too many members; else each is looked up by its key.
+ghost use Rattle.std.specs.Prelude.{
+  ◌≡◌,
+  ◌<◌,
+  ◌≤◌,
+  ◌==◌,
+  ◌^◌,
+  [],
+  IfSome,
+  Some,
+  IsTrue,
+  is_some,
+  not,
+  length,
+  slice_get,
+  slice_index_or,
+};
 ghost use Rattle.std.specs.Int.{bit_at};
 ghost use Rattle.std.specs.List.{list_all};
 ghost use Rattle.jskw_value.specs.Tree.{has_name, is_object};
@@ -9,10 +24,10 @@ ghost use Rattle.jskw_leaf.specs.Required.{is_among, Marks};
 use super::names::Names;
 use jskw_value::{Json, KeyHead, Object};
 
-/// The most names that one walk looks for; of more the comparisons would take longer than look-ups.
+// The most names that one walk looks for; of more the comparisons would take longer than look-ups.
 const MAX_SCANNED_REQUIRED: usize = 16;
 
-/// Whether the object has every name.
+// Whether the object has every name.
 #[tactic(auto, using(crate::proofs::Counting::too_few))]
 pub(crate) fn has_all<F: Json, L: Names<F>>(names: &L, object: &F::Node) -> bool
     requires { IsTrue (is_object (F.Node.tree object.now)) }
@@ -28,7 +43,7 @@ pub(crate) fn has_all<F: Json, L: Names<F>>(names: &L, object: &F::Node) -> bool
     }
 }
 
-/// Whether so many names are looked for in one walk over the object.
+// Whether so many names are looked for in one walk over the object.
 fn is_scanned<F: Json>(count: usize, object: &F::Node) -> bool
     requires { IsTrue (is_object (F.Node.tree object.now)) }
     ensures { IsTrue result → count ≤ 16 }
@@ -36,9 +51,16 @@ fn is_scanned<F: Json>(count: usize, object: &F::Node) -> bool
     count <= MAX_SCANNED_REQUIRED && Object::len(object) <= F::KEYS_PER_LOOKUP.saturating_mul(count)
 }
 
-/// Counts the names that a walk meets, and stops where none is left to be met: both the names and those of the members are
-/// distinct.
-#[tactic(auto, using(crate::proofs::Counting::found_at_most, crate::proofs::Counting::all_found, crate::proofs::Counting::not_all_found))]
+// Counts the names that a walk meets, and stops where none is left to be met: both the names and
+// those of the members are distinct.
+#[tactic(
+    auto,
+    using(
+        crate::proofs::Counting::found_at_most,
+        crate::proofs::Counting::all_found,
+        crate::proofs::Counting::not_all_found
+    )
+)]
 fn walk_finds_all<F: Json, L: Names<F>>(names: &L, object: &F::Node) -> bool
     requires { IsTrue (is_object (F.Node.tree object.now)) }
     ensures { result ≡ list_all (has_name (F.Node.tree object.now)) (L.names names.now) }
@@ -69,10 +91,18 @@ fn lookups_find_all<F: Json, L: Names<F>>(names: &L, object: &F::Node) -> bool
     true
 }
 
-/// The index of the text among the names.
-#[tactic(auto, using(crate::proofs::Marking::place_step, crate::proofs::Marking::place_end, crate::proofs::Marking::place_found))]
+// The index of the text among the names.
+#[tactic(
+    auto,
+    using(
+        crate::proofs::Marking::place_step,
+        crate::proofs::Marking::place_end,
+        crate::proofs::Marking::place_found
+    )
+)]
 fn place_of<F: Json, L: Names<F>>(names: &L, text: &str) -> Option<usize>
-    ensures place { IfSome result (λ i. (i < length (L.names names.now)) × (slice_get (L.names names.now) i ≡ Some text.now)) }
+    ensures place { IfSome result (λ i. (i < length (L.names names.now))
+        × (slice_get (L.names names.now) i ≡ Some text.now)) }
     ensures found { is_some result ≡ is_among (L.names names.now) text.now }
 {
     let head = KeyHead::of(text);
@@ -84,11 +114,13 @@ fn place_of<F: Json, L: Names<F>>(names: &L, text: &str) -> Option<usize>
     None
 }
 
-/// The names that one walk finds, a bit for each by its index; None where the names are to be looked up.
+// The names that one walk finds, a bit for each by its index; None where the names are to be looked
+// up.
 pub(crate) fn scanned<F: Json, L: Names<F>>(names: &L, object: &F::Node) -> Option<u32>
     requires { IsTrue (is_object (F.Node.tree object.now)) }
     ensures few { IfSome result (λ _. length (L.names names.now) ≤ 16) }
-    ensures marks { IfSome result (λ found. Marks found (F.Node.tree object.now) (L.names names.now)) }
+    ensures marks { IfSome result (λ found.
+        Marks found (F.Node.tree object.now) (L.names names.now)) }
 {
     if is_scanned::<F>(names.len(), object) {
         Some(found_by_walk(names, object))
@@ -97,7 +129,7 @@ pub(crate) fn scanned<F: Json, L: Names<F>>(names: &L, object: &F::Node) -> Opti
     }
 }
 
-/// Whether the object lacks the name at an index. `found` is the answer of [`scanned`].
+// Whether the object lacks the name at an index. `found` is the answer of [`scanned`].
 pub(crate) fn is_missing<F: Json, L: Names<F>>(
     names: &L,
     index: usize,
@@ -107,8 +139,10 @@ pub(crate) fn is_missing<F: Json, L: Names<F>>(
     requires object { IsTrue (is_object (F.Node.tree object.now)) }
     requires index { index < length (L.names names.now) }
     requires few { IfSome found (λ _. length (L.names names.now) ≤ 16) }
-    requires marks { IfSome found (λ found. Marks found (F.Node.tree object.now) (L.names names.now)) }
-    ensures { result ≡ not (has_name (F.Node.tree object.now) (slice_index_or (L.names names.now) index [])) }
+    requires marks { IfSome found (λ found.
+        Marks found (F.Node.tree object.now) (L.names names.now)) }
+    ensures { result ≡ not (has_name (F.Node.tree object.now)
+        (slice_index_or (L.names names.now) index [])) }
 {
     match found {
         Some(found) => !has_bit(found, index),
@@ -116,7 +150,7 @@ pub(crate) fn is_missing<F: Json, L: Names<F>>(
     }
 }
 
-/// Marks the names that a walk meets, and stops where all are marked.
+// Marks the names that a walk meets, and stops where all are marked.
 fn found_by_walk<F: Json, L: Names<F>>(names: &L, object: &F::Node) -> u32
     requires object { IsTrue (is_object (F.Node.tree object.now)) }
     requires few { length (L.names names.now) ≤ 16 }

@@ -1,25 +1,33 @@
-//! What is wrong with an object that lacks required names: one error for each, in the order of the names.
-ghost use Rattle.std.specs.Prelude.{◌≡◌, ◌++◌, [], ◌∷◌, IfOk, OnOk, OnErr, MatchOption, IsTrue, IsOk, List};
+//! What is wrong with an object that lacks required names: one error for each, in the order of the
+//! names.
+ghost use Rattle.std.specs.Prelude.{
+  ◌≡◌,
+  ◌++◌,
+  [],
+  ◌∷◌,
+  IfOk,
+  OnOk,
+  OnErr,
+  MatchOption,
+  IsTrue,
+  IsOk,
+  List,
+};
 ghost use Rattle.jskw_report.specs.Errors.{failure_of, failures_of};
-ghost use Rattle.jskw_report.specs.Evaluation.{of_errors};
-ghost use Rattle.jskw_report.specs.EvaluationView.{result_of};
 ghost use Rattle.jskw_report.specs.Fail.{missing};
 ghost use Rattle.jskw_report.specs.Holds.{required_holds};
 ghost use Rattle.jskw_report.specs.Kind.{ErrorKind, Required};
-ghost use Rattle.jskw_report.specs.Observe.{AppendsBeginning, IsFirst};
+ghost use Rattle.jskw_report.specs.Observe.{Appends, IsFirst};
 ghost use Rattle.jskw_report.specs.Paths.{path_of};
 ghost use Rattle.jskw_leaf.specs.Required.{required_fail, required_fails};
 
 use super::found::{is_missing, scanned};
 use super::names::Names;
-use jskw_report::{
-    ErrorDescription, EvaluationResult, Fault, LazyLocation, Location, ValidationError,
-    ValidationErrorKind,
-};
+use jskw_report::{Fault, LazyLocation, Location, ValidationError, ValidationErrorKind};
 use jskw_value::{Json, Node};
-use std::alloc::{AllocError, Global};
+use std::alloc::AllocError;
 
-/// Ok where nothing is missing, which takes no memory, and else the error of the first name that is.
+// Ok where nothing is missing, which takes no memory, and else the error of the first name that is.
 pub(crate) fn fail_first<'i, F: Json + 'i, L: Names<F> + 'i>(
     names: &'i L,
     schema_path: &'i Location,
@@ -27,8 +35,10 @@ pub(crate) fn fail_first<'i, F: Json + 'i, L: Names<F> + 'i>(
     location: &LazyLocation,
 ) -> Result<(), Fault<'i, F>>
     ensures first { IsFirst F.Node.tree
-        (required_fails schema_path.now (F.Node.tree instance.now) (path_of location.now) (L.names names.now)) result }
-    ensures ok { IsTrue (required_holds (L.names names.now) (F.Node.tree instance.now)) → IsOk result }
+        (required_fails schema_path.now (F.Node.tree instance.now) (path_of location.now)
+        (L.names names.now)) result }
+    ensures ok { IsTrue (required_holds (L.names names.now) (F.Node.tree instance.now))
+        → IsOk result }
 {
     match first_missing(names, instance) {
         Some(property) => {
@@ -39,13 +49,14 @@ pub(crate) fn fail_first<'i, F: Json + 'i, L: Names<F> + 'i>(
     }
 }
 
-/// The first name that an object lacks.
+// The first name that an object lacks.
 fn first_missing<'n, F: Json + 'n, L: Names<F> + 'n>(
     names: &'n L,
     instance: &F::Node,
 ) -> Option<&'n str>
     ensures { let kinds = missing (L.names names.now) (F.Node.tree instance.now) in
-        MatchOption result (kinds ≡ []) (λ name. (rest : List ErrorKind) × (kinds ≡ Required name.now ∷ rest)) }
+        MatchOption result (kinds ≡ [])
+        (λ name. (rest : List ErrorKind) × (kinds ≡ Required name.now ∷ rest)) }
 {
     if !instance.is_object() {
         return None;
@@ -59,7 +70,7 @@ fn first_missing<'n, F: Json + 'n, L: Names<F> + 'n>(
     None
 }
 
-/// Appends an error for each missing name. Where none is missing it takes no memory.
+// Appends an error for each missing name. Where none is missing it takes no memory.
 pub(crate) fn append_missing<'i, F: Json + 'i, L: Names<F> + 'i>(
     names: &'i L,
     schema_path: &'i Location,
@@ -67,13 +78,11 @@ pub(crate) fn append_missing<'i, F: Json + 'i, L: Names<F> + 'i>(
     location: &LazyLocation,
     errors: &mut Vec<ValidationError<'i, F>>,
 ) -> Result<(), AllocError>
-    ensures appended { OnOk result (failures_of F.Node.tree errors.new.items
-        ≡ failures_of F.Node.tree errors.old.items
-        ++ required_fails schema_path.now (F.Node.tree instance.now) (path_of location.now) (L.names names.now)) }
-    ensures begun { OnErr result (AppendsBeginning (failures_of F.Node.tree errors.old.items)
-        (failures_of F.Node.tree errors.new.items)
-        (required_fails schema_path.now (F.Node.tree instance.now) (path_of location.now) (L.names names.now))) }
-    ensures ok { IsTrue (required_holds (L.names names.now) (F.Node.tree instance.now)) → IsOk result }
+    ensures appended { Appends F.Node.tree errors.old.items errors.new.items
+        (required_fails schema_path.now (F.Node.tree instance.now) (path_of location.now)
+        (L.names names.now)) result }
+    ensures ok { IsTrue (required_holds (L.names names.now) (F.Node.tree instance.now))
+        → IsOk result }
 {
     if !instance.is_object() {
         return Ok(());
@@ -88,7 +97,7 @@ pub(crate) fn append_missing<'i, F: Json + 'i, L: Names<F> + 'i>(
     Ok(())
 }
 
-/// Appends the error of a missing name. Only memory can fail, and the list is then as it was.
+// Appends the error of a missing name. Only memory can fail, and the list is then as it was.
 fn append_error<'i, F: Json>(
     property: &'i str,
     schema_path: &'i Location,
@@ -98,7 +107,8 @@ fn append_error<'i, F: Json>(
 ) -> Result<(), AllocError>
     ensures appended { OnOk result (failures_of F.Node.tree errors.new.items
         ≡ failures_of F.Node.tree errors.old.items
-        ++ required_fail schema_path.now (F.Node.tree instance.now) (path_of location.now) property.now ∷ []) }
+        ++ required_fail schema_path.now (F.Node.tree instance.now) (path_of location.now)
+        property.now ∷ []) }
     ensures begun { OnErr result (errors.new.items ≡ errors.old.items) }
 {
     let error = missing_error(property, schema_path, instance, location)?;
@@ -106,7 +116,7 @@ fn append_error<'i, F: Json>(
     Ok(())
 }
 
-/// The error of a missing name. Only memory can fail.
+// The error of a missing name. Only memory can fail.
 fn missing_error<'i, F: Json>(
     property: &'i str,
     schema_path: &'i Location,
@@ -114,27 +124,10 @@ fn missing_error<'i, F: Json>(
     location: &LazyLocation,
 ) -> Result<ValidationError<'i, F>, AllocError>
     ensures { IfOk result (λ error. failure_of F.Node.tree error
-        ≡ required_fail schema_path.now (F.Node.tree instance.now) (path_of location.now) property.now) }
+        ≡ required_fail schema_path.now (F.Node.tree instance.now) (path_of location.now)
+        property.now) }
 {
     let kind = ValidationErrorKind::Required { property };
     let instance_path = location.render()?;
     Ok(ValidationError::new(kind, instance_path, schema_path, instance))
-}
-
-/// The unit of errors that were collected: valid where there are none, which takes no memory, and else invalid with a
-/// description for each.
-pub(crate) fn evaluate_errors<F: Json>(
-    alloc: Global,
-    errors: &[ValidationError<'_, F>],
-) -> Result<EvaluationResult, AllocError>
-    ensures { IfOk result (λ r. result_of r ≡ of_errors (failures_of F.Node.tree errors.now)) }
-{
-    if errors.is_empty() {
-        return Ok(EvaluationResult::valid_empty());
-    }
-    let mut descriptions = Vec::new(alloc);
-    for error in errors {
-        descriptions.push(ErrorDescription::from_validation_error(alloc, error)?)?;
-    }
-    Ok(EvaluationResult::invalid_empty(descriptions))
 }

@@ -9,7 +9,7 @@ use std::alloc::{AllocError, Global};
 use std::marker::Model;
 
 /// Distinct names, in their order.
-pub(crate) trait Names<F: Json> {
+pub trait Names<F: Json> {
     ghost names: { Self → List (List ℕ) };
 
     /// How many there are.
@@ -25,7 +25,7 @@ pub(crate) trait Names<F: Json> {
 
 /// Any number of names. Contracts see a list.
 #[derive(Drop)]
-pub(crate) struct NameList<F: Json> {
+pub struct NameList<F: Json> {
     names: Vec<PreparedName<F>>,
 }
 
@@ -42,7 +42,7 @@ impl<F: Json> Model for NameList<F> {
 }
 
 impl<F: Json> NameList<F> {
-    /// The names of these texts, which differ. Only memory can fail.
+    // The names of these texts, which differ. Only memory can fail.
     pub(crate) fn new(alloc: Global, texts: &[&str]) -> Result<NameList<F>, AllocError>
         requires { IsDistinct bytes_eq (map (λ text. text.now) texts.now) }
         ensures { IfOk result (λ names. names ≡ map (λ text. text.now) texts.now) }
@@ -69,7 +69,7 @@ impl<F: Json> Names<F> for NameList<F> {
 
 /// One name. Contracts see a list.
 #[derive(Drop)]
-pub(crate) struct OneName<F: Json> {
+pub struct OneName<F: Json> {
     name: PreparedName<F>,
 }
 
@@ -86,7 +86,7 @@ impl<F: Json> Model for OneName<F> {
 }
 
 impl<F: Json> OneName<F> {
-    /// The name of this text. Only memory can fail.
+    // The name of this text. Only memory can fail.
     #[tactic(auto, using(crate::proofs::Distinct::one_once))]
     pub(crate) fn new(alloc: Global, name: &str) -> Result<OneName<F>, AllocError>
         ensures { IfOk result (λ names. names ≡ name.now ∷ []) }
@@ -113,7 +113,7 @@ impl<F: Json> Names<F> for OneName<F> {
 
 /// Two names, held in place. Contracts see a list.
 #[derive(Drop)]
-pub(crate) struct TwoNames<F: Json> {
+pub struct TwoNames<F: Json> {
     first: PreparedName<F>,
     second: PreparedName<F>,
 }
@@ -131,7 +131,7 @@ impl<F: Json> Model for TwoNames<F> {
 }
 
 impl<F: Json> TwoNames<F> {
-    /// The names of these texts, which differ. Only memory can fail.
+    // The names of these texts, which differ. Only memory can fail.
     pub(crate) fn new(alloc: Global, first: &str, second: &str) -> Result<TwoNames<F>, AllocError>
         requires { IsDistinct bytes_eq (first.now ∷ second.now ∷ []) }
         ensures { IfOk result (λ names. names ≡ first.now ∷ second.now ∷ []) }
@@ -161,7 +161,7 @@ impl<F: Json> Names<F> for TwoNames<F> {
 
 /// Three names, held in place. Contracts see a list.
 #[derive(Drop)]
-pub(crate) struct ThreeNames<F: Json> {
+pub struct ThreeNames<F: Json> {
     first: PreparedName<F>,
     second: PreparedName<F>,
     third: PreparedName<F>,
@@ -180,7 +180,7 @@ impl<F: Json> Model for ThreeNames<F> {
 }
 
 impl<F: Json> ThreeNames<F> {
-    /// The names of these texts, each of which differs from the others. Only memory can fail.
+    // The names of these texts, each of which differs from the others. Only memory can fail.
     pub(crate) fn new(
         alloc: Global,
         first: &str,

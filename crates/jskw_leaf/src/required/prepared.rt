@@ -10,7 +10,7 @@ use std::marker::Model;
 
 /// A required name, with the key that it is looked up by. Contracts see the name.
 #[derive(Drop)]
-pub(crate) struct PreparedName<F: Json> {
+pub struct PreparedName<F: Json> {
     name: PropertyName,
     key: <F::Node as Object>::PreparedKey,
 }
@@ -26,7 +26,7 @@ impl<F: Json> Model for PreparedName<F> {
 }
 
 impl<F: Json> PreparedName<F> {
-    /// The name of this text. Only memory can fail.
+    // The name of this text. Only memory can fail.
     pub(crate) fn new(alloc: Global, text: &str) -> Result<PreparedName<F>, AllocError>
         ensures { IfOk result (λ p. p ≡ text.now) }
     {
@@ -36,14 +36,14 @@ impl<F: Json> PreparedName<F> {
         })
     }
 
-    /// The name as text.
+    // The name as text.
     pub(crate) fn as_str(&self) -> &str
         ensures { result.now ≡ self.now }
     {
         self.name.as_str()
     }
 
-    /// Whether the name is this text, whose head the caller has.
+    // Whether the name is this text, whose head the caller has.
     pub(crate) fn matches(&self, head: KeyHead, text: &str) -> bool
         requires { head ≡ head_of text.now }
         ensures { result ≡ bytes_eq self.now text.now }
@@ -51,7 +51,7 @@ impl<F: Json> PreparedName<F> {
         self.name.matches(head, text)
     }
 
-    /// Whether the object has a member of the name, which is looked up by the key.
+    // Whether the object has a member of the name, which is looked up by the key.
     pub(crate) fn is_in(&self, object: &F::Node) -> bool
         requires { IsTrue (is_object (F.Node.tree object.now)) }
         ensures { result ≡ has_name (F.Node.tree object.now) self.now }

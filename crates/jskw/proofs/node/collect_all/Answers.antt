@@ -4,10 +4,9 @@ use Rattle.jskw_report.specs.Errors.{failures_of}
 use Rattle.jskw_report.specs.Fail.{all_fail, keyword_fail}
 use Rattle.jskw_report.specs.Observe.{Collects, AppendsBeginning}
 use Rattle.jskw_report.specs.Paths.{path_of}
-use Rattle.jskw_report.proofs.Appending.{collects_part, on_err_given}
 use Rattle.jskw_leaf.specs.Meaning.{leaf_keyword}
 use Rattle.jskw.specs.Node.{keywords_of}
-use Rattle.jskw.proofs.Collecting.{collects_all, collects_more, collects_nothing}
+use Rattle.jskw_report.proofs.Appending.{collects_all, collects_more, collects_nothing, collects_part}
 use Rattle.jskw.proofs.Units.{fail_here}
 use Rattle.jskw.proofs.node.collect_all.Goals as goal
 
@@ -41,8 +40,8 @@ returns-clause-appended g c =
     let p = path_of c.args.location.now in
     collects_all l.invariant.collects (ap (λ us. all_fail (keywords_of us) t p) (drop_all l.unit-index c.args.units.now c.loop-unit-test.false))
 
-pub returns-in_err-collect_errors-clause-begun : goal.returns-in_err-collect_errors-clause-begun
-returns-in_err-collect_errors-clause-begun g c =
+pub returns-in_err-collect_errors-clause-appended : goal.returns-in_err-collect_errors-clause-appended
+returns-in_err-collect_errors-clause-appended g c =
     let l = c.loop-unit in
     let tree = g.F.Node.Rooted.tree in
     let t = tree c.args.instance.now in
@@ -54,5 +53,5 @@ returns-in_err-collect_errors-clause-begun g c =
     let u = c.unit-item.result in
     let here = fail_here units l.unit-index u c.loop-unit-test.true t p in
     let left = subst (λ fs. Collects old now fs (all_fail (keywords_of units) t p)) (here ∙ ap (λ v. keyword_fail (leaf_keyword v.validator) t p ++ all_fail (keywords_of (drop (l.unit-index + 1) units)) t p) (sym c.unit-item.is)) l.invariant.collects in
-    let begun = subst (λ q. AppendsBeginning now new (keyword_fail (leaf_keyword u.validator) t (path_of q))) l.invariant.location c.in_err-collect_errors.ensures.begun in
-    on_err_given _ (collects_part _ _ left begun)
+    let begun = subst (λ q. AppendsBeginning now new (keyword_fail (leaf_keyword u.validator) t (path_of q))) l.invariant.location c.in_err-collect_errors.ensures.appended in
+    collects_part _ _ left begun

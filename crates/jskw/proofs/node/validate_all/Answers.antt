@@ -4,7 +4,7 @@ use Rattle.jskw_report.specs.Observe.{IsFirst}
 use Rattle.jskw_report.specs.Paths.{path_of}
 use Rattle.jskw_leaf.specs.Meaning.{leaf_keyword}
 use Rattle.jskw.specs.Node.{keywords_of}
-use Rattle.jskw.proofs.Collecting.{first_before}
+use Rattle.jskw_report.proofs.Appending.{first_before}
 use Rattle.jskw.proofs.Units.{fail_here}
 use Rattle.jskw.proofs.node.validate_all.Goals as goal
 

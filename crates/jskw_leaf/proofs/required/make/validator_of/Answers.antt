@@ -3,7 +3,7 @@ use Rattle.jskw_report.specs.Keyword.{assertion, required}
 use Rattle.jskw_leaf.proofs.Sizes.{three}
 use Rattle.jskw_leaf.proofs.required.make.validator_of.Goals as goal
 
-pub returns-in_ok-triple-in-len3 : goal.returns-in_ok-triple-in-len3
-returns-in_ok-triple-in-len3 g c =
+pub returns-in_ok-names-in-len3 : goal.returns-in_ok-names-in-len3
+returns-in_ok-names-in-len3 g c =
     let count : length c.args.names.now ≡ 3 = omega (arith, c.in-len3.len_at_least, c.in-len3.len_below) in
-    ap (λ ns. assertion c.args.location (required ns)) (c.in_ok-triple-in-len3.ensures ∙ three (λ name. name.now) c.args.names.now _ count)
+    ap (λ ns. assertion c.args.location (required ns)) (c.in_ok-names-in-len3.ensures ∙ three (λ name. name.now) c.args.names.now _ count)

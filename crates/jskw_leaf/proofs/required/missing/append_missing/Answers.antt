@@ -6,7 +6,8 @@ use Rattle.jskw_report.specs.Errors.{failures_of}
 use Rattle.jskw_report.specs.Observe.{Collects}
 use Rattle.jskw_report.specs.Paths.{path_of}
 use Rattle.jskw_leaf.specs.Required.{required_fail, required_fails}
-use Rattle.jskw_leaf.proofs.Lacking.{fails_here, fails_there, collects_nothing, collects_one, all_there, not_true, not_false}
+use Rattle.jskw_report.proofs.Appending.{collects_nothing, collects_more}
+use Rattle.jskw_leaf.proofs.Lacking.{fails_here, fails_there, all_there, not_true, not_false}
 use Rattle.jskw_leaf.proofs.required.missing.append_missing.Goals as goal
 use Rattle.jskw_leaf.proofs.required.missing.append_missing.Goals.{then-is_missing+in_ok-append_error, else-is_missing}
 
@@ -32,7 +33,7 @@ loop-index-preserved g c =
           let lacks : has_name t name ≡ false = not_true _ (sym c.is_missing.ensures ∙ w.if-is_missing.true) in
           let is : w.as_str-property.result.now ≡ name = w.as_str-property.ensures ∙ get_or_read names i _ within w.at.ensures [] in
           let left = subst (λ fs. Collects old now fs (fails names)) (fails_here q t p names i [] is_object within lacks) c.loop-index.invariant.collects in
-          record { within = c.loop-index.invariant.within; collects = collects_one (required_fail q t p name) (fails (drop (i + 1) names)) left (rw w.errors-is (w.in_ok-append_error.ensures.appended ∙ ap (λ (n : List ℕ). now ++ required_fail q t p n ∷ []) is)) }
+          record { within = c.loop-index.invariant.within; collects = collects_more (required_fail q t p name ∷ []) (fails (drop (i + 1) names)) left (rw w.errors-is (w.in_ok-append_error.ensures.appended ∙ ap (λ (n : List ℕ). now ++ required_fail q t p n ∷ []) is)) }
       | else-is_missing w ↦
           let has : has_name t name ≡ true = not_false _ (sym c.is_missing.ensures ∙ w.if-is_missing.false) in
           let left = subst (λ fs. Collects old now fs (fails names)) (fails_there q t p names i [] within has) c.loop-index.invariant.collects in

@@ -1,0 +1,77 @@
+//! The compile of each keyword, by its name.
+ghost use Rattle.std.specs.Prelude.{◌≡◌, IsTrue, Some, true};
+ghost use Rattle.serde_json.specs.Find.{get_member};
+ghost use Rattle.serde_json.specs.View.{view, members_view};
+ghost use Rattle.jskw_report.specs.Compile.{Compiles, reading};
+ghost use Rattle.jskw_report.specs.Read.{Asserts};
+ghost use Rattle.jskw_report.specs.Setting.{name_of, stands};
+ghost use Rattle.jskw_number.specs.Meaning.{number_keyword};
+ghost use Rattle.jskw_leaf.specs.Meaning.{leaf_keyword};
+ghost use Rattle.jskw_leaf.specs.Names.{is_leaf};
+
+use crate::leaf::LeafValidator;
+use crate::legacy::type_draft_4;
+use crate::{const_, enum_, required, type_, unique_items};
+use jskw_number::NumberValidator;
+use jskw_report::{CompilationResult, Context, Draft, KeywordName};
+use jskw_value::Json;
+use serde_json::{Map, Value};
+use std::alloc::Global;
+
+/// Whether the keyword is without subschemas, and so [`compile`] takes it: all are but `items`,
+/// `prefixItems`, `additionalItems` and `contains` (Core 10.3.1).
+pub fn is_leaf(keyword: KeywordName) -> bool
+    ensures { result ≡ is_leaf keyword }
+{
+    !matches!(
+        keyword,
+        KeywordName::Items
+            | KeywordName::PrefixItems
+            | KeywordName::AdditionalItems
+            | KeywordName::Contains
+    )
+}
+
+/// Compiles a keyword without subschemas, as [`is_leaf`] tells, which stands, by the `compile` of
+/// its module: `schema` is the value that `parent` has under its name, and `ctx` stands at the
+/// keyword location of `parent`. None exactly where the keyword asserts nothing. A value that the
+/// keyword does not take is an error at the keyword location; else only memory can fail.
+pub fn compile<'a, F: Json>(
+    alloc: Global,
+    ctx: &Context<'_, F>,
+    parent: &'a Map<String, Value>,
+    keyword: KeywordName,
+    schema: &'a Value,
+) -> Option<CompilationResult<'a, LeafValidator<F>>>
+    requires leaf { is_leaf keyword ≡ true }
+    requires stands { IsTrue (stands ctx.now.setting keyword) }
+    requires member { get_member (name_of keyword) (members_view parent.now.entries)
+        ≡ Some (view schema.now) }
+    ensures { Compiles leaf_keyword result
+        (reading keyword ctx.now (members_view parent.now.entries) (view schema.now)) }
+{
+    match keyword {
+        KeywordName::TypeKeyword => match ctx.draft() {
+            Draft::Draft4 => type_draft_4::compile(alloc, ctx, parent, schema),
+            _ => type_::compile(alloc, ctx, parent, schema),
+        },
+        KeywordName::UniqueItems => unique_items::compile(alloc, ctx, parent, schema),
+        KeywordName::Const => const_::compile(alloc, ctx, parent, schema),
+        KeywordName::Enum => enum_::compile(alloc, ctx, parent, schema),
+        KeywordName::Required => required::compile(alloc, ctx, parent, schema),
+        _ => of_number(jskw_number::compile(alloc, ctx, parent, keyword, schema)),
+    }
+}
+
+// A validator of a number or size as one of any keyword without subschemas.
+fn of_number<'a, F: Json>(
+    compiled: Option<CompilationResult<'a, NumberValidator>>,
+) -> Option<CompilationResult<'a, LeafValidator<F>>>
+    ensures { (read : Asserts) → Compiles number_keyword compiled.entry read
+        → Compiles leaf_keyword result read }
+{
+    match compiled? {
+        Ok(validator) => Some(Ok(LeafValidator::Number(validator))),
+        Err(fault) => Some(Err(fault)),
+    }
+}
