@@ -1,9 +1,9 @@
 -- Divisors, as they are read and as they divide.
-use Rattle.std.proofs.Common.{◌≡◌, ℕ, zero, suc, ◌<◌, ◌≤◌, ℤ, pos, Bool, true, Option, Some, None, Ok, Err, refl, ap, sym, arith}
+use Rattle.std.proofs.Common.{◌≡◌, ℕ, zero, suc, ◌<◌, ◌≤◌, ℤ, pos, true, Some, None, Ok, Err, refl, ap, arith}
 use Rattle.serde_json.specs.Data.{unsigned, negative, Data}
 use Rattle.serde_json.specs.Data as json
 use Rattle.jskw_value.specs.Decimal.{value}
-use Rattle.jskw_value.specs.Number.{Num, exact, float, is_multiple_of}
+use Rattle.jskw_value.specs.Number.{Num, is_multiple_of}
 use Rattle.jskw_value.specs.Pointer.{Pointer}
 use Rattle.jskw_value.specs.Tree.{Tree, number, as_number}
 use Rattle.jskw_value.specs.declared.decimal.Decimal.{Decimal}

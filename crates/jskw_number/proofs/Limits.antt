@@ -1,13 +1,13 @@
 -- Relations of numbers by how they are ordered.
-use Rattle.std.proofs.Common.{◌≡◌, ℕ, zero, suc, ◌<◌, ◌≤◌, ℤ, pos, negsuc, Bool, true, false, cond, Option, Some, None, refl, ap, sym, arith, ◌^◌, ◌*ℤ◌}
+use Rattle.std.proofs.Common.{◌≡◌, ℤ, pos, Bool, true, false, cond, Some, None, refl, ap, sym, arith, ◌^◌, ◌*ℤ◌}
 use Rattle.std.specs.declared.cmp.Ordering.TheVariants.{Less, Equal, Greater}
-use Rattle.std.specs.Ordering.{int_cmp, is_lt, is_le, is_gt, is_ge}
+use Rattle.std.specs.Ordering.{is_lt, is_le, is_gt, is_ge}
 use Rattle.std.specs.Option.{option_map_or}
 use Rattle.std.specs.Prelude.{int_le, int_lt}
 use Rattle.std.proofs.lemmas.Int.{ints}
 use Rattle.jskw_value.specs.Decimal.{value}
-use Rattle.jskw_value.specs.Number.{Num, exact, float, cmp_whole}
-use Rattle.jskw_value.specs.Tree.{Tree, null, boolean, number, string, array, object, as_number}
+use Rattle.jskw_value.specs.Number.{Num, exact, cmp_whole}
+use Rattle.jskw_value.specs.Tree.{Tree, number, as_number}
 use Rattle.jskw_value.specs.declared.decimal.Decimal.{Decimal}
 use Rattle.jskw_report.specs.Holds.{limit_holds}
 use Rattle.jskw_report.specs.Keyword.{Minimum, Maximum, ExclusiveMinimum, ExclusiveMaximum}

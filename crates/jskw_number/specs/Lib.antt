@@ -1,4 +1,4 @@
 pub mod Limit
 pub mod Meaning
-pub mod Refuses
+pub mod Names
 pub mod Size

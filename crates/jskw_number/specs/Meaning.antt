@@ -1,8 +1,16 @@
--- The keyword that each validator stands for.
+-- What each validator asserts and where, and what follows of all of them.
 use Rattle.std.specs.Int.NonZero.{non_zero_u64_get}
-use Rattle.std.specs.Prelude.{ℤ, pos}
-use Rattle.jskw_report.specs.Keyword.{Keyword, assertion, size, limit, multiple_of}
+use Rattle.std.specs.Prelude.{◌≡◌, ℤ, pos, Option, Some, None, refl}
+use Rattle.serde_json.specs.Data.{Data}
+use Rattle.serde_json.specs.View.{view}
+use Rattle.jskw_value.specs.Tree.{Tree}
+use Rattle.jskw_report.specs.Fail.{error_kinds, unless}
+use Rattle.jskw_report.specs.Holds.{assertion_holds}
+use Rattle.jskw_report.specs.Keyword.{Keyword, size, limit, multiple_of}
 use Rattle.jskw_report.specs.Keyword as which
+use Rattle.jskw_report.specs.Kind.{ErrorKind}
+use Rattle.jskw_report.specs.Kind as kind
+use Rattle.jskw_report.specs.Meaning.{Placed, placed}
 use Rattle.jskw_number.specs.declared.min_items.MinItemsValidator.{MinItemsValidator}
 use Rattle.jskw_number.specs.declared.max_items.MaxItemsValidator.{MaxItemsValidator}
 use Rattle.jskw_number.specs.declared.min_properties.MinPropertiesValidator.{MinPropertiesValidator}
@@ -17,50 +25,87 @@ use Rattle.jskw_number.specs.declared.number.NumberValidator.TheVariants.{MinIte
 
 -- ---- sizes
 
-abbrev pub min_items : MinItemsValidator → Keyword
-min_items v = assertion v.location (size which.MinItems v.limit)
+abbrev pub min_items : MinItemsValidator → Placed
+min_items v = record { location = v.location; claim = size which.MinItems v.limit }
 
-abbrev pub max_items : MaxItemsValidator → Keyword
-max_items v = assertion v.location (size which.MaxItems v.limit)
+abbrev pub max_items : MaxItemsValidator → Placed
+max_items v = record { location = v.location; claim = size which.MaxItems v.limit }
 
-abbrev pub min_properties : MinPropertiesValidator → Keyword
-min_properties v = assertion v.location (size which.MinProperties v.limit)
+abbrev pub min_properties : MinPropertiesValidator → Placed
+min_properties v = record { location = v.location; claim = size which.MinProperties v.limit }
 
-abbrev pub max_properties : MaxPropertiesValidator → Keyword
-max_properties v = assertion v.location (size which.MaxProperties v.limit)
+abbrev pub max_properties : MaxPropertiesValidator → Placed
+max_properties v = record { location = v.location; claim = size which.MaxProperties v.limit }
 
 -- ---- limits, of a type T whose values are whole numbers
 
-abbrev pub minimum : {T : Type 0} → (T → ℤ) → Minimum T → Keyword
-minimum whole v = assertion v.location (limit which.Minimum (whole v.limit))
+abbrev pub minimum : {T : Type 0} → (T → ℤ) → Minimum T → Placed
+minimum whole v = record { location = v.location; claim = limit which.Minimum (whole v.limit) }
 
-abbrev pub maximum : {T : Type 0} → (T → ℤ) → Maximum T → Keyword
-maximum whole v = assertion v.location (limit which.Maximum (whole v.limit))
+abbrev pub maximum : {T : Type 0} → (T → ℤ) → Maximum T → Placed
+maximum whole v = record { location = v.location; claim = limit which.Maximum (whole v.limit) }
 
-abbrev pub exclusive_minimum : {T : Type 0} → (T → ℤ) → ExclusiveMinimum T → Keyword
-exclusive_minimum whole v = assertion v.location (limit which.ExclusiveMinimum (whole v.limit))
+abbrev pub exclusive_minimum : {T : Type 0} → (T → ℤ) → ExclusiveMinimum T → Placed
+exclusive_minimum whole v = record { location = v.location; claim = limit which.ExclusiveMinimum (whole v.limit) }
 
-abbrev pub exclusive_maximum : {T : Type 0} → (T → ℤ) → ExclusiveMaximum T → Keyword
-exclusive_maximum whole v = assertion v.location (limit which.ExclusiveMaximum (whole v.limit))
+abbrev pub exclusive_maximum : {T : Type 0} → (T → ℤ) → ExclusiveMaximum T → Placed
+exclusive_maximum whole v = record { location = v.location; claim = limit which.ExclusiveMaximum (whole v.limit) }
 
 -- ---- divisors
 
-abbrev pub multiple_of_integer : MultipleOfIntegerValidator → Keyword
-multiple_of_integer v = assertion v.location (multiple_of (non_zero_u64_get v.multiple_of))
+abbrev pub multiple_of_integer : MultipleOfIntegerValidator → Placed
+multiple_of_integer v = record { location = v.location; claim = multiple_of (non_zero_u64_get v.multiple_of) }
 
 -- ---- any of them
 
+abbrev pub number_assertion : NumberValidator → Placed
+number_assertion (MinItems v) = min_items v
+number_assertion (MaxItems v) = max_items v
+number_assertion (MinProperties v) = min_properties v
+number_assertion (MaxProperties v) = max_properties v
+number_assertion (MinimumU64 v) = minimum pos v
+number_assertion (MinimumI64 v) = minimum (λ z. z) v
+number_assertion (MaximumU64 v) = maximum pos v
+number_assertion (MaximumI64 v) = maximum (λ z. z) v
+number_assertion (ExclusiveMinimumU64 v) = exclusive_minimum pos v
+number_assertion (ExclusiveMinimumI64 v) = exclusive_minimum (λ z. z) v
+number_assertion (ExclusiveMaximumU64 v) = exclusive_maximum pos v
+number_assertion (ExclusiveMaximumI64 v) = exclusive_maximum (λ z. z) v
+number_assertion (MultipleOfInteger v) = multiple_of_integer v
+
 abbrev pub number_keyword : NumberValidator → Keyword
-number_keyword (MinItems v) = min_items v
-number_keyword (MaxItems v) = max_items v
-number_keyword (MinProperties v) = min_properties v
-number_keyword (MaxProperties v) = max_properties v
-number_keyword (MinimumU64 v) = minimum pos v
-number_keyword (MinimumI64 v) = minimum (λ z. z) v
-number_keyword (MaximumU64 v) = maximum pos v
-number_keyword (MaximumI64 v) = maximum (λ z. z) v
-number_keyword (ExclusiveMinimumU64 v) = exclusive_minimum pos v
-number_keyword (ExclusiveMinimumI64 v) = exclusive_minimum (λ z. z) v
-number_keyword (ExclusiveMaximumU64 v) = exclusive_maximum pos v
-number_keyword (ExclusiveMaximumI64 v) = exclusive_maximum (λ z. z) v
-number_keyword (MultipleOfInteger v) = multiple_of_integer v
+number_keyword v = placed (number_assertion v)
+
+-- the kind of its error
+abbrev pub number_error : NumberValidator → ErrorKind
+number_error (MinItems v) = kind.MinItems v.limit
+number_error (MaxItems v) = kind.MaxItems v.limit
+number_error (MinProperties v) = kind.MinProperties v.limit
+number_error (MaxProperties v) = kind.MaxProperties v.limit
+number_error (MinimumU64 v) = kind.Minimum (pos v.limit)
+number_error (MinimumI64 v) = kind.Minimum v.limit
+number_error (MaximumU64 v) = kind.Maximum (pos v.limit)
+number_error (MaximumI64 v) = kind.Maximum v.limit
+number_error (ExclusiveMinimumU64 v) = kind.ExclusiveMinimum (pos v.limit)
+number_error (ExclusiveMinimumI64 v) = kind.ExclusiveMinimum v.limit
+number_error (ExclusiveMaximumU64 v) = kind.ExclusiveMaximum (pos v.limit)
+number_error (ExclusiveMaximumI64 v) = kind.ExclusiveMaximum v.limit
+number_error (MultipleOfInteger v) = kind.MultipleOf (non_zero_u64_get v.multiple_of)
+
+-- it has one error of that kind where it does not hold
+pub number_fails_once : (v : NumberValidator) (t : Tree) → error_kinds (number_assertion v).claim t
+    ≡ unless (assertion_holds (number_assertion v).claim t) (number_error v)
+number_fails_once (MinItems v) t = refl
+number_fails_once _ t = refl
+
+-- the limit as the schema has it, where it is one
+abbrev pub limit_of : NumberValidator → Option Data
+limit_of (MinimumU64 v) = Some (view v.limit_value)
+limit_of (MinimumI64 v) = Some (view v.limit_value)
+limit_of (MaximumU64 v) = Some (view v.limit_value)
+limit_of (MaximumI64 v) = Some (view v.limit_value)
+limit_of (ExclusiveMinimumU64 v) = Some (view v.limit_value)
+limit_of (ExclusiveMinimumI64 v) = Some (view v.limit_value)
+limit_of (ExclusiveMaximumU64 v) = Some (view v.limit_value)
+limit_of (ExclusiveMaximumI64 v) = Some (view v.limit_value)
+limit_of _ = None

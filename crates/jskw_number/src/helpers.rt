@@ -1,54 +1,60 @@
 //! The bounds and limits that a schema has.
-ghost use Rattle.std.specs.Prelude.{◌≡◌, None, option_map};
+ghost use Rattle.std.specs.Prelude.{◌≡◌, ◌≢◌, None, Err, option_map, alloc_error};
+ghost use Rattle.std.specs.Result.{result_ok};
 ghost use Rattle.serde_json.specs.Find.{get_member};
 ghost use Rattle.serde_json.specs.View.{view, members_view};
 ghost use Rattle.jskw_value.specs.Pointer.{member_location};
 ghost use Rattle.jskw_report.specs.Compile.{Compiles, Makes};
 ghost use Rattle.jskw_report.specs.KeywordValue.{size_value, limit_value};
+ghost use Rattle.jskw_report.specs.Setting.{name_of};
 ghost use Rattle.jskw_report.specs.Sibling.{is_true, member_passes};
+ghost use Rattle.jskw_report.specs.declared.error.CompileFault.TheVariants as fault;
 ghost use Rattle.jskw_number.specs.Limit.{whole_of};
 ghost use Rattle.jskw_number.specs.Size.{size_of};
-ghost use Rattle.jskw_number.specs.Refuses.{Refuses};
 
 use jskw_report::compiler::member_of;
 use jskw_report::{
-    CompilationResult, CompileFault, Context, Location, LocationSegment, TypeKind, ValidationError,
-    ValidationErrorKind,
+    CompilationResult, CompileFault, Context, KeywordName, Location, LocationSegment,
+    ValidationError, ValidationErrorKind,
 };
 use jskw_value::{Json, JsonType};
 use serde_json::{Map, Value};
 use std::alloc::Global;
 
-/// The bound on a size that a value of a schema is: Some exactly for a whole number from 0 to 2^64-1 (Validation 6.4, 6.5).
+/// The bound on a size that a value of a schema is: Some exactly for a whole number from 0 to
+/// 2^64-1 (Validation 6.4, 6.5).
 pub fn size_limit(value: &Value) -> Option<u64>
     ensures { result ≡ size_of (view value.now) }
 {
     value.as_u64()
 }
 
-/// The bound that `parent` has under a name, None where the name is absent. `ctx` stands at the keyword location of
-/// `parent`. A value that is no bound is an error at the keyword location of its name, as in
-/// [`fail_on_non_positive_integer`]. The other error is want of memory.
+/// The bound that `parent` has under a name, None where the name is absent. `ctx` stands at the
+/// keyword location of `parent`. A value that is no bound is an error at the keyword location of
+/// its name, as in [`fail_on_non_positive_integer`]. The other error is want of memory.
 pub fn map_get_u64<'a, F: Json>(
     alloc: Global,
     parent: &'a Map<String, Value>,
     ctx: &Context<'_, F>,
     name: &str,
 ) -> Option<CompilationResult<'a, u64>>
-    ensures { Compiles (λ n. n) result (option_map (size_value (member_location ctx.now.location name.now))
+    ensures { Compiles (λ n. n) result
+        (option_map (size_value (member_location ctx.now.location name.now))
         (get_member name.now (members_view parent.now.entries))) }
 {
     let value = member_of(parent, name)?;
     Some(bound(alloc, ctx.location(), name, value))
 }
 
+// The bound that the value of a member is, or the value's fault.
 fn bound<'a>(
     alloc: Global,
     parent: &Location,
     name: &str,
     value: &'a Value,
 ) -> CompilationResult<'a, u64>
-    ensures { Makes (λ n. n) result (size_value (member_location parent.now name.now) (view value.now)) }
+    ensures { let q = member_location parent.now name.now in
+        Makes (λ n. n) result (size_value q (view value.now)) }
 {
     if let Some(limit) = size_limit(value) {
         return Ok(limit);
@@ -57,37 +63,36 @@ fn bound<'a>(
     Err(fail_on_non_positive_integer(alloc, value, location))
 }
 
-/// The compile error of a value that is no bound on a size, as [`size_limit`] tells, at its keyword location: the kind is
-/// `Minimum` with the limit 0 where the value is a whole number below 0, and else that of the type integer. It takes no
-/// memory.
+/// The compile error of a value that is no bound on a size, as [`size_limit`] tells, at its keyword
+/// location: the kind is `Minimum` with the limit 0 where the value is a whole number below 0, and
+/// else that of the type integer. It takes no memory.
 pub fn fail_on_non_positive_integer<'a>(
     alloc: Global,
     value: &'a Value,
     location: Location,
 ) -> CompileFault<'a>
     requires { size_of (view value.now) ≡ None }
-    ensures { Refuses result (size_value location (view value.now)) }
+    ensures refused { Makes (λ n. n) (Err result) (size_value location (view value.now)) }
+    ensures no_memory { result ≢ fault.Memory alloc_error }
 {
     let kind = if value.is_i64() {
         ValidationErrorKind::Minimum { limit: 0 }
     } else {
-        ValidationErrorKind::WrongType {
-            kind: TypeKind::Single(JsonType::Integer),
-        }
+        ValidationErrorKind::of_type(JsonType::Integer)
     };
     CompileFault::Bad(ValidationError::refused(alloc, kind, location, value))
 }
 
-/// A whole number of a schema.
+// A whole number of a schema.
 #[derive(Clone, Copy)]
 pub(crate) enum WholeNumber {
-    /// from 0 to 2^64-1
+    // from 0 to 2^64-1
     Unsigned(u64),
-    /// from -2^63 to 2^63-1
+    // from -2^63 to 2^63-1
     Signed(i64),
 }
 
-/// The whole number that a value of a schema is, or its fault at the location.
+// The whole number that a value of a schema is, or its fault at the location.
 pub(crate) fn whole_number<'a>(
     alloc: Global,
     location: &Location,
@@ -96,11 +101,8 @@ pub(crate) fn whole_number<'a>(
     ensures { Makes whole_of result (limit_value location.now (view value.now)) }
 {
     let Value::Number(number) = value else {
-        let kind = ValidationErrorKind::WrongType {
-            kind: TypeKind::Single(JsonType::Number),
-        };
-        let location = location.copy(alloc)?;
-        return Err(CompileFault::Bad(ValidationError::refused(alloc, kind, location, value)));
+        let kind = ValidationErrorKind::of_type(JsonType::Number);
+        return Err(CompileFault::wrong(alloc, kind, location, value));
     };
     if let Some(whole) = number.as_u64() {
         return Ok(WholeNumber::Unsigned(whole));
@@ -108,16 +110,12 @@ pub(crate) fn whole_number<'a>(
     if let Some(whole) = number.as_i64() {
         return Ok(WholeNumber::Signed(whole));
     }
-    let kind = ValidationErrorKind::CompileError {
-        message: "Not a whole number of 64 bits",
-    };
-    let location = location.copy(alloc)?;
-    Err(CompileFault::Bad(ValidationError::refused(alloc, kind, location, value)))
+    Err(CompileFault::wrong(alloc, ValidationErrorKind::not_whole(), location, value))
 }
 
-/// Whether `parent` has `true` under a name.
-pub(crate) fn has_true(parent: &Map<String, Value>, name: &str) -> bool
-    ensures { result ≡ member_passes is_true name.now (members_view parent.now.entries) }
+// Whether `parent` has `true` at the keyword.
+pub(crate) fn has_true(parent: &Map<String, Value>, keyword: KeywordName) -> bool
+    ensures { result ≡ member_passes is_true (name_of keyword) (members_view parent.now.entries) }
 {
-    matches!(member_of(parent, name), Some(Value::Bool(true)))
+    matches!(member_of(parent, keyword.as_str()), Some(Value::Bool(true)))
 }

@@ -2,6 +2,7 @@
 #![tactic(auto)]
 
 pub mod helpers;
+mod keywords;
 pub mod legacy;
 pub mod max_items;
 pub mod max_properties;
@@ -11,4 +12,5 @@ pub mod minmax;
 pub mod multiple_of;
 pub mod number;
 
+pub use keywords::compile;
 pub use number::NumberValidator;

@@ -1,77 +1,52 @@
 //! `minItems` (Validation 6.4.2): an array has at least as many items as the bound.
-ghost use Rattle.std.specs.Prelude.{codes};
+ghost use Rattle.std.specs.Prelude.{refl};
 ghost use Rattle.serde_json.specs.View.{view, members_view};
-ghost use Rattle.jskw_value.specs.Pointer.{member_location};
-ghost use Rattle.jskw_report.specs.Compile.{Makes, Compiles, reading};
-ghost use Rattle.jskw_report.specs.KeywordValue.{map_ok, size_value};
-ghost use Rattle.jskw_report.specs.Keyword.{assertion, size};
+ghost use Rattle.jskw_report.specs.Compile.{Compiles, Makes, reading};
 ghost use Rattle.jskw_report.specs.Keyword as which;
+ghost use Rattle.jskw_report.specs.Kind as kind;
+ghost use Rattle.jskw_report.specs.Read.{keyword_location, size_keyword};
 ghost use Rattle.jskw_report.specs.declared.keyword.KeywordName.TheVariants as word;
-ghost use Rattle.jskw_number.specs.Meaning.{number_keyword, min_items};
+ghost use Rattle.jskw_number.specs.Meaning.{min_items, number_keyword};
 
 use crate::helpers::{fail_on_non_positive_integer, size_limit};
 use crate::number::NumberValidator;
-use jskw_report::validator::{append_first, evaluate_first, fail_unless};
 use jskw_report::{
-    CompilationResult, Context, EvaluationResult, Fault, LazyLocation, Location, LocationSegment,
-    Validate, ValidationContext, ValidationError, ValidationErrorKind,
+    Assertion, CompilationResult, Context, KeywordName, Location, ValidationErrorKind,
 };
 use jskw_value::{Array, Json, Node};
 use serde_json::{Map, Value};
-use std::alloc::{AllocError, Global};
+use std::alloc::Global;
 
-/// The validator of `minItems`: it holds of an array that has at least as many items as the bound, and of
-/// whatever is no array.
+/// The validator of `minItems`: it holds of an array that has at least as many items as the bound,
+/// and of whatever is no array.
 #[derive(Drop)]
 pub struct MinItemsValidator {
     limit: u64,
     location: Location,
 }
 
-#[tactic(auto, using(jskw_report::proofs::Once::once))]
-impl<F: Json> Validate<F> for MinItemsValidator {
-    ghost keyword = { min_items };
+impl Assertion for MinItemsValidator {
+    ghost asserts = { min_items };
 
-    fn is_valid(&self, instance: &F::Node, _ctx: &mut ValidationContext) -> bool {
+    ghost error = { λ v. kind.MinItems v.limit };
+
+    ghost fails_once = { λ v t. refl };
+
+    fn holds<F: Json>(&self, instance: &F::Node) -> bool {
         !instance.is_array() || Array::len(instance) as u64 >= self.limit
     }
 
-    fn validate<'i>(
-        &'i self,
-        instance: &'i F::Node,
-        location: &mut LazyLocation,
-        ctx: &mut ValidationContext,
-    ) -> Result<(), Fault<'i, F>> {
-        let holds = <Self as Validate<F>>::is_valid(self, instance, ctx);
-        let kind = ValidationErrorKind::MinItems { limit: self.limit };
-        fail_unless(holds, kind, &self.location, instance, location)
+    fn kind(&self) -> ValidationErrorKind<'_> {
+        ValidationErrorKind::MinItems { limit: self.limit }
     }
 
-    fn collect_errors<'i>(
-        &'i self,
-        instance: &'i F::Node,
-        location: &mut LazyLocation,
-        ctx: &mut ValidationContext,
-        errors: &mut Vec<ValidationError<'i, F>>,
-    ) -> Result<(), AllocError> {
-        append_first(self.validate(instance, location, ctx), errors)
-    }
-
-    fn evaluate(
-        &self,
-        alloc: Global,
-        instance: &F::Node,
-        location: &mut LazyLocation,
-        ctx: &mut ValidationContext,
-    ) -> Result<EvaluationResult, AllocError> {
-        let answer = <Self as Validate<F>>::validate(self, instance, location, ctx);
-        evaluate_first(alloc, answer)
+    fn location(&self) -> &Location {
+        &self.location
     }
 }
 
-/// Compiles `minItems`, the keyword of `parent` whose value is `schema`. `ctx` stands at the keyword location of `parent`.
-/// Always Some. A value that is no whole number from 0 to 2^64-1 is an error at the keyword, of the kind `Minimum` with
-/// the limit 0 where it is a whole number below 0, and else that of the type integer; the other error is want of memory.
+/// Compiles `minItems`. A value that is no bound is an error as in
+/// [`fail_on_non_positive_integer`].
 #[tactic(auto, unfolding(jskw_report::specs::Read::asserted))]
 pub fn compile<'a, F: Json>(
     alloc: Global,
@@ -83,18 +58,19 @@ pub fn compile<'a, F: Json>(
         (reading word.MinItems ctx.now (members_view parent.now.entries) (view schema.now)) }
 {
     let _ = parent;
-    Some(make(alloc, ctx.location(), schema))
+    Some(make(alloc, ctx, schema))
 }
 
-fn make<'a>(
+// The validator of a value, or the value's fault.
+fn make<'a, F: Json>(
     alloc: Global,
-    parent: &Location,
+    ctx: &Context<'_, F>,
     schema: &'a Value,
 ) -> CompilationResult<'a, NumberValidator>
-    ensures { let q = member_location parent.now (codes "minItems") in
-        Makes number_keyword result (map_ok (λ n. assertion q (size which.MinItems n)) (size_value q (view schema.now))) }
+    ensures { let q = keyword_location ctx.now.location word.MinItems in
+        Makes number_keyword result (size_keyword which.MinItems q (view schema.now)) }
 {
-    let location = parent.join(alloc, LocationSegment::Name("minItems"))?;
+    let location = ctx.keyword_location(alloc, KeywordName::MinItems)?;
     match size_limit(schema) {
         Some(limit) => Ok(NumberValidator::MinItems(MinItemsValidator { limit, location })),
         None => Err(fail_on_non_positive_integer(alloc, schema, location)),

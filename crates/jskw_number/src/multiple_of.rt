@@ -1,84 +1,61 @@
-//! `multipleOf` (Validation 6.2.1): division of a number by the divisor gives an integer. Numbers are divided exactly,
-//! however they are written.
+//! `multipleOf` (Validation 6.2.1): division of a number by the divisor gives an integer. Numbers
+//! are divided exactly, however they are written.
 ghost use Rattle.std.specs.Int.NonZero.{non_zero_u64_get};
+ghost use Rattle.std.specs.Prelude.{refl};
 ghost use Rattle.serde_json.specs.View.{view, members_view};
-ghost use Rattle.jskw_value.specs.Pointer.{member_location};
-ghost use Rattle.jskw_report.specs.Compile.{Makes, Compiles, reading};
-ghost use Rattle.jskw_report.specs.KeywordValue.{map_ok, divisor_value};
-ghost use Rattle.jskw_report.specs.Keyword.{assertion, multiple_of};
+ghost use Rattle.jskw_report.specs.Compile.{Compiles, Makes, reading};
+ghost use Rattle.jskw_report.specs.KeywordValue.{divisor_value};
+ghost use Rattle.jskw_report.specs.Kind as kind;
+ghost use Rattle.jskw_report.specs.Read.{divisor_keyword, keyword_location};
 ghost use Rattle.jskw_report.specs.declared.keyword.KeywordName.TheVariants as word;
-ghost use Rattle.jskw_number.specs.Meaning.{number_keyword};
-ghost use Rattle.jskw_number.specs.Meaning as meaning;
+ghost use Rattle.jskw_number.specs.Meaning.{multiple_of_integer, number_keyword};
 
 use crate::helpers::{size_limit, whole_number};
 use crate::number::NumberValidator;
-use jskw_report::validator::{append_first, evaluate_first, fail_unless};
 use jskw_report::{
-    CompilationResult, CompileFault, Context, EvaluationResult, Fault, LazyLocation, Location,
-    LocationSegment, Validate, ValidationContext, ValidationError, ValidationErrorKind,
+    Assertion, CompilationResult, CompileFault, Context, KeywordName, Location, ValidationErrorKind,
 };
 use jskw_value::{Json, JsonNumber, Node};
 use serde_json::{Map, Value};
-use std::alloc::{AllocError, Global};
+use std::alloc::Global;
 use std::num::NonZeroU64;
 
-/// The validator of `multipleOf` with a whole number from 1 to 2^64-1: it holds of a number that is the divisor times an
-/// integer, and of whatever is no number.
+/// The validator of `multipleOf` with a whole number from 1 to 2^64-1: it holds of a number that is
+/// the divisor times an integer, and of whatever is no number.
 #[derive(Drop)]
 pub struct MultipleOfIntegerValidator {
     multiple_of: NonZeroU64,
     location: Location,
 }
 
-#[tactic(auto, using(jskw_report::proofs::Once::once, crate::proofs::Divisors::divides_number, crate::proofs::Divisors::divides_other))]
-impl<F: Json> Validate<F> for MultipleOfIntegerValidator {
-    ghost keyword = { meaning.multiple_of_integer };
+#[tactic(auto, using(crate::proofs::Divisors::divides_number, crate::proofs::Divisors::divides_other))]
+impl Assertion for MultipleOfIntegerValidator {
+    ghost asserts = { multiple_of_integer };
 
-    fn is_valid(&self, instance: &F::Node, _ctx: &mut ValidationContext) -> bool {
+    ghost error = { λ v. kind.MultipleOf (non_zero_u64_get v.multiple_of) };
+
+    ghost fails_once = { λ v t. refl };
+
+    fn holds<F: Json>(&self, instance: &F::Node) -> bool {
         match instance.as_number() {
             Some(number) => number.decimal().is_multiple_of(self.multiple_of.get()),
             None => true,
         }
     }
 
-    fn validate<'i>(
-        &'i self,
-        instance: &'i F::Node,
-        location: &mut LazyLocation,
-        ctx: &mut ValidationContext,
-    ) -> Result<(), Fault<'i, F>> {
-        let holds = <Self as Validate<F>>::is_valid(self, instance, ctx);
+    fn kind(&self) -> ValidationErrorKind<'_> {
         let multiple_of = self.multiple_of.get();
-        let kind = ValidationErrorKind::MultipleOf { multiple_of };
-        fail_unless(holds, kind, &self.location, instance, location)
+        ValidationErrorKind::MultipleOf { multiple_of }
     }
 
-    fn collect_errors<'i>(
-        &'i self,
-        instance: &'i F::Node,
-        location: &mut LazyLocation,
-        ctx: &mut ValidationContext,
-        errors: &mut Vec<ValidationError<'i, F>>,
-    ) -> Result<(), AllocError> {
-        append_first(self.validate(instance, location, ctx), errors)
-    }
-
-    fn evaluate(
-        &self,
-        alloc: Global,
-        instance: &F::Node,
-        location: &mut LazyLocation,
-        ctx: &mut ValidationContext,
-    ) -> Result<EvaluationResult, AllocError> {
-        let answer = <Self as Validate<F>>::validate(self, instance, location, ctx);
-        evaluate_first(alloc, answer)
+    fn location(&self) -> &Location {
+        &self.location
     }
 }
 
-/// Compiles `multipleOf`, the keyword of `parent` whose value is `schema`. `ctx` stands at the keyword location of
-/// `parent`. Always Some. A value that is no whole number from 1 to 2^64-1 is an error at the keyword: of the type number
-/// where it is no number, of the kind `ExclusiveMinimum` with the limit 0 where it is a whole number at or below 0, and
-/// else a compile error. The other error is want of memory.
+/// Compiles `multipleOf`. A value that is no whole number from 1 to 2^64-1 is an error: of the type
+/// number where it is no number, of the kind `ExclusiveMinimum` with the limit 0 where it is a
+/// whole number at or below 0, and else a compile error.
 #[tactic(auto, unfolding(jskw_report::specs::Read::asserted))]
 pub fn compile<'a, F: Json>(
     alloc: Global,
@@ -90,20 +67,19 @@ pub fn compile<'a, F: Json>(
         (reading word.MultipleOf ctx.now (members_view parent.now.entries) (view schema.now)) }
 {
     let _ = parent;
-    Some(multiple_of_named(alloc, ctx, "multipleOf", schema))
+    Some(make(alloc, ctx, schema))
 }
 
-/// The validator of a value, failing at the member of a name of the schema where `ctx` stands, or the value's fault there.
-fn multiple_of_named<'a, F: Json>(
+// The validator of a value, or the value's fault.
+fn make<'a, F: Json>(
     alloc: Global,
     ctx: &Context<'_, F>,
-    name: &str,
     schema: &'a Value,
 ) -> CompilationResult<'a, NumberValidator>
-    ensures { let q = member_location ctx.now.location name.now in
-        Makes number_keyword result (map_ok (λ n. assertion q (multiple_of n)) (divisor_value q (view schema.now))) }
+    ensures { let q = keyword_location ctx.now.location word.MultipleOf in
+        Makes number_keyword result (divisor_keyword q (view schema.now)) }
 {
-    let location = ctx.location().join(alloc, LocationSegment::Name(name))?;
+    let location = ctx.keyword_location(alloc, KeywordName::MultipleOf)?;
     let multiple_of = divisor(alloc, &location, schema)?;
     Ok(NumberValidator::MultipleOfInteger(MultipleOfIntegerValidator {
         multiple_of,
@@ -111,7 +87,7 @@ fn multiple_of_named<'a, F: Json>(
     }))
 }
 
-/// The divisor that a value of a schema is, or its fault at the location.
+// The divisor that a value of a schema is, or its fault at the location.
 #[tactic(auto, using(crate::proofs::Divisors::divisor_above_0, crate::proofs::Divisors::divisor_of_0, crate::proofs::Divisors::divisor_below_0, crate::proofs::Divisors::no_divisor))]
 fn divisor<'a>(
     alloc: Global,
@@ -125,8 +101,7 @@ fn divisor<'a>(
         Some(divisor) => Ok(divisor),
         None => {
             let kind = ValidationErrorKind::ExclusiveMinimum { limit: 0 };
-            let location = location.copy(alloc)?;
-            Err(CompileFault::Bad(ValidationError::refused(alloc, kind, location, value)))
+            Err(CompileFault::wrong(alloc, kind, location, value))
         }
     }
 }

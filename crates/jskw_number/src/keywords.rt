@@ -1,0 +1,47 @@
+//! The keywords of this crate, by name.
+ghost use Rattle.std.specs.Prelude.{◌≡◌, true};
+ghost use Rattle.serde_json.specs.View.{view, members_view};
+ghost use Rattle.jskw_report.specs.Compile.{Compiles, reading};
+ghost use Rattle.jskw_number.specs.Meaning.{number_keyword};
+ghost use Rattle.jskw_number.specs.Names.{is_of_numbers};
+
+use crate::legacy::{maximum_draft_4, minimum_draft_4};
+use crate::number::NumberValidator;
+use crate::{max_items, max_properties, min_items, min_properties, minmax, multiple_of};
+use jskw_report::{CompilationResult, Context, Draft, KeywordName};
+use jskw_value::Json;
+use serde_json::{Map, Value};
+use std::alloc::Global;
+
+/// Compiles a bound on a size, a limit or a divisor, by the keyword's name and the draft.
+pub fn compile<'a, F: Json>(
+    alloc: Global,
+    ctx: &Context<'_, F>,
+    parent: &'a Map<String, Value>,
+    keyword: KeywordName,
+    schema: &'a Value,
+) -> Option<CompilationResult<'a, NumberValidator>>
+    requires { is_of_numbers keyword ≡ true }
+    ensures { Compiles number_keyword result
+        (reading keyword ctx.now (members_view parent.now.entries) (view schema.now)) }
+{
+    let is_draft_4 = ctx.draft() == Draft::Draft4;
+    match keyword {
+        KeywordName::MinItems => min_items::compile(alloc, ctx, parent, schema),
+        KeywordName::MaxItems => max_items::compile(alloc, ctx, parent, schema),
+        KeywordName::Minimum if is_draft_4 => minimum_draft_4::compile(alloc, ctx, parent, schema),
+        KeywordName::Minimum => minmax::compile_minimum(alloc, ctx, parent, schema),
+        KeywordName::Maximum if is_draft_4 => maximum_draft_4::compile(alloc, ctx, parent, schema),
+        KeywordName::Maximum => minmax::compile_maximum(alloc, ctx, parent, schema),
+        KeywordName::ExclusiveMinimum => {
+            minmax::compile_exclusive_minimum(alloc, ctx, parent, schema)
+        }
+        KeywordName::ExclusiveMaximum => {
+            minmax::compile_exclusive_maximum(alloc, ctx, parent, schema)
+        }
+        KeywordName::MultipleOf => multiple_of::compile(alloc, ctx, parent, schema),
+        KeywordName::MinProperties => min_properties::compile(alloc, ctx, parent, schema),
+        KeywordName::MaxProperties => max_properties::compile(alloc, ctx, parent, schema),
+        _ => unreachable!(),
+    }
+}
