@@ -1,6 +1,5 @@
 -- What each validator asserts, and where.
 use Rattle.std.specs.Prelude.{ℕ, List}
-use Rattle.serde_json.specs.Data.{array}
 use Rattle.serde_json.specs.View.{view}
 use Rattle.serde_json.specs.declared.value.Value.{Value}
 use Rattle.jskw_value.specs.Pointer.{Pointer}
@@ -10,8 +9,6 @@ use Rattle.jskw_report.specs.declared.error.TypeKind.TheVariants.{Single, Multip
 use Rattle.jskw_report.specs.Read.{integers_of}
 use Rattle.jskw_report.specs.declared.settings.Draft.TheVariants.{Draft4}
 use Rattle.jskw_report.specs.Keyword.{Keyword, constant, among, unique, never, type_is, Integers, by_value, as_written, required}
-use Rattle.jskw_report.specs.Kind.{ErrorKind}
-use Rattle.jskw_report.specs.Kind as kind
 use Rattle.jskw_report.specs.Meaning.{Placed, placed}
 use Rattle.jskw_number.specs.Meaning.{number_assertion}
 use Rattle.jskw_leaf.specs.declared.boolean.FalseValidator.{FalseValidator}
@@ -47,8 +44,8 @@ false_schema v = false_at v.location
 abbrev pub type_at : JsonType → Integers → Pointer → Placed
 type_at j rule q = record { location = q; claim = type_is (Single j) rule }
 
--- T tells the type j by the rule, and g is what is known of T
-abbrev pub single_type : {T : Type 0} {g : _} → JsonType → Integers → SingleTypeValidator T g → Placed
+-- T tells the type j by the rule
+abbrev pub single_type : {T : Type 0} → JsonType → Integers → SingleTypeValidator T → Placed
 single_type j rule v = type_at j rule v.location
 
 abbrev pub multiple_types : MultipleTypesValidator → Placed
@@ -87,10 +84,6 @@ const_string v = constant_at v.location v.value
 abbrev pub among_at : Pointer → Value → Placed
 among_at q v = record { location = q; claim = among (options_of (view v)) }
 
--- the error where the instance is none of them
-abbrev pub not_among : Value → ErrorKind
-not_among v = kind.Enum (kind.Listed (array (options_of (view v))))
-
 abbrev pub enum_any : EnumValidator → Placed
 enum_any v = among_at v.location v.options
 
@@ -118,8 +111,8 @@ unique_items v = record { location = v.location; claim = unique }
 abbrev pub required_at : Pointer → List (List ℕ) → Placed
 required_at q names = record { location = q; claim = required names }
 
--- L holds these names
-abbrev pub required_names : {L : Type 0} → (L → List (List ℕ)) → RequiredNames L → Placed
+-- L holds names; F, N, O and P are the types of a representation
+abbrev pub required_names : {F N O P L : Type 0} → (L → List (List ℕ)) → RequiredNames F L N O P → Placed
 required_names names v = required_at v.location (names v.names)
 
 -- ---- any of them; F, N, O and P are the types of a representation

@@ -15,11 +15,16 @@ use Rattle.jskw_value.specs.Tree.{Tree, is_null}
 use Rattle.jskw_value.specs.Types.{insert, json_type}
 use Rattle.jskw_value.specs.declared.types.JsonTypeSet.{JsonTypeSet}
 use Rattle.jskw_report.specs.Holds.{is_option}
+use Rattle.jskw_report.specs.Kind.{ErrorKind, Enum, Listed}
 
 -- the options that a value lists: it is an array
 abbrev pub options_of : Data → Items
 options_of (array ds) = ds
 options_of _ = no_items
+
+-- the error where an instance is none of the options that a value lists
+abbrev pub not_among : Data → ErrorKind
+not_among d = Enum (Listed (array (options_of d)))
 
 -- one of the texts
 abbrev pub some_text : List (List ℕ) → List ℕ → Bool

@@ -8,8 +8,7 @@ ghost use Rattle.jskw_value.specs.Tree.{Tree, is_null};
 ghost use Rattle.jskw_value.specs.Types.{no_types};
 ghost use Rattle.jskw_report.specs.Errors.{kind_of};
 ghost use Rattle.jskw_report.specs.Holds.{is_option};
-ghost use Rattle.jskw_leaf.specs.Meaning.{enum_any, enum_single, not_among};
-ghost use Rattle.jskw_leaf.specs.Options.{options_of, option_types};
+ghost use Rattle.jskw_leaf.specs.Options.{not_among, options_of, option_types};
 
 mod integers;
 mod make;
@@ -35,8 +34,10 @@ pub struct EnumValidator {
 }
 
 impl Assertion for EnumValidator {
+    ghost use Rattle.jskw_leaf.specs.Meaning.{enum_any};
+
     ghost asserts = { enum_any };
-    ghost error = { λ v. not_among v.options };
+    ghost error = { λ v. not_among (view v.options) };
     ghost fails_once = { λ _ _. refl };
 
     fn holds<F: Json>(&self, instance: &F::Node) -> bool {
@@ -64,8 +65,10 @@ pub struct SingleValueEnumValidator {
 }
 
 impl Assertion for SingleValueEnumValidator {
+    ghost use Rattle.jskw_leaf.specs.Meaning.{enum_single};
+
     ghost asserts = { enum_single };
-    ghost error = { λ v. not_among v.options };
+    ghost error = { λ v. not_among (view v.options) };
     ghost fails_once = { λ _ _. refl };
 
     fn holds<F: Json>(&self, instance: &F::Node) -> bool {
@@ -140,7 +143,7 @@ fn is_among<F: Json>(items: &[Value], instance: &F::Node) -> bool
 #[tactic(auto, using(crate::proofs::Options::listed))]
 fn not_among<'i>(options: &'i Value) -> ValidationErrorKind<'i>
     requires { IsSome (as_array (view options.now)) }
-    ensures { kind_of result ≡ not_among options.now }
+    ensures { kind_of result ≡ not_among (view options.now) }
 {
     ValidationErrorKind::Enum {
         options: EnumOptions::Listed(options),

@@ -1,6 +1,7 @@
 //! `required` (Validation 6.5.3): an object has a member of each name.
+ghost use Rattle.std.specs.Prelude.{◌≡◌, ℕ, List};
 ghost use Rattle.jskw_report.specs.Meaning.{one, placed};
-ghost use Rattle.jskw_leaf.specs.Meaning.{required_names};
+ghost use Rattle.jskw_leaf.specs.Meaning.{required_at, required_names};
 
 mod beside;
 mod found;
@@ -20,28 +21,44 @@ pub use make::{compile, compile_with_path};
 use missing::{append_missing, fail_first};
 use names::{NameList, Names, OneName, ThreeNames, TwoNames};
 use std::alloc::{AllocError, Global};
+use std::marker::PhantomData;
 
-/// The validator of the names that `L` holds, each once. It fails once for each name that an object
+/// The validator of the names that `L` holds, each once, over the representation `F`. It fails once for each name that an object
 /// lacks.
 #[derive(Drop)]
-pub struct RequiredNames<L> {
+pub struct RequiredNames<F: Json, L> {
     names: L,
     location: Location,
+    representation: PhantomData<F>,
+}
+
+impl<F: Json, L> RequiredNames<F, L> {
+    // The validator that fails at the location.
+    fn new(names: L, location: Location) -> RequiredNames<F, L>
+        ensures { (read : L → List (List ℕ)) → required_names read result
+            ≡ required_at location (read names) }
+    {
+        RequiredNames {
+            names,
+            location,
+            representation: PhantomData,
+        }
+    }
 }
 
 /// The validator of any number of names.
-pub type RequiredValidator<F> = RequiredNames<NameList<F>>;
+pub type RequiredValidator<F> = RequiredNames<F, NameList<F>>;
 
 /// The validator of one name.
-pub type SingleItemRequiredValidator<F> = RequiredNames<OneName<F>>;
+pub type SingleItemRequiredValidator<F> = RequiredNames<F, OneName<F>>;
 
 /// The validator of two names.
-pub type Required2Validator<F> = RequiredNames<TwoNames<F>>;
+pub type Required2Validator<F> = RequiredNames<F, TwoNames<F>>;
 
 /// The validator of three names.
-pub type Required3Validator<F> = RequiredNames<ThreeNames<F>>;
+pub type Required3Validator<F> = RequiredNames<F, ThreeNames<F>>;
 
-impl<F: Json, L: Names<F>> Validate<F> for RequiredNames<L> {
+impl<F: Json, L: Names<F>> Validate<F> for RequiredNames<F, L> {
     ghost meaning = { λ v. one (placed (required_names L.names v)) };
 
     fn is_valid(&self, instance: &F::Node, _ctx: &mut ValidationContext) -> bool {

@@ -7,8 +7,8 @@ ghost use Rattle.serde_json.specs.Find.{as_array};
 ghost use Rattle.serde_json.specs.View.{view, items_view};
 ghost use Rattle.jskw_value.specs.Decimal.{value};
 ghost use Rattle.jskw_value.specs.Tree.{as_number};
-ghost use Rattle.jskw_leaf.specs.Meaning.{among_at, enum_integer, not_among};
 ghost use Rattle.jskw_leaf.specs.Options.{
+  not_among,
   options_of,
   AreOptions,
   some_integer,
@@ -41,6 +41,8 @@ pub struct IntegerEnumValidator<N: Nullability> {
 }
 
 impl<N: Nullability> IntegerEnumValidator<N> {
+    ghost use Rattle.jskw_leaf.specs.Meaning.{among_at, enum_integer};
+
     // The validator of these items of the options, each an integer from -2^63 to 2^63 - 1 or null,
     // with null among them where the type says so. Only memory can fail.
     pub(super) fn compile(
@@ -64,8 +66,10 @@ impl<N: Nullability> IntegerEnumValidator<N> {
 }
 
 impl<N: Nullability> Assertion for IntegerEnumValidator<N> {
+    ghost use Rattle.jskw_leaf.specs.Meaning.{enum_integer};
+
     ghost asserts = { enum_integer };
-    ghost error = { λ v. not_among v.options };
+    ghost error = { λ v. not_among (view v.options) };
     ghost fails_once = { λ _ _. refl };
 
     fn holds<F: Json>(&self, instance: &F::Node) -> bool {

@@ -14,13 +14,8 @@ ghost use Rattle.serde_json.specs.Data.{array};
 ghost use Rattle.serde_json.specs.Find.{as_array, as_str};
 ghost use Rattle.serde_json.specs.View.{view, items_view};
 ghost use Rattle.jskw_value.specs.Tree.{as_string};
-ghost use Rattle.jskw_leaf.specs.Meaning.{
-  among_at,
-  enum_big_string,
-  enum_small_string,
-  not_among,
-};
 ghost use Rattle.jskw_leaf.specs.Options.{
+  not_among,
   options_of,
   AreOptions,
   some_text,
@@ -51,6 +46,8 @@ pub struct SmallStringEnumValidator<N: Nullability> {
 }
 
 impl<N: Nullability> SmallStringEnumValidator<N> {
+    ghost use Rattle.jskw_leaf.specs.Meaning.{among_at, enum_small_string};
+
     // The validator of these items of the options, each a string or null, with null among them
     // where the type says so. Only memory can fail.
     pub(super) fn compile(
@@ -74,8 +71,10 @@ impl<N: Nullability> SmallStringEnumValidator<N> {
 }
 
 impl<N: Nullability> Assertion for SmallStringEnumValidator<N> {
+    ghost use Rattle.jskw_leaf.specs.Meaning.{enum_small_string};
+
     ghost asserts = { enum_small_string };
-    ghost error = { λ v. not_among v.options };
+    ghost error = { λ v. not_among (view v.options) };
     ghost fails_once = { λ _ _. refl };
 
     fn holds<F: Json>(&self, instance: &F::Node) -> bool {
@@ -109,6 +108,8 @@ pub struct BigStringEnumValidator<N: Nullability> {
 }
 
 impl<N: Nullability> BigStringEnumValidator<N> {
+    ghost use Rattle.jskw_leaf.specs.Meaning.{among_at, enum_big_string};
+
     // The validator of these items of the options, each a string or null, with null among them
     // where the type says so. Only memory can fail.
     pub(super) fn compile(
@@ -132,8 +133,10 @@ impl<N: Nullability> BigStringEnumValidator<N> {
 }
 
 impl<N: Nullability> Assertion for BigStringEnumValidator<N> {
+    ghost use Rattle.jskw_leaf.specs.Meaning.{enum_big_string};
+
     ghost asserts = { enum_big_string };
-    ghost error = { λ v. not_among v.options };
+    ghost error = { λ v. not_among (view v.options) };
     ghost fails_once = { λ _ _. refl };
 
     fn holds<F: Json>(&self, instance: &F::Node) -> bool {

@@ -91,19 +91,19 @@ fn validator_of<F: Json>(
     match names {
         [name] => {
             let names = OneName::new(alloc, name)?;
-            Ok(LeafValidator::SingleItemRequired(RequiredNames { names, location }))
+            Ok(LeafValidator::SingleItemRequired(RequiredNames::new(names, location)))
         }
         [first, second] => {
             let names = TwoNames::new(alloc, first, second)?;
-            Ok(LeafValidator::Required2(RequiredNames { names, location }))
+            Ok(LeafValidator::Required2(RequiredNames::new(names, location)))
         }
         [first, second, third] => {
             let names = ThreeNames::new(alloc, first, second, third)?;
-            Ok(LeafValidator::Required3(RequiredNames { names, location }))
+            Ok(LeafValidator::Required3(RequiredNames::new(names, location)))
         }
         _ => {
             let names = NameList::new(alloc, names)?;
-            Ok(LeafValidator::Required(RequiredNames { names, location }))
+            Ok(LeafValidator::Required(RequiredNames::new(names, location)))
         }
     }
 }

@@ -28,7 +28,7 @@ use jskw_value::{Json, Node};
 use std::alloc::AllocError;
 
 // Ok where nothing is missing, which takes no memory, and else the error of the first name that is.
-pub(crate) fn fail_first<'i, F: Json + 'i, L: Names<F> + 'i>(
+pub(crate) fn fail_first<'i, F: Json + 'i, L: Names<F>>(
     names: &'i L,
     schema_path: &'i Location,
     instance: &'i F::Node,
@@ -50,7 +50,7 @@ pub(crate) fn fail_first<'i, F: Json + 'i, L: Names<F> + 'i>(
 }
 
 // The first name that an object lacks.
-fn first_missing<'n, F: Json + 'n, L: Names<F> + 'n>(
+fn first_missing<'n, F: Json + 'n, L: Names<F>>(
     names: &'n L,
     instance: &F::Node,
 ) -> Option<&'n str>
@@ -71,7 +71,7 @@ fn first_missing<'n, F: Json + 'n, L: Names<F> + 'n>(
 }
 
 // Appends an error for each missing name. Where none is missing it takes no memory.
-pub(crate) fn append_missing<'i, F: Json + 'i, L: Names<F> + 'i>(
+pub(crate) fn append_missing<'i, F: Json + 'i, L: Names<F>>(
     names: &'i L,
     schema_path: &'i Location,
     instance: &'i F::Node,

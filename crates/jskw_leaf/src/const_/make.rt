@@ -1,0 +1,63 @@
+//! The validator of an expected value.
+ghost use Rattle.std.specs.Prelude.{◌≡◌};
+ghost use Rattle.serde_json.specs.View.{view, members_view};
+ghost use Rattle.jskw_report.specs.Compile.{Makes, Compiles, reading};
+ghost use Rattle.jskw_report.specs.Meaning.{placed};
+ghost use Rattle.jskw_report.specs.Read.{const_keyword, keyword_location};
+ghost use Rattle.jskw_report.specs.declared.keyword.KeywordName.TheVariants.{Const};
+ghost use Rattle.jskw_leaf.specs.Meaning.{constant_at, leaf_keyword};
+
+use super::{
+    ConstArrayValidator, ConstBooleanValidator, ConstNullValidator, ConstNumberValidator,
+    ConstObjectValidator, ConstStringValidator,
+};
+use crate::floats::refuse_floats;
+use crate::leaf::LeafValidator;
+use jskw_report::{CompilationResult, Context, KeywordName, Location};
+use jskw_value::Json;
+use serde_json::{Map, Value};
+use std::alloc::Global;
+
+/// Compiles `const`. Always Some: any value is taken that holds no float, and the validator is
+/// chosen by its type. A value that holds a float is a compile error with the message `Not a whole
+/// number of 64 bits`, whose value at fault is the first float.
+#[tactic(auto, unfolding(jskw_report::specs::Read::asserted))]
+pub fn compile<'a, F: Json>(
+    alloc: Global,
+    ctx: &Context<'_, F>,
+    parent: &'a Map<String, Value>,
+    schema: &'a Value,
+) -> Option<CompilationResult<'a, LeafValidator<F>>>
+    ensures { Compiles leaf_keyword result
+        (reading Const ctx.now (members_view parent.now.entries) (view schema.now)) }
+{
+    let _ = parent;
+    Some(const_validator(alloc, ctx, schema))
+}
+
+fn const_validator<'a, F: Json>(
+    alloc: Global,
+    ctx: &Context<'_, F>,
+    schema: &'a Value,
+) -> CompilationResult<'a, LeafValidator<F>>
+    ensures { Makes leaf_keyword result
+        (const_keyword (keyword_location ctx.now.location Const) (view schema.now)) }
+{
+    let location = ctx.keyword_location(alloc, KeywordName::Const)?;
+    refuse_floats(alloc, &location, schema)?;
+    Ok(validator_of(schema.clone()?, location))
+}
+
+// The validator of a value, by its type.
+fn validator_of<F: Json>(value: Value, location: Location) -> LeafValidator<F>
+    ensures { leaf_keyword result ≡ placed (constant_at location value) }
+{
+    match value {
+        Value::Array(_) => LeafValidator::ConstArray(ConstArrayValidator { value, location }),
+        Value::Bool(_) => LeafValidator::ConstBoolean(ConstBooleanValidator { value, location }),
+        Value::Null => LeafValidator::ConstNull(ConstNullValidator { value, location }),
+        Value::Number(_) => LeafValidator::ConstNumber(ConstNumberValidator { value, location }),
+        Value::Object(_) => LeafValidator::ConstObject(ConstObjectValidator { value, location }),
+        Value::String(_) => LeafValidator::ConstString(ConstStringValidator { value, location }),
+    }
+}
