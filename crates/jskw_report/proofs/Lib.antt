@@ -9,9 +9,6 @@ pub mod Once
 pub mod OneOption
 pub mod Pointers
 pub mod Reading
-pub mod RowsErrors
-pub mod RowsReading
 pub mod Same
 pub mod TypeReading
 pub mod Valid
-pub mod Worked
