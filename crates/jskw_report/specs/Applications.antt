@@ -70,6 +70,35 @@ abbrev mutual
 -- ---- depth
 
 abbrev mutual
+  -- the number of pairs that lie d deep: the schema and the tree lie at depth 0, and a subschema and an item that a keyword makes meet lie one deeper than the keyword's schema and the array
+  pub pairs_at : Schema → Tree → ℕ → ℕ
+  pairs_at (false_schema q) t zero = 1
+  pairs_at (false_schema q) t (suc d) = 0
+  pairs_at (schema_object q hands_on ks) t zero = 1
+  pairs_at (schema_object q hands_on ks) t (suc d) = all_pairs_at ks t d
+
+  -- those that the keywords make meet
+  pub all_pairs_at : Keywords → Tree → ℕ → ℕ
+  all_pairs_at no_keywords t d = 0
+  all_pairs_at (keyword q k ks) t d = keyword_pairs_at k t d + all_pairs_at ks t d
+
+  -- those of the keyword's subschemas and the items
+  pub keyword_pairs_at : Keyword → Tree → ℕ → ℕ
+  keyword_pairs_at (assertion q a) t d = 0
+  keyword_pairs_at (contains s b) t d = sum_by (λ u. pairs_at s u d) (items t)
+  keyword_pairs_at (items_list ss) t d = each_pairs_at ss (items t) d
+  keyword_pairs_at (prefix_items ss) t d = each_pairs_at ss (items t) d
+  keyword_pairs_at (items_from n s true) t d = 0
+  keyword_pairs_at (items_from n s false) t d = sum_by (λ u. pairs_at s u d) (drop n (items t))
+  keyword_pairs_at (additional_items n s) t d = sum_by (λ u. pairs_at s u d) (drop n (items t))
+
+  -- those of each schema and the item of its index, as far as both go
+  pub each_pairs_at : Schemas → List Tree → ℕ → ℕ
+  each_pairs_at no_schemas ts d = 0
+  each_pairs_at (schema s ss) [] d = 0
+  each_pairs_at (schema s ss) (t ∷ ts) d = pairs_at s t d + each_pairs_at ss ts d
+
+abbrev mutual
   -- the number of schemas that lie d deep: a subschema of a keyword lies one deeper than the schema that has the keyword
   pub schemas_at : Schema → ℕ → ℕ
   schemas_at (false_schema q) zero = 1
@@ -133,7 +162,7 @@ abbrev mutual
   each_height no_schemas = 0
   each_height (schema s ss) = max (height s) (each_height ss)
 
--- the sum of f d * g d over the d below n
-abbrev pub sum_of_products : ℕ → (ℕ → ℕ) → (ℕ → ℕ) → ℕ
-sum_of_products zero f g = 0
-sum_of_products (suc n) f g = f 0 * g 0 + sum_of_products n (λ d. f (suc d)) (λ d. g (suc d))
+-- the sum of f d over the d below n
+abbrev pub sum_below : ℕ → (ℕ → ℕ) → ℕ
+sum_below zero f = 0
+sum_below (suc n) f = f 0 + sum_below n (λ d. f (suc d))

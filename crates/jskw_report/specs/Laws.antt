@@ -1,7 +1,8 @@
 -- What the definitions have in common. Each law is the contract of a function.
-use Rattle.std.specs.Prelude.{⊤, List, ◌≡◌, ◌≢◌, ℕ, suc, ◌++◌, [], ◌∷◌, map, find, ◌↔◌, IsTrue, Bool, true, false, codes, Option, Some, None, option_map, Ok, Err, ◌≤◌}
+use Rattle.std.specs.Prelude.{⊤, List, ◌≡◌, ◌≢◌, ℕ, suc, ◌++◌, [], ◌∷◌, map, find, ◌↔◌, IsTrue, Bool, true, false, codes, Option, Some, None, option_map, Ok, Err, ◌≤◌, ◌*◌}
 use Rattle.std.specs.List.{list_any}
 use Rattle.serde_json.specs.Data.{Data, unsigned, float, number, array, object, Items, no_items, item, Members, no_members, member}
+use Rattle.serde_json.specs.Find.{get_member}
 use Rattle.jskw_value.specs.Equality.{same}
 use Rattle.jskw_value.specs.FirstFloat as location_of
 use Rattle.jskw_value.specs.Pointer.{Pointer, name_token, index_token}
@@ -10,7 +11,7 @@ use Rattle.jskw_value.specs.Tree.{Tree, is_array, items, has_distinct_names}
 use Rattle.jskw_value.specs.Types.{json_type}
 use Rattle.jskw_value.specs.declared.types.JsonType.{JsonType}
 use Rattle.jskw_value.specs.declared.types.JsonType.TheVariants.{Array, Number, Object}
-use Rattle.jskw_report.specs.Applications.{needed, pairs, height, sum_of_products, schemas_at, trees_at}
+use Rattle.jskw_report.specs.Applications.{needed, pairs, pairs_at, height, sum_below, schemas_at, trees_at}
 use Rattle.jskw_report.specs.Evaluation.{tree, unit, is_valid}
 use Rattle.jskw_report.specs.Fail.{Failure, fail, keyword_fail}
 use Rattle.jskw_report.specs.KeywordValue.{first_float}
@@ -74,18 +75,24 @@ HoldsElsewhere = (w : KeywordName) (j : JsonType) (s : Setting) (p : Pointer) (m
     → concerns w ≡ Some j → IsKeywordOf w s p ms k → json_type t ≢ j → IsTrue (keyword_holds k t)
 
 -- whether the schema that was read holds of the tree
-abbrev pub verdict_of : Reading → Tree → Option Bool
-verdict_of (Ok s) t = Some (holds s t)
-verdict_of (Err e) t = None
+abbrev pub reading_accepts : Reading → Tree → Option Bool
+reading_accepts (Ok s) t = Some (holds s t)
+reading_accepts (Err e) t = None
 
 -- whether the schema d holds of the tree, if d is a schema
-abbrev pub verdict : Setting → Data → Tree → Option Bool
-verdict s d t = verdict_of (read keywords d s []) t
+abbrev pub accepts : Setting → Data → Tree → Option Bool
+accepts s d t = reading_accepts (read keywords d s []) t
 
--- `const` accepts what `enum` of that one value accepts (Validation 6.1.3)
-abbrev pub ConstIsOneOption : Type 0
-ConstIsOneOption = (s : Setting) (d : Data) (t : Tree) → IsTrue (stands s word.Const) → IsTrue (stands s word.Enum)
-    → verdict s (object (member (codes "const") d no_members)) t ≡ verdict s (object (member (codes "enum") (array (item d no_items)) no_members)) t
+-- `const` accepts what `enum` of that one value accepts (Validation 6.1.2, 6.1.3)
+pub record ConstIsOneOption : Type 0 where
+  -- wherever the two keywords stand, and whatever stands beside them
+  pub anywhere : (r s : Setting) (p q : Pointer) (ms ns : Members) (d : Data) (k j : Keyword) (t : Tree)
+      → get_member (name_of word.Const) ms ≡ Some d → get_member (name_of word.Enum) ns ≡ Some (array (item d no_items))
+      → IsKeywordOf word.Const r p ms k → IsKeywordOf word.Enum s q ns j → keyword_holds k t ≡ keyword_holds j t
+  -- and where each is all that a schema has, both are schemas or neither is
+  pub alone : (s : Setting) (d : Data) (t : Tree) → IsTrue (stands s word.Const) → IsTrue (stands s word.Enum)
+      → accepts s (object (member (codes "const") d no_members)) t
+      ≡ accepts s (object (member (codes "enum") (array (item d no_items)) no_members)) t
 
 -- some item is valid against the schema of `contains`
 abbrev pub has_match : Keyword → Tree → Bool
@@ -156,9 +163,14 @@ pub record FirstFloatIsOne : Type 0 where
 abbrev pub NeedsSomePairs : Type 0
 NeedsSomePairs = (s : Schema) (t : Tree) → needed s t ≤ pairs s t
 
--- schemas and trees that meet lie at the same depth: at each, no more pairs than schemas times trees
-abbrev pub PairsMeetAtOneDepth : Type 0
-PairsMeetAtOneDepth = (s : Schema) (t : Tree) → pairs s t ≤ sum_of_products (height s) (schemas_at s) (trees_at t)
+-- a subschema and an item that meet lie equally deep: each pair lies at one depth
+pub record PairsMeetAtOneDepth : Type 0 where
+  -- the pairs of all depths are all pairs
+  pub over_depths : (s : Schema) (t : Tree) → sum_below (height s) (pairs_at s t) ≡ pairs s t
+  -- at each depth no more pairs lie than schemas times trees
+  pub at_each : (s : Schema) (t : Tree) (d : ℕ) → pairs_at s t d ≤ schemas_at s d * trees_at t d
+  -- there are no more pairs than schemas times trees at each depth, summed over the depths
+  pub at_all : (s : Schema) (t : Tree) → pairs s t ≤ sum_below (height s) (λ d. schemas_at s d * trees_at t d)
 
 -- ---- one tree in two representations
 
