@@ -16,9 +16,9 @@ use Rattle.jskw_value.specs.declared.types.JsonType.TheVariants.{Array, Number, 
 use Rattle.jskw_report.specs.KeywordValue.{Refusal, map_ok, join_ok, size_value, limit_value, divisor_value, required_value}
 use Rattle.jskw_report.specs.Holds.{holds, keyword_holds, each_holds, count_holds}
 use Rattle.jskw_report.specs.Keyword.{Schemas, no_schemas, schema, Keyword, assertion, contains, items_list, prefix_items, items_from, additional_items, size, MinItems, MaxItems, MinProperties, MaxProperties, Relation, Minimum, Maximum, ExclusiveMinimum, ExclusiveMaximum, limit, multiple_of, unique, required, at_most, Bounds}
-use Rattle.jskw_report.specs.Laws.{HoldsElsewhere, concerns}
+use Rattle.jskw_report.specs.Laws.{HoldsElsewhere}
 use Rattle.jskw_report.specs.Read.{Asserts, Part, Reading, part_named, keyword_location, relation_beside, limit_keyword, limit_word, read_bounds, items_keyword, prefix_keyword, additional_keyword, asserted, read_word}
-use Rattle.jskw_report.specs.Setting.{Setting, keywords, name_of, stands}
+use Rattle.jskw_report.specs.Setting.{Setting, keywords, name_of, concerns, stands}
 use Rattle.jskw_report.specs.declared.keyword.KeywordName.{KeywordName}
 use Rattle.jskw_report.specs.declared.keyword.KeywordName.TheVariants as word
 use Rattle.jskw_report.specs.Sibling.{is_true, is_handed_on}

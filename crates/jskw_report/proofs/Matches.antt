@@ -140,4 +140,4 @@ one_matches s p ms k t e l u a = let b = with_bounds s p ms k (bounds_of p None 
 
 -- the law
 pub contains_matches : ContainsMatches
-contains_matches = record { none = none_matches; some = some_matches; one = one_matches }
+contains_matches = record { no_match_needed = none_matches; match_needed = some_matches; match_suffices = one_matches }

@@ -1,5 +1,5 @@
 -- `const` accepts what `enum` of that one value accepts.
-use Rattle.std.specs.Prelude.{◌≡◌, [], Bool, Option, Some, None, option_map, Ok, ◌&&◌, ◌||◌, true, false, if◌then◌else◌}
+use Rattle.std.specs.Prelude.{◌≡◌, [], Bool, Option, Some, None, option_map, Ok, ◌&&◌, true, false, if◌then◌else◌}
 use Rattle.std.specs.Option.{option_or}
 use Rattle.std.proofs.Common.{refl, sym, ◌∙◌, ap, subst}
 use Rattle.std.proofs.Math.Bool.{or-false}
@@ -13,7 +13,7 @@ use Rattle.jskw_report.specs.Holds.{keyword_holds}
 use Rattle.jskw_report.specs.KeywordValue.{map_ok, unless_float, first_float}
 use Rattle.jskw_report.specs.Keyword.{Keyword, no_keywords, constant, among, assertion}
 use Rattle.jskw_report.specs.Laws.{ConstIsOneOption, IsKeywordOf, reading_accepts}
-use Rattle.jskw_report.specs.Read.{Asserts, asserted, read_word, part, part_named, before, whole}
+use Rattle.jskw_report.specs.Read.{Asserts, asserted, read_word, part, before, whole}
 use Rattle.jskw_report.specs.Setting.{Setting, keywords, name_of, stands}
 use Rattle.jskw_report.specs.declared.keyword.KeywordName.{KeywordName}
 use Rattle.jskw_report.specs.declared.keyword.KeywordName.TheVariants as word
