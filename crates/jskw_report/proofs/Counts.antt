@@ -1,7 +1,7 @@
 -- How many pairs meet.
-use Rattle.std.specs.Prelude.{◌≡◌, ℕ, zero, suc, ◌+◌, ◌*◌, ◌≤◌, max, List, [], ◌∷◌, drop, sum_by, Bool, true, false, if◌then◌else◌}
+use Rattle.std.specs.Prelude.{◌≡◌, ℕ, zero, suc, ◌+◌, ◌*◌, ◌≤◌, List, [], ◌∷◌, drop, sum_by, Bool, true, false, if◌then◌else◌}
 use Rattle.std.proofs.Common.{refl, sym, ◌∙◌, ap, ap₂, subst, arith}
-use Rattle.std.proofs.lemmas.List.Sums.{sum_by-cons, sum_by-take-drop}
+use Rattle.std.proofs.lemmas.List.Sums.{sum_by-cons, sum_by-le-sum_by, sum_by-take-drop}
 use Rattle.std.proofs.Math.Nat.{le_refl, le_trans}
 use Rattle.jskw_value.specs.Tree.{Tree, array, Items, no_items, item, item_list, items}
 use Rattle.jskw_report.specs.Keyword.{Schema, false_schema, schema_object, Keywords, no_keywords, keyword, Keyword, assertion, contains, items_list, prefix_items, items_from, additional_items, Schemas, no_schemas, schema}
@@ -25,11 +25,6 @@ sum_to_failure-le : (h : Tree → Bool) (f g : Tree → ℕ) → ((t : Tree) →
 sum_to_failure-le h f g e [] = omega arith
 sum_to_failure-le h f g e (t ∷ ts) = subst (λ n. sum_to_failure h f (t ∷ ts) ≤ n) (sym (sum_by-cons g t ts)) (sums-le (e t) (some_of (h t) (sum_to_failure h f ts) (sum_by g ts) (sum_to_failure-le h f g e ts)))
 
--- a sum of smaller numbers
-sum_by-le : (f g : Tree → ℕ) → ((t : Tree) → f t ≤ g t) → (ts : List Tree) → sum_by f ts ≤ sum_by g ts
-sum_by-le f g e [] = omega arith
-sum_by-le f g e (t ∷ ts) = rw (sum_by-cons f t ts, sum_by-cons g t ts) (sums-le (e t) (sum_by-le f g e ts))
-
 mutual
   -- of a schema
   pub needed-le : (s : Schema) (t : Tree) → needed s t ≤ pairs s t
@@ -44,7 +39,7 @@ mutual
   -- of a keyword
   keyword_needed-le : (k : Keyword) (t : Tree) → keyword_needed k t ≤ keyword_pairs k t
   keyword_needed-le (assertion q a) t = le_refl 0
-  keyword_needed-le (contains s b) t = sum_by-le (needed s) (pairs s) (λ u. needed-le s u) (items t)
+  keyword_needed-le (contains s b) t = sum_by-le-sum_by (needed s) (pairs s) (items t) (λ u. needed-le s u)
   keyword_needed-le (items_list ss) t = each_needed-le ss (items t)
   keyword_needed-le (prefix_items ss) t = each_needed-le ss (items t)
   keyword_needed-le (items_from n s true) t = le_refl 0
@@ -162,14 +157,6 @@ sum_below-items n f c e [] = sum_below-zero n
 sum_below-items n f c e (t ∷ ts) = sum_below-same n _ _ (λ d. sum_by-cons (λ t. f t d) t ts) ∙ sum_below-add n (f t) (λ d. sum_by (λ t. f t d) ts)
     ∙ ap₂ (λ x y. x + y) (e t) (sum_below-items n f c e ts) ∙ sym (sum_by-cons c t ts)
 
--- the left is no greater than the greater
-left_max : (a b n : ℕ) → max a b ≤ n → a ≤ n
-left_max a b n h = omega arith
-
--- nor is the right
-right_max : (a b n : ℕ) → max a b ≤ n → b ≤ n
-right_max a b n h = omega arith
-
 mutual
   -- of a schema, over its depths and any that lie deeper
   pub pairs-sum : (s : Schema) (t : Tree) (n : ℕ) → height s ≤ n → sum_below n (pairs_at s t) ≡ pairs s t
@@ -182,7 +169,7 @@ mutual
   all_pairs-sum : (ks : Keywords) (t : Tree) (n : ℕ) → all_height ks ≤ n → sum_below n (all_pairs_at ks t) ≡ all_pairs ks t
   all_pairs-sum no_keywords t n h = sum_below-zero n
   all_pairs-sum (keyword q k ks) t n h = sum_below-add n (keyword_pairs_at k t) (all_pairs_at ks t)
-      ∙ ap₂ (λ x y. x + y) (keyword_pairs-sum k t n (left_max (keyword_height k) (all_height ks) n h)) (all_pairs-sum ks t n (right_max (keyword_height k) (all_height ks) n h))
+      ∙ ap₂ (λ x y. x + y) (keyword_pairs-sum k t n (omega arith)) (all_pairs-sum ks t n (omega arith))
 
   -- of a keyword
   keyword_pairs-sum : (k : Keyword) (t : Tree) (n : ℕ) → keyword_height k ≤ n → sum_below n (keyword_pairs_at k t) ≡ keyword_pairs k t
@@ -199,7 +186,7 @@ mutual
   each_pairs-sum no_schemas ts n h = sum_below-zero n
   each_pairs-sum (schema s ss) [] n h = sum_below-zero n
   each_pairs-sum (schema s ss) (t ∷ ts) n h = sum_below-add n (pairs_at s t) (each_pairs_at ss ts)
-      ∙ ap₂ (λ x y. x + y) (pairs-sum s t n (left_max (height s) (each_height ss) n h)) (each_pairs-sum ss ts n (right_max (height s) (each_height ss) n h))
+      ∙ ap₂ (λ x y. x + y) (pairs-sum s t n (omega arith)) (each_pairs-sum ss ts n (omega arith))
 
 -- the law
 pub pairs_meet : PairsMeetAtOneDepth

@@ -1,8 +1,8 @@
 -- `holds` says what `fail` says.
 use Rattle.std.specs.Prelude.{◌≡◌, ℕ, suc, ◌&&◌, ◌||◌, not, nat_le, nat_lt, List, [], ◌∷◌, ◌++◌, map, filter, drop, count_by, Bool, true, false, Option, Some, None, ◌⊎◌, ◌<◌, ◌≤◌, if◌then◌else◌}
 use Rattle.std.specs.List.{list_all}
-use Rattle.std.proofs.Common.{refl, sym, ◌∙◌, ap, inl, inr, arith}
-use Rattle.std.proofs.lemmas.Bool.Decides.{leb_tells}
+use Rattle.std.proofs.Common.{refl, sym, ◌∙◌, ap, inl, inr}
+use Rattle.std.proofs.lemmas.Bool.{cases_lt, lt-leb, lt-ltb, le-leb, le-ltb, not_from_true, not_from_false}
 use Rattle.jskw_value.specs.Pointer.{Pointer, item_location}
 use Rattle.jskw_value.specs.Tree.{Tree, items, is_array, is_object, has_name}
 use Rattle.jskw_report.specs.Kind.{ErrorKind}
@@ -69,13 +69,11 @@ error_kinds_empty (at_most n) t = unless_empty (assertion_holds (at_most n) t) _
 
 -- no more is not fewer
 nat_le-not_lt : (n u : ℕ) → nat_le n u ≡ not (nat_lt u n)
-nat_le-not_lt n u = go (leb_tells n u) (leb_tells (suc u) n)
+nat_le-not_lt n u = go (cases_lt u n)
   where
-    go : ((nat_le n u ≡ true) × (n ≤ u)) ⊎ ((nat_le n u ≡ false) × (u < n)) → ((nat_lt u n ≡ true) × (suc u ≤ n)) ⊎ ((nat_lt u n ≡ false) × (n < suc u)) → nat_le n u ≡ not (nat_lt u n)
-    go (inl (e, h)) (inl (f, k)) = absurd (omega arith)
-    go (inl (e, h)) (inr (f, k)) = e ∙ sym (ap not f)
-    go (inr (e, h)) (inl (f, k)) = e ∙ sym (ap not f)
-    go (inr (e, h)) (inr (f, k)) = absurd (omega arith)
+    go : (u < n) ⊎ (n ≤ u) → nat_le n u ≡ not (nat_lt u n)
+    go (inl h) = lt-leb n u h ∙ sym (not_from_true (nat_lt u n) (lt-ltb u n h))
+    go (inr h) = le-leb n u h ∙ sym (not_from_false (nat_lt u n) (le-ltb u n h))
 
 -- within the upper bound is not past it
 within_passes : (n : ℕ) (upper : Option ℕ) → within n upper ≡ not (passes n upper)

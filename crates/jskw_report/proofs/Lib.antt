@@ -1,4 +1,5 @@
 pub mod Appending
+pub mod Asserted
 pub mod Below
 pub mod Counts
 pub mod Elsewhere

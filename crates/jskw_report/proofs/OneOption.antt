@@ -1,5 +1,5 @@
 -- `const` accepts what `enum` of that one value accepts.
-use Rattle.std.specs.Prelude.{◌≡◌, [], Bool, Option, Some, None, option_map, Ok, ◌&&◌, true, false, if◌then◌else◌}
+use Rattle.std.specs.Prelude.{◌≡◌, [], Bool, Option, Some, None, option_map, Ok, ◌&&◌, true}
 use Rattle.std.specs.Option.{option_or}
 use Rattle.std.proofs.Common.{refl, sym, ◌∙◌, ap, subst}
 use Rattle.std.proofs.Math.Bool.{or-false}
@@ -14,37 +14,26 @@ use Rattle.jskw_report.specs.KeywordValue.{map_ok, unless_float, first_float}
 use Rattle.jskw_report.specs.Keyword.{Keyword, no_keywords, constant, among, assertion}
 use Rattle.jskw_report.specs.Laws.{ConstIsOneOption, IsKeywordOf, reading_accepts}
 use Rattle.jskw_report.specs.Read.{Asserts, asserted, read_word, part, before, whole}
-use Rattle.jskw_report.specs.Setting.{Setting, keywords, name_of, stands}
+use Rattle.jskw_report.specs.Setting.{Setting, keywords, name_of}
 use Rattle.jskw_report.specs.declared.keyword.KeywordName.{KeywordName}
 use Rattle.jskw_report.specs.declared.keyword.KeywordName.TheVariants as word
+use Rattle.jskw_report.proofs.Asserted.{asserted_if_read, same_keyword}
 use Rattle.jskw_report.proofs.Reading.{part_named-get}
 
 -- ---- the keywords
 
--- what is read of a keyword is what its value asserts
+-- what is read of a keyword is asserted of the value that stands there
 read_of : (w : KeywordName) (s : Setting) (p : Pointer) (ms : Members) (d : Data) (k : Keyword) → get_member (name_of w) ms ≡ Some d
     → IsKeywordOf w s p ms k → asserted w s p ms (part keywords d) ≡ Some (Ok k)
-unfolding read_word
-read_of w s p ms d k e h = standing (stands s w) (subst (λ o. read_word w s p ms o ≡ Some (Ok k)) (part_named-get keywords (name_of w) ms ∙ ap (λ o. option_map (part keywords) o) e) h)
-  where
-    standing : (b : Bool) → (if b then asserted w s p ms (part keywords d) else None) ≡ Some (Ok k) → asserted w s p ms (part keywords d) ≡ Some (Ok k)
-    standing true f = f
-    standing false f = absurd (cc)
-
--- one keyword is asserted
-asserted_one : (k j : Keyword) → ◌≡◌ {A = Asserts} (Some (Ok k)) (Some (Ok j)) → k ≡ j
-asserted_one k j e = ap keyword_in e
-  where
-    keyword_in : Asserts → Keyword
-    keyword_in (Some (Ok m)) = m
-    keyword_in _ = k
+read_of w s p ms d k e h = asserted_if_read w s p ms (part keywords d) k
+    (subst (λ o. read_word w s p ms o ≡ Some (Ok k)) (part_named-get keywords (name_of w) ms ∙ ap (option_map (part keywords)) e) h)
 
 -- both keywords, once the first float of the value is known
 same_answer : (d : Data) (t : Tree) (o : Option Data) (p q : Pointer) (k j : Keyword)
     → ◌≡◌ {A = Asserts} (Some (map_ok (λ d. assertion p (constant d)) (unless_float p o d))) (Some (Ok k))
     → ◌≡◌ {A = Asserts} (Some (map_ok (λ ds. assertion q (among ds)) (unless_float q (option_or o None) (item d no_items)))) (Some (Ok j))
     → keyword_holds k t ≡ keyword_holds j t
-same_answer d t None p q k j e f = ap (λ k. keyword_holds k t) (sym (asserted_one _ k e)) ∙ sym (or-false (equal (tree_of d) t)) ∙ ap (λ k. keyword_holds k t) (asserted_one _ j f)
+same_answer d t None p q k j e f = ap (λ k. keyword_holds k t) (sym (same_keyword _ k e)) ∙ sym (or-false (equal (tree_of d) t)) ∙ ap (λ k. keyword_holds k t) (same_keyword _ j f)
 same_answer d t (Some x) p q k j e f = absurd (cc)
 
 -- ---- the schemas
