@@ -65,12 +65,12 @@ with_bounds s p ms k = go (part_named keywords (name_of word.Contains) ms)
     go None e = absurd (cc)
     go (Some part) e = of_contains (read_bounds s p ms) (part.schema s (keyword_location p word.Contains)) k (asserted_if_read word.Contains s p ms part k e)
 
--- the bounds by the members beside it
+-- the bounds are read from the members beside `contains`
 bounds_beside : (s : Setting) (p : Pointer) (ms : Members) {l u : Option Data} → bound_beside s ms min_contains ≡ l → bound_beside s ms max_contains ≡ u
     → read_bounds s p ms ≡ join_ok (bounds_of p) (bound_value (member_location p min_contains) l) (bound_value (member_location p max_contains) u)
 bounds_beside s p ms e f = ap₂ (λ l u. join_ok (bounds_of p) (bound_value (member_location p min_contains) l) (bound_value (member_location p max_contains) u)) e f
 
--- no more than one reading of the bounds is right
+-- bounds that are read are the same
 same_bounds : (b c : Bounds) → ◌≡◌ {A = Result Bounds Refusal} (Ok b) (Ok c) → b ≡ c
 same_bounds b c e = ap bounds_in e
   where
@@ -83,7 +83,7 @@ without_lower : (p : Pointer) (r : Result (Option ℕ) Refusal) (b : Bounds) →
 without_lower p (Ok u) b e = (u, same_bounds _ b e)
 without_lower p (Err f) b e = absurd (cc)
 
--- with `minContains` 0
+-- with `minContains` 0 and no `maxContains`
 none_matches : (s : Setting) (p : Pointer) (ms : Members) (k : Keyword) (t : Tree) → IsKeywordOf word.Contains s p ms k
     → bound_beside s ms min_contains ≡ Some (number (unsigned 0)) → bound_beside s ms max_contains ≡ None → IsTrue (keyword_holds k t)
 none_matches s p ms k t e l u = let a = with_bounds s p ms k e in
@@ -97,7 +97,7 @@ some_matches s p ms k t e l a h = let b = with_bounds s p ms k e in
     let same : contains b.1 (bounds_of p None v.0) ≡ k = ap (contains b.1) v.1 ∙ sym b.3 in
     subst (λ k. IsTrue (has_match k t)) same (some_needed p b.1 v.0 t a (subst (λ k. IsTrue (keyword_holds k t)) (sym same) h))
 
--- with neither bound
+-- with neither `minContains` nor `maxContains`
 one_matches : (s : Setting) (p : Pointer) (ms : Members) (k : Keyword) (t : Tree) → IsKeywordOf word.Contains s p ms k
     → bound_beside s ms min_contains ≡ None → bound_beside s ms max_contains ≡ None → is_array t ≡ true → keyword_holds k t ≡ has_match k t
 one_matches s p ms k t e l u a = let b = with_bounds s p ms k e in

@@ -5,7 +5,7 @@ use Rattle.std.specs.Prelude.{⊤, ◌≡◌, [], ◌∷◌, Some}
 use Rattle.std.proofs.Common.{refl}
 use Rattle.jskw_report.specs.declared.settings.Draft.TheVariants.{Draft7}
 use Rattle.jskw_report.specs.Read.{asserted, read_word}
-use Rattle.jskw_tests.proofs.Worked.{num, str, yes, no, arr, is, obj, under, latest, without, pairs_on, needed_on}
+use Rattle.jskw_tests.proofs.Worked.{num, str, yes, no, arr, is, obj, under, latest, without, pairs_on, pairs_by_depth, needed_on}
 
 -- ---- pairs
 
@@ -30,6 +30,12 @@ of_pairs = tt
         pairs_on (under Draft7) (obj (is "items" (arr (yes ∷ [])) ∷ is "additionalItems" (obj (is "const" (num 1) ∷ [])) ∷ [])) (arr (num 1 ∷ num 1 ∷ num 1 ∷ []))
         ≡ Some 4
     additional_items_meet_those_behind_the_list = refl
+
+    -- {"items":{"items":{"const":1}}} on [[1,2],[3]]
+    pairs_lie_as_deep_as_their_items :
+        pairs_by_depth latest (obj (is "items" (obj (is "items" (obj (is "const" (num 1) ∷ [])) ∷ [])) ∷ [])) (arr (arr (num 1 ∷ num 2 ∷ []) ∷ arr (num 3 ∷ []) ∷ []))
+        ≡ Some (1 ∷ 2 ∷ 3 ∷ 0 ∷ [])
+    pairs_lie_as_deep_as_their_items = refl
 
 -- ---- pairs up to the first failure
 

@@ -12,7 +12,7 @@ use Rattle.jskw_value.specs.Tree.{Tree}
 use Rattle.jskw_report.specs.declared.settings.Draft.{Draft}
 use Rattle.jskw_report.specs.declared.settings.Draft.TheVariants.{Draft202012}
 use Rattle.jskw_report.specs.declared.settings.VocabularySet.{VocabularySet}
-use Rattle.jskw_report.specs.Applications.{pairs, needed}
+use Rattle.jskw_report.specs.Applications.{pairs, pairs_at, needed}
 use Rattle.jskw_report.specs.Evaluation.{Evaluation, Annotation, evaluations, node}
 use Rattle.jskw_report.specs.Evaluation as evaluation
 use Rattle.jskw_report.specs.Fail.{Failure, fail}
@@ -138,7 +138,8 @@ error k p q = record { kind = k; instance_location = codes p; keyword_location =
 abbrev seen : Failure → Seen
 seen f = record { kind = f.kind; instance_location = f.instance_location; keyword_location = f.keyword_location }
 
--- what a schema says of an instance: that it is valid, its errors, or the value that the schema may not have; `disagrees` where `holds` and `fail` do
+-- what a schema says of an instance: that it is valid, its errors, or the value that the schema may not have;
+-- `disagrees` where `holds` and `fail` do
 pub data Answer : Type 0 where
   valid : Answer
   errors : List Seen → Answer
@@ -191,6 +192,10 @@ evaluated s d i = told (λ sub. evaluation.tree sub (tree_of i) []) (read keywor
 -- the number of pairs of the schema d over the value
 abbrev pub pairs_on : Setting → Data → Data → Option ℕ
 pairs_on s d i = told (λ sub. pairs sub (tree_of i)) (read keywords d s [])
+
+-- the numbers of pairs of the schema d over the value that lie at depths 0 to 3
+abbrev pub pairs_by_depth : Setting → Data → Data → Option (List ℕ)
+pairs_by_depth s d i = told (λ sub. map (pairs_at sub (tree_of i)) (0 ∷ 1 ∷ 2 ∷ 3 ∷ [])) (read keywords d s [])
 
 -- the number of pairs of the schema d over the value, up to the first failure
 abbrev pub needed_on : Setting → Data → Data → Option ℕ
