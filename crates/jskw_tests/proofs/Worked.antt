@@ -12,7 +12,7 @@ use Rattle.jskw_value.specs.Tree.{Tree}
 use Rattle.jskw_report.specs.declared.settings.Draft.{Draft}
 use Rattle.jskw_report.specs.declared.settings.Draft.TheVariants.{Draft202012}
 use Rattle.jskw_report.specs.declared.settings.VocabularySet.{VocabularySet}
-use Rattle.jskw_report.specs.Applications.{pairs, needed}
+use Rattle.jskw_report.specs.Applications.{pairs, pairs_at, needed}
 use Rattle.jskw_report.specs.Evaluation.{Evaluation, Annotation, evaluations, node}
 use Rattle.jskw_report.specs.Evaluation as evaluation
 use Rattle.jskw_report.specs.Fail.{Failure, fail}
@@ -24,7 +24,7 @@ use Rattle.jskw_report.specs.Setting.{Setting, all_vocabularies, keywords, name_
 use Rattle.jskw_report.specs.declared.keyword.KeywordName.{KeywordName}
 use Rattle.jskw_report.specs.Sibling.{is_fused}
 
--- a text as antt writes it
+-- a string as antt writes it
 abbrev pub Text : Type 0
 Text = String
 
@@ -138,21 +138,22 @@ error k p q = record { kind = k; instance_location = codes p; keyword_location =
 abbrev seen : Failure → Seen
 seen f = record { kind = f.kind; instance_location = f.instance_location; keyword_location = f.keyword_location }
 
--- what a schema says of an instance: that it holds, its errors, or the fault in the schema; `disagrees` where `holds` and `fail` do
+-- what a schema says of an instance: that it is valid, its errors, or the value that the schema may not have;
+-- `disagrees` where `holds` and `fail` do
 pub data Answer : Type 0 where
   valid : Answer
   errors : List Seen → Answer
   refused : ErrorKind → Pointer → Data → Answer
   disagrees : Answer
 
--- by whether the schema holds, and by its errors
+-- the answer by whether the schema holds, and by its errors
 abbrev answer : Bool → List Seen → Answer
 answer true [] = valid
 answer true (e ∷ es) = disagrees
 answer false [] = disagrees
 answer false (e ∷ es) = errors (e ∷ es)
 
--- by what was read
+-- the answer by what was read
 abbrev answer_of : Reading → Tree → Answer
 answer_of (Err e) t = refused e.kind e.location e.value
 answer_of (Ok s) t = answer (holds s t) (map seen (fail s t []))
@@ -165,11 +166,11 @@ on_tree s d t = answer_of (read keywords d s []) t
 abbrev pub on : Setting → Data → Data → Answer
 on s d i = on_tree s d (tree_of i)
 
--- what is wrong in the schema d
+-- what the schema d says before any instance is looked at
 abbrev pub compile : Setting → Data → Answer
 compile s d = on_tree s d tree.null
 
--- the fault of this kind, keyword location and value
+-- the value at the keyword location is refused with an error of the kind
 abbrev pub refusal : ErrorKind → Text → Data → Answer
 refusal k q d = refused k (codes q) d
 
@@ -192,7 +193,11 @@ evaluated s d i = told (λ sub. evaluation.tree sub (tree_of i) []) (read keywor
 abbrev pub pairs_on : Setting → Data → Data → Option ℕ
 pairs_on s d i = told (λ sub. pairs sub (tree_of i)) (read keywords d s [])
 
--- the same up to the first failure
+-- the numbers of pairs of the schema d over the value that lie at depths 0 to 3
+abbrev pub pairs_by_depth : Setting → Data → Data → Option (List ℕ)
+pairs_by_depth s d i = told (λ sub. map (pairs_at sub (tree_of i)) (0 ∷ 1 ∷ 2 ∷ 3 ∷ [])) (read keywords d s [])
+
+-- the number of pairs of the schema d over the value, up to the first failure
 abbrev pub needed_on : Setting → Data → Data → Option ℕ
 needed_on s d i = told (λ sub. needed sub (tree_of i)) (read keywords d s [])
 
