@@ -1,5 +1,5 @@
 //! What code over any representation of JSON knows of a value.
-ghost use Rattle.std.specs.Prelude.{◌≡◌, ℕ, ◌<◌, ◌==◌, option_and_then, List, length, IsTrue, IfOk, OnOk, IfSome, option_map, is_none, is_some, string_bytes, slice_index_or};
+ghost use Rattle.std.specs.Prelude.{◌≡◌, ℕ, ◌<◌, ◌==◌, option_and_then, List, length, IsTrue, IfOk, IfSome, option_map, is_none, is_some, string_bytes, slice_index_or};
 ghost use Rattle.std.specs.List.{list_all, IsDistinct};
 ghost use Rattle.std.specs.Str.{bytes_eq};
 ghost use Rattle.jskw_value.specs.Equality.{equal, unique};
@@ -244,7 +244,7 @@ pub trait Node: Array + Object {
     /// nothing else is. Only memory can fail; what was in the text stays in front, and after a
     /// failure a beginning of the value's text may follow it.
     final fn write_json(&self, out: &mut String) -> Result<(), AllocError>
-        ensures { OnOk result (Extends (string_bytes out.old) (string_bytes out.new)) }
+        ensures { Extends (string_bytes out.old) (string_bytes out.new) }
     {
         write_node(self, out)
     }

@@ -1,17 +1,18 @@
 //! The compact JSON text of a node.
-ghost use Rattle.std.specs.Prelude.{IsTrue, OnOk, string_bytes};
+ghost use Rattle.std.specs.Prelude.{◌≤◌, IsTrue, string_bytes};
 ghost use Rattle.jskw_value.specs.Text.{Extends};
 ghost use Rattle.jskw_value.specs.Tree.{is_array, is_object};
 
 use crate::decimal::{Decimal, ten_to};
 use crate::json::{Array, JsonNumber, Node, Object};
+use itoa::Buffer;
 use std::alloc::AllocError;
 
 // Appends the text of a node.
 #[cycle(write)]
 #[tactic(auto, using(crate::proofs::Texts::lemmas))]
 pub(crate) fn write_node<N: Node>(node: &N, out: &mut String) -> Result<(), AllocError>
-    ensures { OnOk result (Extends (string_bytes out.old) (string_bytes out.new)) }
+    ensures { Extends (string_bytes out.old) (string_bytes out.new) }
 {
     if node.is_array() {
         return write_array(node, out);
@@ -36,7 +37,7 @@ pub(crate) fn write_node<N: Node>(node: &N, out: &mut String) -> Result<(), Allo
 #[tactic(auto, using(crate::proofs::Texts::lemmas, crate::proofs::Depth::item_depth))]
 fn write_array<N: Node>(node: &N, out: &mut String) -> Result<(), AllocError>
     requires { IsTrue (is_array (N.tree node.now)) }
-    ensures { OnOk result (Extends (string_bytes out.old) (string_bytes out.new)) }
+    ensures { Extends (string_bytes out.old) (string_bytes out.new) }
 {
     out.push('[')?;
     for i in 0..Array::len(node) {
@@ -52,7 +53,7 @@ fn write_array<N: Node>(node: &N, out: &mut String) -> Result<(), AllocError>
 #[tactic(auto, using(crate::proofs::Texts::lemmas, crate::proofs::Depth::height_below))]
 fn write_object<N: Node>(node: &N, out: &mut String) -> Result<(), AllocError>
     requires { IsTrue (is_object (N.tree node.now)) }
-    ensures { OnOk result (Extends (string_bytes out.old) (string_bytes out.new)) }
+    ensures { Extends (string_bytes out.old) (string_bytes out.new) }
 {
     out.push('{')?;
     let mut is_first = true;
@@ -69,7 +70,7 @@ fn write_object<N: Node>(node: &N, out: &mut String) -> Result<(), AllocError>
 #[cycle(write)]
 #[tactic(auto, using(crate::proofs::Texts::lemmas))]
 fn write_member<N: Node>(name: &str, member: &N, out: &mut String) -> Result<(), AllocError>
-    ensures { OnOk result (Extends (string_bytes out.old) (string_bytes out.new)) }
+    ensures { Extends (string_bytes out.old) (string_bytes out.new) }
 {
     write_string(name, out)?;
     out.push(':')?;
@@ -79,7 +80,7 @@ fn write_member<N: Node>(name: &str, member: &N, out: &mut String) -> Result<(),
 // Appends a string between quotes, escaped as RFC 8259, section 7, asks for.
 #[tactic(auto, using(crate::proofs::Texts::lemmas))]
 fn write_string(text: &str, out: &mut String) -> Result<(), AllocError>
-    ensures { OnOk result (Extends (string_bytes out.old) (string_bytes out.new)) }
+    ensures { Extends (string_bytes out.old) (string_bytes out.new) }
 {
     out.push('"')?;
     for c in text.chars() {
@@ -90,7 +91,7 @@ fn write_string(text: &str, out: &mut String) -> Result<(), AllocError>
 
 #[tactic(auto, using(crate::proofs::Texts::lemmas))]
 fn write_char(c: char, out: &mut String) -> Result<(), AllocError>
-    ensures { OnOk result (Extends (string_bytes out.old) (string_bytes out.new)) }
+    ensures { Extends (string_bytes out.old) (string_bytes out.new) }
 {
     match c {
         '"' => out.push_str("\\\""),
@@ -100,14 +101,32 @@ fn write_char(c: char, out: &mut String) -> Result<(), AllocError>
         '\n' => out.push_str("\\n"),
         '\u{c}' => out.push_str("\\f"),
         '\r' => out.push_str("\\r"),
-        '\u{0}'..='\u{1f}' => write!(out, "\\u{:04x}", c as u32),
+        '\u{0}'..='\u{1f}' => write_control(c, out),
         _ => out.push(c),
     }
 }
 
+// The hexadecimal digit of a number from 0 to 15.
+fn hexadecimal(number: u32) -> char
+    requires { number ≤ 15 }
+{
+    char::from_digit(number, 16).unwrap()
+}
+
+// Appends a control character by its number, in four hexadecimal digits.
+#[tactic(auto, using(crate::proofs::Texts::lemmas))]
+fn write_control(c: char, out: &mut String) -> Result<(), AllocError>
+    requires { c ≤ 31 }
+    ensures { Extends (string_bytes out.old) (string_bytes out.new) }
+{
+    out.push_str("\\u00")?;
+    out.push(hexadecimal(c as u32 / 16))?;
+    out.push(hexadecimal(c as u32 % 16))
+}
+
 #[tactic(auto, using(crate::proofs::Texts::lemmas))]
 fn write_number<A: JsonNumber>(number: &A, out: &mut String) -> Result<(), AllocError>
-    ensures { OnOk result (Extends (string_bytes out.old) (string_bytes out.new)) }
+    ensures { Extends (string_bytes out.old) (string_bytes out.new) }
 {
     if number.is_lawful() {
         write_decimal(&number.decimal(), out)
@@ -119,7 +138,7 @@ fn write_number<A: JsonNumber>(number: &A, out: &mut String) -> Result<(), Alloc
 // Appends a decimal, with as many digits behind the point as its scale says.
 #[tactic(auto, using(crate::proofs::Texts::lemmas))]
 fn write_decimal(decimal: &Decimal, out: &mut String) -> Result<(), AllocError>
-    ensures { OnOk result (Extends (string_bytes out.old) (string_bytes out.new)) }
+    ensures { Extends (string_bytes out.old) (string_bytes out.new) }
 {
     if decimal.coefficient() < 0 {
         out.push('-')?;
@@ -127,18 +146,23 @@ fn write_decimal(decimal: &Decimal, out: &mut String) -> Result<(), AllocError>
     let digits = decimal.coefficient().unsigned_abs();
     let unit = ten_to(decimal.scale()) as u128;
     let whole = digits / unit;
-    write!(out, "{whole}")?;
+    out.push_str(Buffer::new().format(whole))?;
     write_fraction(digits % unit, decimal.scale(), out)
 }
 
-// Appends the point and the digits behind it, if there are any.
+// Appends the point and so many digits behind it, if there are any.
 #[tactic(auto, using(crate::proofs::Texts::lemmas))]
 fn write_fraction(fraction: u128, scale: u8, out: &mut String) -> Result<(), AllocError>
-    ensures { OnOk result (Extends (string_bytes out.old) (string_bytes out.new)) }
+    ensures { Extends (string_bytes out.old) (string_bytes out.new) }
 {
     if scale == 0 {
         return Ok(());
     }
-    let width = scale as usize;
-    write!(out, ".{fraction:0width$}")
+    let mut buffer = Buffer::new();
+    let digits = buffer.format(fraction);
+    out.push('.')?;
+    for _ in digits.len()..scale as usize {
+        out.push('0')?;
+    }
+    out.push_str(digits)
 }
