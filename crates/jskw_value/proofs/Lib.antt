@@ -10,10 +10,10 @@ pub mod Lists
 pub mod Lookups
 pub mod MembersByPlace
 pub mod Numbers
+pub mod Places
 pub mod Pointers
 pub mod Powers
 pub mod SameNames
 pub mod Serde
 pub mod Texts
 pub mod Unique
-pub mod Walks

@@ -210,6 +210,18 @@ pub trait Node: Array + Object {
         self.as_string().is_some()
     }
 
+    /// The number of items: an array's as [`Array::len`] gives it, and 0 of any other value.
+    #[tactic(auto, using(crate::proofs::Places::items_elsewhere))]
+    final fn item_count(&self) -> usize
+        ensures { result ≡ length (items (Self.tree self.now)) }
+    {
+        if self.is_array() {
+            Array::len(self)
+        } else {
+            0
+        }
+    }
+
     /// The location of the first float as a JSON pointer (RFC 6901), None exactly where the node is
     /// lawful. Floats are met depth first, items by index, members in the order of their places.
     /// Only memory can fail.

@@ -88,7 +88,7 @@ impl<'a, V: Node> Iterator for Walk<'a, V> {
 }
 
 // The name and the member at a place, where there is one.
-#[tactic(auto, using(crate::proofs::Walks::drop_member, crate::proofs::Walks::drop_elsewhere))]
+#[tactic(auto, using(crate::proofs::Places::drop_member, crate::proofs::Places::drop_elsewhere))]
 fn member_at_place<'a, V: Node>(object: &'a V, place: usize) -> Option<(&'a str, &'a V)>
     ensures value { let all = members_of (V.tree object.now) in
         MatchOption result (drop place all ≡ [])
