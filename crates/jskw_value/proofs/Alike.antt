@@ -108,23 +108,13 @@ module _ (f g : Num → Num → Bool) (numbers : (m n : Num) → f m n ≡ true 
     alike_symm (string s) (string r) d h = nat_list_eq_equiv.symm s r ∙ h
     alike_symm (array us) (array ts) d h = items_symm us ts d h
     alike_symm (object ns) (object ms) d h = both_true (members_symm ns (object ms) d (λ k z e. back ms ns h k z e)) (names_found f ms (object ns) (left_of _ _ h))
-    alike_symm null (boolean b) d h = absurd (true≢false (sym h))
-    alike_symm null (number n) d h = absurd (true≢false (sym h))
-    alike_symm null (string s) d h = absurd (true≢false (sym h))
-    alike_symm null (array ts) d h = absurd (true≢false (sym h))
-    alike_symm null (object ms) d h = absurd (true≢false (sym h))
-    alike_symm (boolean a) _ d h = absurd (true≢false (sym h))
-    alike_symm (number m) _ d h = absurd (true≢false (sym h))
-    alike_symm (string s) _ d h = absurd (true≢false (sym h))
-    alike_symm (array us) _ d h = absurd (true≢false (sym h))
-    alike_symm (object ns) _ d h = absurd (true≢false (sym h))
+    alike_symm _ _ d h = cc
 
     -- item by item
     items_symm : (us ts : Items) → items_distinct us ≡ true → items_alike f ts (item_list us) ≡ true → items_alike g us (item_list ts) ≡ true
     items_symm no_items no_items d h = refl
     items_symm (item u us) (item t ts) d h = both_true (alike_symm u t (left_of _ _ d) (left_of _ _ h)) (items_symm us ts (right_of _ _ d) (right_of _ _ h))
-    items_symm no_items (item t ts) d h = absurd (true≢false (sym h))
-    items_symm (item u us) no_items d h = absurd (true≢false (sym h))
+    items_symm _ _ d h = cc
 
     -- each name of the right finds what the left has of it
     members_symm : (ns : Members) (t : Tree) → members_distinct ns ≡ true → ((k : List ℕ) (z : Tree) → get k (object ns) ≡ Some z → (y : Tree) × ((get k t ≡ Some y) × (alike f y z ≡ true))) → members_alike g ns t ≡ true
@@ -140,34 +130,20 @@ module _ (f g l : Num → Num → Bool) (numbers : (m n o : Num) → f m n ≡ t
     -- through a tree between the two
     pub alike_trans : (t u v : Tree) → alike f t u ≡ true → alike g u v ≡ true → alike l t v ≡ true
     alike_trans null null null h k = refl
-    alike_trans null null _ h k = absurd (true≢false (sym k))
-    alike_trans null _ v h k = absurd (true≢false (sym h))
     alike_trans (boolean a) (boolean b) (boolean c) h k = ap (λ x. beq x c) ((booleans_Decides a b).0 h) ∙ k
-    alike_trans (boolean a) (boolean b) _ h k = absurd (true≢false (sym k))
-    alike_trans (boolean a) _ v h k = absurd (true≢false (sym h))
     alike_trans (number m) (number n) (number o) h k = numbers m n o h k
-    alike_trans (number m) (number n) _ h k = absurd (true≢false (sym k))
-    alike_trans (number m) _ v h k = absurd (true≢false (sym h))
     alike_trans (string s) (string r) (string q) h k = ap (λ x. bytes_eq x q) ((bytes_eq-Decides s r).0 h) ∙ k
-    alike_trans (string s) (string r) _ h k = absurd (true≢false (sym k))
-    alike_trans (string s) _ v h k = absurd (true≢false (sym h))
     alike_trans (array ts) (array us) (array vs) h k = items_trans ts us vs h k
-    alike_trans (array ts) (array us) _ h k = absurd (true≢false (sym k))
-    alike_trans (array ts) _ v h k = absurd (true≢false (sym h))
     alike_trans (object ms) (object ns) (object os) h k = both_true
         (members_trans ms (object ns) (object os) (left_of _ _ h) (get_alike g ns (object os) (left_of _ _ k)))
         (all_from_each (has_name (object ms)) (names (object os)) (λ q e. among_all (names (object ns)) (names (object ms)) (right_of _ _ h) q (among_all (names (object os)) (names (object ns)) (right_of _ _ k) q e)))
-    alike_trans (object ms) (object ns) _ h k = absurd (true≢false (sym k))
-    alike_trans (object ms) _ v h k = absurd (true≢false (sym h))
+    alike_trans _ _ _ h k = cc
 
     -- item by item
     items_trans : (ts us vs : Items) → items_alike f ts (item_list us) ≡ true → items_alike g us (item_list vs) ≡ true → items_alike l ts (item_list vs) ≡ true
     items_trans no_items no_items no_items h k = refl
-    items_trans no_items no_items (item v vs) h k = absurd (true≢false (sym k))
-    items_trans no_items (item u us) vs h k = absurd (true≢false (sym h))
     items_trans (item t ts) (item u us) (item v vs) h k = both_true (alike_trans t u v (left_of _ _ h) (left_of _ _ k)) (items_trans ts us vs (right_of _ _ h) (right_of _ _ k))
-    items_trans (item t ts) (item u us) no_items h k = absurd (true≢false (sym k))
-    items_trans (item t ts) no_items vs h k = absurd (true≢false (sym h))
+    items_trans _ _ _ h k = cc
 
     -- member by member, by way of what the second has of the name
     members_trans : (ms : Members) (u v : Tree) → members_alike f ms u ≡ true → ((k : List ℕ) (y : Tree) → get k u ≡ Some y → (z : Tree) × ((get k v ≡ Some z) × (alike g y z ≡ true))) → members_alike l ms v ≡ true
