@@ -3,6 +3,7 @@ use Rattle.std.proofs.Common.{◌≡◌, ℕ, List, [], ◌∷◌, map, Vec, Glo
 use Rattle.std.proofs.lemmas.Map.Entries.{length-values_of}
 use Rattle.std.proofs.lemmas.Map.Made.{lookup-map_values, keys_of-map_values}
 use Rattle.std.proofs.lemmas.List.{length-map}
+use Rattle.std.proofs.lemmas.Simd.{map-map}
 use Rattle.std.specs.Map.{keys_of, values_of, lookup}
 use Rattle.std.specs.Str.{bytes_eq}
 use Rattle.jskw_value.specs.declared.decimal_tree.DecimalTree.{DecimalTree, Array, Object, the_lemmas}
@@ -41,15 +42,13 @@ member_list-members_from : (ms : List (Member DecimalTree)) → member_list (mem
 member_list-members_from [] = refl
 member_list-members_from (m ∷ ms) = ap (λ es. entry_tree m ∷ es) (member_list-members_from ms)
 
--- the same by way of the entries
+-- names and trees by way of the entries
 entries_seen : (ms : List (Member DecimalTree)) → map entry_tree ms ≡ map (λ e. (e.0, decimal_tree e.1)) (entries ms)
-entries_seen [] = refl
-entries_seen (m ∷ ms) = ap (λ es. entry_tree m ∷ es) (entries_seen ms)
+entries_seen ms = sym (map-map (λ e. (e.0, decimal_tree e.1)) (λ m. (string_bytes m.name, m.value)) ms)
 
 -- the trees of the values
 values_seen : (ms : List (Member DecimalTree)) → values_of (map entry_tree ms) ≡ map decimal_tree (values_of (entries ms))
-values_seen [] = refl
-values_seen (m ∷ ms) = ap (λ ts. decimal_tree m.value ∷ ts) (values_seen ms)
+values_seen ms = ap values_of (entries_seen ms) ∙ map-map (λ e. e.1) (λ e. (e.0, decimal_tree e.1)) (entries ms) ∙ sym (map-map decimal_tree (λ e. e.1) (entries ms))
 
 -- an array's items
 pub items_of_array : (v : Vec DecimalTree Global) → tree.items (decimal_tree (Array v)) ≡ map decimal_tree v.items

@@ -1,13 +1,13 @@
 -- Distinct names, one level at a time.
-use Rattle.std.proofs.Common.{◌≡◌, ℕ, ◌+◌, ◌<◌, ◌≤◌, List, [], ◌∷◌, length, get_or, drop, Bool, true, false, not, ◌&&◌, ◌||◌, refl, sym, ap, ◌∙◌}
-use Rattle.std.proofs.lemmas.Bool.{true≢false}
+use Rattle.std.proofs.Common.{◌≡◌, ℕ, ◌+◌, ◌<◌, ◌≤◌, List, [], ◌∷◌, length, get_or, drop, Bool, true, false, ◌&&◌, refl, ap, ◌∙◌}
+use Rattle.std.proofs.lemmas.Bool.{and_from, and_parts, not_from_false, or_from}
 use Rattle.std.proofs.lemmas.List.{at_drop_all}
 use Rattle.std.proofs.lemmas.Map.Keys.{IsDistinct-head, IsDistinct-tail}
-use Rattle.std.specs.List.{list_all, list_any, IsDistinct, AllByRecursion}
+use Rattle.std.specs.List.{list_all, IsDistinct, AllByRecursion}
 use Rattle.std.specs.Map.{keys_of, values_of}
+use Rattle.std.specs.Set.{is_member}
 use Rattle.std.specs.Str.{bytes_eq}
 use Rattle.jskw_value.specs.Tree.{Tree, array, object, Items, no_items, item, Members, no_members, member, item_list, member_list, items, names, values, is_array, is_object, has_distinct_names, items_distinct, members_distinct}
-use Rattle.jskw_value.proofs.Booleans.{both_true, left_of, right_of}
 use Rattle.jskw_value.proofs.Lists.{at_index}
 
 -- the items as a list
@@ -18,29 +18,29 @@ items_list (item t ts) = ap (λ b. has_distinct_names t && b) (items_list ts)
 -- an array's names are distinct where its items' are
 pub distinct_in_array : (t : Tree) → is_array t ≡ true → list_all has_distinct_names (items t) ≡ true → has_distinct_names t ≡ true
 distinct_in_array (array ts) h e = items_list ts ∙ e
-distinct_in_array _ h e = absurd (true≢false (sym h))
+distinct_in_array _ h e = cc
 
 -- a name that differs from each is none of them
-not_among : (k : List ℕ) (ks : List (List ℕ)) → AllByRecursion (λ l. bytes_eq k l ≡ false) ks → list_any (bytes_eq k) ks ≡ false
+not_among : (k : List ℕ) (ks : List (List ℕ)) → AllByRecursion (λ l. bytes_eq k l ≡ false) ks → is_member bytes_eq ks k ≡ false
 not_among k [] h = refl
-not_among k (l ∷ ks) h = ap (λ b. b || list_any (bytes_eq k) ks) h.0 ∙ not_among k ks h.1
+not_among k (l ∷ ks) h = or_from _ _ h.0 (not_among k ks h.1)
 
 -- the members as a list
 members_list : (ms : Members) → IsDistinct bytes_eq (keys_of (member_list ms)) → list_all has_distinct_names (values_of (member_list ms)) ≡ true → members_distinct ms ≡ true
 members_list no_members d e = refl
-members_list (member k t ms) d e = both_true
-    (both_true (ap not (not_among k _ (IsDistinct-head bytes_eq k (keys_of (member_list ms)) d))) (left_of _ _ e))
-    (members_list ms (IsDistinct-tail bytes_eq k (keys_of (member_list ms)) d) (right_of _ _ e))
+members_list (member k t ms) d e = and_from _ _
+    (and_from _ _ (not_from_false _ (not_among k _ (IsDistinct-head bytes_eq k (keys_of (member_list ms)) d))) (and_parts _ _ e).0)
+    (members_list ms (IsDistinct-tail bytes_eq k (keys_of (member_list ms)) d) (and_parts _ _ e).1)
 
 -- an object's names are distinct where its own and its members' are
 pub distinct_in_object : (t : Tree) → is_object t ≡ true → IsDistinct bytes_eq (names t) → list_all has_distinct_names (values t) ≡ true → has_distinct_names t ≡ true
 distinct_in_object (object ms) h d e = members_list ms d e
-distinct_in_object _ h d e = absurd (true≢false (sym h))
+distinct_in_object _ h d e = cc
 
 -- what is neither has no name
 pub distinct_elsewhere : (t : Tree) → is_array t ≡ false → is_object t ≡ false → has_distinct_names t ≡ true
-distinct_elsewhere (array ts) h k = absurd (true≢false h)
-distinct_elsewhere (object ms) h k = absurd (true≢false k)
+distinct_elsewhere (array ts) h k = cc
+distinct_elsewhere (object ms) h k = cc
 distinct_elsewhere _ h k = refl
 
 -- a test of the rest, one index on

@@ -1,5 +1,7 @@
 -- A `serde_json` value beside its tree.
 use Rattle.std.proofs.Common.{◌≡◌, ℕ, ◌<◌, length, get_or, List, [], ◌∷◌, map, Vec, BTreeMap, String, Global, string_bytes, refl, sym, ap, ◌∙◌, option_map, Option, Some, true, false, cond, ◌&&◌, Bor, string_cmp, nat_cmp}
+use Rattle.std.proofs.lemmas.List.Folds.{list_all-map}
+use Rattle.std.proofs.lemmas.Simd.{map-map}
 use Rattle.std.proofs.lemmas.Map.Keys.{IsDistinct-from_sorted}
 use Rattle.std.proofs.lemmas.Map.Made.{lookup-map_values}
 use Rattle.std.proofs.lemmas.Map.Text.{is_eq-slice_cmp}
@@ -35,13 +37,11 @@ member_list-members_of (e ∷ es) = ap (λ ms. entry_tree e ∷ ms) (member_list
 
 -- their names
 keys_of_entries : (es : List Entry) → keys_of (map entry_tree es) ≡ map string_bytes (keys_of es)
-keys_of_entries [] = refl
-keys_of_entries (e ∷ es) = ap (λ ks. string_bytes e.0 ∷ ks) (keys_of_entries es)
+keys_of_entries es = map-map (λ m. m.0) entry_tree es ∙ sym (map-map string_bytes (λ e. e.0) es)
 
 -- what stands at them
 values_of_entries : (es : List Entry) → values_of (map entry_tree es) ≡ map value_tree (values_of es)
-values_of_entries [] = refl
-values_of_entries (e ∷ es) = ap (λ vs. value_tree e.1 ∷ vs) (values_of_entries es)
+values_of_entries es = map-map (λ m. m.1) entry_tree es ∙ sym (map-map value_tree (λ e. e.1) es)
 
 -- an array's tree
 pub tree_of_array : (v : Vec Value Global) → value_tree (Array v) ≡ array (items_of (items_view v.items))
@@ -93,8 +93,7 @@ same_test k (e ∷ es) = ap (λ b. cond b (Some e.1) (lookup (is_at (λ q. slice
 
 -- an entry's tree by way of its name
 entries_seen : (es : List Entry) → map entry_tree es ≡ map (λ e. (e.0, value_tree e.1)) (map named es)
-entries_seen [] = refl
-entries_seen (e ∷ es) = ap (λ ms. entry_tree e ∷ ms) (entries_seen es)
+entries_seen es = sym (map-map (λ m. (m.0, value_tree m.1)) named es)
 
 -- what `get` finds
 pub found_of_object : (k : List ℕ) (m : BTreeMap (String Global) Value) (r : Option (Bor Value)) → option_map (λ x. x.now) r ≡ get_by (λ q. slice_cmp nat_cmp k (string_bytes q)) m → option_map (λ x. value_tree x.now) r ≡ tree.get k (value_tree (Object m))
@@ -106,18 +105,13 @@ items_lawful_list : (ts : Items) → items_lawful ts ≡ list_all is_lawful (ite
 items_lawful_list no_items = refl
 items_lawful_list (item t ts) = ap (λ b. is_lawful t && b) (items_lawful_list ts)
 
--- a test of the trees is one of the values
-list_all_map : (vs : List Value) → list_all is_lawful (map value_tree vs) ≡ list_all (λ v. is_lawful (value_tree v)) vs
-list_all_map [] = refl
-list_all_map (v ∷ vs) = ap (λ b. is_lawful (value_tree v) && b) (list_all_map vs)
-
 -- an array is lawful where each item is
 pub lawful_of_array : (v : Vec Value Global) → is_lawful (value_tree (Array v)) ≡ list_all (λ w. is_lawful (value_tree w)) v.items
-lawful_of_array v = ap is_lawful (tree_of_array v) ∙ items_lawful_list (items_of (items_view v.items)) ∙ ap (list_all is_lawful) (item_list-items_of v.items) ∙ list_all_map v.items
+lawful_of_array v = ap is_lawful (tree_of_array v) ∙ items_lawful_list (items_of (items_view v.items)) ∙ ap (list_all is_lawful) (item_list-items_of v.items) ∙ list_all-map is_lawful value_tree v.items
 
 -- an object is lawful where each member is
 pub lawful_of_object : (m : BTreeMap (String Global) Value) → is_lawful (value_tree (Object m)) ≡ list_all (λ w. is_lawful (value_tree w)) (values m)
-lawful_of_object m = ap is_lawful (tree_of_object m) ∙ members_lawful_list (members_of (members_view m.entries)) ∙ ap (λ ms. list_all is_lawful (values_of ms)) (member_list-members_of m.entries) ∙ ap (list_all is_lawful) (values_of_entries m.entries) ∙ list_all_map (values m)
+lawful_of_object m = ap is_lawful (tree_of_object m) ∙ members_lawful_list (members_of (members_view m.entries)) ∙ ap (λ ms. list_all is_lawful (values_of ms)) (member_list-members_of m.entries) ∙ ap (list_all is_lawful) (values_of_entries m.entries) ∙ list_all-map is_lawful value_tree (values m)
 
 -- an item of a lawful array
 pub lawful_in_array : (v : Vec Value Global) (i : ℕ) (w : Value) → is_lawful (value_tree (Array v)) ≡ true → i < length v.items → w ≡ get_or v.items i w → is_lawful (value_tree w) ≡ true

@@ -1,7 +1,7 @@
 -- A JSON value as a tree (Core 4.2.1, "Instance Data Model"). Sections are those of Draft 2020-12.
 use Rattle.std.specs.Prelude.{ℕ, List, [], ◌∷◌, Bool, true, false, not, ◌&&◌, Option, Some, None}
-use Rattle.std.specs.List.{list_any}
 use Rattle.std.specs.Map.{lookup, keys_of, values_of}
+use Rattle.std.specs.Set.{is_member}
 use Rattle.std.specs.Str.{bytes_eq}
 use Rattle.jskw_value.specs.Number.{Num, is_exact}
 
@@ -91,7 +91,7 @@ get k t = lookup (bytes_eq k) (members t)
 
 -- whether a member has the name
 abbrev pub has_name : Tree → List ℕ → Bool
-has_name t k = list_any (bytes_eq k) (names t)
+has_name t k = is_member bytes_eq (names t) k
 
 -- ---- all levels
 
