@@ -15,6 +15,7 @@ use Rattle.jskw_value.specs.Equality.{equal, has_equal, unique, items_alike, mem
 use Rattle.jskw_value.specs.Number.{num_equal}
 use Rattle.jskw_value.specs.Tree.{Tree, array, object, Items, no_items, item, Members, no_members, member, item_list, member_list, items, members, names, get, has_name, is_array, is_object}
 use Rattle.jskw_value.proofs.Alike.{names_found}
+use Rattle.jskw_value.proofs.Depth.{item_depth}
 use Rattle.jskw_value.proofs.Lists.{at_index}
 use Rattle.jskw_value.proofs.SameNames.{same_length}
 
@@ -113,3 +114,6 @@ any_step p ts i t h e = at_index (list_any p) ts i t h e
 -- it finds nothing in no rest
 pub any_end : (p : Tree → Bool) (ts : List Tree) (n : ℕ) → length ts ≤ n → list_any p (drop n ts) ≡ false
 any_end p ts n h = at_drop_all (list_any p) ts n h
+
+pub ruleset by_level = (equal_arrays, equal_objects)
+pub ruleset by_index = (pointwise_step, pointwise_end, pointwise_length, item_depth)

@@ -1,10 +1,10 @@
 pub mod Alike
 pub mod Booleans
-pub mod Decimals
+pub mod DecimalTrees
 pub mod Depth
-pub mod Distinct
+pub mod DistinctNames
 pub mod Equal
-pub mod Floats
+pub mod FirstFloat
 pub mod Lawful
 pub mod Lists
 pub mod Lookups

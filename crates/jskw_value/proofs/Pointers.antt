@@ -1,10 +1,11 @@
 -- Names in JSON pointers, one character at a time.
 use Rattle.std.proofs.Common.{◌≡◌, ℕ, suc, ◌<◌, ◌≤◌, List, [], ◌∷◌, ◌++◌, length, get_or, refl, sym, ap, ap₂, ◌∙◌, append_assoc, append-nil, inl, inr, arith}
 use Rattle.std.proofs.lemmas.Bool.{cases_lt, ne_eqb}
-use Rattle.std.proofs.lemmas.Grind.{flat_map-append}
+use Rattle.std.proofs.lemmas.Grind.{common_steps, flat_map-append}
 use Rattle.std.proofs.lemmas.Str.{encode_ascii, inside_one}
 use Rattle.std.specs.Char.{encode_utf8}
 use Rattle.jskw_value.specs.Pointer.{escape, escape_byte}
+use Rattle.jskw_value.proofs.Texts.{lemmas}
 
 -- nothing to escape
 pub escape_nil : (rest : List ℕ) → length rest ≡ 0 → escape rest ≡ []
@@ -35,3 +36,5 @@ escape_plain c h k = elim (cases_lt c 128) [
     | inr high ↦ high
   ])
 ]
+
+pub ruleset by_character = (append_escaped, escape_nil, lemmas, common_steps)

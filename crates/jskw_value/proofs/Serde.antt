@@ -1,5 +1,6 @@
 -- A `serde_json` value beside its tree.
 use Rattle.std.proofs.Common.{◌≡◌, ℕ, ◌<◌, length, get_or, List, [], ◌∷◌, map, Vec, BTreeMap, String, Global, string_bytes, refl, sym, ap, ◌∙◌, option_map, Option, Some, true, false, cond, ◌&&◌, Bor, string_cmp, nat_cmp}
+use Rattle.std.proofs.lemmas.Grind.{common_steps}
 use Rattle.std.proofs.lemmas.List.Folds.{list_all-map}
 use Rattle.std.proofs.lemmas.Simd.{map-map}
 use Rattle.std.proofs.lemmas.Map.Keys.{IsDistinct-from_sorted}
@@ -17,7 +18,7 @@ use Rattle.serde_json.proofs.Views.{Entry, view-Array, view-Object}
 use Rattle.jskw_value.specs.Serde.{tree_of, items_of, members_of, value_tree}
 use Rattle.jskw_value.specs.Tree as tree
 use Rattle.jskw_value.specs.Tree.{Tree, array, object, Items, no_items, item, Members, no_members, member, item_list, member_list, is_lawful, items_lawful}
-use Rattle.jskw_value.proofs.Lawful.{members_lawful_list}
+use Rattle.jskw_value.proofs.Lawful.{lawful_found, lawful_members, members_lawful_list}
 use Rattle.jskw_value.proofs.Lists.{all_at}
 use Rattle.jskw_value.proofs.Lookups.{seen_through}
 
@@ -120,3 +121,7 @@ lawful_in_array v i w h k e = all_at (λ x. is_lawful (value_tree x)) v.items i 
 -- a member of a lawful object
 pub lawful_in_object : (m : BTreeMap (String Global) Value) (i : ℕ) (w : Value) → is_lawful (value_tree (Object m)) ≡ true → i < length (values m) → w ≡ get_or (values m) i w → is_lawful (value_tree w) ≡ true
 lawful_in_object m i w h k e = all_at (λ x. is_lawful (value_tree x)) (values m) i w (sym (lawful_of_object m) ∙ h) k e
+
+-- what `serde_json`'s arrays and objects are as nodes
+pub ruleset arrays = (items_of_array, lawful_in_array, common_steps)
+pub ruleset objects = (distinct_of_object, names_of_object, values_of_object, members_of_object, lawful_in_object, lawful_members, lawful_found, common_steps)

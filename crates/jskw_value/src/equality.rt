@@ -14,7 +14,7 @@ use crate::walk::Walk;
 
 // Whether two nodes are one value.
 #[cycle(equal)]
-#[tactic(auto, using(crate::proofs::Equal::equal_arrays, crate::proofs::Equal::equal_objects))]
+#[tactic(auto, using(crate::proofs::Equal::by_level))]
 pub(crate) fn equal_nodes<N: Node, M: Node>(left: &N, right: &M) -> bool
     ensures { result ≡ equal (N.tree left.now) (M.tree right.now) }
 {
@@ -28,7 +28,7 @@ pub(crate) fn equal_nodes<N: Node, M: Node>(left: &N, right: &M) -> bool
 }
 
 #[cycle(equal)]
-#[tactic(auto, using(crate::proofs::Equal::pointwise_step, crate::proofs::Equal::pointwise_end, crate::proofs::Equal::pointwise_length, crate::proofs::Depth::item_depth))]
+#[tactic(auto, using(crate::proofs::Equal::by_index))]
 fn equal_arrays<N: Node, M: Node>(left: &N, right: &M) -> bool
     requires left { IsTrue (is_array (N.tree left.now)) }
     requires right { IsTrue (is_array (M.tree right.now)) }

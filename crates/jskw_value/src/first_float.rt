@@ -9,7 +9,7 @@ use std::alloc::{AllocError, Global};
 
 // The location of the first float, as a JSON pointer.
 #[cycle(location)]
-#[tactic(auto, using(crate::proofs::Floats::first_in_array, crate::proofs::Floats::first_in_object))]
+#[tactic(auto, using(crate::proofs::FirstFloat::by_level))]
 pub(crate) fn location_of_float<N: Node>(
     alloc: Global,
     node: &N,
@@ -31,7 +31,7 @@ pub(crate) fn location_of_float<N: Node>(
 }
 
 #[cycle(location)]
-#[tactic(auto, using(crate::proofs::Floats::from_step, crate::proofs::Floats::from_end, crate::proofs::Depth::item_depth))]
+#[tactic(auto, using(crate::proofs::FirstFloat::by_index))]
 fn location_in_array<N: Node>(alloc: Global, node: &N) -> Result<Option<String>, AllocError>
     requires { IsTrue (is_array (N.tree node.now)) }
     ensures { IfOk result (λ o. option_map string_bytes o

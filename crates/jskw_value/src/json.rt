@@ -225,7 +225,7 @@ pub trait Node: Array + Object {
     /// The location of the first float as a JSON pointer (RFC 6901), None exactly where the node is
     /// lawful. Floats are met depth first, items by index, members in the order of their places.
     /// Only memory can fail.
-    #[tactic(auto, using(crate::proofs::Floats::none_from_location))]
+    #[tactic(auto, using(crate::proofs::FirstFloat::none_from_location))]
     final fn first_unlawful(&self, alloc: Global) -> Result<Option<String>, AllocError>
         ensures location { IfOk result (λ o. option_map string_bytes o
             ≡ first_float (Self.tree self.now)) }

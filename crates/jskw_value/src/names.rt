@@ -9,7 +9,7 @@ use crate::json::{Array, Node, Object};
 /// Says of a whole node what its calls say of each level: no object in it has a name twice. A law
 /// for proofs; it goes over the node once and takes no memory.
 #[cycle(names)]
-#[tactic(auto, using(crate::proofs::Distinct::distinct_in_array, crate::proofs::Distinct::distinct_in_object, crate::proofs::Distinct::distinct_elsewhere))]
+#[tactic(auto, using(crate::proofs::DistinctNames::by_level))]
 pub fn names_are_distinct<N: Node>(node: &N)
     ensures { IsTrue (has_distinct_names (N.tree node.now)) }
 {
@@ -21,7 +21,7 @@ pub fn names_are_distinct<N: Node>(node: &N)
 }
 
 #[cycle(names)]
-#[tactic(auto, using(crate::proofs::Distinct::all_step, crate::proofs::Distinct::all_end, crate::proofs::Depth::item_depth))]
+#[tactic(auto, using(crate::proofs::DistinctNames::by_index))]
 fn in_items<N: Node>(node: &N)
     requires { IsTrue (is_array (N.tree node.now)) }
     ensures { IsTrue (list_all has_distinct_names (items (N.tree node.now))) }

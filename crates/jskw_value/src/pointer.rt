@@ -32,7 +32,7 @@ pub fn push_index(pointer: &mut String, index: usize) -> Result<(), AllocError>
     pointer.push_str(Buffer::new().format(index))
 }
 
-#[tactic(auto, using(crate::proofs::Texts::lemmas, crate::proofs::Pointers::append_escaped, crate::proofs::Pointers::escape_nil, std::proofs::lemmas::Grind::common_steps))]
+#[tactic(auto, using(crate::proofs::Pointers::by_character))]
 fn push_escaped(pointer: &mut String, name: &str) -> Result<(), AllocError>
     ensures appended { OnOk result
         (string_bytes pointer.new ≡ string_bytes pointer.old ++ escape name.now) }

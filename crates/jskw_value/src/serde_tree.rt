@@ -53,7 +53,7 @@ impl JsonNumber for Number {
     }
 }
 
-#[tactic(auto, using(crate::proofs::Serde::items_of_array, crate::proofs::Serde::lawful_in_array, std::proofs::lemmas::Grind::common_steps))]
+#[tactic(auto, using(crate::proofs::Serde::arrays))]
 impl Array for Value {
     fn len(&self) -> usize {
         match self {
@@ -70,7 +70,7 @@ impl Array for Value {
     }
 }
 
-#[tactic(auto, using(crate::proofs::Serde::distinct_of_object, crate::proofs::Serde::names_of_object, crate::proofs::Serde::values_of_object, crate::proofs::Serde::members_of_object, crate::proofs::Serde::lawful_in_object, crate::proofs::Lawful::lawful_members, crate::proofs::Lawful::lawful_found, std::proofs::lemmas::Grind::common_steps))]
+#[tactic(auto, using(crate::proofs::Serde::objects))]
 impl Object for Value {
     type PreparedKey = String;
 

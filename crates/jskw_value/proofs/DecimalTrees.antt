@@ -1,5 +1,6 @@
 -- A `DecimalTree` beside its tree.
 use Rattle.std.proofs.Common.{◌≡◌, ℕ, List, [], ◌∷◌, map, Vec, Global, string_bytes, length, refl, sym, ap, subst, ◌∙◌, option_map, Option, true, Bor, rules}
+use Rattle.std.proofs.lemmas.Grind.{common_steps}
 use Rattle.std.proofs.lemmas.Map.Entries.{length-values_of}
 use Rattle.std.proofs.lemmas.Map.Made.{lookup-map_values, keys_of-map_values}
 use Rattle.std.proofs.lemmas.List.{length-map}
@@ -14,6 +15,7 @@ use Rattle.jskw_value.specs.DecimalTree.{decimal_tree, tree_step, items_from, me
 use Rattle.jskw_value.specs.Members.{entries, names, get}
 use Rattle.jskw_value.specs.Tree as tree
 use Rattle.jskw_value.specs.Tree.{Tree, array, object, item_list, member_list}
+use Rattle.jskw_value.proofs.Lawful.{lawful_found, lawful_members}
 use Rattle.jskw_value.proofs.Lookups.{seen_through}
 
 -- a member with its tree
@@ -112,3 +114,7 @@ lawful_layer (DecimalTree-F.Object ms) = lawful_values ms
 pub lawful_tree : (d : DecimalTree) → tree.is_lawful (decimal_tree d) ≡ true
 lawful_tree = ind-DecimalTree IsLawful (λ x y is.
     ap tree.is_lawful (fold-roll-DecimalTree Tree tree_step x) ∙ subst (λ z. tree.is_lawful (tree_step (map-DecimalTree _ _ decimal_tree z)) ≡ true) is (lawful_layer y))
+
+-- what the arrays and objects of a `DecimalTree` are as nodes
+pub ruleset arrays = (items_of_array, lawful_tree, common_steps)
+pub ruleset objects = (length_values, names_of_object, values_of_object, members_of_object, lawful_tree, lawful_members, lawful_found, common_steps)

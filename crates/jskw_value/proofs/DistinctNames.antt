@@ -8,6 +8,7 @@ use Rattle.std.specs.Map.{keys_of, values_of}
 use Rattle.std.specs.Set.{is_member}
 use Rattle.std.specs.Str.{bytes_eq}
 use Rattle.jskw_value.specs.Tree.{Tree, array, object, Items, no_items, item, Members, no_members, member, item_list, member_list, items, names, values, is_array, is_object, has_distinct_names, items_distinct, members_distinct}
+use Rattle.jskw_value.proofs.Depth.{item_depth}
 use Rattle.jskw_value.proofs.Lists.{at_index}
 
 -- the items as a list
@@ -50,3 +51,6 @@ all_step p ts i t h e = at_index (list_all p) ts i t h e
 -- of no rest it holds
 pub all_end : (p : Tree → Bool) (ts : List Tree) (n : ℕ) → length ts ≤ n → list_all p (drop n ts) ≡ true
 all_end p ts n h = at_drop_all (list_all p) ts n h
+
+pub ruleset by_level = (distinct_in_array, distinct_in_object, distinct_elsewhere)
+pub ruleset by_index = (all_step, all_end, item_depth)

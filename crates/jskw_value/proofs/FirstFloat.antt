@@ -5,6 +5,7 @@ use Rattle.std.specs.Option.{option_or}
 use Rattle.jskw_value.specs.FirstFloat.{first_float, items_float, members_float, float_from, float_among, below_index, below_name}
 use Rattle.jskw_value.specs.Number.{exact, float}
 use Rattle.jskw_value.specs.Tree.{Tree, null, boolean, number, string, array, object, Items, no_items, item, Members, no_members, member, item_list, member_list, items, members, is_array, is_object, is_lawful, items_lawful, members_lawful}
+use Rattle.jskw_value.proofs.Depth.{item_depth}
 use Rattle.jskw_value.proofs.Lists.{at_index}
 
 -- the items as a list
@@ -71,3 +72,6 @@ none_of_location (Some s) = refl
 -- the same of the location that the code found
 pub none_from_location : (o : Option (String Global)) (t : Tree) → option_map string_bytes o ≡ first_float t → is_none o ≡ is_lawful t
 none_from_location o t e = sym (none_of_location o) ∙ ap is_none e ∙ none_where_lawful t
+
+pub ruleset by_level = (first_in_array, first_in_object)
+pub ruleset by_index = (from_step, from_end, item_depth)
