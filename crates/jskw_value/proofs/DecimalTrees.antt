@@ -117,4 +117,5 @@ lawful_tree = ind-DecimalTree IsLawful (λ x y is.
 
 -- what the arrays and objects of a `DecimalTree` are as nodes
 pub ruleset arrays = (items_of_array, lawful_tree, common_steps)
+
 pub ruleset objects = (length_values, names_of_object, values_of_object, members_of_object, lawful_tree, lawful_members, lawful_found, common_steps)

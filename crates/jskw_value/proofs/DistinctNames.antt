@@ -53,4 +53,5 @@ pub all_end : (p : Tree → Bool) (ts : List Tree) (n : ℕ) → length ts ≤ n
 all_end p ts n h = at_drop_all (list_all p) ts n h
 
 pub ruleset by_level = (distinct_in_array, distinct_in_object, distinct_elsewhere)
+
 pub ruleset by_index = (all_step, all_end, item_depth)

@@ -116,4 +116,5 @@ pub any_end : (p : Tree → Bool) (ts : List Tree) (n : ℕ) → length ts ≤ n
 any_end p ts n h = at_drop_all (list_any p) ts n h
 
 pub ruleset by_level = (equal_arrays, equal_objects)
+
 pub ruleset by_index = (pointwise_step, pointwise_end, pointwise_length, item_depth)

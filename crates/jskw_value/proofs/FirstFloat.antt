@@ -74,4 +74,5 @@ pub none_from_location : (o : Option (String Global)) (t : Tree) → option_map 
 none_from_location o t e = sym (none_of_location o) ∙ ap is_none e ∙ none_where_lawful t
 
 pub ruleset by_level = (first_in_array, first_in_object)
+
 pub ruleset by_index = (from_step, from_end, item_depth)

@@ -1,4 +1,7 @@
-//! The compact JSON text of a node.
+//! The compact JSON text of a node. Each function leaves what was in the text in front, also where
+//! memory is wanting.
+#![tactic(auto, using(crate::proofs::Texts::lemmas))]
+
 ghost use Rattle.std.specs.Prelude.{◌≤◌, IsTrue, string_bytes};
 ghost use Rattle.jskw_value.specs.Text.{Extends};
 ghost use Rattle.jskw_value.specs.Tree.{is_array, is_object};
@@ -8,9 +11,8 @@ use crate::json::{Array, JsonNumber, Node, Object};
 use itoa::Buffer;
 use std::alloc::AllocError;
 
-// Appends the text of a node.
+// Appends the text of a node of any type.
 #[cycle(write)]
-#[tactic(auto, using(crate::proofs::Texts::lemmas))]
 pub(crate) fn write_node<N: Node>(node: &N, out: &mut String) -> Result<(), AllocError>
     ensures { Extends (string_bytes out.old) (string_bytes out.new) }
 {
@@ -33,6 +35,7 @@ pub(crate) fn write_node<N: Node>(node: &N, out: &mut String) -> Result<(), Allo
     })
 }
 
+// Appends the items of an array between brackets.
 #[cycle(write)]
 #[tactic(auto, using(crate::proofs::Texts::lemmas, crate::proofs::Depth::item_depth))]
 fn write_array<N: Node>(node: &N, out: &mut String) -> Result<(), AllocError>
@@ -49,6 +52,7 @@ fn write_array<N: Node>(node: &N, out: &mut String) -> Result<(), AllocError>
     out.push(']')
 }
 
+// Appends the members of an object between braces, in the order of their places.
 #[cycle(write)]
 #[tactic(auto, using(crate::proofs::Texts::lemmas, crate::proofs::Depth::height_below))]
 fn write_object<N: Node>(node: &N, out: &mut String) -> Result<(), AllocError>
@@ -67,8 +71,8 @@ fn write_object<N: Node>(node: &N, out: &mut String) -> Result<(), AllocError>
     out.push('}')
 }
 
+// Appends a name, a colon and its member.
 #[cycle(write)]
-#[tactic(auto, using(crate::proofs::Texts::lemmas))]
 fn write_member<N: Node>(name: &str, member: &N, out: &mut String) -> Result<(), AllocError>
     ensures { Extends (string_bytes out.old) (string_bytes out.new) }
 {
@@ -78,7 +82,6 @@ fn write_member<N: Node>(name: &str, member: &N, out: &mut String) -> Result<(),
 }
 
 // Appends a string between quotes, escaped as RFC 8259, section 7, asks for.
-#[tactic(auto, using(crate::proofs::Texts::lemmas))]
 fn write_string(text: &str, out: &mut String) -> Result<(), AllocError>
     ensures { Extends (string_bytes out.old) (string_bytes out.new) }
 {
@@ -89,7 +92,7 @@ fn write_string(text: &str, out: &mut String) -> Result<(), AllocError>
     out.push('"')
 }
 
-#[tactic(auto, using(crate::proofs::Texts::lemmas))]
+// Appends a character of a string, escaped where RFC 8259, section 7, asks for it.
 fn write_char(c: char, out: &mut String) -> Result<(), AllocError>
     ensures { Extends (string_bytes out.old) (string_bytes out.new) }
 {
@@ -114,7 +117,6 @@ fn hexadecimal(number: u32) -> char
 }
 
 // Appends a control character by its number, in four hexadecimal digits.
-#[tactic(auto, using(crate::proofs::Texts::lemmas))]
 fn write_control(c: char, out: &mut String) -> Result<(), AllocError>
     requires { c ≤ 31 }
     ensures { Extends (string_bytes out.old) (string_bytes out.new) }
@@ -124,7 +126,7 @@ fn write_control(c: char, out: &mut String) -> Result<(), AllocError>
     out.push(hexadecimal(c as u32 % 16))
 }
 
-#[tactic(auto, using(crate::proofs::Texts::lemmas))]
+// Appends a decimal with the digits that it is written with, and a float as the word `float`.
 fn write_number<A: JsonNumber>(number: &A, out: &mut String) -> Result<(), AllocError>
     ensures { Extends (string_bytes out.old) (string_bytes out.new) }
 {
@@ -136,7 +138,6 @@ fn write_number<A: JsonNumber>(number: &A, out: &mut String) -> Result<(), Alloc
 }
 
 // Appends a decimal, with as many digits behind the point as its scale says.
-#[tactic(auto, using(crate::proofs::Texts::lemmas))]
 fn write_decimal(decimal: &Decimal, out: &mut String) -> Result<(), AllocError>
     ensures { Extends (string_bytes out.old) (string_bytes out.new) }
 {
@@ -151,7 +152,6 @@ fn write_decimal(decimal: &Decimal, out: &mut String) -> Result<(), AllocError>
 }
 
 // Appends the point and so many digits behind it, if there are any.
-#[tactic(auto, using(crate::proofs::Texts::lemmas))]
 fn write_fraction(fraction: u128, scale: u8, out: &mut String) -> Result<(), AllocError>
     ensures { Extends (string_bytes out.old) (string_bytes out.new) }
 {

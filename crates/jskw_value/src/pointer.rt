@@ -8,8 +8,8 @@ use itoa::Buffer;
 use std::alloc::AllocError;
 
 /// Appends the reference token of a member: a slash and the name, with `~` written `~0` and `/`
-/// written `~1` (RFC 6901, section 3). Only memory can fail, and then the text may have a beginning
-/// of the token.
+/// written `~1` (RFC 6901, section 3). Only memory can fail; what was in the text stays in front,
+/// and after a failure a beginning of the token may follow it.
 #[tactic(auto, using(crate::proofs::Texts::lemmas))]
 pub fn push_name(pointer: &mut String, name: &str) -> Result<(), AllocError>
     ensures appended { OnOk result
@@ -21,7 +21,8 @@ pub fn push_name(pointer: &mut String, name: &str) -> Result<(), AllocError>
 }
 
 /// Appends the reference token of an item: a slash and the index in decimal digits (RFC 6901,
-/// section 4). Only memory can fail, and then the text may have a beginning of the token.
+/// section 4). Only memory can fail; what was in the text stays in front, and after a failure a
+/// beginning of the token may follow it.
 #[tactic(auto, using(crate::proofs::Texts::lemmas))]
 pub fn push_index(pointer: &mut String, index: usize) -> Result<(), AllocError>
     ensures appended { OnOk result
@@ -32,6 +33,7 @@ pub fn push_index(pointer: &mut String, index: usize) -> Result<(), AllocError>
     pointer.push_str(Buffer::new().format(index))
 }
 
+// Appends a name, escaped character by character.
 #[tactic(auto, using(crate::proofs::Pointers::by_character))]
 fn push_escaped(pointer: &mut String, name: &str) -> Result<(), AllocError>
     ensures appended { OnOk result
@@ -44,6 +46,7 @@ fn push_escaped(pointer: &mut String, name: &str) -> Result<(), AllocError>
     Ok(())
 }
 
+// Appends a character, escaped where it is `~` or `/`.
 #[tactic(auto, using(crate::proofs::Texts::lemmas, crate::proofs::Pointers::escape_plain))]
 fn push_escaped_char(pointer: &mut String, c: char) -> Result<(), AllocError>
     ensures appended { OnOk result
