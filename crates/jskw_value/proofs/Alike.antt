@@ -170,7 +170,7 @@ same_numbers_symm m n h = subst (λ x. num_same n x ≡ true) (sym (num_same_is 
 pub same_refl : (t : Tree) → is_lawful t ≡ true → has_distinct_names t ≡ true → same t t ≡ true
 same_refl t h d = alike_refl num_same (λ n e. num_same_refl n) t h d
 
--- the other way round
+-- sameness, the other way round
 pub same_flip : (t u : Tree) → has_distinct_names u ≡ true → same t u ≡ true → same u t ≡ true
 same_flip t u d h = alike_symm num_same num_same same_numbers_symm u t d h
 
@@ -194,7 +194,7 @@ same_then_equal t u v h k = alike_trans num_same num_equal num_equal (λ m n o a
 pub equal_to_same : (v t u : Tree) → has_distinct_names u ≡ true → same t u ≡ true → equal v t ≡ equal v u
 equal_to_same v t u d h = each_way (equal v t) (equal v u) (λ e. equal_then_same v t u e h) (λ e. equal_then_same v u t e (same_flip t u d h))
 
--- and on the left
+-- the same trees are equal to the same ones, on the left
 pub same_equal_to : (t u v : Tree) → has_distinct_names u ≡ true → same t u ≡ true → equal t v ≡ equal u v
 same_equal_to t u v d h = each_way (equal t v) (equal u v) (same_then_equal u t v (same_flip t u d h)) (same_then_equal t u v h)
 

@@ -7,7 +7,7 @@ use Rattle.std.proofs.lemmas.Bool.Decides.{same_from_decides}
 pub left_of : (a b : Bool) → (a && b) ≡ true → a ≡ true
 left_of a b h = (and_parts a b h).0
 
--- its right side
+-- the right side of a conjunction that holds
 pub right_of : (a b : Bool) → (a && b) ≡ true → b ≡ true
 right_of a b h = (and_parts a b h).1
 

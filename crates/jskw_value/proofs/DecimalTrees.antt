@@ -22,7 +22,7 @@ use Rattle.jskw_value.proofs.Lookups.{seen_through}
 abbrev pub on_value : Member DecimalTree → Member Tree
 on_value m = record { name = m.name; value = decimal_tree m.value }
 
--- its name beside its tree
+-- a member's name beside its tree
 abbrev pub entry_tree : Member DecimalTree → List ℕ × Tree
 entry_tree m = (string_bytes m.name, decimal_tree m.value)
 
@@ -64,7 +64,7 @@ members_of_object ms = ap tree.members (tree_of_object ms) ∙ member_list-membe
 pub names_of_object : (ms : List (Member DecimalTree)) → tree.names (decimal_tree (Object ms)) ≡ names ms
 names_of_object ms = ap keys_of (members_of_object ms ∙ entries_seen ms) ∙ keys_of-map_values decimal_tree (entries ms)
 
--- what stands at them
+-- an object's values
 pub values_of_object : (ms : List (Member DecimalTree)) → tree.values (decimal_tree (Object ms)) ≡ map decimal_tree (values_of (entries ms))
 values_of_object ms = ap values_of (members_of_object ms) ∙ values_seen ms
 
@@ -110,7 +110,7 @@ lawful_layer (DecimalTree-F.Text s) = refl
 lawful_layer (DecimalTree-F.Array v) = lawful_items v.items
 lawful_layer (DecimalTree-F.Object ms) = lawful_values ms
 
--- so is every `DecimalTree`, by induction
+-- every `DecimalTree` is lawful, by induction
 pub lawful_tree : (d : DecimalTree) → tree.is_lawful (decimal_tree d) ≡ true
 lawful_tree = ind-DecimalTree IsLawful (λ x y is.
     ap tree.is_lawful (fold-roll-DecimalTree Tree tree_step x) ∙ subst (λ z. tree.is_lawful (tree_step (map-DecimalTree _ _ decimal_tree z)) ≡ true) is (lawful_layer y))

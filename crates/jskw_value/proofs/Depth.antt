@@ -34,7 +34,7 @@ pub item_depth : (u : Tree) (i : ℕ) (t : Tree) → i < length (items u) → t 
 item_depth (array ts) i t h e = let r = items_depth_above ts i t h e in omega arith
 item_depth _ i t h e = absurd (omega arith)
 
--- the same greatest, of the list of members
+-- the greatest depth among the members, as a list
 members_depth_list : (ms : Members) → members_depth ms ≡ height (member_list ms)
 members_depth_list no_members = refl
 members_depth_list (member k t ms) = ap (max (depth t)) (members_depth_list ms)

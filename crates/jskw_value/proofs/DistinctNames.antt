@@ -38,7 +38,7 @@ pub distinct_in_object : (t : Tree) → is_object t ≡ true → IsDistinct byte
 distinct_in_object (object ms) h d e = members_list ms d e
 distinct_in_object _ h d e = cc
 
--- what is neither has no name
+-- what is neither an array nor an object has no name twice
 pub distinct_elsewhere : (t : Tree) → is_array t ≡ false → is_object t ≡ false → has_distinct_names t ≡ true
 distinct_elsewhere (array ts) h k = cc
 distinct_elsewhere (object ms) h k = cc
@@ -48,7 +48,7 @@ distinct_elsewhere _ h k = refl
 pub all_step : (p : Tree → Bool) (ts : List Tree) (i : ℕ) (t : Tree) → i < length ts → t ≡ get_or ts i t → list_all p (drop i ts) ≡ (p t && list_all p (drop (i + 1) ts))
 all_step p ts i t h e = at_index (list_all p) ts i t h e
 
--- of no rest it holds
+-- a test of all holds of no rest
 pub all_end : (p : Tree → Bool) (ts : List Tree) (n : ℕ) → length ts ≤ n → list_all p (drop n ts) ≡ true
 all_end p ts n h = at_drop_all (list_all p) ts n h
 

@@ -54,12 +54,12 @@ mutual
   none_where_lawful (array ts) = none_in_items 0 ts
   none_where_lawful (object ms) = none_in_members ms
 
-  -- the same of items
+  -- items have none exactly where they are lawful
   none_in_items : (i : ℕ) (ts : Items) → is_none (items_float i ts) ≡ items_lawful ts
   none_in_items i no_items = refl
   none_in_items i (item t ts) = none_in_either (below_index i) (first_float t) (items_float (suc i) ts) _ _ (none_where_lawful t) (none_in_items (suc i) ts)
 
-  -- the same of members
+  -- members have none exactly where they are lawful
   none_in_members : (ms : Members) → is_none (members_float ms) ≡ members_lawful ms
   none_in_members no_members = refl
   none_in_members (member k t ms) = none_in_either (below_name k) (first_float t) (members_float ms) _ _ (none_where_lawful t) (none_in_members ms)
@@ -69,7 +69,7 @@ none_of_location : (o : Option (String Global)) → is_none (option_map string_b
 none_of_location None = refl
 none_of_location (Some s) = refl
 
--- the same of the location that the code found
+-- no location was found exactly where the tree is lawful
 pub none_from_location : (o : Option (String Global)) (t : Tree) → option_map string_bytes o ≡ first_float t → is_none o ≡ is_lawful t
 none_from_location o t e = sym (none_of_location o) ∙ ap is_none e ∙ none_where_lawful t
 

@@ -17,7 +17,7 @@ module _ {V : Type 0} where
   name_read ms i d h = let name = string_bytes (get_or ms i d).name in
       sym (ap (λ ns. get_or ns i name) (map-map (λ e. e.0) (λ m. (string_bytes m.name, m.value)) ms) ∙ get_or-map (λ m. string_bytes m.name) ms i d name h)
 
-  -- its value
+  -- the value of the member at a place
   pub value_read : (ms : List (Member V)) (i : ℕ) (d : Member V) → i < length ms → (get_or ms i d).value ≡ get_or (values_of (entries ms)) i (get_or ms i d).value
   value_read ms i d h = let value = (get_or ms i d).value in
       sym (ap (λ vs. get_or vs i value) (map-map (λ e. e.1) (λ m. (string_bytes m.name, m.value)) ms) ∙ get_or-map (λ m. m.value) ms i d value h)
@@ -26,7 +26,7 @@ module _ {V : Type 0} where
   pub get_step : (k : List ℕ) (ms : List (Member V)) (i : ℕ) (d : Member V) → i < length ms → get k (drop i ms) ≡ cond (bytes_eq k (string_bytes (get_or ms i d).name)) (Some (get_or ms i d).value) (get k (drop (i + 1) ms))
   get_step k ms i d h = at_drop_more (get k) ms i d h
 
-  -- it finds nothing in no rest
+  -- a look-up finds nothing in no rest
   pub get_end : (k : List ℕ) (ms : List (Member V)) (n : ℕ) → length ms ≤ n → get k (drop n ms) ≡ None
   get_end k ms n h = at_drop_all (get k) ms n h
 

@@ -22,11 +22,11 @@ times_right_comm : (c : ℤ) (m l : ℕ) → c *ℤ pos m *ℤ pos l ≡ c *ℤ 
 times_right_comm (pos c) m l = ap pos (mul_right_comm c m l)
 times_right_comm (negsuc c) m l = neg-times (suc c * m) l ∙ ap (λ n. neg_ℤ (pos n)) (mul_right_comm (suc c) m l) ∙ sym (neg-times (suc c * l) m)
 
--- a number is that of its non-negative integer
+-- equal non-negative integers have equal numbers
 pos-injective : (m n : ℕ) → pos m ≡ pos n → m ≡ n
 pos-injective m n e = ap nat_abs e
 
--- and of its negation
+-- so have equal negations
 neg-injective : (m n : ℕ) → neg_ℤ (pos m) ≡ neg_ℤ (pos n) → m ≡ n
 neg-injective m n e = pos-injective m n (sym (neg_ℤ-neg_ℤ (pos m)) ∙ ap neg_ℤ e ∙ neg_ℤ-neg_ℤ (pos n))
 
@@ -50,13 +50,13 @@ times_cancel (pos a) (negsuc b) n e = absurd (pos-ne-neg (a * suc n) (suc b * su
 times_cancel (negsuc a) (pos b) n e = absurd (pos-ne-neg (b * suc n) (suc a * suc n) (product-above a n) (sym e))
 times_cancel (negsuc a) (negsuc b) n e = ap (λ m. negsuc (pred m)) (mul_cancel (suc a) (suc b) n (neg-injective _ _ e))
 
--- such a factor keeps an equation
+-- a common factor above zero keeps the answer of `==`
 scaled_above : (a b : ℤ) (n : ℕ) → 0 < n → int_eq (a *ℤ pos n) (b *ℤ pos n) ≡ int_eq a b
 scaled_above a b zero h = absurd (omega arith)
 scaled_above a b (suc n) h = same_from_decides _ _ (Decides-int_eq (a *ℤ pos (suc n)) (b *ℤ pos (suc n)))
     (Decides-like _ (ap (λ z. z *ℤ pos (suc n))) (times_cancel a b n) (Decides-int_eq a b))
 
--- so does a power of ten
+-- a common power of ten keeps the answer of `==`
 scaled : (a b : ℤ) (k : ℕ) → int_eq (a *ℤ pos (10 ^ k)) (b *ℤ pos (10 ^ k)) ≡ int_eq a b
 scaled a b k = scaled_above a b (10 ^ k) (ten_pow_low k)
 

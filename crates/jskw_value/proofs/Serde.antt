@@ -36,11 +36,11 @@ member_list-members_of : (es : List Entry) → member_list (members_of (members_
 member_list-members_of [] = refl
 member_list-members_of (e ∷ es) = ap (λ ms. entry_tree e ∷ ms) (member_list-members_of es)
 
--- their names
+-- the names of an object's members
 keys_of_entries : (es : List Entry) → keys_of (map entry_tree es) ≡ map string_bytes (keys_of es)
 keys_of_entries es = map-map (λ m. m.0) entry_tree es ∙ sym (map-map string_bytes (λ e. e.0) es)
 
--- what stands at them
+-- the values of an object's members
 values_of_entries : (es : List Entry) → values_of (map entry_tree es) ≡ map value_tree (values_of es)
 values_of_entries es = map-map (λ m. m.1) entry_tree es ∙ sym (map-map value_tree (λ e. e.1) es)
 
@@ -52,19 +52,19 @@ tree_of_array v = ap tree_of (view-Array v)
 pub tree_of_object : (m : BTreeMap (String Global) Value) → value_tree (Object m) ≡ object (members_of (members_view m.entries))
 tree_of_object m = ap tree_of (view-Object m)
 
--- its items
+-- an array's items
 pub items_of_array : (v : Vec Value Global) → tree.items (value_tree (Array v)) ≡ map value_tree v.items
 items_of_array v = ap tree.items (tree_of_array v) ∙ item_list-items_of v.items
 
--- its members
+-- an object's members
 pub members_of_object : (m : BTreeMap (String Global) Value) → tree.members (value_tree (Object m)) ≡ map entry_tree m.entries
 members_of_object m = ap tree.members (tree_of_object m) ∙ member_list-members_of m.entries
 
--- its names
+-- an object's names
 pub names_of_object : (m : BTreeMap (String Global) Value) → tree.names (value_tree (Object m)) ≡ map string_bytes (keys m)
 names_of_object m = ap keys_of (members_of_object m) ∙ keys_of_entries m.entries
 
--- what stands at them
+-- an object's values
 pub values_of_object : (m : BTreeMap (String Global) Value) → tree.values (value_tree (Object m)) ≡ map value_tree (values m)
 values_of_object m = ap values_of (members_of_object m) ∙ values_of_entries m.entries
 
@@ -73,7 +73,7 @@ apart_from : (k : String Global) (ks : List (String Global)) → AllByRecursion 
 apart_from k [] h = tt
 apart_from k (l ∷ ks) h = (sym (is_eq-slice_cmp (string_bytes k) (string_bytes l)) ∙ h.0, apart_from k ks h.1)
 
--- so distinct keys have distinct bytes
+-- distinct keys have distinct bytes
 distinct_bytes : (ks : List (String Global)) → IsDistinct (eq_by_cmp string_cmp) ks → IsDistinct bytes_eq (map string_bytes ks)
 unfolding IsDistinct
 distinct_bytes [] h = tt

@@ -33,6 +33,6 @@ all [] h = refl
 all (x ∷ xs) h = ap (λ b. not b && unique xs) (none_found (equal x) xs (λ j u f. h zero (suc j) x u (omega arith) refl f))
     ∙ all xs (λ i j t u l e f. h (suc i) (suc j) t u (omega arith) e f)
 
--- both
+-- items are unique exactly where no two of them are equal
 pub unique_means : UniqueMeansNoTwoEqual
 unique_means ts = (differ ts, all ts)

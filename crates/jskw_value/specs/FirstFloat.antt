@@ -13,7 +13,7 @@ below_index i p = index_token i ++ p
 abbrev pub below_name : List ℕ → Pointer → Pointer
 below_name k p = name_token k ++ p
 
--- depth first, items by index, members in the order in which they stand
+-- the first float of a tree: depth first, items by index, members in the order in which they stand
 abbrev mutual
   pub first_float : Tree → Option Pointer
   first_float (number float) = Some []
@@ -21,22 +21,22 @@ abbrev mutual
   first_float (object ms) = members_float ms
   first_float _ = None
 
-  -- among the items from index i on
+  -- the first float among the items from index i on
   pub items_float : ℕ → Items → Option Pointer
   items_float i no_items = None
   items_float i (item t ts) = option_or (option_map (below_index i) (first_float t)) (items_float (suc i) ts)
 
-  -- among the members, in the order in which they stand
+  -- the first float among the members
   pub members_float : Members → Option Pointer
   members_float no_members = None
   members_float (member k t ms) = option_or (option_map (below_name k) (first_float t)) (members_float ms)
 
--- the same of a list of items, the first having index i
+-- the first float among the items of a list, the first of which has index i
 abbrev pub float_from : ℕ → List Tree → Option Pointer
 float_from i [] = None
 float_from i (t ∷ ts) = option_or (option_map (below_index i) (first_float t)) (float_from (suc i) ts)
 
--- the same of a list of members
+-- the first float among the members of a list
 abbrev pub float_among : List (List ℕ × Tree) → Option Pointer
 float_among [] = None
 float_among (m ∷ ms) = option_or (option_map (below_name m.0) (first_float m.1)) (float_among ms)
