@@ -27,11 +27,13 @@ abbrev pub entry_tree : Member DecimalTree → List ℕ × Tree
 entry_tree m = (string_bytes m.name, decimal_tree m.value)
 
 -- an array's tree
-pub tree_of_array : (v : Vec DecimalTree Global) → decimal_tree (Array v) ≡ array (items_from (map decimal_tree v.items))
+pub tree_of_array : (v : Vec DecimalTree Global)
+    → decimal_tree (Array v) ≡ array (items_from (map decimal_tree v.items))
 tree_of_array v = search (rules, the_lemmas)
 
 -- an object's tree
-pub tree_of_object : (ms : List (Member DecimalTree)) → decimal_tree (Object ms) ≡ object (members_from (map on_value ms))
+pub tree_of_object : (ms : List (Member DecimalTree))
+    → decimal_tree (Object ms) ≡ object (members_from (map on_value ms))
 tree_of_object ms = search (rules, the_lemmas)
 
 -- the items made from a list are the list
@@ -40,7 +42,8 @@ item_list-items_from [] = refl
 item_list-items_from (t ∷ ts) = ap (λ us. t ∷ us) (item_list-items_from ts)
 
 -- the members made from a list are its names and trees
-member_list-members_from : (ms : List (Member DecimalTree)) → member_list (members_from (map on_value ms)) ≡ map entry_tree ms
+member_list-members_from : (ms : List (Member DecimalTree))
+    → member_list (members_from (map on_value ms)) ≡ map entry_tree ms
 member_list-members_from [] = refl
 member_list-members_from (m ∷ ms) = ap (λ es. entry_tree m ∷ es) (member_list-members_from ms)
 
@@ -49,8 +52,11 @@ entries_seen : (ms : List (Member DecimalTree)) → map entry_tree ms ≡ map (�
 entries_seen ms = sym (map-map (λ e. (e.0, decimal_tree e.1)) (λ m. (string_bytes m.name, m.value)) ms)
 
 -- the trees of the values
-values_seen : (ms : List (Member DecimalTree)) → values_of (map entry_tree ms) ≡ map decimal_tree (values_of (entries ms))
-values_seen ms = ap values_of (entries_seen ms) ∙ map-map (λ e. e.1) (λ e. (e.0, decimal_tree e.1)) (entries ms) ∙ sym (map-map decimal_tree (λ e. e.1) (entries ms))
+values_seen : (ms : List (Member DecimalTree))
+    → values_of (map entry_tree ms) ≡ map decimal_tree (values_of (entries ms))
+values_seen ms =
+    ap values_of (entries_seen ms) ∙ map-map (λ e. e.1) (λ e. (e.0, decimal_tree e.1)) (entries ms)
+    ∙ sym (map-map decimal_tree (λ e. e.1) (entries ms))
 
 -- an array's items
 pub items_of_array : (v : Vec DecimalTree Global) → tree.items (decimal_tree (Array v)) ≡ map decimal_tree v.items
@@ -65,7 +71,8 @@ pub names_of_object : (ms : List (Member DecimalTree)) → tree.names (decimal_t
 names_of_object ms = ap keys_of (members_of_object ms ∙ entries_seen ms) ∙ keys_of-map_values decimal_tree (entries ms)
 
 -- an object's values
-pub values_of_object : (ms : List (Member DecimalTree)) → tree.values (decimal_tree (Object ms)) ≡ map decimal_tree (values_of (entries ms))
+pub values_of_object : (ms : List (Member DecimalTree))
+    → tree.values (decimal_tree (Object ms)) ≡ map decimal_tree (values_of (entries ms))
 values_of_object ms = ap values_of (members_of_object ms) ∙ values_seen ms
 
 -- as many values as members
@@ -73,7 +80,9 @@ pub length_values : {V : Type 0} (ms : List (Member V)) → length (values_of (e
 length_values ms = length-values_of (entries ms) ∙ length-map ms _
 
 -- what `get` finds
-pub found_of_object : (k : List ℕ) (ms : List (Member DecimalTree)) (r : Option (Bor DecimalTree)) → option_map (λ x. x.now) r ≡ get k ms → option_map (λ x. decimal_tree x.now) r ≡ tree.get k (decimal_tree (Object ms))
+pub found_of_object : (k : List ℕ) (ms : List (Member DecimalTree)) (r : Option (Bor DecimalTree))
+    → option_map (λ x. x.now) r ≡ get k ms
+    → option_map (λ x. decimal_tree x.now) r ≡ tree.get k (decimal_tree (Object ms))
 found_of_object k ms r e = seen_through decimal_tree r ∙ ap (option_map decimal_tree) e
     ∙ sym (ap (lookup (bytes_eq k)) (members_of_object ms ∙ entries_seen ms) ∙ lookup-map_values decimal_tree (bytes_eq k) (entries ms))
 
@@ -102,7 +111,8 @@ lawful_values [] = refl
 lawful_values (m ∷ ms) = rw (m.value.1, lawful_values ms) refl
 
 -- one level over such is lawful
-lawful_layer : (y : DecimalTree-F Such) → tree.is_lawful (tree_step (map-DecimalTree _ _ decimal_tree (map-DecimalTree _ _ (λ e. e.0) y))) ≡ true
+lawful_layer : (y : DecimalTree-F Such)
+    → tree.is_lawful (tree_step (map-DecimalTree _ _ decimal_tree (map-DecimalTree _ _ (λ e. e.0) y))) ≡ true
 lawful_layer DecimalTree-F.Null = refl
 lawful_layer (DecimalTree-F.Bool b) = refl
 lawful_layer (DecimalTree-F.Number d) = refl
@@ -113,7 +123,8 @@ lawful_layer (DecimalTree-F.Object ms) = lawful_values ms
 -- every `DecimalTree` is lawful, by induction
 pub lawful_tree : (d : DecimalTree) → tree.is_lawful (decimal_tree d) ≡ true
 lawful_tree = ind-DecimalTree IsLawful (λ x y is.
-    ap tree.is_lawful (fold-roll-DecimalTree Tree tree_step x) ∙ subst (λ z. tree.is_lawful (tree_step (map-DecimalTree _ _ decimal_tree z)) ≡ true) is (lawful_layer y))
+    ap tree.is_lawful (fold-roll-DecimalTree Tree tree_step x)
+    ∙ subst (λ z. tree.is_lawful (tree_step (map-DecimalTree _ _ decimal_tree z)) ≡ true) is (lawful_layer y))
 
 -- what the arrays and objects of a `DecimalTree` are as nodes
 pub ruleset arrays = (items_of_array, lawful_tree, common_steps)

@@ -24,7 +24,8 @@ height [] = 0
 height (m ∷ ms) = max (depth m.1) (height ms)
 
 -- no item nests deeper than the deepest
-items_depth_above : (ts : Items) (i : ℕ) (t : Tree) → i < length (item_list ts) → t ≡ get_or (item_list ts) i t → depth t ≤ items_depth ts
+items_depth_above : (ts : Items) (i : ℕ) (t : Tree) → i < length (item_list ts) → t ≡ get_or (item_list ts) i t
+    → depth t ≤ items_depth ts
 items_depth_above no_items i t h e = absurd (omega arith)
 items_depth_above (item x ts) zero t h e = rw e (omega arith)
 items_depth_above (item x ts) (suc i) t h e = let r = items_depth_above ts i t (omega arith) e in omega arith

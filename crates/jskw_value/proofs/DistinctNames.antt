@@ -17,24 +17,28 @@ items_list no_items = refl
 items_list (item t ts) = ap (λ b. has_distinct_names t && b) (items_list ts)
 
 -- an array's names are distinct where its items' are
-pub distinct_in_array : (t : Tree) → is_array t ≡ true → list_all has_distinct_names (items t) ≡ true → has_distinct_names t ≡ true
+pub distinct_in_array : (t : Tree) → is_array t ≡ true → list_all has_distinct_names (items t) ≡ true
+    → has_distinct_names t ≡ true
 distinct_in_array (array ts) h e = items_list ts ∙ e
 distinct_in_array _ h e = cc
 
 -- a name that differs from each is none of them
-not_among : (k : List ℕ) (ks : List (List ℕ)) → AllByRecursion (λ l. bytes_eq k l ≡ false) ks → is_member bytes_eq ks k ≡ false
+not_among : (k : List ℕ) (ks : List (List ℕ)) → AllByRecursion (λ l. bytes_eq k l ≡ false) ks
+    → is_member bytes_eq ks k ≡ false
 not_among k [] h = refl
 not_among k (l ∷ ks) h = or_from _ _ h.0 (not_among k ks h.1)
 
 -- the members as a list
-members_list : (ms : Members) → IsDistinct bytes_eq (keys_of (member_list ms)) → list_all has_distinct_names (values_of (member_list ms)) ≡ true → members_distinct ms ≡ true
+members_list : (ms : Members) → IsDistinct bytes_eq (keys_of (member_list ms))
+    → list_all has_distinct_names (values_of (member_list ms)) ≡ true → members_distinct ms ≡ true
 members_list no_members d e = refl
 members_list (member k t ms) d e = and_from _ _
     (and_from _ _ (not_from_false _ (not_among k _ (IsDistinct-head bytes_eq k (keys_of (member_list ms)) d))) (and_parts _ _ e).0)
     (members_list ms (IsDistinct-tail bytes_eq k (keys_of (member_list ms)) d) (and_parts _ _ e).1)
 
 -- an object's names are distinct where its own and its members' are
-pub distinct_in_object : (t : Tree) → is_object t ≡ true → IsDistinct bytes_eq (names t) → list_all has_distinct_names (values t) ≡ true → has_distinct_names t ≡ true
+pub distinct_in_object : (t : Tree) → is_object t ≡ true → IsDistinct bytes_eq (names t)
+    → list_all has_distinct_names (values t) ≡ true → has_distinct_names t ≡ true
 distinct_in_object (object ms) h d e = members_list ms d e
 distinct_in_object _ h d e = cc
 
@@ -45,7 +49,8 @@ distinct_elsewhere (object ms) h k = cc
 distinct_elsewhere _ h k = refl
 
 -- a test of the rest, one index on
-pub all_step : (p : Tree → Bool) (ts : List Tree) (i : ℕ) (t : Tree) → i < length ts → t ≡ get_or ts i t → list_all p (drop i ts) ≡ (p t && list_all p (drop (i + 1) ts))
+pub all_step : (p : Tree → Bool) (ts : List Tree) (i : ℕ) (t : Tree) → i < length ts → t ≡ get_or ts i t
+    → list_all p (drop i ts) ≡ (p t && list_all p (drop (i + 1) ts))
 all_step p ts i t h e = at_index (list_all p) ts i t h e
 
 -- a test of all holds of no rest

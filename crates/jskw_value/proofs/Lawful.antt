@@ -29,16 +29,19 @@ in_tree k t h = All-lookup (λ x. is_lawful x ≡ true) (bytes_eq k) (members t)
     (AllPass-from_list_all (λ m. is_lawful m.1) (members t) (sym (list_all-map is_lawful (λ m. m.1) (members t)) ∙ lawful_members t h))
 
 -- of a node that stands for the tree
-unmapped : {R : Type 0} (f : R → Tree) (r : Option R) → found_lawful (option_map f r) → IfSome r (λ x. is_lawful (f x) ≡ true)
+unmapped : {R : Type 0} (f : R → Tree) (r : Option R) → found_lawful (option_map f r)
+    → IfSome r (λ x. is_lawful (f x) ≡ true)
 unmapped f None h = tt
 unmapped f (Some x) h = h
 
 -- what is found by a name
-pub lawful_found : {R : Type 0} (f : R → Tree) (r : Option R) (k : List ℕ) (t : Tree) → option_map f r ≡ get k t → is_lawful t ≡ true → IfSome r (λ x. is_lawful (f x) ≡ true)
+pub lawful_found : {R : Type 0} (f : R → Tree) (r : Option R) (k : List ℕ) (t : Tree) → option_map f r ≡ get k t
+    → is_lawful t ≡ true → IfSome r (λ x. is_lawful (f x) ≡ true)
 lawful_found f r k t e h = unmapped f r (subst found_lawful (sym e) (in_tree k t h))
 
 -- the number of a tree
-pub lawful_number : {R : Type 0} (f : R → Num) (r : Option R) (t : Tree) → option_map f r ≡ as_number t → is_lawful t ≡ true → IfSome r (λ x. is_exact (f x) ≡ true)
+pub lawful_number : {R : Type 0} (f : R → Num) (r : Option R) (t : Tree) → option_map f r ≡ as_number t
+    → is_lawful t ≡ true → IfSome r (λ x. is_exact (f x) ≡ true)
 lawful_number f None t e h = tt
 lawful_number f (Some x) (number n) e h = let i : f x ≡ n = cc in rw i h
 lawful_number f (Some x) _ e h = absurd (cc)

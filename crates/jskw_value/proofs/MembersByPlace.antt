@@ -13,17 +13,20 @@ use Rattle.jskw_value.specs.Members.{entries, names, get, has_name}
 
 module _ {V : Type 0} where
   -- the name of the member at a place
-  pub name_read : (ms : List (Member V)) (i : ℕ) (d : Member V) → i < length ms → string_bytes (get_or ms i d).name ≡ get_or (names ms) i (string_bytes (get_or ms i d).name)
+  pub name_read : (ms : List (Member V)) (i : ℕ) (d : Member V) → i < length ms
+      → string_bytes (get_or ms i d).name ≡ get_or (names ms) i (string_bytes (get_or ms i d).name)
   name_read ms i d h = let name = string_bytes (get_or ms i d).name in
       sym (ap (λ ns. get_or ns i name) (map-map (λ e. e.0) (λ m. (string_bytes m.name, m.value)) ms) ∙ get_or-map (λ m. string_bytes m.name) ms i d name h)
 
   -- the value of the member at a place
-  pub value_read : (ms : List (Member V)) (i : ℕ) (d : Member V) → i < length ms → (get_or ms i d).value ≡ get_or (values_of (entries ms)) i (get_or ms i d).value
+  pub value_read : (ms : List (Member V)) (i : ℕ) (d : Member V) → i < length ms
+      → (get_or ms i d).value ≡ get_or (values_of (entries ms)) i (get_or ms i d).value
   value_read ms i d h = let value = (get_or ms i d).value in
       sym (ap (λ vs. get_or vs i value) (map-map (λ e. e.1) (λ m. (string_bytes m.name, m.value)) ms) ∙ get_or-map (λ m. m.value) ms i d value h)
 
   -- a look-up in the rest, one place on
-  pub get_step : (k : List ℕ) (ms : List (Member V)) (i : ℕ) (d : Member V) → i < length ms → get k (drop i ms) ≡ cond (bytes_eq k (string_bytes (get_or ms i d).name)) (Some (get_or ms i d).value) (get k (drop (i + 1) ms))
+  pub get_step : (k : List ℕ) (ms : List (Member V)) (i : ℕ) (d : Member V) → i < length ms
+      → get k (drop i ms) ≡ cond (bytes_eq k (string_bytes (get_or ms i d).name)) (Some (get_or ms i d).value) (get k (drop (i + 1) ms))
   get_step k ms i d h = at_drop_more (get k) ms i d h
 
   -- a look-up finds nothing in no rest
@@ -35,16 +38,20 @@ module _ {V : Type 0} where
   is_some_get k ms = is_some-lookup (bytes_eq k) (entries ms)
 
   -- what a call found was found by a name that is there
-  pub named_from_found : {R : Type 0} (f : R → V) (r : Option R) (k : List ℕ) (ms : List (Member V)) → option_map f r ≡ get k ms → is_some r ≡ has_name k ms
+  pub named_from_found : {R : Type 0} (f : R → V) (r : Option R) (k : List ℕ) (ms : List (Member V))
+      → option_map f r ≡ get k ms → is_some r ≡ has_name k ms
   named_from_found f None k ms e = ap is_some e ∙ is_some_get k ms
   named_from_found f (Some x) k ms e = ap is_some e ∙ is_some_get k ms
 
   -- one member more at the end has one name more
   names-push : (ms : List (Member V)) (m : Member V) → names (ms ++ m ∷ []) ≡ names ms ++ string_bytes m.name ∷ []
-  names-push ms m = ap keys_of (map_push (λ n. (string_bytes n.name, n.value)) ms m) ∙ map_push (λ e. e.0) (entries ms) (string_bytes m.name, m.value)
+  names-push ms m =
+      ap keys_of (map_push (λ n. (string_bytes n.name, n.value)) ms m)
+      ∙ map_push (λ e. e.0) (entries ms) (string_bytes m.name, m.value)
 
   -- which keeps the names distinct where it is new
-  pub distinct_pushed : (ms : List (Member V)) (m : Member V) → IsDistinct bytes_eq (names ms) → has_name (string_bytes m.name) ms ≡ false → IsDistinct bytes_eq (names (ms ++ m ∷ []))
+  pub distinct_pushed : (ms : List (Member V)) (m : Member V) → IsDistinct bytes_eq (names ms)
+      → has_name (string_bytes m.name) ms ≡ false → IsDistinct bytes_eq (names (ms ++ m ∷ []))
   distinct_pushed ms m h e = rw (names-push ms m) (IsDistinct-push nat_list_eq_equiv _ _ h e)
 
 -- no names are distinct

@@ -20,7 +20,8 @@ neg-times (suc y) l = refl
 -- factors on the right change places
 times_right_comm : (c : ℤ) (m l : ℕ) → c *ℤ pos m *ℤ pos l ≡ c *ℤ pos l *ℤ pos m
 times_right_comm (pos c) m l = ap pos (mul_right_comm c m l)
-times_right_comm (negsuc c) m l = neg-times (suc c * m) l ∙ ap (λ n. neg_ℤ (pos n)) (mul_right_comm (suc c) m l) ∙ sym (neg-times (suc c * l) m)
+times_right_comm (negsuc c) m l =
+    neg-times (suc c * m) l ∙ ap (λ n. neg_ℤ (pos n)) (mul_right_comm (suc c) m l) ∙ sym (neg-times (suc c * l) m)
 
 -- equal non-negative integers have equal numbers
 pos-injective : (m n : ℕ) → pos m ≡ pos n → m ≡ n
@@ -63,7 +64,8 @@ scaled a b k = scaled_above a b (10 ^ k) (ten_pow_low k)
 -- ---- by value
 
 -- where c L = d K and d M = e L, also c M = e K
-cross : (c d e : ℤ) (k l m : ℕ) → c *ℤ pos (10 ^ l) ≡ d *ℤ pos (10 ^ k) → int_eq (d *ℤ pos (10 ^ m)) (e *ℤ pos (10 ^ l)) ≡ true → int_eq (c *ℤ pos (10 ^ m)) (e *ℤ pos (10 ^ k)) ≡ true
+cross : (c d e : ℤ) (k l m : ℕ) → c *ℤ pos (10 ^ l) ≡ d *ℤ pos (10 ^ k)
+    → int_eq (d *ℤ pos (10 ^ m)) (e *ℤ pos (10 ^ l)) ≡ true → int_eq (c *ℤ pos (10 ^ m)) (e *ℤ pos (10 ^ k)) ≡ true
 cross c d e k l m h i = sym (scaled (c *ℤ pos (10 ^ m)) (e *ℤ pos (10 ^ k)) l)
     ∙ ap (λ z. int_eq z (e *ℤ pos (10 ^ k) *ℤ pos (10 ^ l))) (times_right_comm c (10 ^ m) (10 ^ l) ∙ ap (λ z. z *ℤ pos (10 ^ m)) h ∙ times_right_comm d (10 ^ k) (10 ^ m))
     ∙ ap (λ z. int_eq (d *ℤ pos (10 ^ m) *ℤ pos (10 ^ k)) z) (times_right_comm e (10 ^ k) (10 ^ l))
@@ -81,14 +83,16 @@ num_equal_symm _ _ h = cc
 
 -- through a number between the two
 pub num_equal_trans : (m n o : Num) → num_equal m n ≡ true → num_equal n o ≡ true → num_equal m o ≡ true
-num_equal_trans (exact c k) (exact d l) (exact e i) h j = cross c d e k l i ((Decides-int_eq (c *ℤ pos (10 ^ l)) (d *ℤ pos (10 ^ k))).0 h) j
+num_equal_trans (exact c k) (exact d l) (exact e i) h j =
+    cross c d e k l i ((Decides-int_eq (c *ℤ pos (10 ^ l)) (d *ℤ pos (10 ^ k))).0 h) j
 num_equal_trans _ _ _ h j = cc
 
 -- ---- as written
 
 -- numbers written alike are one
 pub num_same_is : (m n : Num) → num_same m n ≡ true → m ≡ n
-num_same_is (exact c k) (exact d l) h = ap₂ exact ((Decides-int_eq c d).0 (and_parts _ _ h).0) ((Decides-eqb k l).0 (and_parts _ _ h).1)
+num_same_is (exact c k) (exact d l) h =
+    ap₂ exact ((Decides-int_eq c d).0 (and_parts _ _ h).0) ((Decides-eqb k l).0 (and_parts _ _ h).1)
 num_same_is float float h = refl
 num_same_is _ _ h = cc
 

@@ -13,8 +13,11 @@ escape_nil [] e = refl
 escape_nil (b ∷ bs) e = absurd (omega (arith, e))
 
 -- one character more of the name, one character less to go
-pub append_escaped : (all out rest more new : List ℕ) (c : ℕ) → all ≡ out ++ escape rest → rest ≡ encode_utf8 c ++ more → new ≡ out ++ escape (encode_utf8 c) → all ≡ new ++ escape more
-append_escaped all out rest more new c a e n = a ∙ ap (λ x. out ++ escape x) e ∙ ap (λ x. out ++ x) (flat_map-append escape_byte (encode_utf8 c) more) ∙ rw (n, append_assoc)
+pub append_escaped : (all out rest more new : List ℕ) (c : ℕ) → all ≡ out ++ escape rest → rest ≡ encode_utf8 c ++ more
+    → new ≡ out ++ escape (encode_utf8 c) → all ≡ new ++ escape more
+append_escaped all out rest more new c a e n =
+    a ∙ ap (λ x. out ++ escape x) e ∙ ap (λ x. out ++ x) (flat_map-append escape_byte (encode_utf8 c) more)
+    ∙ rw (n, append_assoc)
 
 -- another byte stays
 escape_byte_plain : (b : ℕ) → (b ≡ 126 → ⊥) → (b ≡ 47 → ⊥) → escape_byte b ≡ b ∷ []

@@ -49,7 +49,8 @@ pub tree_of_array : (v : Vec Value Global) → value_tree (Array v) ≡ array (i
 tree_of_array v = ap tree_of (view-Array v)
 
 -- an object's tree
-pub tree_of_object : (m : BTreeMap (String Global) Value) → value_tree (Object m) ≡ object (members_of (members_view m.entries))
+pub tree_of_object : (m : BTreeMap (String Global) Value)
+    → value_tree (Object m) ≡ object (members_of (members_view m.entries))
 tree_of_object m = ap tree_of (view-Object m)
 
 -- an array's items
@@ -57,30 +58,36 @@ pub items_of_array : (v : Vec Value Global) → tree.items (value_tree (Array v)
 items_of_array v = ap tree.items (tree_of_array v) ∙ item_list-items_of v.items
 
 -- an object's members
-pub members_of_object : (m : BTreeMap (String Global) Value) → tree.members (value_tree (Object m)) ≡ map entry_tree m.entries
+pub members_of_object : (m : BTreeMap (String Global) Value)
+    → tree.members (value_tree (Object m)) ≡ map entry_tree m.entries
 members_of_object m = ap tree.members (tree_of_object m) ∙ member_list-members_of m.entries
 
 -- an object's names
-pub names_of_object : (m : BTreeMap (String Global) Value) → tree.names (value_tree (Object m)) ≡ map string_bytes (keys m)
+pub names_of_object : (m : BTreeMap (String Global) Value)
+    → tree.names (value_tree (Object m)) ≡ map string_bytes (keys m)
 names_of_object m = ap keys_of (members_of_object m) ∙ keys_of_entries m.entries
 
 -- an object's values
-pub values_of_object : (m : BTreeMap (String Global) Value) → tree.values (value_tree (Object m)) ≡ map value_tree (values m)
+pub values_of_object : (m : BTreeMap (String Global) Value)
+    → tree.values (value_tree (Object m)) ≡ map value_tree (values m)
 values_of_object m = ap values_of (members_of_object m) ∙ values_of_entries m.entries
 
 -- keys that differ by order differ by their bytes
-apart_from : (k : String Global) (ks : List (String Global)) → AllByRecursion (λ y. eq_by_cmp string_cmp k y ≡ false) ks → AllByRecursion (λ y. bytes_eq (string_bytes k) y ≡ false) (map string_bytes ks)
+apart_from : (k : String Global) (ks : List (String Global)) → AllByRecursion (λ y. eq_by_cmp string_cmp k y ≡ false) ks
+    → AllByRecursion (λ y. bytes_eq (string_bytes k) y ≡ false) (map string_bytes ks)
 apart_from k [] h = tt
 apart_from k (l ∷ ks) h = (sym (is_eq-slice_cmp (string_bytes k) (string_bytes l)) ∙ h.0, apart_from k ks h.1)
 
 -- distinct keys have distinct bytes
-distinct_bytes : (ks : List (String Global)) → IsDistinct (eq_by_cmp string_cmp) ks → IsDistinct bytes_eq (map string_bytes ks)
+distinct_bytes : (ks : List (String Global)) → IsDistinct (eq_by_cmp string_cmp) ks
+    → IsDistinct bytes_eq (map string_bytes ks)
 unfolding IsDistinct
 distinct_bytes [] h = tt
 distinct_bytes (k ∷ ks) h = (apart_from k ks h.0, distinct_bytes ks h.1)
 
 -- an object's names are distinct, since its keys are in order
-pub distinct_of_object : (m : BTreeMap (String Global) Value) → IsOrdered string_cmp m → IsDistinct bytes_eq (tree.names (value_tree (Object m)))
+pub distinct_of_object : (m : BTreeMap (String Global) Value) → IsOrdered string_cmp m
+    → IsDistinct bytes_eq (tree.names (value_tree (Object m)))
 distinct_of_object m h = rw (names_of_object m) (distinct_bytes (keys m) (IsDistinct-from_sorted string_cmp (keys m) h))
 
 -- an entry with its key's bytes
@@ -88,16 +95,21 @@ abbrev named : Entry → List ℕ × Value
 named e = (string_bytes e.0, e.1)
 
 -- the keys of a map are compared by their bytes
-same_test : (k : List ℕ) (es : List Entry) → lookup (is_at (λ q. slice_cmp nat_cmp k (string_bytes q))) es ≡ lookup (bytes_eq k) (map named es)
+same_test : (k : List ℕ) (es : List Entry)
+    → lookup (is_at (λ q. slice_cmp nat_cmp k (string_bytes q))) es ≡ lookup (bytes_eq k) (map named es)
 same_test k [] = refl
-same_test k (e ∷ es) = ap (λ b. cond b (Some e.1) (lookup (is_at (λ q. slice_cmp nat_cmp k (string_bytes q))) es)) (is_eq-slice_cmp k (string_bytes e.0)) ∙ ap (cond (bytes_eq k (string_bytes e.0)) (Some e.1)) (same_test k es)
+same_test k (e ∷ es) =
+    ap (λ b. cond b (Some e.1) (lookup (is_at (λ q. slice_cmp nat_cmp k (string_bytes q))) es)) (is_eq-slice_cmp k (string_bytes e.0))
+    ∙ ap (cond (bytes_eq k (string_bytes e.0)) (Some e.1)) (same_test k es)
 
 -- an entry's tree by way of its name
 entries_seen : (es : List Entry) → map entry_tree es ≡ map (λ e. (e.0, value_tree e.1)) (map named es)
 entries_seen es = sym (map-map (λ m. (m.0, value_tree m.1)) named es)
 
 -- what `get` finds
-pub found_of_object : (k : List ℕ) (m : BTreeMap (String Global) Value) (r : Option (Bor Value)) → option_map (λ x. x.now) r ≡ get_by (λ q. slice_cmp nat_cmp k (string_bytes q)) m → option_map (λ x. value_tree x.now) r ≡ tree.get k (value_tree (Object m))
+pub found_of_object : (k : List ℕ) (m : BTreeMap (String Global) Value) (r : Option (Bor Value))
+    → option_map (λ x. x.now) r ≡ get_by (λ q. slice_cmp nat_cmp k (string_bytes q)) m
+    → option_map (λ x. value_tree x.now) r ≡ tree.get k (value_tree (Object m))
 found_of_object k m r e = seen_through value_tree r ∙ ap (option_map value_tree) (e ∙ same_test k m.entries)
     ∙ sym (ap (lookup (bytes_eq k)) (members_of_object m ∙ entries_seen m.entries) ∙ lookup-map_values value_tree (bytes_eq k) (map named m.entries))
 
@@ -107,19 +119,29 @@ items_lawful_list no_items = refl
 items_lawful_list (item t ts) = ap (λ b. is_lawful t && b) (items_lawful_list ts)
 
 -- an array is lawful where each item is
-pub lawful_of_array : (v : Vec Value Global) → is_lawful (value_tree (Array v)) ≡ list_all (λ w. is_lawful (value_tree w)) v.items
-lawful_of_array v = ap is_lawful (tree_of_array v) ∙ items_lawful_list (items_of (items_view v.items)) ∙ ap (list_all is_lawful) (item_list-items_of v.items) ∙ list_all-map is_lawful value_tree v.items
+pub lawful_of_array : (v : Vec Value Global)
+    → is_lawful (value_tree (Array v)) ≡ list_all (λ w. is_lawful (value_tree w)) v.items
+lawful_of_array v =
+    ap is_lawful (tree_of_array v) ∙ items_lawful_list (items_of (items_view v.items))
+    ∙ ap (list_all is_lawful) (item_list-items_of v.items) ∙ list_all-map is_lawful value_tree v.items
 
 -- an object is lawful where each member is
-pub lawful_of_object : (m : BTreeMap (String Global) Value) → is_lawful (value_tree (Object m)) ≡ list_all (λ w. is_lawful (value_tree w)) (values m)
-lawful_of_object m = ap is_lawful (tree_of_object m) ∙ members_lawful_list (members_of (members_view m.entries)) ∙ ap (λ ms. list_all is_lawful (values_of ms)) (member_list-members_of m.entries) ∙ ap (list_all is_lawful) (values_of_entries m.entries) ∙ list_all-map is_lawful value_tree (values m)
+pub lawful_of_object : (m : BTreeMap (String Global) Value)
+    → is_lawful (value_tree (Object m)) ≡ list_all (λ w. is_lawful (value_tree w)) (values m)
+lawful_of_object m =
+    ap is_lawful (tree_of_object m) ∙ members_lawful_list (members_of (members_view m.entries))
+    ∙ ap (λ ms. list_all is_lawful (values_of ms)) (member_list-members_of m.entries)
+    ∙ ap (list_all is_lawful) (values_of_entries m.entries) ∙ list_all-map is_lawful value_tree (values m)
 
 -- an item of a lawful array
-pub lawful_in_array : (v : Vec Value Global) (i : ℕ) (w : Value) → is_lawful (value_tree (Array v)) ≡ true → i < length v.items → w ≡ get_or v.items i w → is_lawful (value_tree w) ≡ true
+pub lawful_in_array : (v : Vec Value Global) (i : ℕ) (w : Value) → is_lawful (value_tree (Array v)) ≡ true
+    → i < length v.items → w ≡ get_or v.items i w → is_lawful (value_tree w) ≡ true
 lawful_in_array v i w h k e = all_at (λ x. is_lawful (value_tree x)) v.items i w (sym (lawful_of_array v) ∙ h) k e
 
 -- a member of a lawful object
-pub lawful_in_object : (m : BTreeMap (String Global) Value) (i : ℕ) (w : Value) → is_lawful (value_tree (Object m)) ≡ true → i < length (values m) → w ≡ get_or (values m) i w → is_lawful (value_tree w) ≡ true
+pub lawful_in_object : (m : BTreeMap (String Global) Value) (i : ℕ) (w : Value)
+    → is_lawful (value_tree (Object m)) ≡ true → i < length (values m) → w ≡ get_or (values m) i w
+    → is_lawful (value_tree w) ≡ true
 lawful_in_object m i w h k e = all_at (λ x. is_lawful (value_tree x)) (values m) i w (sym (lawful_of_object m) ∙ h) k e
 
 -- what `serde_json`'s arrays and objects are as nodes

@@ -28,7 +28,8 @@ abbrev mutual
   -- each name is one of u, with values alike
   pub members_alike : (Num → Num → Bool) → Members → Tree → Bool
   members_alike numbers no_members u = true
-  members_alike numbers (member k t ms) u = option_map_or (alike numbers t) (get k u) false && members_alike numbers ms u
+  members_alike numbers (member k t ms) u =
+      option_map_or (alike numbers t) (get k u) false && members_alike numbers ms u
 
 -- numbers by their mathematical value
 abbrev pub equal : Tree → Tree → Bool

@@ -33,7 +33,8 @@ text_code = (text.the_row heap.the_row ghosts).coded
 
 -- the code of a member, from the code of its value
 abbrev pub member_code : {V : Type 0} → Coded V → Coded (Member V)
-member_code {V} code = code_by (String Global × V) (coded× text_code code) (λ m. (m.name, m.value)) (λ v. record { name = v.0; value = v.1 }) (λ _. refl)
+member_code {V} code =
+    code_by (String Global × V) (coded× text_code code) (λ m. (m.name, m.value)) (λ v. record { name = v.0; value = v.1 }) (λ _. refl)
 
 -- the code of a list of members
 abbrev pub members_code : {V : Type 0} → Coded V → Coded (List (Member V))
