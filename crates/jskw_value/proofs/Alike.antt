@@ -53,7 +53,8 @@ pub get_alike : (f : Num → Num → Bool) (ms : Members) (u : Tree) → members
 get_alike f no_members u h k x e = absurd (cc)
 get_alike f (member l t ms) u h k x e = elim (cases_Bool (bytes_eq k l)) [
   | inl d ↦ let y = passed (alike f t) (get l u) (and_parts _ _ h).0 in
-      (y.0, (ap (λ q. get q u) ((bytes_eq-Decides k l).0 d) ∙ y.1.0, subst (λ z. alike f z y.0 ≡ true) (same_Some t x (sym (lookup_head (bytes_eq k) (l, t) (member_list ms) d) ∙ e)) y.1.1))
+      let here = same_Some t x (sym (lookup_head (bytes_eq k) (l, t) (member_list ms) d) ∙ e) in
+      (y.0, (ap (λ q. get q u) ((bytes_eq-Decides k l).0 d) ∙ y.1.0, subst (λ z. alike f z y.0 ≡ true) here y.1.1))
   | inr d ↦ get_alike f ms u (and_parts _ _ h).1 k x (sym (lookup_tail (bytes_eq k) (l, t) (member_list ms) d) ∙ e)
 ]
 
@@ -90,8 +91,10 @@ module _ (f : Num → Num → Bool) (numbers : (n : Num) → is_exact n ≡ true
         → ((k : List ℕ) (x : Tree) → get k (object ms) ≡ Some x → get k t ≡ Some x) → members_alike f ms t ≡ true
     members_refl no_members t h d at = refl
     members_refl (member k x ms) t h d at = and_from _ _
-        (ap (λ o. option_map_or (alike f x) o false) (at k x (get_head k x ms)) ∙ alike_refl x (and_parts _ _ h).0 (and_parts _ _ (and_parts _ _ d).0).1)
-        (members_refl ms t (and_parts _ _ h).1 (and_parts _ _ d).1 (λ l y e. at l y (get_tail k x ms (and_parts _ _ (and_parts _ _ d).0).0 l y e)))
+        (ap (λ o. option_map_or (alike f x) o false) (at k x (get_head k x ms))
+          ∙ alike_refl x (and_parts _ _ h).0 (and_parts _ _ (and_parts _ _ d).0).1)
+        (members_refl ms t (and_parts _ _ h).1 (and_parts _ _ d).1
+          (λ l y e. at l y (get_tail k x ms (and_parts _ _ (and_parts _ _ d).0).0 l y e)))
 
 -- ---- symmetric
 
@@ -100,7 +103,8 @@ module _ (f g : Num → Num → Bool) (numbers : (m n : Num) → f m n ≡ true 
   back : (ms ns : Members) → alike f (object ms) (object ns) ≡ true → (k : List ℕ) (z : Tree)
       → get k (object ns) ≡ Some z → (y : Tree) × ((get k (object ms) ≡ Some y) × (alike f y z ≡ true))
   back ms ns h k z e =
-      let y = get_from_named k (object ms) (among_all (names (object ns)) (names (object ms)) (and_parts _ _ h).1 k (named_from_get k (object ns) z e)) in
+      let named = among_all (names (object ns)) (names (object ms)) (and_parts _ _ h).1 k (named_from_get k (object ns) z e) in
+      let y = get_from_named k (object ms) named in
       let w = get_alike f ms (object ns) (and_parts _ _ h).0 k y.0 y.1 in
       (y.0, (y.1, ap (alike f y.0) (same_Some z w.0 (sym e ∙ w.1.0)) ∙ w.1.1))
 
@@ -146,15 +150,17 @@ module _ (f g l : Num → Num → Bool) (numbers : (m n o : Num) → f m n ≡ t
     alike_trans (array ts) (array us) (array vs) h k = items_trans ts us vs h k
     alike_trans (object ms) (object ns) (object os) h k = and_from _ _
         (members_trans ms (object ns) (object os) (and_parts _ _ h).0 (get_alike g ns (object os) (and_parts _ _ k).0))
-        (all_from_each (has_name (object ms)) (names (object os)) (λ q e. among_all (names (object ns)) (names (object ms)) (and_parts _ _ h).1 q (among_all (names (object os)) (names (object ns)) (and_parts _ _ k).1 q e)))
+        (all_from_each (has_name (object ms)) (names (object os)) (λ q e.
+          among_all (names (object ns)) (names (object ms)) (and_parts _ _ h).1 q
+          (among_all (names (object os)) (names (object ns)) (and_parts _ _ k).1 q e)))
     alike_trans _ _ _ h k = cc
 
     -- item by item
     items_trans : (ts us vs : Items) → items_alike f ts (item_list us) ≡ true → items_alike g us (item_list vs) ≡ true
         → items_alike l ts (item_list vs) ≡ true
     items_trans no_items no_items no_items h k = refl
-    items_trans (item t ts) (item u us) (item v vs) h k =
-        and_from _ _ (alike_trans t u v (and_parts _ _ h).0 (and_parts _ _ k).0) (items_trans ts us vs (and_parts _ _ h).1 (and_parts _ _ k).1)
+    items_trans (item t ts) (item u us) (item v vs) h k = and_from _ _
+        (alike_trans t u v (and_parts _ _ h).0 (and_parts _ _ k).0) (items_trans ts us vs (and_parts _ _ h).1 (and_parts _ _ k).1)
     items_trans _ _ _ h k = cc
 
     -- member by member, by way of what the second has of the name
@@ -165,7 +171,8 @@ module _ (f g l : Num → Num → Bool) (numbers : (m n o : Num) → f m n ≡ t
     members_trans (member k t ms) u v h at =
         let y = passed (alike f t) (get k u) (and_parts _ _ h).0 in
         let z = at k y.0 y.1.0 in
-        and_from _ _ (ap (λ o. option_map_or (alike l t) o false) z.1.0 ∙ alike_trans t y.0 z.0 y.1.1 z.1.1) (members_trans ms u v (and_parts _ _ h).1 at)
+        and_from _ _ (ap (λ o. option_map_or (alike l t) o false) z.1.0 ∙ alike_trans t y.0 z.0 y.1.1 z.1.1)
+          (members_trans ms u v (and_parts _ _ h).1 at)
 
 -- ---- equality
 
@@ -176,7 +183,8 @@ equal_refl t h d = alike_refl num_equal num_equal_refl t h d
 -- equality is the same either way round
 pub equal_symm : (t u : Tree) → has_distinct_names t ≡ true → has_distinct_names u ≡ true → equal t u ≡ equal u t
 equal_symm t u d e =
-    each_way (equal t u) (equal u t) (alike_symm num_equal num_equal num_equal_symm u t e) (alike_symm num_equal num_equal num_equal_symm t u d)
+    each_way (equal t u) (equal u t)
+      (alike_symm num_equal num_equal num_equal_symm u t e) (alike_symm num_equal num_equal num_equal_symm t u d)
 
 -- what equals an equal tree is equal
 pub equal_trans : (t u v : Tree) → equal t u ≡ true → equal u v ≡ true → equal t v ≡ true

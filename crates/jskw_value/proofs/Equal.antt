@@ -86,7 +86,8 @@ past_first x all (m ∷ ms) h e = (rw (nat_list_eq_equiv.symm m.0 x.0, h.0) e.0,
 all_among : (ms : List (List ℕ × Tree)) → IsDistinct bytes_eq (keys_of ms) → AreAmong ms ms
 all_among [] d = tt
 all_among (m ∷ ms) d =
-    (rw (nat_list_eq_equiv.refl m.0) refl, past_first m ms ms (IsDistinct-head bytes_eq m.0 (keys_of ms) d) (all_among ms (IsDistinct-tail bytes_eq m.0 (keys_of ms) d)))
+    let later = all_among ms (IsDistinct-tail bytes_eq m.0 (keys_of ms) d) in
+    (rw (nat_list_eq_equiv.refl m.0) refl, past_first m ms ms (IsDistinct-head bytes_eq m.0 (keys_of ms) d) later)
 
 -- each member is what its name finds, where the names are distinct
 pub all_members : (t : Tree) → IsDistinct bytes_eq (names t) → AreMembers t (members t)

@@ -1,5 +1,5 @@
 -- Members with distinct names, one place at a time.
-use Rattle.std.proofs.Common.{◌≡◌, ℕ, ◌+◌, ◌<◌, ◌≤◌, List, [], ◌∷◌, ◌++◌, length, get_or, drop, false, cond, Option, Some, None, is_some, option_map, string_bytes, sym, ap, ◌∙◌}
+use Rattle.std.proofs.Common.{◌≡◌, ℕ, ◌+◌, ◌<◌, ◌≤◌, List, [], ◌∷◌, ◌++◌, length, get_or, drop, map, false, cond, Option, Some, None, is_some, option_map, string_bytes, sym, ap, ◌∙◌}
 use Rattle.std.proofs.lemmas.Cmp.{nat_list_eq_equiv}
 use Rattle.std.proofs.lemmas.List.{at_drop_more, at_drop_all, get_or-map, map_push}
 use Rattle.std.proofs.lemmas.Simd.{map-map}
@@ -12,17 +12,25 @@ use Rattle.jskw_value.specs.declared.members.Member.{Member}
 use Rattle.jskw_value.specs.Members.{entries, names, get, has_name}
 
 module _ {V : Type 0} where
+  -- a name beside its value
+  abbrev entry : Member V → List ℕ × V
+  entry m = (string_bytes m.name, m.value)
+
+  -- the name or the value of the member at a place, by way of the entries
+  part_read : {A : Type 0} (part : List ℕ × V → A) (ms : List (Member V)) (i : ℕ) (d : Member V) (x : A) → i < length ms
+      → part (entry (get_or ms i d)) ≡ get_or (map part (entries ms)) i x
+  part_read part ms i d x h =
+      sym (ap (λ ps. get_or ps i x) (map-map part entry ms) ∙ get_or-map (λ m. part (entry m)) ms i d x h)
+
   -- the name of the member at a place
   pub name_read : (ms : List (Member V)) (i : ℕ) (d : Member V) → i < length ms
       → string_bytes (get_or ms i d).name ≡ get_or (names ms) i (string_bytes (get_or ms i d).name)
-  name_read ms i d h = let name = string_bytes (get_or ms i d).name in
-      sym (ap (λ ns. get_or ns i name) (map-map (λ e. e.0) (λ m. (string_bytes m.name, m.value)) ms) ∙ get_or-map (λ m. string_bytes m.name) ms i d name h)
+  name_read ms i d h = part_read (λ e. e.0) ms i d (string_bytes (get_or ms i d).name) h
 
   -- the value of the member at a place
   pub value_read : (ms : List (Member V)) (i : ℕ) (d : Member V) → i < length ms
       → (get_or ms i d).value ≡ get_or (values_of (entries ms)) i (get_or ms i d).value
-  value_read ms i d h = let value = (get_or ms i d).value in
-      sym (ap (λ vs. get_or vs i value) (map-map (λ e. e.1) (λ m. (string_bytes m.name, m.value)) ms) ∙ get_or-map (λ m. m.value) ms i d value h)
+  value_read ms i d h = part_read (λ e. e.1) ms i d (get_or ms i d).value h
 
   -- a look-up in the rest, one place on
   pub get_step : (k : List ℕ) (ms : List (Member V)) (i : ℕ) (d : Member V) → i < length ms
@@ -45,9 +53,7 @@ module _ {V : Type 0} where
 
   -- one member more at the end has one name more
   names-push : (ms : List (Member V)) (m : Member V) → names (ms ++ m ∷ []) ≡ names ms ++ string_bytes m.name ∷ []
-  names-push ms m =
-      ap keys_of (map_push (λ n. (string_bytes n.name, n.value)) ms m)
-      ∙ map_push (λ e. e.0) (entries ms) (string_bytes m.name, m.value)
+  names-push ms m = ap keys_of (map_push entry ms m) ∙ map_push (λ e. e.0) (entries ms) (entry m)
 
   -- which keeps the names distinct where it is new
   pub distinct_pushed : (ms : List (Member V)) (m : Member V) → IsDistinct bytes_eq (names ms)

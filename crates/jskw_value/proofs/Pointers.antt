@@ -28,7 +28,8 @@ escape_high : (xs : List ℕ) → ((k : ℕ) → k < length xs → 128 ≤ get_o
 escape_high [] h = refl
 escape_high (x ∷ xs) h =
     let high : 128 ≤ x = h 0 (omega arith) in
-    ap₂ (λ (a b : List ℕ). a ++ b) (escape_byte_plain x (λ e. omega (arith, e)) (λ e. omega (arith, e))) (escape_high xs (λ k below. h (suc k) (omega arith)))
+    let same = escape_byte_plain x (λ e. omega (arith, e)) (λ e. omega (arith, e)) in
+    ap₂ (λ (a b : List ℕ). a ++ b) same (escape_high xs (λ k below. h (suc k) (omega arith)))
 
 -- the bytes of another character than `~` and `/` stay
 pub escape_plain : (c : ℕ) → (c ≡ 126 → ⊥) → (c ≡ 47 → ⊥) → escape (encode_utf8 c) ≡ encode_utf8 c

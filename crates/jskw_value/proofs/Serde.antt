@@ -149,4 +149,5 @@ pub ruleset arrays = (items_of_array, lawful_in_array, common_steps)
 
 pub ruleset lawful_by_level = (lawful_of_array, lawful_of_object)
 
-pub ruleset objects = (distinct_of_object, names_of_object, values_of_object, members_of_object, lawful_in_object, lawful_members, lawful_found, common_steps)
+pub ruleset objects =
+    (distinct_of_object, names_of_object, values_of_object, members_of_object, lawful_in_object, lawful_members, lawful_found, common_steps)
