@@ -36,7 +36,8 @@ const NUMBERS: &str =
 {"schema":{"minimum":5,"multipleOf":2},"instance":1,"draft":"7","vocabularies":["core","applicator"]} => minimum||/minimum;multipleOf||/multipleOf
 {"schema":{"minimum":"x","multipleOf":2},"instance":1,"overridden":["minimum"]} => multipleOf||/multipleOf"#;
 
-// Each text of an instance stands for a number: its coefficient, and how many of the digits are the fraction's.
+// Each text of an instance stands for a number: its coefficient, and how many of the digits are the
+// fraction's.
 const DECIMALS: &str = r#"{"schema":{"type":"integer"},"instance":"10 1","draft":"4"} => type||/type
 {"schema":{"type":"integer"},"instance":"10 1","draft":"7"} => valid
 {"schema":{"type":"integer"},"instance":"15 1","draft":"4"} => type||/type

@@ -37,7 +37,8 @@ const OPTIONS: &str =
 {"schema":{"uniqueItems":false},"instance":[1,1]} => valid
 {"schema":{"uniqueItems":5},"instance":[1,1]} => valid"#;
 
-// Each text of an instance stands for a number: its coefficient, and how many of the digits are the fraction's.
+// Each text of an instance stands for a number: its coefficient, and how many of the digits are the
+// fraction's.
 const DECIMALS: &str = r#"{"schema":{"enum":[1,2,null]},"instance":"10 1"} => valid
 {"schema":{"enum":[1,2,3]},"instance":"2000 3"} => valid
 {"schema":{"enum":[1,2,3]},"instance":"2001 3"} => enum||/enum

@@ -39,8 +39,8 @@ const RELATIONS: [(&str, &str); 4] = [
     ("exclusiveMaximum", "<"),
 ];
 
-// Coefficient and scale; how the number stands to each of `LIMITS`; whether it is a multiple of each
-// of `DIVISORS`. The table was made by Python's `fractions.Fraction`, with no code of ours.
+// Coefficient and scale; how the number stands to each of `LIMITS`; whether it is a multiple of
+// each of `DIVISORS`. The table was made by Python's `fractions.Fraction`, with no code of ours.
 const NUMBERS: &str = r#"-9223372036854775808 0|=<<<<<<<<<<|yynnnn
 -1 0|>=<<<<<<<<<|ynnnnn
 0 0|>>=<<<<<<<<|yyyyyy

@@ -28,8 +28,8 @@ fn check_options(
     )
 }
 
-// Goes through the lines of a table: options, instances that are among them, instances that are not,
-// with a space between each two.
+// Goes through the lines of a table: options, instances that are among them, and instances that are
+// not, with a space between each two.
 fn check_table(rt: &impl Abort, alloc: Global, table: &str) -> Result<(), Fail> {
     for line in table.lines() {
         let (options, among, others) = columns(line)?;

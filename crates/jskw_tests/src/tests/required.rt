@@ -111,8 +111,8 @@ fn bad_values_are_refused(rt: HostRuntime) -> Result<(), Fail> {
     check_rows(&rt, rt.alloc(), &settings, BAD_VALUES)
 }
 
-// The texts `prefix0000suffix00` and so on, so many, which have the same length, beginning and end; each quoted, and
-// followed by `behind`.
+// The texts `prefix0000suffix00` and so on, so many, which have the same length, beginning and end;
+// each quoted, and followed by `behind`.
 fn colliding(alloc: Global, count: usize, behind: &str) -> Result<String, AllocError> {
     let mut text = String::new(alloc);
     for index in 0..count {
@@ -148,8 +148,8 @@ fn check_colliding(
     )
 }
 
-// A required name, a key of the object, and whether they are one name. They agree on their length or
-// on a long beginning, and in part on their end.
+// A required name, a key of the object, and whether they are one name. They agree on their length
+// or on a long beginning, and in part on their end.
 const ALIKE: &str = r#"abcdefghijklX|abcdefghijklX|yes
 abcdefghijklX|abcdefghijklY|no
 abcdefghijkl|abcdefghijkL|no

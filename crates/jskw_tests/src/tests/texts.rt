@@ -1,4 +1,4 @@
-// Errors as texts: the kind with what the keyword asked for, the instance location and the keyword location.
+// Errors as texts: the kind with what the keyword asked for, and both locations.
 use jskw_report::{CompileFault, EnumOptions, TypeKind, ValidationError, ValidationErrorKind};
 use jskw_value::{Json, JsonType, JsonTypeSet, Node, SerdeJson};
 use serde_json::Value;
