@@ -1,5 +1,5 @@
-//! The tests of the four libraries, over their public items. A crate with tests is proved twice, once
-//! without and once with them: here they stand apart, and so each library is proved once.
+//! The tests of the four libraries, over their public items. A crate with tests is proved twice,
+//! once without and once with them: here they stand apart, and so each library is proved once.
 #![tactic(auto)]
 
 #[cfg(test)]

@@ -21,7 +21,7 @@ mod types;
 mod unique_items;
 
 use jskw_report::{Draft, Settings, VocabularySet};
-use jskw_value::{DecimalJson, SerdeJson};
+use jskw_value::{DecimalJson, DecimalTree, SerdeJson};
 use keywords::said;
 use serde_json::Value;
 use std::alloc::{AllocError, Global};
@@ -64,7 +64,8 @@ fn overriding(alloc: Global, draft: Draft, names: &[&str]) -> Result<Settings, A
 }
 
 // The keyword of a name says this of an instance given as a JSON text, over each representation;
-// or, where the text begins with `#`, of the decimal of the coefficient and the scale behind it.
+// or, where the text begins with `#`, of the decimal of the coefficient and the scale behind it, as
+// in `#20e-1`, which is 2.0.
 // The keyword's schema stands at `/items` and the instance is the item with index 7 of some array,
 // and an error is written by its kind alone where it says so: `minimum 1` stands at `/7`, by
 // `/items/minimum`.
@@ -78,7 +79,7 @@ fn check(
     wanted: &str,
 ) -> Result<(), Fail> {
     let tree = match instance.strip_prefix('#') {
-        Some(decimal) => decimal_of(decimal)?,
+        Some(decimal) => DecimalTree::Number(decimal_of(decimal)?),
         None => {
             let value = Value::from_str(alloc, instance)?;
             let found = said::<SerdeJson>(rt, alloc, settings, schema, name, &value)?;

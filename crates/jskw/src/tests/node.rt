@@ -36,8 +36,8 @@ fn line_of<F: Json>(
     format!(in alloc; "{keyword}|{instance}|{schema}")
 }
 
-// What the three observers say of an instance, with a semicolon between each two errors; they have to
-// agree.
+// What the three observers say of an instance, with a semicolon between each two errors; they have
+// to agree.
 fn observed<F: Json>(
     rt: &impl Abort,
     alloc: Global,
@@ -159,9 +159,9 @@ fn decimal_object(alloc: Global, members: &Map<String, Value>) -> Result<Decimal
     Ok(DecimalTree::Object(trees))
 }
 
-// The number of a text: its coefficient and its scale, with a space between them.
+// The number of a text, its coefficient and its scale: `20e-1` is 2.0.
 fn decimal_of(text: &str) -> Result<DecimalTree, Fail> {
-    let (coefficient, scale) = text.split_once(' ').ok_or("no scale")?;
+    let (coefficient, scale) = text.split_once("e-").ok_or("no scale")?;
     let decimal = Decimal::new(coefficient.parse()?, scale.parse()?).ok_or("no decimal")?;
     Ok(DecimalTree::Number(decimal))
 }

@@ -1,6 +1,6 @@
 // Want of memory. With `rt try --test --fail-alloc N` the Nth growth of each test is refused, and
-// these tests are to pass for every N: what is said is said as with ample memory, or it is said that
-// memory was wanted.
+// these tests are to pass for every N: what is said is said as with ample memory, or it is said
+// that memory was wanted.
 use super::ALWAYS;
 use crate::memory::{ArraySink, SliceSource};
 use crate::node::{SchemaNode, compile};

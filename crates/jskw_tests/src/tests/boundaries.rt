@@ -1,8 +1,8 @@
 // Relations and divisors around the ends of the ranges, and around 2^53, where a double starts to
 // lose digits: of decimals by themselves, and of the keywords.
+use super::trees::decimal_of;
 use super::{all_of, check, columns};
 use jskw_report::{Draft, Settings};
-use jskw_value::Decimal;
 use std::alloc::Global;
 use std::cmp::Ordering;
 use std::process::Abort;
@@ -39,54 +39,54 @@ const RELATIONS: [(&str, &str); 4] = [
     ("exclusiveMaximum", "<"),
 ];
 
-// Coefficient and scale; how the number stands to each of `LIMITS`; whether it is a multiple of
+// Coefficient and scale, as `20e-1`; how the number stands to each of `LIMITS`; whether it is a multiple of
 // each of `DIVISORS`. The table was made by Python's `fractions.Fraction`, with no code of ours.
-const NUMBERS: &str = r#"-9223372036854775808 0|=<<<<<<<<<<|yynnnn
--1 0|>=<<<<<<<<<|ynnnnn
-0 0|>>=<<<<<<<<|yyyyyy
-1 0|>>>=<<<<<<<|ynnnnn
-9007199254740991 0|>>>>=<<<<<<|ynnnnn
-9007199254740992 0|>>>>>=<<<<<|yynnnn
-9007199254740993 0|>>>>>>=<<<<|ynynyn
-9223372036854775807 0|>>>>>>>=<<<|ynnnnn
-9223372036854775808 0|>>>>>>>>=<<|yynnnn
-9223372036854775809 0|>>>>>>>>>=<|ynynnn
-18446744073709551615 0|>>>>>>>>>>=|ynynny
--9223372036854775808 1|><<<<<<<<<<|nnnnnn
--1 1|>><<<<<<<<<|nnnnnn
-0 1|>>=<<<<<<<<|yyyyyy
-1 1|>>><<<<<<<<|nnnnnn
-9007199254740991 1|>>>><<<<<<<|nnnnnn
-9007199254740992 1|>>>><<<<<<<|nnnnnn
-9007199254740993 1|>>>><<<<<<<|nnnnnn
-9223372036854775807 1|>>>>>>><<<<|nnnnnn
-9223372036854775808 1|>>>>>>><<<<|nnnnnn
-9223372036854775809 1|>>>>>>><<<<|nnnnnn
-18446744073709551615 1|>>>>>>><<<<|nnnnnn
--9223372036854775808 18|><<<<<<<<<<|nnnnnn
--1 18|>><<<<<<<<<|nnnnnn
-0 18|>>=<<<<<<<<|yyyyyy
-1 18|>>><<<<<<<<|nnnnnn
-9007199254740991 18|>>><<<<<<<<|nnnnnn
-9007199254740992 18|>>><<<<<<<<|nnnnnn
-9007199254740993 18|>>><<<<<<<<|nnnnnn
-9223372036854775807 18|>>>><<<<<<<|nnnnnn
-9223372036854775808 18|>>>><<<<<<<|nnnnnn
-9223372036854775809 18|>>>><<<<<<<|nnnnnn
-18446744073709551615 18|>>>><<<<<<<|nnnnnn
-10 1|>>>=<<<<<<<|ynnnnn
--30 1|><<<<<<<<<<|ynynnn
-90071992547409930 1|>>>>>>=<<<<|ynynyn
--9223372036854775800 1|><<<<<<<<<<|yyyynn
-1000000000000000000 18|>>>=<<<<<<<|ynnnnn
-3000000000000000000 18|>>>><<<<<<<|ynynnn
-18000000000000000000 18|>>>><<<<<<<|yyynnn
--9000000000000000000 18|><<<<<<<<<<|ynynnn
-9 1|>>><<<<<<<<|nnnnnn
--15 1|><<<<<<<<<<|nnnnnn
-300 2|>>>><<<<<<<|ynynnn
-5 1|>>><<<<<<<<|nnnnnn
-90071992547409920 1|>>>>>=<<<<<|yynnnn"#;
+const NUMBERS: &str = r#"-9223372036854775808e-0|=<<<<<<<<<<|yynnnn
+-1e-0|>=<<<<<<<<<|ynnnnn
+0e-0|>>=<<<<<<<<|yyyyyy
+1e-0|>>>=<<<<<<<|ynnnnn
+9007199254740991e-0|>>>>=<<<<<<|ynnnnn
+9007199254740992e-0|>>>>>=<<<<<|yynnnn
+9007199254740993e-0|>>>>>>=<<<<|ynynyn
+9223372036854775807e-0|>>>>>>>=<<<|ynnnnn
+9223372036854775808e-0|>>>>>>>>=<<|yynnnn
+9223372036854775809e-0|>>>>>>>>>=<|ynynnn
+18446744073709551615e-0|>>>>>>>>>>=|ynynny
+-9223372036854775808e-1|><<<<<<<<<<|nnnnnn
+-1e-1|>><<<<<<<<<|nnnnnn
+0e-1|>>=<<<<<<<<|yyyyyy
+1e-1|>>><<<<<<<<|nnnnnn
+9007199254740991e-1|>>>><<<<<<<|nnnnnn
+9007199254740992e-1|>>>><<<<<<<|nnnnnn
+9007199254740993e-1|>>>><<<<<<<|nnnnnn
+9223372036854775807e-1|>>>>>>><<<<|nnnnnn
+9223372036854775808e-1|>>>>>>><<<<|nnnnnn
+9223372036854775809e-1|>>>>>>><<<<|nnnnnn
+18446744073709551615e-1|>>>>>>><<<<|nnnnnn
+-9223372036854775808e-18|><<<<<<<<<<|nnnnnn
+-1e-18|>><<<<<<<<<|nnnnnn
+0e-18|>>=<<<<<<<<|yyyyyy
+1e-18|>>><<<<<<<<|nnnnnn
+9007199254740991e-18|>>><<<<<<<<|nnnnnn
+9007199254740992e-18|>>><<<<<<<<|nnnnnn
+9007199254740993e-18|>>><<<<<<<<|nnnnnn
+9223372036854775807e-18|>>>><<<<<<<|nnnnnn
+9223372036854775808e-18|>>>><<<<<<<|nnnnnn
+9223372036854775809e-18|>>>><<<<<<<|nnnnnn
+18446744073709551615e-18|>>>><<<<<<<|nnnnnn
+10e-1|>>>=<<<<<<<|ynnnnn
+-30e-1|><<<<<<<<<<|ynynnn
+90071992547409930e-1|>>>>>>=<<<<|ynynyn
+-9223372036854775800e-1|><<<<<<<<<<|yyyynn
+1000000000000000000e-18|>>>=<<<<<<<|ynnnnn
+3000000000000000000e-18|>>>><<<<<<<|ynynnn
+18000000000000000000e-18|>>>><<<<<<<|yyynnn
+-9000000000000000000e-18|><<<<<<<<<<|ynynnn
+9e-1|>>><<<<<<<<|nnnnnn
+-15e-1|><<<<<<<<<<|nnnnnn
+300e-2|>>>><<<<<<<|ynynnn
+5e-1|>>><<<<<<<<|nnnnnn
+90071992547409920e-1|>>>>>=<<<<<|yynnnn"#;
 
 // A keyword with a bound, asked of a number, and where it is whole, of its JSON text too.
 fn check_bound(
@@ -112,7 +112,7 @@ fn check_bound(
         decimal.as_str(),
         wanted,
     )?;
-    if let Some(whole) = number.strip_suffix(" 0") {
+    if let Some(whole) = number.strip_suffix("e-0") {
         check(rt, alloc, settings, schema, keyword, whole, wanted)?;
     }
     Ok(())
@@ -189,8 +189,7 @@ fn symbol(ordering: Ordering) -> char {
 fn decimals_compare_and_divide_exactly_at_boundaries(rt: HostRuntime) -> Result<(), Fail> {
     for line in NUMBERS.lines() {
         let (number, stands, divides) = columns(line)?;
-        let (coefficient, scale) = number.split_once(' ').ok_or("no scale")?;
-        let number = Decimal::new(coefficient.parse()?, scale.parse()?).ok_or("no decimal")?;
+        let number = decimal_of(number)?;
         let mut found = String::new(rt.alloc());
         for limit in LIMITS {
             let whole: i128 = limit.parse()?;

@@ -35,12 +35,12 @@ const VALUES: &str = r#"{"const":null}|null|const|valid
 {"const":{}}|[]|const|const {}"#;
 
 // The value 2, and decimals.
-const FRACTIONS: &str = r#"{"const":2}|#2 0|const|valid
-{"const":2}|#20 1|const|valid
-{"const":2}|#2000000000000000000 18|const|valid
-{"const":2}|#25 1|const|const 2
-{"const":2}|#20 2|const|const 2
-{"const":2}|#-20 1|const|const 2"#;
+const FRACTIONS: &str = r#"{"const":2}|#2e-0|const|valid
+{"const":2}|#20e-1|const|valid
+{"const":2}|#2000000000000000000e-18|const|valid
+{"const":2}|#25e-1|const|const 2
+{"const":2}|#20e-2|const|const 2
+{"const":2}|#-20e-1|const|const 2"#;
 
 // Floats in the value, of which the first is named, in the order of the items and of the names.
 const FLOATS: &str =

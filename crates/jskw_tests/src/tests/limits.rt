@@ -11,8 +11,8 @@ use std::alloc::Global;
 use std::test::Fail;
 
 // In the drafts after Draft 4.
-const LIMITS: &str = r#"{"minimum":1}|#9 1|minimum|minimum 1
-{"minimum":1}|#10 1|minimum|valid
+const LIMITS: &str = r#"{"minimum":1}|#9e-1|minimum|minimum 1
+{"minimum":1}|#10e-1|minimum|valid
 {"minimum":1}|1|minimum|valid
 {"minimum":1}|0|minimum|minimum 1
 {"minimum":1}|"0"|minimum|valid
@@ -20,8 +20,8 @@ const LIMITS: &str = r#"{"minimum":1}|#9 1|minimum|minimum 1
 {"minimum":1}|[0]|minimum|valid
 {"minimum":1,"exclusiveMinimum":true}|1|minimum|valid
 {"minimum":18014398509481984}|18014398509481983|minimum|minimum 18014398509481984
-{"maximum":-1}|#-15 1|maximum|valid
-{"maximum":-1}|#-9 1|maximum|maximum -1
+{"maximum":-1}|#-15e-1|maximum|valid
+{"maximum":-1}|#-9e-1|maximum|maximum -1
 {"maximum":-1}|-1|maximum|valid
 {"maximum":-1}|{"a":5}|maximum|valid
 {"maximum":1,"exclusiveMaximum":true}|1|maximum|valid
@@ -33,10 +33,10 @@ const LIMITS: &str = r#"{"minimum":1}|#9 1|minimum|minimum 1
 {"exclusiveMaximum":18014398509481984}|18014398509481983|exclusiveMaximum|valid
 {"exclusiveMaximum":18014398509481984}|18014398509481984|exclusiveMaximum|exclusiveMaximum 18014398509481984
 {"exclusiveMaximum":18014398509481984}|18014398509481985|exclusiveMaximum|exclusiveMaximum 18014398509481984
-{"exclusiveMinimum":0}|#1 18|exclusiveMinimum|valid
-{"exclusiveMinimum":0}|#0 18|exclusiveMinimum|exclusiveMinimum 0
+{"exclusiveMinimum":0}|#1e-18|exclusiveMinimum|valid
+{"exclusiveMinimum":0}|#0e-18|exclusiveMinimum|exclusiveMinimum 0
 {"exclusiveMinimum":0}|true|exclusiveMinimum|valid
-{"exclusiveMaximum":18446744073709551615}|#18446744073709551615 18|exclusiveMaximum|valid
+{"exclusiveMaximum":18446744073709551615}|#18446744073709551615e-18|exclusiveMaximum|valid
 {"exclusiveMaximum":18446744073709551615}|18446744073709551615|exclusiveMaximum|exclusiveMaximum 18446744073709551615
 {"exclusiveMaximum":-9223372036854775808}|-9223372036854775808|exclusiveMaximum|exclusiveMaximum -9223372036854775808
 {"exclusiveMaximum":-9223372036854775808}|"a"|exclusiveMaximum|valid
@@ -55,8 +55,8 @@ const LIMITS: &str = r#"{"minimum":1}|#9 1|minimum|minimum 1
 // In Draft 4.
 const LIMITS_DRAFT_4: &str = r#"{"minimum":5,"exclusiveMinimum":true}|5|minimum|exclusiveMinimum 5
 {"minimum":5,"exclusiveMinimum":true}|6|minimum|valid
-{"minimum":5,"exclusiveMinimum":true}|#50 1|minimum|exclusiveMinimum 5
-{"minimum":5,"exclusiveMinimum":true}|#51 1|minimum|valid
+{"minimum":5,"exclusiveMinimum":true}|#50e-1|minimum|exclusiveMinimum 5
+{"minimum":5,"exclusiveMinimum":true}|#51e-1|minimum|valid
 {"minimum":5,"exclusiveMinimum":true}|"5"|minimum|valid
 {"minimum":5,"exclusiveMinimum":1}|5|minimum|valid
 {"minimum":5,"exclusiveMinimum":false}|5|minimum|valid
@@ -72,7 +72,7 @@ const LIMITS_DRAFT_4: &str = r#"{"minimum":5,"exclusiveMinimum":true}|5|minimum|
 {"minimum":1.5}|5|minimum|refused: compileError Not a whole number of 64 bits at /items/minimum, 1.5
 {"maximum":5,"exclusiveMaximum":true}|5|maximum|exclusiveMaximum 5
 {"maximum":5,"exclusiveMaximum":true}|4|maximum|valid
-{"maximum":5,"exclusiveMaximum":true}|#49 1|maximum|valid
+{"maximum":5,"exclusiveMaximum":true}|#49e-1|maximum|valid
 {"maximum":5,"exclusiveMaximum":1}|5|maximum|valid
 {"maximum":5,"exclusiveMaximum":[true]}|5|maximum|valid
 {"maximum":5,"exclusiveMinimum":true}|5|maximum|valid
@@ -89,9 +89,9 @@ const DIVISORS: &str = r#"{"multipleOf":9007199254740993}|18014398509481986|mult
 {"multipleOf":3}|9223372036854775806|multipleOf|valid
 {"multipleOf":10}|-9223372036854775800|multipleOf|valid
 {"multipleOf":10}|-9223372036854775801|multipleOf|multipleOf 10
-{"multipleOf":3}|#300 2|multipleOf|valid
-{"multipleOf":3}|#5 1|multipleOf|multipleOf 3
-{"multipleOf":18446744073709551615}|#0 18|multipleOf|valid
+{"multipleOf":3}|#300e-2|multipleOf|valid
+{"multipleOf":3}|#5e-1|multipleOf|multipleOf 3
+{"multipleOf":18446744073709551615}|#0e-18|multipleOf|valid
 {"multipleOf":2}|-4|multipleOf|valid
 {"multipleOf":2}|-3|multipleOf|multipleOf 2
 {"multipleOf":2}|"3"|multipleOf|valid

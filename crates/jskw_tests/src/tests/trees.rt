@@ -113,8 +113,8 @@ pub(super) fn number(coefficient: i128, scale: u8) -> Result<DecimalTree, Fail> 
     Ok(DecimalTree::Number(decimal))
 }
 
-// The number of a coefficient and a scale, which are written with a space between them.
-pub(super) fn decimal_of(text: &str) -> Result<DecimalTree, Fail> {
-    let (coefficient, scale) = text.split_once(' ').ok_or("no scale")?;
-    number(coefficient.parse()?, scale.parse()?)
+// The decimal of a coefficient and a scale, which are written as in `20e-1`.
+pub(super) fn decimal_of(text: &str) -> Result<Decimal, Fail> {
+    let (coefficient, scale) = text.split_once("e-").ok_or("no scale")?;
+    Ok(Decimal::new(coefficient.parse()?, scale.parse()?).ok_or("no decimal")?)
 }

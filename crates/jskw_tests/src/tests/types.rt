@@ -53,21 +53,21 @@ const BAD_TYPES: &str = r#"{"type":5}|null|type|refused: types Array String at /
 {"type":["string",5,"foo"]}|null|type|refused: type String at /items/type, 5"#;
 
 // An integer is written without a fraction.
-const FRACTIONS_IN_DRAFT_4: &str = r#"{"type":"integer"}|#10 0|type|valid
-{"type":"integer"}|#10 1|type|type Integer
-{"type":"integer"}|#15 1|type|type Integer
-{"type":["integer","null"]}|#10 1|type|types Integer Null
-{"type":["integer","number"]}|#15 1|type|valid
-{"type":"number"}|#15 1|type|valid"#;
+const FRACTIONS_IN_DRAFT_4: &str = r#"{"type":"integer"}|#10e-0|type|valid
+{"type":"integer"}|#10e-1|type|type Integer
+{"type":"integer"}|#15e-1|type|type Integer
+{"type":["integer","null"]}|#10e-1|type|types Integer Null
+{"type":["integer","number"]}|#15e-1|type|valid
+{"type":"number"}|#15e-1|type|valid"#;
 
 // An integer is a number without a fraction, however it is written.
-const FRACTIONS: &str = r#"{"type":"integer"}|#10 0|type|valid
-{"type":"integer"}|#10 1|type|valid
-{"type":"integer"}|#15 1|type|type Integer
-{"type":["integer","null"]}|#10 1|type|valid
-{"type":["integer","null"]}|#15 1|type|types Integer Null
-{"type":"number"}|#15 1|type|valid
-{"type":["number"]}|#15 1|type|valid"#;
+const FRACTIONS: &str = r#"{"type":"integer"}|#10e-0|type|valid
+{"type":"integer"}|#10e-1|type|valid
+{"type":"integer"}|#15e-1|type|type Integer
+{"type":["integer","null"]}|#10e-1|type|valid
+{"type":["integer","null"]}|#15e-1|type|types Integer Null
+{"type":"number"}|#15e-1|type|valid
+{"type":["number"]}|#15e-1|type|valid"#;
 
 #[test]
 fn named_types(rt: HostRuntime) -> Result<(), Fail> {
