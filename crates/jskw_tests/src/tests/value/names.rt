@@ -1,6 +1,5 @@
 // Names with their heads.
-use crate::nullability::{NotNullable, Nullability, Nullable};
-use crate::property_name::{KeyHead, PropertyName};
+use jskw_value::{KeyHead, NotNullable, Nullability, Nullable, PropertyName};
 use std::test::Fail;
 
 // From 0 to 24 bytes, among them the lengths about eight and sixteen, and texts of one head that

@@ -1,8 +1,6 @@
 // What nodes answer, through the bounds that generic code knows.
-use super::{insert, number, string};
-use crate::decimal_tree::{DecimalJson, DecimalTree, Members};
-use crate::json::{Array, Json, Node, Object};
-use crate::serde_tree::SerdeJson;
+use crate::tests::trees::{insert, number, string};
+use jskw_value::{Array, DecimalJson, DecimalTree, Json, Members, Node, Object, SerdeJson};
 use serde_json::Value;
 use std::alloc::{AllocError, Global};
 use std::test::Fail;

@@ -1,8 +1,9 @@
 // What errors report, at both representations.
-use super::member_location;
-use crate::error::{ValidationError, ValidationErrorKind};
-use crate::evaluation::{ErrorDescription, EvaluationResult};
-use crate::paths::{Location, LocationSegment};
+use crate::tests::places::member_location;
+use jskw_report::{
+    ErrorDescription, EvaluationResult, Location, LocationSegment, ValidationError,
+    ValidationErrorKind,
+};
 use jskw_value::{DecimalJson, DecimalTree, Node, SerdeJson};
 use serde_json::Value;
 use std::test::Fail;

@@ -1,9 +1,10 @@
 // What a validator that fails at most once is made of, at both representations.
-use super::{at_item, member_location, root_error};
-use crate::error::{CompileFault, Fault, ValidationError, ValidationErrorKind};
-use crate::evaluation::{ErrorDescription, EvaluationResult};
-use crate::paths::Location;
-use crate::validator::{append_first, evaluate_first, fail_unless};
+use crate::tests::places::{at_item, member_location, root_error};
+use jskw_report::validator::{append_first, evaluate_first, fail_unless};
+use jskw_report::{
+    CompileFault, ErrorDescription, EvaluationResult, Fault, Location, ValidationError,
+    ValidationErrorKind,
+};
 use jskw_value::{DecimalJson, DecimalTree, Node, SerdeJson};
 use serde_json::Value;
 use std::alloc::AllocError;

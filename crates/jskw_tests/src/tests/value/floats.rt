@@ -1,8 +1,8 @@
 // Floats and where they stand, in ordinary and in hostile values.
-use super::number;
-use crate::decimal_tree::{DecimalTree, Members};
-use crate::json::{Node, Object};
-use crate::pointer::{push_index, push_name};
+use crate::tests::texts::written;
+use crate::tests::trees::number;
+use jskw_value::pointer::{push_index, push_name};
+use jskw_value::{DecimalTree, Members, Node, Object};
 use serde_json::Value;
 use std::alloc::Global;
 use std::test::Fail;
@@ -62,9 +62,7 @@ fn a_hundred_nested_arrays(rt: HostRuntime) -> Result<(), Fail> {
         tree = DecimalTree::Array(Vec::from_array(rt.alloc(), [tree])?);
     }
     assert!(rt; tree.is_lawful() && tree.equals_value(&deep));
-    let mut text = String::new(rt.alloc());
-    tree.write_json(&mut text)?;
-    assert_eq!(rt; text.len(), 203);
+    assert_eq!(rt; written(&tree, String::new(rt.alloc()))?.len(), 203);
     let float = nested(rt.alloc(), Value::from_str(rt.alloc(), "1.5")?)?;
     let found = float.first_unlawful(rt.alloc())?.ok_or("no location")?;
     let mut location = String::new(rt.alloc());
@@ -92,8 +90,7 @@ fn a_name_of_a_megabyte(rt: HostRuntime) -> Result<(), Fail> {
     assert!(rt; found.as_str() == location.as_str());
     let mut members = Members::new(rt.alloc());
     assert!(rt; members.insert(name, number(1, 0)?).is_ok());
-    let mut text = String::new(rt.alloc());
-    DecimalTree::Object(members).write_json(&mut text)?;
+    let text = written(&DecimalTree::Object(members), String::new(rt.alloc()))?;
     assert_eq!(rt; text.len(), 1000006);
     Ok(())
 }

@@ -1,9 +1,8 @@
 // Equality within a representation and across two.
-use super::{insert, number, string};
-use crate::decimal_tree::{DecimalTree, Members};
-use crate::json::{Array, Node};
-use crate::laws::equality_is_equivalence;
-use crate::names::names_are_distinct;
+use crate::tests::trees::{insert, number, objects_in_two_orders, string};
+use jskw_value::laws::equality_is_equivalence;
+use jskw_value::names::names_are_distinct;
+use jskw_value::{Array, DecimalTree, Members, Node};
 use serde_json::Value;
 use std::test::Fail;
 
@@ -93,14 +92,7 @@ fn unique_items(rt: HostRuntime) -> Result<(), Fail> {
 fn unique_items_over_decimals(rt: HostRuntime) -> Result<(), Fail> {
     let ones = DecimalTree::Array(Vec::from_array(rt.alloc(), [number(1, 0)?, number(10, 1)?])?);
     assert!(rt; ones.is_array() && !ones.is_unique());
-    let mut left = Members::new(rt.alloc());
-    insert(rt.alloc(), &mut left, "a", number(1, 0)?)?;
-    insert(rt.alloc(), &mut left, "b", number(2, 0)?)?;
-    let mut right = Members::new(rt.alloc());
-    insert(rt.alloc(), &mut right, "b", number(2, 0)?)?;
-    insert(rt.alloc(), &mut right, "a", number(1, 0)?)?;
-    let objects = [DecimalTree::Object(left), DecimalTree::Object(right)];
-    let pair = DecimalTree::Array(Vec::from_array(rt.alloc(), objects)?);
+    let pair = objects_in_two_orders(rt.alloc())?;
     assert!(rt; pair.is_array() && !pair.is_unique());
     let none = DecimalTree::Array(Vec::new(rt.alloc()));
     assert!(rt; none.is_array() && none.is_unique());

@@ -1,6 +1,6 @@
 // JSON pointers. The expected texts are those of RFC 6901, sections 3 to 5.
-use super::member_location;
-use crate::paths::{LazyLocation, Location, LocationSegment};
+use crate::tests::places::member_location;
+use jskw_report::{LazyLocation, Location, LocationSegment};
 use std::test::Fail;
 
 #[test]

@@ -1,20 +1,13 @@
 // Drafts, vocabularies and overridden names, and which keywords are read under them.
-use crate::compiler::{Context, member_of};
-use crate::keyword::KeywordName;
-use crate::paths::LocationSegment;
-use crate::settings::{Draft, Settings, Vocabulary, VocabularySet};
+use crate::tests::{DRAFTS, all_of, overriding, settings_of};
+use jskw_report::compiler::member_of;
+use jskw_report::{
+    Context, Draft, KeywordName, LocationSegment, Settings, Vocabulary, VocabularySet,
+};
 use jskw_value::SerdeJson;
 use serde_json::Value;
 use std::alloc::Global;
 use std::test::Fail;
-
-const DRAFTS: [Draft; 5] = [
-    Draft::Draft4,
-    Draft::Draft6,
-    Draft::Draft7,
-    Draft::Draft201909,
-    Draft::Draft202012,
-];
 
 const VOCABULARIES: [Vocabulary; 3] = [
     Vocabulary::Core,
@@ -22,18 +15,14 @@ const VOCABULARIES: [Vocabulary; 3] = [
     Vocabulary::Validation,
 ];
 
-fn settings(alloc: Global, draft: Draft, vocabularies: VocabularySet) -> Settings {
-    Settings::new(draft, vocabularies, Vec::new(alloc))
-}
-
 #[test]
 fn vocabularies_are_asked_for_from_2019_09_on(rt: HostRuntime) -> Result<(), Fail> {
     for draft in DRAFTS {
         for vocabulary in VOCABULARIES {
             let is_asked_for = draft == Draft::Draft201909 || draft == Draft::Draft202012;
             let set = VocabularySet::empty();
-            let without = settings(rt.alloc(), draft, set);
-            let with = settings(rt.alloc(), draft, set.insert(vocabulary));
+            let without = settings_of(rt.alloc(), draft, set);
+            let with = settings_of(rt.alloc(), draft, set.insert(vocabulary));
             let ctx = Context::<SerdeJson>::new(rt.alloc(), &without);
             assert_eq!(rt; without.has_vocabulary(vocabulary), !is_asked_for);
             assert_eq!(rt; ctx.has_vocabulary(vocabulary), !is_asked_for);
@@ -101,7 +90,7 @@ fn each_draft_lacks_some_keywords(rt: HostRuntime) -> Result<(), Fail> {
         (Draft::Draft201909, "prefixItems "),
         (Draft::Draft202012, "additionalItems "),
     ] {
-        let settings = settings(rt.alloc(), draft, VocabularySet::all());
+        let settings = all_of(rt.alloc(), draft);
         assert_eq!(rt; names(rt.alloc(), &settings, false)?.as_str(), lacking);
     }
     Ok(())
@@ -131,7 +120,7 @@ fn each_vocabulary_has_its_keywords(rt: HostRuntime) -> Result<(), Fail> {
         ),
     ] {
         let set = VocabularySet::empty().insert(vocabulary);
-        let settings = settings(rt.alloc(), draft, set);
+        let settings = settings_of(rt.alloc(), draft, set);
         assert_eq!(rt; names(rt.alloc(), &settings, are_read)?.as_str(), expected);
     }
     Ok(())
@@ -139,11 +128,8 @@ fn each_vocabulary_has_its_keywords(rt: HostRuntime) -> Result<(), Fail> {
 
 #[test]
 fn a_name_is_overridden_letter_for_letter(rt: HostRuntime) -> Result<(), Fail> {
-    let mut overridden = Vec::new(rt.alloc());
-    overridden.push(String::from_str(rt.alloc(), "type")?)?;
-    overridden.push(String::from_str(rt.alloc(), "minItem")?)?;
-    overridden.push(String::from_str(rt.alloc(), "items0")?)?;
-    let settings = Settings::new(Draft::Draft202012, VocabularySet::all(), overridden);
+    let names = ["type", "minItem", "items0"];
+    let settings = overriding(rt.alloc(), Draft::Draft202012, &names)?;
     let ctx = Context::<SerdeJson>::new(rt.alloc(), &settings);
     for (name, is_overridden) in [
         ("type", true),
@@ -167,7 +153,7 @@ fn a_name_is_overridden_letter_for_letter(rt: HostRuntime) -> Result<(), Fail> {
 
 #[test]
 fn a_context_stands_at_its_location(rt: HostRuntime) -> Result<(), Fail> {
-    let settings = settings(rt.alloc(), Draft::Draft7, VocabularySet::empty());
+    let settings = settings_of(rt.alloc(), Draft::Draft7, VocabularySet::empty());
     let whole = Context::<SerdeJson>::new(rt.alloc(), &settings);
     let items = whole.new_at_location(rt.alloc(), LocationSegment::Name("items"))?;
     let second = items.new_at_location(rt.alloc(), LocationSegment::Index(1))?;

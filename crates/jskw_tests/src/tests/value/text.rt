@@ -1,15 +1,9 @@
 // The compact JSON text of values, which no contract states.
-use super::{insert, number, string};
-use crate::decimal_tree::{DecimalTree, Members};
-use crate::json::Node;
+use crate::tests::texts::written;
+use crate::tests::trees::{insert, number, string};
+use jskw_value::{DecimalTree, Members};
 use serde_json::Value;
 use std::test::Fail;
-
-// Appends the text of a node to a text.
-fn written<N: Node>(node: &N, mut text: String) -> Result<String, Fail> {
-    node.write_json(&mut text)?;
-    Ok(text)
-}
 
 #[test]
 fn decimals_have_the_digits_of_their_scale(rt: HostRuntime) -> Result<(), Fail> {

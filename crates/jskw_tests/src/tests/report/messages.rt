@@ -1,10 +1,10 @@
 // The texts of errors, which no contract states.
-use super::root_error;
-use crate::error::{EnumOptions, TypeKind, ValidationError, ValidationErrorKind};
-use crate::evaluation::ErrorDescription;
-use crate::paths::Location;
-use jskw_value::types::{JsonType, JsonTypeSet};
-use jskw_value::{Decimal, DecimalJson, DecimalTree, Json, SerdeJson};
+use crate::tests::places::root_error;
+use crate::tests::trees::number;
+use jskw_report::{
+    EnumOptions, ErrorDescription, Location, TypeKind, ValidationError, ValidationErrorKind,
+};
+use jskw_value::{DecimalJson, DecimalTree, Json, JsonType, JsonTypeSet, SerdeJson};
 use serde_json::Value;
 use std::alloc::{AllocError, Global};
 use std::test::Fail;
@@ -279,9 +279,8 @@ fn decimals_are_written_with_their_scales(rt: HostRuntime) -> Result<(), Fail> {
         (-5, 1, "-0.5 is less than the minimum of 7"),
         (6, 0, "6 is less than the minimum of 7"),
     ] {
-        let decimal = Decimal::new(coefficient, scale).ok_or("no decimal")?;
         let kind = ValidationErrorKind::Minimum { limit: 7 };
-        let found = text_of::<DecimalJson>(rt.alloc(), kind, &DecimalTree::Number(decimal))?;
+        let found = text_of::<DecimalJson>(rt.alloc(), kind, &number(coefficient, scale)?)?;
         assert_eq!(rt; found.as_str(), text);
     }
     Ok(())

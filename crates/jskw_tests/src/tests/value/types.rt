@@ -1,9 +1,6 @@
 // Types and sets of them.
-use super::number;
-use crate::decimal_tree::{DecimalJson, DecimalTree};
-use crate::json::{Json, Node};
-use crate::serde_tree::SerdeJson;
-use crate::types::{JsonType, JsonTypeSet};
+use crate::tests::trees::number;
+use jskw_value::{DecimalJson, DecimalTree, Json, JsonType, JsonTypeSet, Node, SerdeJson};
 use serde_json::Value;
 use std::alloc::{AllocError, Global};
 use std::str::FromStr;

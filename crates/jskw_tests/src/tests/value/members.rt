@@ -1,17 +1,7 @@
 // Members with distinct names.
-use super::{insert, number};
-use crate::decimal_tree::{DecimalTree, Members};
-use crate::json::{Node, Object};
-use crate::members::InsertFault;
+use crate::tests::trees::{handed_back, insert, number};
+use jskw_value::{DecimalTree, Members, Node, Object};
 use std::test::Fail;
-
-// The name and the value of a refused insertion that found the name.
-fn handed_back(refused: Result<(), InsertFault<DecimalTree>>) -> Option<(String, DecimalTree)> {
-    match refused {
-        Err(InsertFault::Repeated(name, value)) => Some((name, value)),
-        _ => None,
-    }
-}
 
 #[test]
 fn a_repeated_name_comes_back_and_the_first_member_stays(rt: HostRuntime) -> Result<(), Fail> {
@@ -20,7 +10,12 @@ fn a_repeated_name_comes_back_and_the_first_member_stays(rt: HostRuntime) -> Res
     insert(rt.alloc(), &mut members, "a", number(1, 0)?)?;
     assert!(rt; !members.is_empty());
     let again = String::from_str(rt.alloc(), "a")?;
-    let (name, value) = handed_back(members.insert(again, number(2, 0)?)).ok_or("inserted")?;
+    let fault = members
+        .insert(again, number(2, 0)?)
+        .err()
+        .ok_or("inserted")?;
+    let (name, value, is_repeated) = handed_back(fault);
+    assert!(rt; is_repeated);
     assert_eq!(rt; name.as_str(), "a");
     assert_eq!(rt; value.as_number().ok_or("a number")?.coefficient(), 2);
     assert_eq!(rt; members.len(), 1);

@@ -3,10 +3,7 @@
 ghost use Rattle.std.specs.Prelude.{string_bytes, codes, cond};
 ghost use Rattle.jskw_value.specs.Tree.{object, null, member, no_members, array, item, no_items};
 
-use crate::decimal::Decimal;
-use crate::json::{Array, Node, Object, Rooted};
-use crate::types::JsonType;
-use crate::walk::Walk;
+use jskw_value::{Array, Decimal, JsonType, Node, Object, Rooted, Walk};
 use serde_json::Value;
 use std::alloc::{AllocError, Global};
 use std::test::Fail;
