@@ -16,10 +16,9 @@ use serde_json::{Map, Value};
 use std::alloc::Global;
 
 /// Compiles `maximum` of Draft 4. Where `parent` has `exclusiveMaximum` with the value `true` the
-/// limit is exclusive, and errors stand at `exclusiveMaximum`; every other value of it is as good as
-/// none. A value that is no limit is an error as in
-/// [`compile_maximum`](crate::minmax::compile_maximum).
-#[tactic(auto, using(crate::proofs::Drafts::maximum_in_draft_4, crate::proofs::Drafts::exclusive_maximum_in_draft_4))]
+/// limit is exclusive, and errors stand at `exclusiveMaximum`; every other value of it is as good
+/// as none. The limit keeps the value of the schema.
+#[tactic(auto, unfolding(jskw_report::specs::Read::asserted))]
 pub fn compile<'a, F: Json>(
     alloc: Global,
     ctx: &Context<'_, F>,

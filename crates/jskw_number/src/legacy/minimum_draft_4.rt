@@ -16,10 +16,9 @@ use serde_json::{Map, Value};
 use std::alloc::Global;
 
 /// Compiles `minimum` of Draft 4. Where `parent` has `exclusiveMinimum` with the value `true` the
-/// limit is exclusive, and errors stand at `exclusiveMinimum`; every other value of it is as good as
-/// none. A value that is no limit is an error as in
-/// [`compile_minimum`](crate::minmax::compile_minimum).
-#[tactic(auto, using(crate::proofs::Drafts::minimum_in_draft_4, crate::proofs::Drafts::exclusive_minimum_in_draft_4))]
+/// limit is exclusive, and errors stand at `exclusiveMinimum`; every other value of it is as good
+/// as none. The limit keeps the value of the schema.
+#[tactic(auto, unfolding(jskw_report::specs::Read::asserted))]
 pub fn compile<'a, F: Json>(
     alloc: Global,
     ctx: &Context<'_, F>,
