@@ -1,6 +1,6 @@
 //! `minimum` in Draft 4 (Validation 5.1.3): where `exclusiveMinimum` beside it is `true`, a number
 //! has to be above the limit.
-ghost use Rattle.std.specs.Prelude.{◌≡◌, false, IfOk, IfSome, Some};
+ghost use Rattle.std.specs.Prelude.{◌≡◌, false, IfOk, IfSome};
 ghost use Rattle.serde_json.specs.View.{view, members_view};
 ghost use Rattle.jskw_report.specs.Compile.{Compiles, reading};
 ghost use Rattle.jskw_report.specs.Setting.{is_after_draft_4};
