@@ -5,26 +5,15 @@ ghost use Rattle.serde_json.specs.View.{view, items_view, members_view};
 ghost use Rattle.jskw_value.specs.Number.{is_exact, is_integer};
 ghost use Rattle.jskw_value.specs.Tree.{is_lawful};
 ghost use Rattle.jskw_value.specs.declared.types.JsonType.{JsonType};
-ghost use Rattle.jskw_value.specs.declared.types.JsonType.TheVariants.{
-  Array,
-  Boolean,
-  Integer,
-  Null,
-  Number,
-  Object,
-  String,
-};
+ghost use Rattle.jskw_value.specs.declared.types.JsonType.TheVariants.{Array, Boolean, Integer};
+ghost use Rattle.jskw_value.specs.declared.types.JsonType.TheVariants.{Null, Number, Object};
+ghost use Rattle.jskw_value.specs.declared.types.JsonType.TheVariants.{String};
 ghost use Rattle.jskw_report.specs.Compile.{Makes, Compiles, reading};
 ghost use Rattle.jskw_report.specs.Errors.{kind_of};
 ghost use Rattle.jskw_report.specs.Holds.{assertion_holds};
 ghost use Rattle.jskw_report.specs.Keyword.{Integers, by_value, type_is};
-ghost use Rattle.jskw_report.specs.KeywordValue.{
-  type_value,
-  array_types,
-  one_type,
-  type_set,
-  named_type,
-};
+ghost use Rattle.jskw_report.specs.KeywordValue.{type_value, array_types, one_type, type_set};
+ghost use Rattle.jskw_report.specs.KeywordValue.{named_type};
 ghost use Rattle.jskw_report.specs.Kind.{WrongType};
 ghost use Rattle.jskw_report.specs.Meaning.{placed};
 ghost use Rattle.jskw_report.specs.Read.{keyword_location, type_keyword};

@@ -7,17 +7,8 @@ ghost use Rattle.serde_json.specs.Find.{as_array};
 ghost use Rattle.serde_json.specs.View.{view, items_view};
 ghost use Rattle.jskw_value.specs.Decimal.{value};
 ghost use Rattle.jskw_value.specs.Tree.{as_number};
-ghost use Rattle.jskw_leaf.specs.Options.{
-  not_among,
-  options_of,
-  AreOptions,
-  some_integer,
-  integer_against,
-  integer_of,
-  picked,
-  only,
-  has_null,
-};
+ghost use Rattle.jskw_leaf.specs.Options.{not_among, options_of, AreOptions, some_integer};
+ghost use Rattle.jskw_leaf.specs.Options.{integer_against, integer_of, picked, only, has_null};
 
 use super::{NullOption, not_among};
 use jskw_report::{Assertion, Location, ValidationErrorKind};

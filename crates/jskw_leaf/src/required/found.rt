@@ -1,21 +1,7 @@
 //! Which of some names an object has. A few names are looked for in one walk over an object of not
 //! too many members; else each is looked up by its key.
-ghost use Rattle.std.specs.Prelude.{
-  ◌≡◌,
-  ◌<◌,
-  ◌≤◌,
-  ◌==◌,
-  ◌^◌,
-  [],
-  IfSome,
-  Some,
-  IsTrue,
-  is_some,
-  not,
-  length,
-  slice_get,
-  slice_index_or,
-};
+ghost use Rattle.std.specs.Prelude.{◌≡◌, ◌<◌, ◌≤◌, ◌==◌, ◌^◌, [], IfSome, Some, IsTrue, is_some};
+ghost use Rattle.std.specs.Prelude.{not, length, slice_get, slice_index_or};
 ghost use Rattle.std.specs.Int.{bit_at};
 ghost use Rattle.std.specs.List.{list_all};
 ghost use Rattle.jskw_value.specs.Tree.{has_name, is_object};

@@ -1,18 +1,7 @@
 //! What is wrong with an object that lacks required names: one error for each, in the order of the
 //! names.
-ghost use Rattle.std.specs.Prelude.{
-  ◌≡◌,
-  ◌++◌,
-  [],
-  ◌∷◌,
-  IfOk,
-  OnOk,
-  OnErr,
-  MatchOption,
-  IsTrue,
-  IsOk,
-  List,
-};
+ghost use Rattle.std.specs.Prelude.{◌≡◌, ◌++◌, [], ◌∷◌, IfOk, OnOk, OnErr, MatchOption, IsTrue};
+ghost use Rattle.std.specs.Prelude.{IsOk, List};
 ghost use Rattle.jskw_report.specs.Errors.{failure_of, failures_of};
 ghost use Rattle.jskw_report.specs.Fail.{missing};
 ghost use Rattle.jskw_report.specs.Holds.{required_holds};
