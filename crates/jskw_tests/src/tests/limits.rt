@@ -193,6 +193,7 @@ const KEPT: &str = r#"{"minimum":0}|minimum|minimum 0
 {"maximum":9223372036854775808}|maximum|maximum 9223372036854775808
 {"maximum":-9223372036854775808}|maximum|maximum -9223372036854775808"#;
 
+// The exclusive limits have names of their own after Draft 4 ..
 const KEPT_AFTER_DRAFT_4: &str = r#"{"exclusiveMinimum":0}|exclusiveMinimum|exclusiveMinimum 0
 {"exclusiveMinimum":18446744073709551615}|exclusiveMinimum|exclusiveMinimum 18446744073709551615
 {"exclusiveMinimum":-5}|exclusiveMinimum|exclusiveMinimum -5
@@ -200,6 +201,7 @@ const KEPT_AFTER_DRAFT_4: &str = r#"{"exclusiveMinimum":0}|exclusiveMinimum|excl
 {"exclusiveMaximum":9223372036854775808}|exclusiveMaximum|exclusiveMaximum 9223372036854775808
 {"exclusiveMaximum":-9223372036854775808}|exclusiveMaximum|exclusiveMaximum -9223372036854775808"#;
 
+// .. and in Draft 4 those of the limits beside them.
 const KEPT_IN_DRAFT_4: &str = r#"{"minimum":5,"exclusiveMinimum":true}|minimum|exclusiveMinimum 5
 {"minimum":-5,"exclusiveMinimum":true}|minimum|exclusiveMinimum -5
 {"minimum":-5,"exclusiveMinimum":false}|minimum|minimum -5
