@@ -124,8 +124,9 @@ fn check_observers<'i, F: Json, V: Validate<F>>(
         return Ok(());
     }
     let collected = validator.collect_errors(instance, &mut location, &mut ctx, &mut errors);
-    assert!(rt; errors.len() <= wanted.len() + 1);
-    assert_eq!(rt; collected.is_ok(), errors.len() == wanted.len() + 1);
+    let count = errors.len().saturating_sub(1);
+    assert!(rt; count <= wanted.len());
+    assert_eq!(rt; collected.is_ok(), count == wanted.len());
     let mut told = errors.iter();
     assert!(rt;
         told.next()
