@@ -60,7 +60,9 @@ impl<N: Nullability> Assertion for IntegerEnumValidator<N> {
     ghost use Rattle.jskw_leaf.specs.Meaning.{enum_integer};
 
     ghost asserts = { enum_integer };
+
     ghost error = { λ v. not_among (view v.options) };
+
     ghost fails_once = { λ _ _. refl };
 
     fn holds<F: Json>(&self, instance: &F::Node) -> bool {

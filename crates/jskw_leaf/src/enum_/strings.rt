@@ -57,7 +57,9 @@ impl<N: Nullability> Assertion for SmallStringEnumValidator<N> {
     ghost use Rattle.jskw_leaf.specs.Meaning.{enum_small_string};
 
     ghost asserts = { enum_small_string };
+
     ghost error = { λ v. not_among (view v.options) };
+
     ghost fails_once = { λ _ _. refl };
 
     fn holds<F: Json>(&self, instance: &F::Node) -> bool {
@@ -119,7 +121,9 @@ impl<N: Nullability> Assertion for BigStringEnumValidator<N> {
     ghost use Rattle.jskw_leaf.specs.Meaning.{enum_big_string};
 
     ghost asserts = { enum_big_string };
+
     ghost error = { λ v. not_among (view v.options) };
+
     ghost fails_once = { λ _ _. refl };
 
     fn holds<F: Json>(&self, instance: &F::Node) -> bool {

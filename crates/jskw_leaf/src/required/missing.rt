@@ -39,10 +39,7 @@ pub(crate) fn fail_first<'i, F: Json + 'i, L: Names<F>>(
 }
 
 // The first name that an object lacks.
-fn first_missing<'n, F: Json + 'n, L: Names<F>>(
-    names: &'n L,
-    instance: &F::Node,
-) -> Option<&'n str>
+fn first_missing<'n, F: Json + 'n, L: Names<F>>(names: &'n L, instance: &F::Node) -> Option<&'n str>
     ensures { let kinds = missing (L.names names.now) (F.Node.tree instance.now) in
         MatchOption result (kinds ≡ [])
         (λ name. (rest : List ErrorKind) × (kinds ≡ Required name.now ∷ rest)) }

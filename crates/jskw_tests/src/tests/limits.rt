@@ -1,7 +1,8 @@
 // Limits and divisors.
-use super::keywords::compile_number;
+use super::keywords::compiled;
 use super::texts::written;
 use super::{DRAFTS_AFTER_4, all_of, check_rows, columns, overriding};
+use jskw_leaf::LeafValidator;
 use jskw_number::NumberValidator;
 use jskw_number::minmax::{ExclusiveMaximum, ExclusiveMinimum, Maximum, Minimum};
 use jskw_report::{Context, Draft, Location};
@@ -173,11 +174,10 @@ fn limit_value_of(limit: &NumberValidator) -> Option<(&str, &Value)> {
 fn kept(alloc: Global, draft: Draft, schema: &str, name: &str) -> Result<String, Fail> {
     let schema = Value::from_str(alloc, schema)?;
     let parent = schema.as_object().ok_or("no object")?;
-    let value = parent.get(name).ok_or("no such member")?;
     let settings = all_of(alloc, draft);
     let ctx: Context<SerdeJson> = Context::new(alloc, &settings);
-    match compile_number(alloc, &ctx, parent, name, value) {
-        Some(Ok(limit)) => {
+    match compiled(alloc, &ctx, parent, name)? {
+        Some(Ok(LeafValidator::Number(limit))) => {
             let (keyword, value) = limit_value_of(&limit).ok_or("no limit")?;
             Ok(written(value, format!(in alloc; "{keyword} ")?)?)
         }
