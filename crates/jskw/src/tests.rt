@@ -17,7 +17,8 @@ use std::test::Fail;
 
 const ALWAYS: usize = usize::MAX;
 
-// What is written for an answer, in which a bar stands for a tab, and a semicolon between two lines.
+// What is written for an answer, in which a bar stands for a tab, and a semicolon for the end of a
+// line.
 fn text_of(alloc: Global, answer: &str) -> Result<String, AllocError> {
     let lines = answer.replace(alloc, '|', "\t")?;
     let mut text = lines.as_str().replace(alloc, ';', "\n")?;

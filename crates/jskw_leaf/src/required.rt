@@ -1,7 +1,7 @@
 //! `required` (Validation 6.5.3): an object has a member of each name.
-ghost use Rattle.std.specs.Prelude.{◌≡◌, ℕ, List};
+ghost use Rattle.std.specs.Prelude.{◌≡◌};
 ghost use Rattle.jskw_report.specs.Meaning.{one, placed};
-ghost use Rattle.jskw_leaf.specs.Meaning.{required_at, required_names};
+ghost use Rattle.jskw_leaf.specs.Meaning.{required_names};
 
 mod beside;
 mod found;
@@ -35,8 +35,8 @@ pub struct RequiredNames<F: Json, L> {
 impl<F: Json, L> RequiredNames<F, L> {
     // The validator that fails at the location.
     fn new(names: L, location: Location) -> RequiredNames<F, L>
-        ensures { (read : L → List (List ℕ)) → required_names read result
-            ≡ required_at location (read names) }
+        ensures names { result.names ≡ names }
+        ensures location { result.location ≡ location }
     {
         RequiredNames {
             names,

@@ -1,3 +1,2 @@
 pub mod Divisors
-pub mod Drafts
 pub mod Limits

@@ -1,4 +1,3 @@
 pub mod Limit
 pub mod Meaning
 pub mod Names
-pub mod Size

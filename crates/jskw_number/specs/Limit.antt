@@ -6,6 +6,7 @@ use Rattle.jskw_value.specs.Tree.{Tree, number}
 use Rattle.jskw_number.specs.declared.helpers.WholeNumber.{WholeNumber}
 use Rattle.jskw_number.specs.declared.helpers.WholeNumber.TheVariants.{Unsigned, Signed}
 
+-- the number itself
 abbrev pub whole_of : WholeNumber → ℤ
 whole_of (Unsigned n) = pos n
 whole_of (Signed z) = z

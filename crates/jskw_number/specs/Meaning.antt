@@ -1,4 +1,4 @@
--- What each validator asserts and where, and what follows of all of them.
+-- What each validator asserts, and where; and of any of them the keyword, the kind of its error, and the limit that it keeps.
 use Rattle.std.specs.Int.NonZero.{non_zero_u64_get}
 use Rattle.std.specs.Prelude.{◌≡◌, ℤ, pos, Option, Some, None, refl}
 use Rattle.serde_json.specs.Data.{Data}
@@ -58,6 +58,7 @@ multiple_of_integer v = record { location = v.location; claim = multiple_of (non
 
 -- ---- any of them
 
+-- what it asserts, and where
 abbrev pub number_assertion : NumberValidator → Placed
 number_assertion (MinItems v) = min_items v
 number_assertion (MaxItems v) = max_items v
@@ -73,6 +74,7 @@ number_assertion (ExclusiveMaximumU64 v) = exclusive_maximum pos v
 number_assertion (ExclusiveMaximumI64 v) = exclusive_maximum (λ z. z) v
 number_assertion (MultipleOfInteger v) = multiple_of_integer v
 
+-- the keyword that it stands for
 abbrev pub number_keyword : NumberValidator → Keyword
 number_keyword v = placed (number_assertion v)
 
@@ -92,13 +94,13 @@ number_error (ExclusiveMaximumU64 v) = kind.ExclusiveMaximum (pos v.limit)
 number_error (ExclusiveMaximumI64 v) = kind.ExclusiveMaximum v.limit
 number_error (MultipleOfInteger v) = kind.MultipleOf (non_zero_u64_get v.multiple_of)
 
--- it has one error of that kind where it does not hold
+-- it has one error of that kind where it does not hold, and none where it does
 pub number_fails_once : (v : NumberValidator) (t : Tree) → error_kinds (number_assertion v).claim t
     ≡ unless (assertion_holds (number_assertion v).claim t) (number_error v)
 number_fails_once (MinItems v) t = refl
 number_fails_once _ t = refl
 
--- the limit as the schema has it, where it is one
+-- the limit as the schema has it; only a limit keeps one
 abbrev pub limit_of : NumberValidator → Option Data
 limit_of (MinimumU64 v) = Some (view v.limit_value)
 limit_of (MinimumI64 v) = Some (view v.limit_value)

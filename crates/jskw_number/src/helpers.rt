@@ -1,5 +1,5 @@
 //! The bounds and limits that a schema has.
-ghost use Rattle.std.specs.Prelude.{◌≡◌, ◌≢◌, None, Err, option_map, alloc_error};
+ghost use Rattle.std.specs.Prelude.{◌≡◌, ◌≢◌, [], None, Err, option_map, alloc_error};
 ghost use Rattle.std.specs.Result.{result_ok};
 ghost use Rattle.serde_json.specs.Find.{get_member};
 ghost use Rattle.serde_json.specs.View.{view, members_view};
@@ -10,7 +10,6 @@ ghost use Rattle.jskw_report.specs.Setting.{name_of};
 ghost use Rattle.jskw_report.specs.Sibling.{is_true, member_passes};
 ghost use Rattle.jskw_report.specs.declared.error.CompileFault.TheVariants as fault;
 ghost use Rattle.jskw_number.specs.Limit.{whole_of};
-ghost use Rattle.jskw_number.specs.Size.{size_of};
 
 use jskw_report::compiler::member_of;
 use jskw_report::{
@@ -24,7 +23,7 @@ use std::alloc::Global;
 /// The bound on a size that a value of a schema is: Some exactly for a whole number from 0 to
 /// 2^64-1 (Validation 6.4, 6.5).
 pub fn size_limit(value: &Value) -> Option<u64>
-    ensures { result ≡ size_of (view value.now) }
+    ensures { result ≡ result_ok (size_value [] (view value.now)) }
 {
     value.as_u64()
 }
@@ -71,7 +70,7 @@ pub fn fail_on_non_positive_integer<'a>(
     value: &'a Value,
     location: Location,
 ) -> CompileFault<'a>
-    requires { size_of (view value.now) ≡ None }
+    requires { result_ok (size_value [] (view value.now)) ≡ None }
     ensures refused { Makes (λ n. n) (Err result) (size_value location (view value.now)) }
     ensures no_memory { result ≢ fault.Memory alloc_error }
 {

@@ -45,8 +45,7 @@ impl Assertion for MaxItemsValidator {
     }
 }
 
-/// Compiles `maxItems`. A value that is no bound is an error as in
-/// [`fail_on_non_positive_integer`].
+/// Compiles `maxItems`.
 #[tactic(auto, unfolding(jskw_report::specs::Read::asserted))]
 pub fn compile<'a, F: Json>(
     alloc: Global,

@@ -17,8 +17,8 @@ use jskw_value::{Json, Node, Object};
 use serde_json::{Map, Value};
 use std::alloc::Global;
 
-/// The validator of `maxProperties`: it holds of an object that has at most as many members as the bound,
-/// and of whatever is no object.
+/// The validator of `maxProperties`: it holds of an object that has at most as many members as the
+/// bound, and of whatever is no object.
 #[derive(Drop)]
 pub struct MaxPropertiesValidator {
     limit: u64,
@@ -45,8 +45,7 @@ impl Assertion for MaxPropertiesValidator {
     }
 }
 
-/// Compiles `maxProperties`. A value that is no bound is an error as in
-/// [`fail_on_non_positive_integer`].
+/// Compiles `maxProperties`.
 #[tactic(auto, unfolding(jskw_report::specs::Read::asserted))]
 pub fn compile<'a, F: Json>(
     alloc: Global,

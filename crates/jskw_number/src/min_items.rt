@@ -45,8 +45,7 @@ impl Assertion for MinItemsValidator {
     }
 }
 
-/// Compiles `minItems`. A value that is no bound is an error as in
-/// [`fail_on_non_positive_integer`].
+/// Compiles `minItems`.
 #[tactic(auto, unfolding(jskw_report::specs::Read::asserted))]
 pub fn compile<'a, F: Json>(
     alloc: Global,

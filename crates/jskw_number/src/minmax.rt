@@ -1,7 +1,20 @@
 //! Limits on numbers (Validation 6.2.2 to 6.2.5): `minimum`, `maximum`, `exclusiveMinimum` and
-//! `exclusiveMaximum`. Numbers are compared exactly, however they are written.
-ghost use Rattle.std.specs.Prelude.{◌≡◌, ℤ, pos, negsuc, ◌≤ℤ◌, ◌<ℤ◌, true, IfOk, IfSome, IsTrue};
-ghost use Rattle.std.specs.Prelude.{Some, refl};
+//! `exclusiveMaximum`. Numbers are compared exactly, however they are written. A limit is a whole
+//! number from -2^63 to 2^64-1. The error of any other number is of the kind `CompileError`, and
+//! that of any other value of the type number.
+ghost use Rattle.std.specs.Prelude.{
+  ◌≡◌,
+  ◌≤ℤ◌,
+  ◌<ℤ◌,
+  ℤ,
+  pos,
+  negsuc,
+  true,
+  refl,
+  IfOk,
+  IfSome,
+  IsTrue,
+};
 ghost use Rattle.serde_json.specs.View.{view, members_view};
 ghost use Rattle.jskw_value.specs.Tree.{is_lawful};
 ghost use Rattle.jskw_report.specs.Compile.{Compiles, Makes, reading};
@@ -61,8 +74,8 @@ fn compared<F: Json, T: Whole>(instance: &F::Node, limit: T) -> Option<Ordering>
     Some(number.decimal().cmp_whole(limit.to_i128()))
 }
 
-/// The validator of `minimum` (Validation 6.2.4): it holds of a number that is at least the limit, and
-/// of whatever is no number.
+/// The validator of `minimum` (Validation 6.2.4): it holds of a number that is at least the limit,
+/// and of whatever is no number.
 #[derive(Drop)]
 pub struct Minimum<T> {
     limit: T,
@@ -70,7 +83,7 @@ pub struct Minimum<T> {
     location: Location,
 }
 
-/// The validator of a limit, with the limit as the schema has it, that fails at a keyword location.
+/// From the limit, its value in the schema and the keyword location.
 impl<T> From<(T, Value, Location)> for Minimum<T> {
     ghost from_gives = { λ parts v. v
         ≡ record { limit = parts.0; limit_value = parts.1; location = parts.2 } };
@@ -116,8 +129,8 @@ impl<T: Whole> Assertion for Minimum<T> {
     }
 }
 
-/// The validator of `maximum` (Validation 6.2.2): it holds of a number that is at most the limit, and
-/// of whatever is no number.
+/// The validator of `maximum` (Validation 6.2.2): it holds of a number that is at most the limit,
+/// and of whatever is no number.
 #[derive(Drop)]
 pub struct Maximum<T> {
     limit: T,
@@ -125,7 +138,7 @@ pub struct Maximum<T> {
     location: Location,
 }
 
-/// The validator of a limit, with the limit as the schema has it, that fails at a keyword location.
+/// From the limit, its value in the schema and the keyword location.
 impl<T> From<(T, Value, Location)> for Maximum<T> {
     ghost from_gives = { λ parts v. v
         ≡ record { limit = parts.0; limit_value = parts.1; location = parts.2 } };
@@ -171,8 +184,8 @@ impl<T: Whole> Assertion for Maximum<T> {
     }
 }
 
-/// The validator of `exclusiveMinimum` (Validation 6.2.5): it holds of a number that is above the limit, and
-/// of whatever is no number.
+/// The validator of `exclusiveMinimum` (Validation 6.2.5): it holds of a number that is above the
+/// limit, and of whatever is no number.
 #[derive(Drop)]
 pub struct ExclusiveMinimum<T> {
     limit: T,
@@ -180,7 +193,7 @@ pub struct ExclusiveMinimum<T> {
     location: Location,
 }
 
-/// The validator of a limit, with the limit as the schema has it, that fails at a keyword location.
+/// From the limit, its value in the schema and the keyword location.
 impl<T> From<(T, Value, Location)> for ExclusiveMinimum<T> {
     ghost from_gives = { λ parts v. v
         ≡ record { limit = parts.0; limit_value = parts.1; location = parts.2 } };
@@ -226,8 +239,8 @@ impl<T: Whole> Assertion for ExclusiveMinimum<T> {
     }
 }
 
-/// The validator of `exclusiveMaximum` (Validation 6.2.3): it holds of a number that is below the limit, and
-/// of whatever is no number.
+/// The validator of `exclusiveMaximum` (Validation 6.2.3): it holds of a number that is below the
+/// limit, and of whatever is no number.
 #[derive(Drop)]
 pub struct ExclusiveMaximum<T> {
     limit: T,
@@ -235,7 +248,7 @@ pub struct ExclusiveMaximum<T> {
     location: Location,
 }
 
-/// The validator of a limit, with the limit as the schema has it, that fails at a keyword location.
+/// From the limit, its value in the schema and the keyword location.
 impl<T> From<(T, Value, Location)> for ExclusiveMaximum<T> {
     ghost from_gives = { λ parts v. v
         ≡ record { limit = parts.0; limit_value = parts.1; location = parts.2 } };
@@ -281,10 +294,10 @@ impl<T: Whole> Assertion for ExclusiveMaximum<T> {
     }
 }
 
-/// Compiles `minimum` of the drafts after Draft 4, whose
-/// [`compile`](crate::legacy::minimum_draft_4::compile) reads a sibling too. A value that is no whole number from -2^63 to 2^64-1 is an error: of the
-/// type number where it is no number, and else a compile error.
-#[tactic(auto, using(crate::proofs::Drafts::minimum_after_draft_4))]
+/// Compiles `minimum` of the drafts after Draft 4, in which
+/// [`minimum_draft_4`](crate::legacy::minimum_draft_4) reads a sibling too. The limit keeps the
+/// value of the schema.
+#[tactic(auto, unfolding(jskw_report::specs::Read::asserted))]
 pub fn compile_minimum<'a, F: Json>(
     alloc: Global,
     ctx: &Context<'_, F>,
@@ -323,10 +336,10 @@ pub(crate) fn make_minimum<'a, F: Json>(
     })
 }
 
-/// Compiles `maximum` of the drafts after Draft 4, whose
-/// [`compile`](crate::legacy::maximum_draft_4::compile) reads a sibling too. A value that is no whole number from -2^63 to 2^64-1 is an error: of the
-/// type number where it is no number, and else a compile error.
-#[tactic(auto, using(crate::proofs::Drafts::maximum_after_draft_4))]
+/// Compiles `maximum` of the drafts after Draft 4, in which
+/// [`maximum_draft_4`](crate::legacy::maximum_draft_4) reads a sibling too. The limit keeps the
+/// value of the schema.
+#[tactic(auto, unfolding(jskw_report::specs::Read::asserted))]
 pub fn compile_maximum<'a, F: Json>(
     alloc: Global,
     ctx: &Context<'_, F>,
@@ -365,8 +378,8 @@ pub(crate) fn make_maximum<'a, F: Json>(
     })
 }
 
-/// Compiles `exclusiveMinimum`. A value that is no whole number from -2^63 to 2^64-1 is an error: of the
-/// type number where it is no number, and else a compile error.
+/// Compiles `exclusiveMinimum`, in Draft 4 no keyword of its own. The limit keeps the value of the
+/// schema.
 #[tactic(auto, unfolding(jskw_report::specs::Read::asserted))]
 pub fn compile_exclusive_minimum<'a, F: Json>(
     alloc: Global,
@@ -375,7 +388,8 @@ pub fn compile_exclusive_minimum<'a, F: Json>(
     schema: &'a Value,
 ) -> Option<CompilationResult<'a, NumberValidator>>
     ensures keyword { Compiles number_keyword result
-        (reading word.ExclusiveMinimum ctx.now (members_view parent.now.entries) (view schema.now)) }
+        (reading word.ExclusiveMinimum ctx.now (members_view parent.now.entries)
+        (view schema.now)) }
     ensures value { IfSome result (λ r. IfOk r (λ v. limit_of v ≡ Some (view schema.now))) }
 {
     let _ = parent;
@@ -405,8 +419,8 @@ pub(crate) fn make_exclusive_minimum<'a, F: Json>(
     })
 }
 
-/// Compiles `exclusiveMaximum`. A value that is no whole number from -2^63 to 2^64-1 is an error: of the
-/// type number where it is no number, and else a compile error.
+/// Compiles `exclusiveMaximum`, in Draft 4 no keyword of its own. The limit keeps the value of the
+/// schema.
 #[tactic(auto, unfolding(jskw_report::specs::Read::asserted))]
 pub fn compile_exclusive_maximum<'a, F: Json>(
     alloc: Global,
@@ -415,7 +429,8 @@ pub fn compile_exclusive_maximum<'a, F: Json>(
     schema: &'a Value,
 ) -> Option<CompilationResult<'a, NumberValidator>>
     ensures keyword { Compiles number_keyword result
-        (reading word.ExclusiveMaximum ctx.now (members_view parent.now.entries) (view schema.now)) }
+        (reading word.ExclusiveMaximum ctx.now (members_view parent.now.entries)
+        (view schema.now)) }
     ensures value { IfSome result (λ r. IfOk r (λ v. limit_of v ≡ Some (view schema.now))) }
 {
     let _ = parent;

@@ -1,5 +1,7 @@
 //! `multipleOf` (Validation 6.2.1): division of a number by the divisor gives an integer. Numbers
-//! are divided exactly, however they are written.
+//! are divided exactly, however they are written. A divisor is a whole number from 1 to 2^64-1. The
+//! error of a whole number at or below 0 is of the kind `ExclusiveMinimum` with the limit 0, that of
+//! any other number of the kind `CompileError`, and that of any other value of the type number.
 ghost use Rattle.std.specs.Int.NonZero.{non_zero_u64_get};
 ghost use Rattle.std.specs.Prelude.{refl};
 ghost use Rattle.serde_json.specs.View.{view, members_view};
@@ -20,15 +22,15 @@ use serde_json::{Map, Value};
 use std::alloc::Global;
 use std::num::NonZeroU64;
 
-/// The validator of `multipleOf` with a whole number from 1 to 2^64-1: it holds of a number that is
-/// the divisor times an integer, and of whatever is no number.
+/// The validator of `multipleOf`: it holds of a number that is the divisor times an integer, and of
+/// whatever is no number.
 #[derive(Drop)]
 pub struct MultipleOfIntegerValidator {
     multiple_of: NonZeroU64,
     location: Location,
 }
 
-#[tactic(auto, using(crate::proofs::Divisors::divides_number, crate::proofs::Divisors::divides_other))]
+#[tactic(auto, using(crate::proofs::Divisors::divides))]
 impl Assertion for MultipleOfIntegerValidator {
     ghost asserts = { multiple_of_integer };
 
@@ -53,9 +55,7 @@ impl Assertion for MultipleOfIntegerValidator {
     }
 }
 
-/// Compiles `multipleOf`. A value that is no whole number from 1 to 2^64-1 is an error: of the type
-/// number where it is no number, of the kind `ExclusiveMinimum` with the limit 0 where it is a
-/// whole number at or below 0, and else a compile error.
+/// Compiles `multipleOf`.
 #[tactic(auto, unfolding(jskw_report::specs::Read::asserted))]
 pub fn compile<'a, F: Json>(
     alloc: Global,
@@ -88,7 +88,7 @@ fn make<'a, F: Json>(
 }
 
 // The divisor that a value of a schema is, or its fault at the location.
-#[tactic(auto, using(crate::proofs::Divisors::divisor_above_0, crate::proofs::Divisors::divisor_of_0, crate::proofs::Divisors::divisor_below_0, crate::proofs::Divisors::no_divisor))]
+#[tactic(auto, using(crate::proofs::Divisors::divisors))]
 fn divisor<'a>(
     alloc: Global,
     location: &Location,

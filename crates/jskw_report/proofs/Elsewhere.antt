@@ -1,221 +1,172 @@
 -- A keyword that concerns the instances of one type holds of every other.
-use Rattle.std.specs.Prelude.{◌≡◌, ◌≢◌, ℕ, ◌||◌, not, nat_le, [], drop, length, count_by, Bool, true, false, if◌then◌else◌, IsTrue, Option, Some, None, Result, Ok, Err}
+use Rattle.std.specs.Prelude.{◌≡◌, ◌≢◌, ⊤, ℕ, [], drop, Bool, true, false, if◌then◌else◌, IsTrue, Option, Some, None, Result, Ok, Err}
 use Rattle.std.specs.List.{list_all}
-use Rattle.std.proofs.Common.{refl, sym, subst}
+use Rattle.std.proofs.Common.{refl, sym, subst, ap, ◌∙◌}
 use Rattle.std.proofs.Math.Dec.{leb-zero}
 use Rattle.std.proofs.Math.Seq.{drop-nil}
-use Rattle.std.proofs.lemmas.Bool.{true≢false}
 use Rattle.serde_json.specs.Data.{Data, boolean, array, object, Members}
-use Rattle.jskw_value.specs.Equality as equality
+use Rattle.serde_json.specs.Find.{get_member}
 use Rattle.jskw_value.specs.Pointer.{Pointer}
-use Rattle.jskw_value.specs.Tree.{Tree, items, is_array, is_object, as_number}
+use Rattle.jskw_value.specs.Tree.{Tree}
 use Rattle.jskw_value.specs.Tree as tree
 use Rattle.jskw_value.specs.Types.{json_type}
 use Rattle.jskw_value.specs.declared.types.JsonType.{JsonType}
 use Rattle.jskw_value.specs.declared.types.JsonType.TheVariants.{Array, Number, Object}
-use Rattle.jskw_report.specs.KeywordValue.{Refusal, map_ok, join_ok, size_value, limit_value, divisor_value, required_value}
-use Rattle.jskw_report.specs.Holds.{holds, keyword_holds, each_holds, count_holds}
-use Rattle.jskw_report.specs.Keyword.{Schemas, no_schemas, schema, Keyword, assertion, contains, items_list, prefix_items, items_from, additional_items, size, MinItems, MaxItems, MinProperties, MaxProperties, Relation, Minimum, Maximum, ExclusiveMinimum, ExclusiveMaximum, limit, multiple_of, unique, required, at_most, Bounds}
-use Rattle.jskw_report.specs.Laws.{HoldsElsewhere, concerns}
+use Rattle.jskw_report.specs.KeywordValue.{Refusal, map_ok, join_ok, size_value, limit_value, divisor_value, const_value, enum_value, type_value, required_value}
+use Rattle.jskw_report.specs.Holds.{holds, keyword_holds, each_holds}
+use Rattle.jskw_report.specs.Keyword.{Schema, Schemas, no_schemas, schema, Keyword, assertion, contains, items_list, prefix_items, items_from, additional_items, Assertion, size, MinItems, MaxItems, MinProperties, MaxProperties, Relation, Minimum, Maximum, ExclusiveMinimum, ExclusiveMaximum, limit, multiple_of, unique, required, at_most, Bounds}
+use Rattle.jskw_report.specs.Laws.{HoldsElsewhere}
 use Rattle.jskw_report.specs.Read.{Asserts, Part, Reading, part_named, keyword_location, relation_beside, limit_keyword, limit_word, read_bounds, items_keyword, prefix_keyword, additional_keyword, asserted, read_word}
-use Rattle.jskw_report.specs.Setting.{Setting, keywords, name_of, stands}
+use Rattle.jskw_report.specs.Setting.{Setting, keywords, name_of, concerns, stands}
 use Rattle.jskw_report.specs.declared.keyword.KeywordName.{KeywordName}
 use Rattle.jskw_report.specs.declared.keyword.KeywordName.TheVariants as word
 use Rattle.jskw_report.specs.Sibling.{is_true, is_handed_on}
-use Rattle.serde_json.specs.Find.{get_member}
 
--- ---- the keywords of each type
+-- the type of the instances that the assertion is about, if it isn't all of them
+abbrev assertion_subject : Assertion → Option JsonType
+assertion_subject (size MinItems n) = Some Array
+assertion_subject (size MaxItems n) = Some Array
+assertion_subject (size MinProperties n) = Some Object
+assertion_subject (size MaxProperties n) = Some Object
+assertion_subject (limit r n) = Some Number
+assertion_subject (multiple_of m) = Some Number
+assertion_subject unique = Some Array
+assertion_subject (required names) = Some Object
+assertion_subject (at_most n) = Some Array
+assertion_subject _ = None
 
--- limits and divisors
-abbrev is_of_numbers : Keyword → Bool
-is_of_numbers (assertion q (limit r n)) = true
-is_of_numbers (assertion q (multiple_of m)) = true
-is_of_numbers _ = false
+-- the type of the instances that the keyword is about, if it isn't all of them
+abbrev subject : Keyword → Option JsonType
+subject (assertion q a) = assertion_subject a
+subject _ = Some Array
 
--- numbers of items, different items, and all keywords with subschemas
-abbrev is_of_arrays : Keyword → Bool
-is_of_arrays (assertion q (size MinItems n)) = true
-is_of_arrays (assertion q (size MaxItems n)) = true
-is_of_arrays (assertion q unique) = true
-is_of_arrays (assertion q (at_most n)) = true
-is_of_arrays (assertion q _) = false
-is_of_arrays _ = true
+-- ---- what is read of a keyword is about the type that the keyword concerns
 
--- numbers of members, and required names
-abbrev is_of_objects : Keyword → Bool
-is_of_objects (assertion q (size MinProperties n)) = true
-is_of_objects (assertion q (size MaxProperties n)) = true
-is_of_objects (assertion q (required names)) = true
-is_of_objects _ = false
+-- the keyword that is asserted, if there is one, is about the type
+abbrev IsAbout : Option JsonType → Asserts → Type 0
+IsAbout o (Some (Ok k)) = subject k ≡ o
+IsAbout o _ = ⊤
 
--- the keyword concerns the instances of that type
-abbrev is_about : Option JsonType → Keyword → Bool
-is_about (Some Number) k = is_of_numbers k
-is_about (Some Array) k = is_of_arrays k
-is_about (Some Object) k = is_of_objects k
-is_about (Some _) k = false
-is_about None k = true
+-- a keyword that is made of a value
+about_map : {A : Type 0} (o : Option JsonType) (f : A → Keyword) (r : Result A Refusal) → ((a : A) → subject (f a) ≡ o) → IsAbout o (Some (map_ok f r))
+about_map o f (Ok a) h = h a
+about_map o f (Err e) h = tt
 
--- ---- what a keyword asserts concerns its type
+-- one of two
+about_if : (o : Option JsonType) (b : Bool) (x y : Asserts) → IsAbout o x → IsAbout o y → IsAbout o (if b then x else y)
+about_if o true x y h k = h
+about_if o false x y h k = k
 
--- the keyword that is asserted, if there is one, passes the test
-abbrev gives : (Keyword → Bool) → Asserts → Bool
-gives c None = true
-gives c (Some (Err e)) = true
-gives c (Some (Ok k)) = c k
+-- `contains`
+about_contains : (b : Result Bounds Refusal) (r : Reading) → IsAbout (Some Array) (Some (join_ok (λ b sub. contains sub b) b r))
+about_contains (Err e) r = tt
+about_contains (Ok b) r = about_map (Some Array) (λ sub. contains sub b) r (λ sub. refl)
 
--- where each keyword that f makes passes
-gives_map : {A : Type 0} (c : Keyword → Bool) (f : A → Keyword) (r : Result A Refusal) → ((a : A) → IsTrue (c (f a))) → IsTrue (gives c (Some (map_ok f r)))
-gives_map c f (Ok a) h = h a
-gives_map c f (Err e) h = refl
+-- `items`
+about_items : (s : Setting) (q : Pointer) (ms : Members) (part : Part) (d : Data) → IsAbout (Some Array) (items_keyword s q ms part d)
+about_items s q ms part (array ds) = about_map (Some Array) _ (part.schemas s q) (λ ss. refl)
+about_items s q ms part (object ns) = about_map (Some Array) _ (part.schema s q) (λ sub. refl)
+about_items s q ms part (boolean false) = about_map (Some Array) _ (part.schema s q) (λ sub. refl)
+about_items s q ms part (boolean true) = tt
+about_items s q ms part _ = tt
 
--- every keyword passes the test that all pass
-gives_any : (x : Asserts) → IsTrue (gives (λ k. true) x)
-gives_any None = refl
-gives_any (Some (Ok k)) = refl
-gives_any (Some (Err e)) = refl
+-- `prefixItems`
+about_prefix : (s : Setting) (q : Pointer) (part : Part) (d : Data) → IsAbout (Some Array) (prefix_keyword s q part d)
+about_prefix s q part (array ds) = about_map (Some Array) _ (part.schemas s q) (λ ss. refl)
+about_prefix s q part _ = tt
 
--- of two, where both pass
-gives_if : (c : Keyword → Bool) (b : Bool) (x y : Asserts) → IsTrue (gives c x) → IsTrue (gives c y) → IsTrue (gives c (if b then x else y))
-gives_if c true x y h k = h
-gives_if c false x y h k = k
+-- `additionalItems`
+about_additional : (s : Setting) (q : Pointer) (o : Option Data) (part : Part) (d : Data) → IsAbout (Some Array) (additional_keyword s q o part d)
+about_additional s q (Some (array ds)) part (boolean true) = tt
+about_additional s q (Some (array ds)) part (boolean false) = refl
+about_additional s q (Some (array ds)) part _ = about_map (Some Array) _ (part.schema s q) (λ sub. refl)
+about_additional s q (Some _) part d = tt
+about_additional s q None part d = tt
 
--- `contains` is of arrays
-gives_contains : (b : Result Bounds Refusal) (r : Reading) → IsTrue (gives is_of_arrays (Some (join_ok (λ b sub. contains sub b) b r)))
-gives_contains (Err e) r = refl
-gives_contains (Ok b) (Err e) = refl
-gives_contains (Ok b) (Ok sub) = refl
+-- a limit
+about_limit : (r : Relation) (p : Pointer) (d : Data) → IsAbout (Some Number) (Some (limit_keyword r p d))
+about_limit r p d = about_map (Some Number) _ (limit_value (keyword_location p (limit_word r)) d) (λ z. refl)
 
--- so is `items`
-gives_items : (s : Setting) (q : Pointer) (ms : Members) (part : Part) (d : Data) → IsTrue (gives is_of_arrays (items_keyword s q ms part d))
-gives_items s q ms part (array ds) = gives_map is_of_arrays _ (part.schemas s q) (λ ss. refl)
-gives_items s q ms part (object ns) = gives_map is_of_arrays _ (part.schema s q) (λ sub. refl)
-gives_items s q ms part (boolean false) = gives_map is_of_arrays _ (part.schema s q) (λ sub. refl)
-gives_items s q ms part (boolean true) = refl
-gives_items s q ms part _ = refl
-
--- so is `prefixItems`
-gives_prefix : (s : Setting) (q : Pointer) (part : Part) (d : Data) → IsTrue (gives is_of_arrays (prefix_keyword s q part d))
-gives_prefix s q part (array ds) = gives_map is_of_arrays _ (part.schemas s q) (λ ss. refl)
-gives_prefix s q part _ = refl
-
--- so is `additionalItems`
-gives_additional : (s : Setting) (q : Pointer) (o : Option Data) (part : Part) (d : Data) → IsTrue (gives is_of_arrays (additional_keyword s q o part d))
-gives_additional s q (Some (array ds)) part (boolean true) = refl
-gives_additional s q (Some (array ds)) part (boolean false) = refl
-gives_additional s q (Some (array ds)) part _ = gives_map is_of_arrays _ (part.schema s q) (λ sub. refl)
-gives_additional s q (Some _) part d = refl
-gives_additional s q None part d = refl
-
--- a limit is of numbers
-gives_limit : (r : Relation) (p : Pointer) (d : Data) → IsTrue (gives is_of_numbers (Some (limit_keyword r p d)))
-gives_limit r p d = gives_map is_of_numbers _ (limit_value (keyword_location p (limit_word r)) d) (λ z. refl)
-
--- what a keyword asserts is of its type
-gives_about : (w : KeywordName) (s : Setting) (p : Pointer) (ms : Members) (part : Part) → IsTrue (gives (is_about (concerns w)) (asserted w s p ms part))
+-- what a keyword asserts
+about_asserted : (w : KeywordName) (s : Setting) (p : Pointer) (ms : Members) (part : Part) → IsAbout (concerns w) (asserted w s p ms part)
 unfolding asserted
-gives_about word.MinItems s p ms part = gives_map is_of_arrays _ (size_value (keyword_location p word.MinItems) part.value) (λ n. refl)
-gives_about word.MaxItems s p ms part = gives_map is_of_arrays _ (size_value (keyword_location p word.MaxItems) part.value) (λ n. refl)
-gives_about word.Items s p ms part = gives_items s (keyword_location p word.Items) ms part part.value
-gives_about word.PrefixItems s p ms part = gives_prefix s (keyword_location p word.PrefixItems) part part.value
-gives_about word.AdditionalItems s p ms part = gives_additional s (keyword_location p word.AdditionalItems) (get_member (name_of word.Items) ms) part part.value
-gives_about word.Contains s p ms part = gives_contains (read_bounds s p ms) (part.schema s (keyword_location p word.Contains))
-gives_about word.UniqueItems s p ms part = gives_if is_of_arrays (is_true part.value) (Some (Ok (assertion (keyword_location p word.UniqueItems) unique))) None refl refl
-gives_about word.Minimum s p ms part = gives_limit (relation_beside s ms Minimum) p part.value
-gives_about word.Maximum s p ms part = gives_limit (relation_beside s ms Maximum) p part.value
-gives_about word.ExclusiveMinimum s p ms part = gives_limit ExclusiveMinimum p part.value
-gives_about word.ExclusiveMaximum s p ms part = gives_limit ExclusiveMaximum p part.value
-gives_about word.MultipleOf s p ms part = gives_map is_of_numbers _ (divisor_value (keyword_location p word.MultipleOf) part.value) (λ n. refl)
-gives_about word.MinProperties s p ms part = gives_map is_of_objects _ (size_value (keyword_location p word.MinProperties) part.value) (λ n. refl)
-gives_about word.MaxProperties s p ms part = gives_map is_of_objects _ (size_value (keyword_location p word.MaxProperties) part.value) (λ n. refl)
-gives_about word.Required s p ms part = gives_if is_of_objects (is_handed_on s ms) None _ refl
-    (gives_map is_of_objects (λ names. assertion (keyword_location p word.Required) (required names)) (required_value (keyword_location p word.Required) part.value) (λ names. refl))
-gives_about word.TypeKeyword s p ms part = gives_any (asserted word.TypeKeyword s p ms part)
-gives_about word.Const s p ms part = gives_any (asserted word.Const s p ms part)
-gives_about word.Enum s p ms part = gives_any (asserted word.Enum s p ms part)
+about_asserted word.TypeKeyword s p ms part = about_map None _ (type_value (keyword_location p word.TypeKeyword) part.value) (λ k. refl)
+about_asserted word.MinItems s p ms part = about_map (Some Array) _ (size_value (keyword_location p word.MinItems) part.value) (λ n. refl)
+about_asserted word.MaxItems s p ms part = about_map (Some Array) _ (size_value (keyword_location p word.MaxItems) part.value) (λ n. refl)
+about_asserted word.Items s p ms part = about_items s (keyword_location p word.Items) ms part part.value
+about_asserted word.PrefixItems s p ms part = about_prefix s (keyword_location p word.PrefixItems) part part.value
+about_asserted word.AdditionalItems s p ms part = about_additional s (keyword_location p word.AdditionalItems) (get_member (name_of word.Items) ms) part part.value
+about_asserted word.Contains s p ms part = about_contains (read_bounds s p ms) (part.schema s (keyword_location p word.Contains))
+about_asserted word.UniqueItems s p ms part = about_if (Some Array) (is_true part.value) _ None refl tt
+about_asserted word.Const s p ms part = about_map None _ (const_value (keyword_location p word.Const) part.value) (λ d. refl)
+about_asserted word.Enum s p ms part = about_map None _ (enum_value (keyword_location p word.Enum) part.value) (λ ds. refl)
+about_asserted word.Minimum s p ms part = about_limit (relation_beside s ms Minimum) p part.value
+about_asserted word.Maximum s p ms part = about_limit (relation_beside s ms Maximum) p part.value
+about_asserted word.ExclusiveMinimum s p ms part = about_limit ExclusiveMinimum p part.value
+about_asserted word.ExclusiveMaximum s p ms part = about_limit ExclusiveMaximum p part.value
+about_asserted word.MultipleOf s p ms part = about_map (Some Number) _ (divisor_value (keyword_location p word.MultipleOf) part.value) (λ n. refl)
+about_asserted word.MinProperties s p ms part = about_map (Some Object) _ (size_value (keyword_location p word.MinProperties) part.value) (λ n. refl)
+about_asserted word.MaxProperties s p ms part = about_map (Some Object) _ (size_value (keyword_location p word.MaxProperties) part.value) (λ n. refl)
+about_asserted word.Required s p ms part = about_if (Some Object) (is_handed_on s ms) None _ tt
+    (about_map (Some Object) (λ names. assertion (keyword_location p word.Required) (required names)) (required_value (keyword_location p word.Required) part.value) (λ names. refl))
 
--- so is what is read
-reads_about : (w : KeywordName) (s : Setting) (p : Pointer) (ms : Members) (o : Option Part) → IsTrue (gives (is_about (concerns w)) (read_word w s p ms o))
+-- what is read of a keyword
+about_read : (w : KeywordName) (s : Setting) (p : Pointer) (ms : Members) (o : Option Part) → IsAbout (concerns w) (read_word w s p ms o)
 unfolding read_word
-reads_about w s p ms None = refl
-reads_about w s p ms (Some part) = gives_if (is_about (concerns w)) (stands s w) (asserted w s p ms part) None (gives_about w s p ms part) refl
+about_read w s p ms None = tt
+about_read w s p ms (Some part) = about_if (concerns w) (stands s w) (asserted w s p ms part) None (about_asserted w s p ms part) tt
 
--- ---- what isn't concerned
-
--- only an array has items
-no_items_of : (t : Tree) → is_array t ≡ false → items t ≡ []
-no_items_of (tree.array ts) e = absurd (true≢false e)
-no_items_of _ e = refl
-
--- not false, or anything
-not-false : (b c : Bool) → b ≡ false → IsTrue (not b || c)
-not-false true c e = absurd (true≢false e)
-not-false false c e = refl
+-- ---- a keyword holds of what it isn't about
 
 -- schemas hold of no items
 each_holds-nil : (ss : Schemas) → IsTrue (each_holds ss [])
 each_holds-nil no_schemas = refl
 each_holds-nil (schema s ss) = refl
 
--- every test passes of no items
-all-drop-nil : (h : Tree → Bool) (n : ℕ) → IsTrue (list_all h (drop n []))
-all-drop-nil h n = subst (λ ts. IsTrue (list_all h ts)) (sym (drop-nil n)) refl
+-- a schema holds of no items from an index on
+all_hold-nil : (s : Schema) (n : ℕ) → IsTrue (list_all (holds s) (drop n []))
+all_hold-nil s n = ap (list_all (holds s)) (drop-nil n)
 
--- of numbers: holds of every other
-number_only : (k : Keyword) (t : Tree) → IsTrue (is_of_numbers k) → as_number t ≡ None → IsTrue (keyword_holds k t)
-number_only (assertion q (limit r n)) (tree.number m) y e = absurd (cc)
-number_only (assertion q (limit r n)) _ y e = refl
-number_only (assertion q (multiple_of m)) (tree.number n) y e = absurd (cc)
-number_only (assertion q (multiple_of m)) _ y e = refl
-number_only (assertion q _) t y e = absurd (true≢false (sym y))
-number_only _ t y e = absurd (true≢false (sym y))
+-- the tree is of another type than that one
+abbrev IsOther : Option JsonType → Tree → Type 0
+IsOther None t = ⊥
+IsOther (Some j) t = json_type t ≢ j
 
--- of arrays: holds of every other
-array_only : (k : Keyword) (t : Tree) → IsTrue (is_of_arrays k) → is_array t ≡ false → IsTrue (keyword_holds k t)
-array_only (assertion q (size MinItems n)) t y e = not-false (is_array t) _ e
-array_only (assertion q (size MaxItems n)) t y e = not-false (is_array t) _ e
-array_only (assertion q unique) t y e = subst (λ ts. IsTrue (equality.unique ts)) (sym (no_items_of t e)) refl
-array_only (assertion q (at_most n)) t y e = subst (λ ts. IsTrue (nat_le (length ts) n)) (sym (no_items_of t e)) (subst IsTrue (sym (leb-zero n)) refl)
-array_only (assertion q _) t y e = absurd (true≢false (sym y))
-array_only (contains s b) t y e = not-false (is_array t) (count_holds b (count_by (holds s) (items t))) e
-array_only (items_list ss) t y e = subst (λ ts. IsTrue (each_holds ss ts)) (sym (no_items_of t e)) (each_holds-nil ss)
-array_only (prefix_items ss) t y e = subst (λ ts. IsTrue (each_holds ss ts)) (sym (no_items_of t e)) (each_holds-nil ss)
-array_only (items_from n s bare) t y e = subst (λ ts. IsTrue (list_all (holds s) (drop n ts))) (sym (no_items_of t e)) (all-drop-nil (holds s) n)
-array_only (additional_items n s) t y e = subst (λ ts. IsTrue (list_all (holds s) (drop n ts))) (sym (no_items_of t e)) (all-drop-nil (holds s) n)
-
--- of objects: holds of every other
-object_only : (k : Keyword) (t : Tree) → IsTrue (is_of_objects k) → is_object t ≡ false → IsTrue (keyword_holds k t)
-object_only (assertion q (size MinProperties n)) t y e = not-false (is_object t) _ e
-object_only (assertion q (size MaxProperties n)) t y e = not-false (is_object t) _ e
-object_only (assertion q (required names)) t y e = not-false (is_object t) _ e
-object_only (assertion q _) t y e = absurd (true≢false (sym y))
-object_only _ t y e = absurd (true≢false (sym y))
-
--- a tree of another type is no number
-not_number : (t : Tree) → json_type t ≢ Number → as_number t ≡ None
-not_number (tree.number n) h = absurd (h refl)
-not_number _ h = refl
-
--- a tree of another type is no array
-not_array : (t : Tree) → json_type t ≢ Array → is_array t ≡ false
-not_array (tree.array ts) h = absurd (h refl)
-not_array _ h = refl
-
--- a tree of another type is no object
-not_object : (t : Tree) → json_type t ≢ Object → is_object t ≡ false
-not_object (tree.object ms) h = absurd (h refl)
-not_object _ h = refl
-
--- of its type: holds of every other
-only_of : (j : JsonType) (k : Keyword) (t : Tree) → IsTrue (is_about (Some j) k) → json_type t ≢ j → IsTrue (keyword_holds k t)
-only_of Number k t y h = number_only k t y (not_number t h)
-only_of Array k t y h = array_only k t y (not_array t h)
-only_of Object k t y h = object_only k t y (not_object t h)
-only_of _ k t y h = absurd (true≢false (sym y))
+-- of an assertion and of a keyword with subschemas
+holds_of_other : (k : Keyword) (t : Tree) → IsOther (subject k) t → IsTrue (keyword_holds k t)
+holds_of_other (assertion q (limit r n)) (tree.number m) h = absurd (h refl)
+holds_of_other (assertion q (limit r n)) _ h = refl
+holds_of_other (assertion q (multiple_of m)) (tree.number n) h = absurd (h refl)
+holds_of_other (assertion q (multiple_of m)) _ h = refl
+holds_of_other (assertion q (size MinProperties n)) (tree.object ms) h = absurd (h refl)
+holds_of_other (assertion q (size MinProperties n)) _ h = refl
+holds_of_other (assertion q (size MaxProperties n)) (tree.object ms) h = absurd (h refl)
+holds_of_other (assertion q (size MaxProperties n)) _ h = refl
+holds_of_other (assertion q (required names)) (tree.object ms) h = absurd (h refl)
+holds_of_other (assertion q (required names)) _ h = refl
+holds_of_other (assertion q (size MinItems n)) (tree.array ts) h = absurd (h refl)
+holds_of_other (assertion q (size MinItems n)) _ h = refl
+holds_of_other (assertion q (size MaxItems n)) (tree.array ts) h = absurd (h refl)
+holds_of_other (assertion q (size MaxItems n)) _ h = refl
+holds_of_other (assertion q unique) (tree.array ts) h = absurd (h refl)
+holds_of_other (assertion q unique) _ h = refl
+holds_of_other (assertion q (at_most n)) (tree.array ts) h = absurd (h refl)
+holds_of_other (assertion q (at_most n)) _ h = leb-zero n
+holds_of_other (assertion q _) t h = absurd h
+holds_of_other (contains s b) (tree.array ts) h = absurd (h refl)
+holds_of_other (contains s b) _ h = refl
+holds_of_other (items_list ss) (tree.array ts) h = absurd (h refl)
+holds_of_other (items_list ss) _ h = each_holds-nil ss
+holds_of_other (prefix_items ss) (tree.array ts) h = absurd (h refl)
+holds_of_other (prefix_items ss) _ h = each_holds-nil ss
+holds_of_other (items_from n s bare) (tree.array ts) h = absurd (h refl)
+holds_of_other (items_from n s bare) _ h = all_hold-nil s n
+holds_of_other (additional_items n s) (tree.array ts) h = absurd (h refl)
+holds_of_other (additional_items n s) _ h = all_hold-nil s n
 
 -- the law
 pub holds_elsewhere : HoldsElsewhere
-holds_elsewhere w j s p ms k t c e h = only_of j k t (subst (λ o. IsTrue (is_about o k)) c about_k) h
+holds_elsewhere w j s p ms k t c e h = holds_of_other k t (subst (λ o. IsOther o t) (sym (about_k ∙ c)) h)
   where
-    about_k : IsTrue (is_about (concerns w) k)
-    about_k = subst (λ x. IsTrue (gives (is_about (concerns w)) x)) e (reads_about w s p ms (part_named keywords (name_of w) ms))
+    about_k : subject k ≡ concerns w
+    about_k = subst (λ x. IsAbout (concerns w) x) e (about_read w s p ms (part_named keywords (name_of w) ms))

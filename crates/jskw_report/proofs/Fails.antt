@@ -1,8 +1,8 @@
 -- `holds` says what `fail` says.
 use Rattle.std.specs.Prelude.{◌≡◌, ℕ, suc, ◌&&◌, ◌||◌, not, nat_le, nat_lt, List, [], ◌∷◌, ◌++◌, map, filter, drop, count_by, Bool, true, false, Option, Some, None, ◌⊎◌, ◌<◌, ◌≤◌, if◌then◌else◌}
 use Rattle.std.specs.List.{list_all}
-use Rattle.std.proofs.Common.{refl, sym, ◌∙◌, ap, inl, inr, arith}
-use Rattle.std.proofs.lemmas.Bool.Decides.{leb_tells}
+use Rattle.std.proofs.Common.{refl, sym, ◌∙◌, ap, inl, inr}
+use Rattle.std.proofs.lemmas.Bool.{cases_lt, lt-leb, lt-ltb, le-leb, le-ltb, not_from_true, not_from_false}
 use Rattle.jskw_value.specs.Pointer.{Pointer, item_location}
 use Rattle.jskw_value.specs.Tree.{Tree, items, is_array, is_object, has_name}
 use Rattle.jskw_report.specs.Kind.{ErrorKind}
@@ -13,28 +13,28 @@ use Rattle.jskw_report.specs.Fail.{Failure, unless, missing, error_kinds, passes
 
 -- ---- empty lists
 
--- both parts are empty
+-- two lists, one after the other, are empty where both are
 is_empty-append : {A : Type 0} (xs ys : List A) → is_empty (xs ++ ys) ≡ (is_empty xs && is_empty ys)
 is_empty-append [] ys = refl
 is_empty-append (x ∷ xs) ys = refl
 
--- a list that is made item by item
+-- a list that is made item by item is empty where the other is
 is_empty-map : {A B : Type 0} (f : A → B) (xs : List A) → is_empty (map f xs) ≡ is_empty xs
 is_empty-map f [] = refl
 is_empty-map f (x ∷ xs) = refl
 
--- both parts have nothing
+-- two tests of lists that are empty
 joined : {A : Type 0} {a b : Bool} (xs ys : List A) → a ≡ is_empty xs → b ≡ is_empty ys → (a && b) ≡ is_empty (xs ++ ys)
 joined {b} xs ys e f = ap (λ a. a && b) e ∙ ap (λ b. is_empty xs && b) f ∙ sym (is_empty-append xs ys)
 
 -- ---- assertions
 
--- no error where it holds
+-- there is no error where the test passes
 unless_empty : (b : Bool) (k : ErrorKind) → b ≡ is_empty (unless b k)
 unless_empty true k = refl
 unless_empty false k = refl
 
--- every name is there exactly where none is left
+-- every name is there exactly where none is missing
 all_named : (names : List (List ℕ)) (t : Tree) → list_all (has_name t) names ≡ is_empty (filter (λ name. not (has_name t name)) names)
 all_named [] t = refl
 all_named (n ∷ names) t = go (has_name t n) (all_named names t)
@@ -44,7 +44,7 @@ all_named (n ∷ names) t = go (has_name t n) (all_named names t)
     go true e = e
     go false e = refl
 
--- of `required`
+-- `required` holds where it misses no name
 missing_empty : (names : List (List ℕ)) (t : Tree) → required_holds names t ≡ is_empty (missing names t)
 missing_empty names t = go (is_object t)
   where
@@ -52,7 +52,7 @@ missing_empty names t = go (is_object t)
     go true = all_named names t ∙ sym (is_empty-map kind.Required (filter (λ name. not (has_name t name)) names))
     go false = refl
 
--- of an assertion
+-- an assertion holds where it has no errors
 pub error_kinds_empty : (a : Assertion) (t : Tree) → assertion_holds a t ≡ is_empty (error_kinds a t)
 error_kinds_empty never t = refl
 error_kinds_empty (type_is k rule) t = unless_empty (assertion_holds (type_is k rule) t) _
@@ -69,20 +69,18 @@ error_kinds_empty (at_most n) t = unless_empty (assertion_holds (at_most n) t) _
 
 -- no more is not fewer
 nat_le-not_lt : (n u : ℕ) → nat_le n u ≡ not (nat_lt u n)
-nat_le-not_lt n u = go (leb_tells n u) (leb_tells (suc u) n)
+nat_le-not_lt n u = go (cases_lt u n)
   where
-    go : ((nat_le n u ≡ true) × (n ≤ u)) ⊎ ((nat_le n u ≡ false) × (u < n)) → ((nat_lt u n ≡ true) × (suc u ≤ n)) ⊎ ((nat_lt u n ≡ false) × (n < suc u)) → nat_le n u ≡ not (nat_lt u n)
-    go (inl (e, h)) (inl (f, k)) = absurd (omega arith)
-    go (inl (e, h)) (inr (f, k)) = e ∙ sym (ap not f)
-    go (inr (e, h)) (inl (f, k)) = e ∙ sym (ap not f)
-    go (inr (e, h)) (inr (f, k)) = absurd (omega arith)
+    go : (u < n) ⊎ (n ≤ u) → nat_le n u ≡ not (nat_lt u n)
+    go (inl h) = lt-leb n u h ∙ sym (not_from_true (nat_lt u n) (lt-ltb u n h))
+    go (inr h) = le-leb n u h ∙ sym (not_from_false (nat_lt u n) (le-ltb u n h))
 
--- within the upper bound is not past it
+-- a number is within the upper bound where it is not past it
 within_passes : (n : ℕ) (upper : Option ℕ) → within n upper ≡ not (passes n upper)
 within_passes n None = refl
 within_passes n (Some u) = nat_le-not_lt n u
 
--- of the number of items that match
+-- `contains` holds of a number of items where it fails at no bound
 count_empty : (b : Bounds) (n : ℕ) → count_holds b n ≡ is_empty (failing_bound b n)
 count_empty b n = ap (λ w. nat_le b.lower n && w) (within_passes n b.upper) ∙ go (nat_le b.lower n) (passes n b.upper)
   where
@@ -92,7 +90,7 @@ count_empty b n = ap (λ w. nat_le b.lower n && w) (within_passes n b.upper) ∙
     go false true = refl
     go false false = refl
 
--- of `contains`
+-- `contains` holds where it has no errors
 contains_empty : (b : Bounds) (n : ℕ) (t : Tree) (p : Pointer) → (not (is_array t) || count_holds b n) ≡ is_empty (if is_array t then contains_fails b n t p else [])
 contains_empty b n t p = go (is_array t)
   where
@@ -102,7 +100,7 @@ contains_empty b n t p = go (is_array t)
 
 -- ---- items
 
--- of the items in turn
+-- a test of the items in turn, by their errors
 each_item_empty : (h : Tree → Bool) (f : Tree → Pointer → List Failure) → ((t : Tree) (p : Pointer) → h t ≡ is_empty (f t p))
     → (i : ℕ) (ts : List Tree) (p : Pointer) → list_all h ts ≡ is_empty (each_item f i ts p)
 each_item_empty h f e i [] p = refl
@@ -111,17 +109,17 @@ each_item_empty h f e i (t ∷ ts) p = joined (f t (item_location p i)) (each_it
 -- ---- schemas
 
 mutual
-  -- of a schema
+  -- a schema holds where it has no errors
   pub holds_empty : (s : Schema) (t : Tree) (p : Pointer) → holds s t ≡ is_empty (fail s t p)
   holds_empty (false_schema q) t p = refl
   holds_empty (schema_object q hands_on ks) t p = all_empty ks t p
 
-  -- of keywords
+  -- keywords hold where they have no errors
   pub all_empty : (ks : Keywords) (t : Tree) (p : Pointer) → all_hold ks t ≡ is_empty (all_fail ks t p)
   all_empty no_keywords t p = refl
   all_empty (keyword q k ks) t p = joined (keyword_fail k t p) (all_fail ks t p) (keyword_empty k t p) (all_empty ks t p)
 
-  -- of a keyword
+  -- a keyword holds where it has no errors
   pub keyword_empty : (k : Keyword) (t : Tree) (p : Pointer) → keyword_holds k t ≡ is_empty (keyword_fail k t p)
   keyword_empty (assertion q a) t p = error_kinds_empty a t ∙ sym (is_empty-map _ (error_kinds a t))
   keyword_empty (contains s b) t p = contains_empty b (count_by (holds s) (items t)) t p
@@ -130,7 +128,7 @@ mutual
   keyword_empty (items_from n s bare) t p = each_item_empty (holds s) (fail s) (λ t p. holds_empty s t p) n (drop n (items t)) p
   keyword_empty (additional_items n s) t p = each_item_empty (holds s) (fail s) (λ t p. holds_empty s t p) n (drop n (items t)) p
 
-  -- of schemas and the items of their indices
+  -- schemas hold of the items of their indices where they have no errors
   pub each_empty : (ss : Schemas) (i : ℕ) (ts : List Tree) (p : Pointer) → each_holds ss ts ≡ is_empty (each_fails ss i ts p)
   each_empty no_schemas i ts p = refl
   each_empty (schema s ss) i [] p = refl

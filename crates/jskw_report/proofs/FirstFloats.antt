@@ -14,17 +14,17 @@ use Rattle.jskw_report.specs.Laws.{Found, under_token, found_in, found_in_items,
 abbrev float_of : List Found → Option Found
 float_of fs = find (λ f. is_float_value f.value) fs
 
--- its value
+-- the value of a float that was found
 abbrev value_of : Option Found → Option Data
 value_of o = option_map (λ f. f.value) o
 
--- its location
+-- the location of a float that was found
 abbrev place_of : Option Found → Option Pointer
 place_of o = option_map (λ f. f.location) o
 
 -- ---- one level up
 
--- the first float one level up
+-- the first float of a list, one level up
 float_of-under : (token : Pointer) (fs : List Found) → float_of (map (under_token token) fs) ≡ option_map (under_token token) (float_of fs)
 float_of-under token [] = refl
 float_of-under token (f ∷ fs) = go (is_float_value f.value) (float_of-under token fs)
@@ -38,12 +38,12 @@ float_of-under token (f ∷ fs) = go (is_float_value f.value) (float_of-under to
 float_of-both : (token : Pointer) (fs gs : List Found) → float_of (map (under_token token) fs ++ gs) ≡ option_or (option_map (under_token token) (float_of fs)) (float_of gs)
 float_of-both token fs gs = find-append (λ f. is_float_value f.value) (map (under_token token) fs) gs ∙ ap (λ o. option_or o (float_of gs)) (float_of-under token fs)
 
--- its value is the same one level up
+-- the value of the first float is the same one level up
 value_of-or : (token : Pointer) (o q : Option Found) → value_of (option_or (option_map (under_token token) o) q) ≡ option_or (value_of o) (value_of q)
 value_of-or token None q = refl
 value_of-or token (Some f) q = refl
 
--- its location is one token longer
+-- the location of the first float is one token longer one level up
 place_of-or : (token : Pointer) (o q : Option Found) → place_of (option_or (option_map (under_token token) o) q) ≡ location_of.or_else (option_map (λ p. token ++ p) (place_of o)) (place_of q)
 place_of-or token None q = refl
 place_of-or token (Some f) q = refl
@@ -51,20 +51,20 @@ place_of-or token (Some f) q = refl
 -- ---- values
 
 mutual
-  -- the value, in a value
+  -- the value of the first float in a value
   value_found : (d : Data) → first_float d ≡ value_of (float_of (found_in d))
   value_found (number (float x)) = refl
   value_found (array ds) = value_found_items 0 ds
   value_found (object ms) = value_found_members ms
   value_found _ = refl
 
-  -- in items
+  -- the value of the first float in items
   value_found_items : (i : ℕ) (ds : Items) → first_float_item ds ≡ value_of (float_of (found_in_items i ds))
   value_found_items i no_items = refl
   value_found_items i (item d ds) = ap₂ option_or (value_found d) (value_found_items (suc i) ds)
       ∙ sym (ap value_of (float_of-both (index_token i) (found_in d) (found_in_items (suc i) ds)) ∙ value_of-or (index_token i) (float_of (found_in d)) (float_of (found_in_items (suc i) ds)))
 
-  -- in members
+  -- the value of the first float in members
   value_found_members : (ms : Members) → first_float_member ms ≡ value_of (float_of (found_in_members ms))
   value_found_members no_members = refl
   value_found_members (member k d ms) = ap₂ option_or (value_found d) (value_found_members ms)
@@ -73,7 +73,7 @@ mutual
 -- ---- locations
 
 mutual
-  -- the location, in a value
+  -- the location of the first float in a value
   place_found : (d : Data) → location_of.first_float (tree_of d) ≡ place_of (float_of (found_in d))
   place_found (number (float x)) = refl
   place_found (array ds) = place_found_items 0 ds
@@ -81,13 +81,13 @@ mutual
   place_found (number n) = refl
   place_found _ = refl
 
-  -- in items
+  -- the location of the first float in items
   place_found_items : (i : ℕ) (ds : Items) → location_of.items_float i (items_of ds) ≡ place_of (float_of (found_in_items i ds))
   place_found_items i no_items = refl
   place_found_items i (item d ds) = ap₂ (λ o q. location_of.or_else (option_map (location_of.below_index i) o) q) (place_found d) (place_found_items (suc i) ds)
       ∙ sym (ap place_of (float_of-both (index_token i) (found_in d) (found_in_items (suc i) ds)) ∙ place_of-or (index_token i) (float_of (found_in d)) (float_of (found_in_items (suc i) ds)))
 
-  -- in members
+  -- the location of the first float in members
   place_found_members : (ms : Members) → location_of.members_float (members_of ms) ≡ place_of (float_of (found_in_members ms))
   place_found_members no_members = refl
   place_found_members (member k d ms) = ap₂ (λ o q. location_of.or_else (option_map (location_of.below_name k) o) q) (place_found d) (place_found_members ms)

@@ -1,4 +1,5 @@
 pub mod Appending
+pub mod Asserted
 pub mod Below
 pub mod Counts
 pub mod Elsewhere
@@ -9,10 +10,7 @@ pub mod Once
 pub mod OneOption
 pub mod Pointers
 pub mod Reading
-pub mod RowsErrors
-pub mod RowsReading
 pub mod Same
 pub mod TypeReading
 pub mod Units
 pub mod Valid
-pub mod Worked

@@ -1,5 +1,5 @@
 -- How `type` is read in Draft 4, and in the drafts after it.
-use Rattle.std.proofs.Common.{◌≡◌, Bool, true, false, refl}
+use Rattle.std.proofs.Common.{◌≡◌, true, false, refl}
 use Rattle.serde_json.specs.Data.{Data}
 use Rattle.jskw_value.specs.Pointer.{Pointer}
 use Rattle.jskw_report.specs.Keyword.{by_value}

@@ -12,7 +12,7 @@ use Rattle.jskw_report.specs.Evaluation.{Evaluation, Result, is_valid, evaluate_
 use Rattle.jskw_value.proofs.Booleans.{both}
 use Rattle.jskw_report.proofs.Fails.{keyword_empty}
 
--- of `contains`, by its errors or by the items that match
+-- the result of `contains`, by its errors or by the items that match
 contains_valid : (bounded holds' : Bool) (fs : List Failure) (r : Result) → holds' ≡ is_empty fs → r.valid ≡ true
     → (if bounded || not holds' then of_errors fs else r).valid ≡ holds'
 unfolding of_errors
@@ -20,13 +20,13 @@ contains_valid true holds' fs r e v = sym e
 contains_valid false true fs r e v = v
 contains_valid false false fs r e v = sym e
 
--- of the items in turn
+-- the nodes of the items in turn
 each_valid : (h : Tree → Bool) (f : Tree → Pointer → Evaluation) → ((t : Tree) (p : Pointer) → is_valid (f t p) ≡ h t)
     → (i : ℕ) (ts : List Tree) (p : Pointer) → list_all is_valid (evaluate_each f i ts p) ≡ list_all h ts
 each_valid h f e i [] p = refl
 each_valid h f e i (t ∷ ts) p = both (e t (item_location p i)) (each_valid h f e (suc i) ts p)
 
--- an array, or no items
+-- the result of `items`, of an array or of a tree without items
 items_valid : (h : Tree → Bool) (n : ℕ) (t : Tree) (r : Result) → r.valid ≡ list_all h (drop n (items t))
     → (if is_array t then r else valid_unit).valid ≡ list_all h (drop n (items t))
 items_valid h n (array ts) r e = e
@@ -35,17 +35,17 @@ items_valid h n _ r e = sym (ap (list_all h) (drop-nil n))
 mutual
   unfolding of_errors
 
-  -- of a schema
+  -- the node of a schema
   pub tree_valid : (s : Schema) (t : Tree) (p : Pointer) → is_valid (tree s t p) ≡ holds s t
   tree_valid (false_schema q) t p = refl
   tree_valid (schema_object q hands_on ks) t p = units_valid ks t p
 
-  -- of keywords
+  -- the nodes of keywords
   pub units_valid : (ks : Keywords) (t : Tree) (p : Pointer) → list_all is_valid (units ks t p) ≡ all_hold ks t
   units_valid no_keywords t p = refl
   units_valid (keyword q k ks) t p = both (unit_valid k t p) (units_valid ks t p)
 
-  -- of a keyword
+  -- the result of a keyword
   pub unit_valid : (k : Keyword) (t : Tree) (p : Pointer) → (unit k t p).valid ≡ keyword_holds k t
   unit_valid (assertion q a) t p = sym (keyword_empty (assertion q a) t p)
   unit_valid (contains s b) t p = contains_valid b.bounded (keyword_holds (contains s b) t) (keyword_fail (contains s b) t p) _ (keyword_empty (contains s b) t p) refl
@@ -54,7 +54,7 @@ mutual
   unit_valid (items_from n s bare) t p = items_valid (holds s) n t _ (each_valid (holds s) (tree s) (λ t p. tree_valid s t p) n (drop n (items t)) p)
   unit_valid (additional_items n s) t p = sym (keyword_empty (additional_items n s) t p)
 
-  -- of schemas and the items of their indices
+  -- the nodes of schemas over the items of their indices
   pub pairs_valid : (ss : Schemas) (i : ℕ) (ts : List Tree) (p : Pointer) → list_all is_valid (evaluate_pairs ss i ts p) ≡ each_holds ss ts
   pairs_valid no_schemas i ts p = refl
   pairs_valid (schema s ss) i [] p = refl

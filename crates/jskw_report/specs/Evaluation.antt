@@ -67,7 +67,8 @@ abbrev pub schema_count : Schemas → ℕ
 schema_count no_schemas = 0
 schema_count (schema s ss) = suc (schema_count ss)
 
--- of `prefixItems`, over n items with k schemas: true where every item has one, else the largest index that has (Core 10.3.1.1)
+-- the annotation of `prefixItems`, of k schemas over n items: true where every item has a schema, else the largest
+-- index that has one (Core 10.3.1.1)
 abbrev pub prefix_annotation : ℕ → ℕ → Option Annotation
 prefix_annotation zero n = None
 prefix_annotation (suc k) zero = None
@@ -80,7 +81,7 @@ abbrev pub evaluate_each : (Tree → Pointer → Evaluation) → ℕ → List Tr
 evaluate_each f i [] p = []
 evaluate_each f i (t ∷ ts) p = f t (item_location p i) ∷ evaluate_each f (suc i) ts p
 
--- the same of the items that match alone
+-- the nodes that f gives of each item that matches, in turn, the first being item i of the array at p
 abbrev pub evaluate_matching : (Tree → Bool) → (Tree → Pointer → Evaluation) → ℕ → List Tree → Pointer → List Evaluation
 evaluate_matching matches f i [] p = []
 evaluate_matching matches f i (t ∷ ts) p = if matches t then f t (item_location p i) ∷ evaluate_matching matches f (suc i) ts p else evaluate_matching matches f (suc i) ts p
@@ -103,7 +104,8 @@ abbrev mutual
   units no_keywords t p = []
   units (keyword q k ks) t p = node_at q p (unit k t p) ∷ units ks t p
 
-  -- the keyword's result: of `items` whether it was applied to any item (Core 10.3.1.2), of `contains` the indices that match; a bounded or failed `contains` tells its errors alone
+  -- the keyword's result, annotated for `items` by whether it was applied to any item (Core 10.3.1.2) and for `contains`
+  -- by the indices that match (Core 10.3.1.3); a bounded or failed `contains` tells its errors alone
   pub unit : Keyword → Tree → Pointer → Result
   unit (assertion q a) t p = of_errors (keyword_fail (assertion q a) t p)
   unit (contains s b) t p = if b.bounded || not (keyword_holds (contains s b) t)

@@ -8,7 +8,8 @@ use Rattle.jskw_report.specs.Keyword.{Schema, false_schema, schema_object, Keywo
 use Rattle.jskw_report.specs.Kind.{ErrorKind, Listed, WrongType}
 use Rattle.jskw_report.specs.Kind as kind
 
--- an error: its kind, the instance location (Core 12.3.3), the keyword location (Core 12.3.1), and the tree at fault, which stands at the first
+-- an error: its kind, the instance location (Core 12.3.3), the keyword location (Core 12.3.1), and the tree that stands
+-- at the instance location
 pub record Failure : Type 0 where
   pub kind : ErrorKind
   pub instance_location : Pointer
@@ -81,12 +82,12 @@ abbrev mutual
   fail (false_schema q) t p = record { kind = kind.FalseSchema; instance_location = p; keyword_location = q; tree = t } ∷ []
   fail (schema_object q hands_on ks) t p = all_fail ks t p
 
-  -- those of the keywords in turn
+  -- the errors of the keywords in turn
   pub all_fail : Keywords → Tree → Pointer → List Failure
   all_fail no_keywords t p = []
   all_fail (keyword q k ks) t p = keyword_fail k t p ++ all_fail ks t p
 
-  -- those of the keyword: its own, or those of its subschemas over the items in turn
+  -- the errors of the keyword: its own, or those of its subschemas over the items in turn
   pub keyword_fail : Keyword → Tree → Pointer → List Failure
   keyword_fail (assertion q a) t p = map (λ k. record { kind = k; instance_location = p; keyword_location = q; tree = t }) (error_kinds a t)
   keyword_fail (contains s b) t p = if is_array t then contains_fails b (count_by (holds s) (items t)) t p else []
@@ -95,7 +96,7 @@ abbrev mutual
   keyword_fail (items_from n s bare) t p = each_item (fail s) n (drop n (items t)) p
   keyword_fail (additional_items n s) t p = each_item (fail s) n (drop n (items t)) p
 
-  -- those of each schema over the item of its index, as far as both go, the first being item i of the array at p
+  -- the errors of each schema over the item of its index, as far as both go, the first being item i of the array at p
   pub each_fails : Schemas → ℕ → List Tree → Pointer → List Failure
   each_fails no_schemas i ts p = []
   each_fails (schema s ss) i [] p = []
@@ -105,8 +106,3 @@ abbrev mutual
 abbrev pub is_empty : {A : Type 0} → List A → Bool
 is_empty [] = true
 is_empty (x ∷ xs) = false
-
--- the first error, if there is one
-abbrev pub first : List Failure → Option Failure
-first [] = None
-first (f ∷ fs) = Some f

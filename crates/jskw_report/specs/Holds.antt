@@ -1,4 +1,5 @@
--- When an instance is valid against a schema (Core 7.6): the assertions of Validation 6, and the keywords with subschemas of Core 10.3.1.
+-- When an instance is valid against a schema (Core 7.6): the assertions of Validation 6, and the keywords with
+-- subschemas of Core 10.3.1.
 use Rattle.std.specs.Prelude.{ℕ, ◌^◌, ℤ, pos, ◌*ℤ◌, int_le, int_lt, nat_le, List, [], ◌∷◌, drop, length, count_by, Bool, true, false, not, ◌&&◌, ◌||◌, Option, Some, None}
 use Rattle.std.specs.List.{list_all}
 use Rattle.std.specs.Option.{option_map_or}
@@ -26,7 +27,8 @@ is_integer as_written t = option_map_or is_written_as_integer (as_number t) fals
 abbrev pub is_of : Integers → JsonTypeSet → Tree → Bool
 is_of rule s t = types.contains s (json_type t) || (types.contains s Integer && is_integer rule t)
 
--- the number of items of an array (Validation 6.4.1, 6.4.2), or of members of an object (6.5.1, 6.5.2), is within the bound
+-- the number of items of an array (Validation 6.4.1, 6.4.2), or of members of an object (Validation 6.5.1, 6.5.2), is
+-- within the bound; other trees have no such number
 abbrev pub size_holds : Size → ℕ → Tree → Bool
 size_holds MinItems n t = not (is_array t) || nat_le n (length (items t))
 size_holds MaxItems n t = not (is_array t) || nat_le (length (items t)) n
@@ -50,7 +52,7 @@ abbrev pub multiple_holds : ℕ → Tree → Bool
 multiple_holds m (number (exact c k)) = is_multiple_of c k m
 multiple_holds m _ = true
 
--- the tree equals some value of the array (Validation 6.1.2)
+-- the tree equals some value of the list (Validation 6.1.2)
 abbrev pub is_option : Items → Tree → Bool
 is_option no_items t = false
 is_option (item d ds) t = equal (tree_of d) t || is_option ds t
@@ -59,7 +61,7 @@ is_option (item d ds) t = equal (tree_of d) t || is_option ds t
 abbrev pub required_holds : List (List ℕ) → Tree → Bool
 required_holds names t = not (is_object t) || list_all (has_name t) names
 
--- the assertion holds of the tree; a bound that a tree has no items for holds
+-- the assertion holds of the tree; one that concerns numbers, arrays or objects alone holds of every other tree
 abbrev pub assertion_holds : Assertion → Tree → Bool
 assertion_holds never t = false
 assertion_holds (type_is k rule) t = is_of rule (types_of k) t

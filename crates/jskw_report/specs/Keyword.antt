@@ -4,7 +4,8 @@ use Rattle.serde_json.specs.Data.{Data, Items}
 use Rattle.jskw_value.specs.Pointer.{Pointer}
 use Rattle.jskw_report.specs.Kind.{TypeKind}
 
--- which numbers are integers: those of a zero fraction (Validation 6.1.1), or those that are written without one (Draft 4 Core 3.5)
+-- which numbers are integers: those of a zero fraction (Validation 6.1.1), or those that are written without one
+-- (Draft 4 Core 3.5)
 pub data Integers : Type 0 where
   by_value as_written : Integers
 
@@ -37,7 +38,8 @@ pub data Assertion : Type 0 where
   -- `additionalItems` of `false`, behind so many schemas of `items` (Draft 7 Validation 6.4.2)
   at_most : ℕ → Assertion
 
--- how many items are to match `contains`, where it fails with too few and with too many, and whether a bound was read (Validation 6.4.4, 6.4.5)
+-- how many items are to match `contains`, where it fails with too few and with too many, and whether a bound was read
+-- (Validation 6.4.4, 6.4.5)
 pub record Bounds : Type 0 where
   pub lower : ℕ
   pub upper : Option ℕ
@@ -46,11 +48,12 @@ pub record Bounds : Type 0 where
   pub bounded : Bool
 
 mutual
-  -- a boolean or an object (Core 4.3)
+  -- a boolean or an object (Core 4.3); a boolean in Draft 4 too, by this project's own rule
   pub data Schema : Type 0 where
     -- `false`, with its keyword location (Core 4.3.2)
     false_schema : Pointer → Schema
-    -- an object, or `true`, which has no keywords: its keyword location, whether its `required` is handed on, and its keywords
+    -- an object, or `true`, which has no keywords: its keyword location, whether its `required` is handed on, and its
+    -- keywords
     schema_object : Pointer → Bool → Keywords → Schema
 
   -- keywords, each with its keyword location
@@ -60,15 +63,16 @@ mutual
 
   -- what one keyword asks for
   pub data Keyword : Type 0 where
-    -- with the keyword location of its failures
+    -- a keyword without subschemas, with the keyword location of its failures
     assertion : Pointer → Assertion → Keyword
     -- `contains` (Core 10.3.1.3)
     contains : Schema → Bounds → Keyword
-    -- `items` of an array of schemas (Draft 7 Validation 6.4.1)
+    -- `items` of an array of schemas (Draft 7 Validation 6.4.1); in 2020-12 too, by this project's own rule
     items_list : Schemas → Keyword
     -- `prefixItems` (Core 10.3.1.1)
     prefix_items : Schemas → Keyword
-    -- `items` of one schema, from an index on (Core 10.3.1.2); true where that is a bare type check, which is no application
+    -- `items` of one schema, from an index on (Core 10.3.1.2); true where that is a bare type check, which is no
+    -- application
     items_from : ℕ → Schema → Bool → Keyword
     -- `additionalItems` of a schema, from an index on (Draft 7 Validation 6.4.2)
     additional_items : ℕ → Schema → Keyword
@@ -78,23 +82,18 @@ mutual
     no_schemas : Schemas
     schema : Schema → Schemas → Schemas
 
--- the keyword location of a schema (Core 12.3.1)
-abbrev pub location : Schema → Pointer
-location (false_schema q) = q
-location (schema_object q hands_on ks) = q
-
 abbrev mutual
   -- the `required` of the schema or of a subschema is handed on to the keywords of objects
   pub hands_on_required : Schema → Bool
   hands_on_required (false_schema q) = false
   hands_on_required (schema_object q hands_on ks) = hands_on || all_hand_on ks
 
-  -- that of a subschema of some keyword
+  -- the `required` of a subschema of some keyword is handed on
   pub all_hand_on : Keywords → Bool
   all_hand_on no_keywords = false
   all_hand_on (keyword q k ks) = keyword_hands_on k || all_hand_on ks
 
-  -- that of a subschema of the keyword
+  -- the `required` of a subschema of the keyword is handed on
   pub keyword_hands_on : Keyword → Bool
   keyword_hands_on (assertion q a) = false
   keyword_hands_on (contains s b) = hands_on_required s
@@ -103,7 +102,7 @@ abbrev mutual
   keyword_hands_on (items_from n s bare) = hands_on_required s
   keyword_hands_on (additional_items n s) = hands_on_required s
 
-  -- that of some schema of the list
+  -- the `required` of some schema of the list, or of a subschema of it, is handed on
   pub each_hands_on : Schemas → Bool
   each_hands_on no_schemas = false
   each_hands_on (schema s ss) = hands_on_required s || each_hands_on ss

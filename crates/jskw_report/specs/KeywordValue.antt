@@ -50,7 +50,8 @@ unknown_type = CompileError (codes "Unexpected type")
 
 -- ---- numbers
 
--- a bound on a number of items or members: a whole number that isn't negative (Validation 6.4.1, 6.4.2, 6.4.4, 6.4.5, 6.5.1, 6.5.2)
+-- a bound on a number of items or members: a whole number that isn't negative
+-- (Validation 6.4.1, 6.4.2, 6.4.4, 6.4.5, 6.5.1, 6.5.2)
 abbrev pub size_value : Pointer → Data → Result ℕ Refusal
 size_value p (number (unsigned n)) = Ok n
 size_value p (number (negative z)) = wrong (kind.Minimum (pos 0)) p (number (negative z))
@@ -73,16 +74,16 @@ divisor_value p d = wrong (of_type Number) p d
 
 -- ---- `type` (Validation 6.1.1)
 
--- the type that the value names; a name of no type is a fault of the given kind
+-- the type that the value names; the name of no type is refused with an error of the given kind
 abbrev pub named_type : ErrorKind → Pointer → Data → Result JsonType Refusal
 named_type unknown p (string s) = ok_or (type_named s) (record { kind = unknown; location = p; value = string s })
 named_type unknown p d = wrong (of_type String) p d
 
--- the only type
+-- the value as the name of the only type
 abbrev pub one_type : Pointer → Data → Result TypeKind Refusal
 one_type p d = map_ok Single (named_type unknown_type p d)
 
--- one type more
+-- the set with one type more
 abbrev pub with_type : Result JsonType Refusal → Result JsonTypeSet Refusal → Result JsonTypeSet Refusal
 with_type j r = join_ok insert j r
 
@@ -130,12 +131,12 @@ abbrev mutual
   first_float (object ms) = first_float_member ms
   first_float _ = None
 
-  -- that of the items
+  -- the first float of the items
   pub first_float_item : Items → Option Data
   first_float_item no_items = None
   first_float_item (item d ds) = option_or (first_float d) (first_float_item ds)
 
-  -- that of the members' values
+  -- the first float of the members' values
   pub first_float_member : Members → Option Data
   first_float_member no_members = None
   first_float_member (member k d ms) = option_or (first_float d) (first_float_member ms)

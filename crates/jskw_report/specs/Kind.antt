@@ -18,7 +18,8 @@ pub data EnumOptions : Type 0 where
   Listed : Data → EnumOptions
   TypeNames : EnumOptions
 
--- one kind for each keyword that fails of its own, one for the schema `false`, and one for a schema that can't be read
+-- one kind for each keyword that fails of its own, one for the schema `false`, and `CompileError` for a value that a
+-- schema may not have and that no keyword tells: a float, or the name of no type where it is the only one
 pub data ErrorKind : Type 0 where
   AdditionalItems : ℕ → ErrorKind
   CompileError : List ℕ → ErrorKind

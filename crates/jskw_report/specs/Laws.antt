@@ -1,7 +1,8 @@
 -- What the definitions have in common. Each law is the contract of a function.
-use Rattle.std.specs.Prelude.{⊤, List, ◌≡◌, ◌≢◌, ℕ, suc, ◌++◌, [], ◌∷◌, map, find, ◌↔◌, IsTrue, Bool, true, false, codes, Option, Some, None, option_map, Ok, Err, ◌≤◌}
+use Rattle.std.specs.Prelude.{⊤, List, ◌≡◌, ◌≢◌, ℕ, suc, ◌++◌, [], ◌∷◌, map, find, ◌↔◌, IsTrue, Bool, true, false, codes, Option, Some, None, option_map, Ok, Err, ◌≤◌, ◌*◌}
 use Rattle.std.specs.List.{list_any}
 use Rattle.serde_json.specs.Data.{Data, unsigned, float, number, array, object, Items, no_items, item, Members, no_members, member}
+use Rattle.serde_json.specs.Find.{get_member}
 use Rattle.jskw_value.specs.Equality.{same}
 use Rattle.jskw_value.specs.FirstFloat as location_of
 use Rattle.jskw_value.specs.Pointer.{Pointer, name_token, index_token}
@@ -9,15 +10,14 @@ use Rattle.jskw_value.specs.Serde.{tree_of}
 use Rattle.jskw_value.specs.Tree.{Tree, is_array, items, has_distinct_names}
 use Rattle.jskw_value.specs.Types.{json_type}
 use Rattle.jskw_value.specs.declared.types.JsonType.{JsonType}
-use Rattle.jskw_value.specs.declared.types.JsonType.TheVariants.{Array, Number, Object}
-use Rattle.jskw_report.specs.Applications.{needed, pairs, height, sum_of_products, schemas_at, trees_at}
+use Rattle.jskw_report.specs.Applications.{needed, pairs, pairs_at, height, sum_below, schemas_at, trees_at}
 use Rattle.jskw_report.specs.Evaluation.{tree, unit, is_valid}
 use Rattle.jskw_report.specs.Fail.{Failure, fail, keyword_fail}
 use Rattle.jskw_report.specs.KeywordValue.{first_float}
 use Rattle.jskw_report.specs.Holds.{holds, keyword_holds}
 use Rattle.jskw_report.specs.Keyword.{Schema, Keyword, contains}
 use Rattle.jskw_report.specs.Read.{Reading, read, read_word, part_named, bound_beside, min_contains, max_contains}
-use Rattle.jskw_report.specs.Setting.{Setting, keywords, name_of, stands}
+use Rattle.jskw_report.specs.Setting.{Setting, keywords, name_of, concerns, stands}
 use Rattle.jskw_report.specs.declared.keyword.KeywordName.{KeywordName}
 use Rattle.jskw_report.specs.declared.keyword.KeywordName.TheVariants as word
 
@@ -27,7 +27,7 @@ use Rattle.jskw_report.specs.declared.keyword.KeywordName.TheVariants as word
 abbrev pub HoldsWhereNothingFails : Type 0
 HoldsWhereNothingFails = (s : Schema) (t : Tree) (p : Pointer) → IsTrue (holds s t) ↔ (fail s t p ≡ [])
 
--- the same of a keyword
+-- a keyword holds of a tree exactly where it has no errors, wherever the tree stands
 abbrev pub KeywordHoldsWhereNothingFails : Type 0
 KeywordHoldsWhereNothingFails = (k : Keyword) (t : Tree) (p : Pointer) → IsTrue (keyword_holds k t) ↔ (keyword_fail k t p ≡ [])
 
@@ -53,39 +53,30 @@ FailsAlikeBelow = (s : Schema) (t : Tree) (r p : Pointer) → fail s t (r ++ p) 
 abbrev pub IsKeywordOf : KeywordName → Setting → Pointer → Members → Keyword → Type 0
 IsKeywordOf w s p ms k = read_word w s p ms (part_named keywords (name_of w) ms) ≡ Some (Ok k)
 
--- the type of the instances that a keyword concerns: numbers (Validation 6.2), arrays (6.4, Core 10.3.1), objects (6.5), or all (6.1)
-abbrev pub concerns : KeywordName → Option JsonType
-concerns word.TypeKeyword = None
-concerns word.Const = None
-concerns word.Enum = None
-concerns word.Minimum = Some Number
-concerns word.Maximum = Some Number
-concerns word.ExclusiveMinimum = Some Number
-concerns word.ExclusiveMaximum = Some Number
-concerns word.MultipleOf = Some Number
-concerns word.MinProperties = Some Object
-concerns word.MaxProperties = Some Object
-concerns word.Required = Some Object
-concerns _ = Some Array
-
 -- a keyword that concerns the instances of one type holds of every other (Core 7.6.1)
 abbrev pub HoldsElsewhere : Type 0
 HoldsElsewhere = (w : KeywordName) (j : JsonType) (s : Setting) (p : Pointer) (ms : Members) (k : Keyword) (t : Tree)
     → concerns w ≡ Some j → IsKeywordOf w s p ms k → json_type t ≢ j → IsTrue (keyword_holds k t)
 
 -- whether the schema that was read holds of the tree
-abbrev pub verdict_of : Reading → Tree → Option Bool
-verdict_of (Ok s) t = Some (holds s t)
-verdict_of (Err e) t = None
+abbrev pub reading_accepts : Reading → Tree → Option Bool
+reading_accepts (Ok s) t = Some (holds s t)
+reading_accepts (Err e) t = None
 
 -- whether the schema d holds of the tree, if d is a schema
-abbrev pub verdict : Setting → Data → Tree → Option Bool
-verdict s d t = verdict_of (read keywords d s []) t
+abbrev pub accepts : Setting → Data → Tree → Option Bool
+accepts s d t = reading_accepts (read keywords d s []) t
 
--- `const` accepts what `enum` of that one value accepts (Validation 6.1.3)
-abbrev pub ConstIsOneOption : Type 0
-ConstIsOneOption = (s : Setting) (d : Data) (t : Tree) → IsTrue (stands s word.Const) → IsTrue (stands s word.Enum)
-    → verdict s (object (member (codes "const") d no_members)) t ≡ verdict s (object (member (codes "enum") (array (item d no_items)) no_members)) t
+-- `const` accepts what `enum` of that one value accepts (Validation 6.1.2, 6.1.3)
+pub record ConstIsOneOption : Type 0 where
+  -- wherever the two keywords stand, and whatever stands beside them
+  pub anywhere : (r s : Setting) (p q : Pointer) (ms ns : Members) (d : Data) (k j : Keyword) (t : Tree)
+      → get_member (name_of word.Const) ms ≡ Some d → get_member (name_of word.Enum) ns ≡ Some (array (item d no_items))
+      → IsKeywordOf word.Const r p ms k → IsKeywordOf word.Enum s q ns j → keyword_holds k t ≡ keyword_holds j t
+  -- and where each is all that a schema has, both are schemas or neither is
+  pub alone : (s : Setting) (d : Data) (t : Tree) → IsTrue (stands s word.Const) → IsTrue (stands s word.Enum)
+      → accepts s (object (member (codes "const") d no_members)) t
+      ≡ accepts s (object (member (codes "enum") (array (item d no_items)) no_members)) t
 
 -- some item is valid against the schema of `contains`
 abbrev pub has_match : Keyword → Tree → Bool
@@ -95,13 +86,13 @@ has_match _ t = false
 -- what `contains` asks for by the bounds that are read beside it (Core 10.3.1.3, Validation 6.4.4, 6.4.5)
 pub record ContainsMatches : Type 0 where
   -- with `minContains` 0 and no `maxContains` it holds of every tree
-  pub none : (s : Setting) (p : Pointer) (ms : Members) (k : Keyword) (t : Tree) → IsKeywordOf word.Contains s p ms k
+  pub no_match_needed : (s : Setting) (p : Pointer) (ms : Members) (k : Keyword) (t : Tree) → IsKeywordOf word.Contains s p ms k
       → bound_beside s ms min_contains ≡ Some (number (unsigned 0)) → bound_beside s ms max_contains ≡ None → IsTrue (keyword_holds k t)
   -- without `minContains` it needs a match in every array
-  pub some : (s : Setting) (p : Pointer) (ms : Members) (k : Keyword) (t : Tree) → IsKeywordOf word.Contains s p ms k
+  pub match_needed : (s : Setting) (p : Pointer) (ms : Members) (k : Keyword) (t : Tree) → IsKeywordOf word.Contains s p ms k
       → bound_beside s ms min_contains ≡ None → is_array t ≡ true → IsTrue (keyword_holds k t) → IsTrue (has_match k t)
-  -- and with no `maxContains` nothing else
-  pub one : (s : Setting) (p : Pointer) (ms : Members) (k : Keyword) (t : Tree) → IsKeywordOf word.Contains s p ms k
+  -- with neither bound it needs no more than that match
+  pub match_suffices : (s : Setting) (p : Pointer) (ms : Members) (k : Keyword) (t : Tree) → IsKeywordOf word.Contains s p ms k
       → bound_beside s ms min_contains ≡ None → bound_beside s ms max_contains ≡ None → is_array t ≡ true → keyword_holds k t ≡ has_match k t
 
 -- ---- the first float
@@ -111,11 +102,11 @@ pub record Found : Type 0 where
   pub location : Pointer
   pub value : Data
 
--- the value itself
+-- the value, found in itself
 abbrev pub here : Data → Found
 here d = record { location = []; value = d }
 
--- the same seen from one level up
+-- what was found, seen from one level up: its location begins with the token
 abbrev pub under_token : Pointer → Found → Found
 under_token token f = record f { location = token ++ f.location }
 
@@ -126,17 +117,17 @@ abbrev mutual
   found_in (object ms) = here (object ms) ∷ found_in_members ms
   found_in d = here d ∷ []
 
-  -- those of the items, the first having index i
+  -- the items and all that stand in them, depth first, the first item having index i
   pub found_in_items : ℕ → Items → List Found
   found_in_items i no_items = []
   found_in_items i (item d ds) = map (under_token (index_token i)) (found_in d) ++ found_in_items (suc i) ds
 
-  -- those of the members
+  -- the members' values and all that stand in them, depth first
   pub found_in_members : Members → List Found
   found_in_members no_members = []
   found_in_members (member k d ms) = map (under_token (name_token k)) (found_in d) ++ found_in_members ms
 
--- it is a float
+-- the value is a float
 abbrev pub is_float_value : Data → Bool
 is_float_value (number (float x)) = true
 is_float_value _ = false
@@ -145,7 +136,7 @@ is_float_value _ = false
 abbrev pub found_float : Data → Option Found
 found_float d = find (λ f. is_float_value f.value) (found_in d)
 
--- the value that a fault names and the location that a refused instance names are those of one float
+-- the float for which a keyword's value is refused and the float for which an instance is refused are the same one
 pub record FirstFloatIsOne : Type 0 where
   pub value : (d : Data) → first_float d ≡ option_map (λ f. f.value) (found_float d)
   pub location : (d : Data) → location_of.first_float (tree_of d) ≡ option_map (λ f. f.location) (found_float d)
@@ -156,9 +147,14 @@ pub record FirstFloatIsOne : Type 0 where
 abbrev pub NeedsSomePairs : Type 0
 NeedsSomePairs = (s : Schema) (t : Tree) → needed s t ≤ pairs s t
 
--- schemas and trees that meet lie at the same depth: at each, no more pairs than schemas times trees
-abbrev pub PairsMeetAtOneDepth : Type 0
-PairsMeetAtOneDepth = (s : Schema) (t : Tree) → pairs s t ≤ sum_of_products (height s) (schemas_at s) (trees_at t)
+-- a subschema and an item that meet lie equally deep: each pair lies at one depth
+pub record PairsMeetAtOneDepth : Type 0 where
+  -- the pairs of all depths are all pairs
+  pub over_depths : (s : Schema) (t : Tree) → sum_below (height s) (pairs_at s t) ≡ pairs s t
+  -- at each depth no more pairs lie than schemas times trees
+  pub at_each : (s : Schema) (t : Tree) (d : ℕ) → pairs_at s t d ≤ schemas_at s d * trees_at t d
+  -- there are no more pairs than schemas times trees at each depth, summed over the depths
+  pub at_all : (s : Schema) (t : Tree) → pairs s t ≤ sum_below (height s) (λ d. schemas_at s d * trees_at t d)
 
 -- ---- one tree in two representations
 
@@ -169,7 +165,7 @@ pub record SameFailure (f g : Failure) : Type 0 where
   pub keyword_location : f.keyword_location ≡ g.keyword_location
   pub tree : IsTrue (same f.tree g.tree)
 
--- error by error
+-- the failures are the same, one by one
 abbrev pub SameFailures : List Failure → List Failure → Type 0
 SameFailures [] [] = ⊤
 SameFailures (f ∷ fs) (g ∷ gs) = SameFailure f g × SameFailures fs gs
@@ -183,7 +179,7 @@ pub record SaysTheSame (s : Schema) (t u : Tree) : Type 0 where
   pub applications : pairs s t ≡ pairs s u
   pub to_failure : needed s t ≡ needed s u
 
--- every schema does
+-- every schema says of t what it says of u
 abbrev pub CannotBeToldApart : Tree → Tree → Type 0
 CannotBeToldApart t u = (s : Schema) → SaysTheSame s t u
 

@@ -1,7 +1,10 @@
--- What a schema is read under, and which keywords are read under it. Sections are those of Draft 2020-12, unless a draft is named.
-use Rattle.std.specs.Prelude.{ℕ, List, [], ◌∷◌, Bool, true, false, not, ◌&&◌, ◌||◌, codes, bytes_eq}
+-- What a schema is read under, and which keywords are read under it.
+-- Sections are those of Draft 2020-12, unless a draft is named.
+use Rattle.std.specs.Prelude.{ℕ, List, [], ◌∷◌, Bool, true, false, not, ◌&&◌, ◌||◌, codes, bytes_eq, Option, Some, None}
 use Rattle.std.specs.List.{list_any}
 use Rattle.jskw_value.specs.Pointer.{Pointer}
+use Rattle.jskw_value.specs.declared.types.JsonType.{JsonType}
+use Rattle.jskw_value.specs.declared.types.JsonType.TheVariants.{Array, Number, Object}
 use Rattle.jskw_report.specs.declared.keyword.KeywordName.{KeywordName}
 use Rattle.jskw_report.specs.declared.keyword.KeywordName.TheVariants.{TypeKeyword, MinItems, MaxItems, Items, PrefixItems, AdditionalItems, Contains, UniqueItems, Const, Enum, Minimum, Maximum, ExclusiveMinimum, ExclusiveMaximum, MultipleOf, MinProperties, MaxProperties, Required}
 use Rattle.jskw_report.specs.declared.settings.Draft.{Draft}
@@ -61,7 +64,7 @@ has vs Core = vs.core
 has vs Applicator = vs.applicator
 has vs Validation = vs.validation
 
--- the vocabulary is present: one of the set, or any in Drafts 4, 6 and 7, which have no vocabularies and every keyword
+-- the vocabulary is present: one of the set, or any in Drafts 4, 6 and 7, where no keyword waits for a vocabulary
 abbrev pub has_vocabulary : Setting → Vocabulary → Bool
 has_vocabulary s v = not (is_after_draft_7 s.draft) || has s.vocabularies v
 
@@ -99,9 +102,22 @@ vocabulary_of Items = Applicator
 vocabulary_of PrefixItems = Applicator
 vocabulary_of AdditionalItems = Applicator
 vocabulary_of Contains = Applicator
-vocabulary_of _ = Validation
+vocabulary_of TypeKeyword = Validation
+vocabulary_of MinItems = Validation
+vocabulary_of MaxItems = Validation
+vocabulary_of UniqueItems = Validation
+vocabulary_of Const = Validation
+vocabulary_of Enum = Validation
+vocabulary_of Minimum = Validation
+vocabulary_of Maximum = Validation
+vocabulary_of ExclusiveMinimum = Validation
+vocabulary_of ExclusiveMaximum = Validation
+vocabulary_of MultipleOf = Validation
+vocabulary_of MinProperties = Validation
+vocabulary_of MaxProperties = Validation
+vocabulary_of Required = Validation
 
--- the draft defines the keyword: all do, but for these six
+-- the draft defines the keyword: every draft does, but for the first six keywords
 abbrev pub is_in : Draft → KeywordName → Bool
 is_in d PrefixItems = is_2020_12 d
 is_in d AdditionalItems = not (is_2020_12 d)
@@ -109,7 +125,40 @@ is_in d Contains = is_after_draft_4 d
 is_in d Const = is_after_draft_4 d
 is_in d ExclusiveMinimum = is_after_draft_4 d
 is_in d ExclusiveMaximum = is_after_draft_4 d
-is_in d _ = true
+is_in d TypeKeyword = true
+is_in d MinItems = true
+is_in d MaxItems = true
+is_in d Items = true
+is_in d UniqueItems = true
+is_in d Enum = true
+is_in d Minimum = true
+is_in d Maximum = true
+is_in d MultipleOf = true
+is_in d MinProperties = true
+is_in d MaxProperties = true
+is_in d Required = true
+
+-- the type of the instances that a keyword concerns, if it isn't all of them (Validation 6.1):
+-- numbers (Validation 6.2), arrays (Validation 6.4, Core 10.3.1), or objects (Validation 6.5)
+abbrev pub concerns : KeywordName → Option JsonType
+concerns TypeKeyword = None
+concerns MinItems = Some Array
+concerns MaxItems = Some Array
+concerns Items = Some Array
+concerns PrefixItems = Some Array
+concerns AdditionalItems = Some Array
+concerns Contains = Some Array
+concerns UniqueItems = Some Array
+concerns Const = None
+concerns Enum = None
+concerns Minimum = Some Number
+concerns Maximum = Some Number
+concerns ExclusiveMinimum = Some Number
+concerns ExclusiveMaximum = Some Number
+concerns MultipleOf = Some Number
+concerns MinProperties = Some Object
+concerns MaxProperties = Some Object
+concerns Required = Some Object
 
 -- the keyword's name is overridden
 abbrev pub is_overridden : Setting → List ℕ → Bool

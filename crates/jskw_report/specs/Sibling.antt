@@ -1,4 +1,5 @@
--- What a keyword reads of the members beside it (Core 10.1): bare type checks, the fused shape of an array, and a `required` that is handed on.
+-- What a keyword reads of the members beside it (Core 10.1): bare type checks, the fused shape of an array, and a
+-- `required` that is handed on.
 use Rattle.std.specs.Prelude.{ℕ, ◌==◌, nat_lt, List, [], ◌∷◌, Bool, true, false, not, ◌&&◌, ◌||◌, codes, bytes_eq, is_none, is_ok}
 use Rattle.std.specs.List.{list_any, list_all}
 use Rattle.std.specs.Option.{option_map_or}
@@ -41,9 +42,9 @@ item_count (array ds) = items_len ds
 item_count _ = 0
 
 -- the value is the string
-abbrev pub is_text : List ℕ → Data → Bool
-is_text s (string r) = bytes_eq s r
-is_text s _ = false
+abbrev pub is_string : List ℕ → Data → Bool
+is_string s (string r) = bytes_eq s r
+is_string s _ = false
 
 -- ---- members
 
@@ -59,25 +60,26 @@ member_passes test name ms = option_map_or test (get_member name ms) false
 
 -- a type's name that items are checked against in place
 abbrev pub is_inlined_type : Data → Bool
-is_inlined_type d = list_any (λ j. is_text (type_name j) d) (Number ∷ String ∷ Boolean ∷ Integer ∷ [])
+is_inlined_type d = list_any (λ j. is_string (type_name j) d) (Number ∷ String ∷ Boolean ∷ Integer ∷ [])
 
--- an object of a single member: `type`, with such a name
+-- an object of a single member: `type`, with a name that items are checked against in place
 abbrev pub is_only_type : Data → Bool
 is_only_type (object (member k d no_members)) = bytes_eq k (name_of word.TypeKeyword) && is_inlined_type d
 is_only_type _ = false
 
--- the schema d of `items` is checked in place: it has such a `type`, which stands, and there are no schemas of `prefixItems` before it
+-- the schema d of `items` is checked in place: it is a `type` alone, which stands, and no array of schemas of
+-- `prefixItems` comes before it
 abbrev pub is_bare : Setting → Members → Data → Bool
 is_bare s ms d = is_only_type d && stands s word.TypeKeyword && not (is_2020_12 s.draft && member_passes is_array (name_of word.PrefixItems) ms)
 
 -- ---- the fused shape
 
--- an object or `false`
+-- the value is a schema of `items` that asserts something: an object or `false`
 abbrev pub is_items_schema : Data → Bool
 is_items_schema (object ms) = true
 is_items_schema d = is_false d
 
--- a bound on a number of items
+-- the value is a bound on a number of items
 abbrev pub is_size : Data → Bool
 is_size d = is_ok (size_value [] d)
 
@@ -89,9 +91,10 @@ has_keyword s ms w test = member_passes test (name_of w) ms && stands s w
 abbrev pub unfused_names : List (List ℕ)
 unfused_names = name_of word.PrefixItems ∷ name_of word.AdditionalItems ∷ name_of word.Contains ∷ codes "unevaluatedItems" ∷ name_of word.UniqueItems ∷ []
 
--- `type`, `minItems`, `maxItems` and `items` are checked together: `type` is `array`, `items` is one schema, and there is no other keyword of items
+-- `type`, `minItems`, `maxItems` and `items` are checked together: `type` is `array`, `items` is one schema, and there
+-- is no other keyword of items
 unfoldable pub is_fused : Setting → Members → Bool
-is_fused s ms = has_keyword s ms word.TypeKeyword (is_text (type_name Array)) && has_keyword s ms word.Items is_items_schema
+is_fused s ms = has_keyword s ms word.TypeKeyword (is_string (type_name Array)) && has_keyword s ms word.Items is_items_schema
     && list_all (λ w. is_absent (name_of w) ms || has_keyword s ms w is_size) (word.MinItems ∷ word.MaxItems ∷ [])
     && list_all (λ name. is_absent name ms) unfused_names
 

@@ -16,7 +16,8 @@ pub enum KeywordName {
     MinItems,
     /// `maxItems` (Validation 6.4.1)
     MaxItems,
-    /// `items` (Core 10.3.1.2; an array of schemas too, as in Drafts 4 to 2019-09)
+    /// `items` (Core 10.3.1.2; of an array of schemas Draft 7 Validation 6.4.1, by this library's own
+    /// rule in 2020-12 too)
     Items,
     /// `prefixItems` (Core 10.3.1.1)
     PrefixItems,

@@ -30,6 +30,3 @@ pub use keyword::KeywordName;
 pub use paths::{LazyLocation, Location, LocationSegment};
 pub use settings::{Draft, Settings, Vocabulary, VocabularySet};
 pub use validator::{Validate, ValidationContext};
-
-#[cfg(test)]
-mod tests;

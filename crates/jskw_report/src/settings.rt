@@ -30,7 +30,7 @@ pub enum Vocabulary {
     Validation,
 }
 
-/// A set of vocabularies. Drafts 4, 6 and 7 know none, and have every keyword whatever the set.
+/// A set of vocabularies. Drafts 4, 6 and 7 know none: there no keyword is left out for want of one.
 #[derive(Clone, Copy, PartialEq, Eq, Debug)]
 pub struct VocabularySet {
     core: bool,

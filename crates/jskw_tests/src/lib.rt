@@ -1,5 +1,5 @@
-//! The tests of `jskw_number` and `jskw_leaf`, over their public surface. They stand in a crate of their own, so that a
-//! change of a test proves none of the libraries again.
+//! The tests of the four libraries, over their public items. A crate with tests is proved twice,
+//! once without and once with them: here they stand apart, and so each library is proved once.
 #![tactic(auto)]
 
 #[cfg(test)]

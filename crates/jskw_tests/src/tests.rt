@@ -1,33 +1,74 @@
+// Locations, trees of decimals, errors as texts, and what a compiled keyword says.
+mod keywords;
+mod observers;
+mod places;
+mod texts;
+mod trees;
+
+// What values and reports answer, and what is told where memory is wanted.
+mod memory;
+mod report;
+mod value;
+
 // A keyword's rows, over each representation.
 mod boundaries;
 mod constants;
 mod enums;
-mod keywords;
 mod limits;
-mod observers;
 mod required;
 mod sizes;
-mod texts;
-mod trees;
 mod types;
 mod unique_items;
 
 use jskw_report::{Draft, Settings, VocabularySet};
-use jskw_value::{DecimalJson, SerdeJson};
+use jskw_value::{DecimalJson, DecimalTree, SerdeJson};
 use keywords::said;
 use serde_json::Value;
-use std::alloc::Global;
+use std::alloc::{AllocError, Global};
 use std::process::Abort;
 use std::test::Fail;
 use trees::{Keys0, KeysMax, decimal_of, decimal_tree};
 
-// The settings of a draft with every vocabulary and no overridden name.
-fn all_of(alloc: Global, draft: Draft) -> Settings {
-    Settings::new(draft, VocabularySet::all(), Vec::new(alloc))
+const DRAFTS: [Draft; 5] = [
+    Draft::Draft4,
+    Draft::Draft6,
+    Draft::Draft7,
+    Draft::Draft201909,
+    Draft::Draft202012,
+];
+
+const DRAFTS_AFTER_4: [Draft; 4] = [
+    Draft::Draft6,
+    Draft::Draft7,
+    Draft::Draft201909,
+    Draft::Draft202012,
+];
+
+// The settings of a draft with these vocabularies and no overridden name.
+fn settings_of(alloc: Global, draft: Draft, vocabularies: VocabularySet) -> Settings {
+    Settings::new(draft, vocabularies, Vec::new(alloc))
 }
 
-// The keyword of a name says this of an instance given as a JSON text, over each representation; or, where the text begins
-// with `#`, of the decimal of the coefficient and the scale behind it.
+// The settings of a draft with every vocabulary and no overridden name.
+fn all_of(alloc: Global, draft: Draft) -> Settings {
+    settings_of(alloc, draft, VocabularySet::all())
+}
+
+// The settings of a draft with every vocabulary and these names overridden.
+fn overriding(alloc: Global, draft: Draft, names: &[&str]) -> Result<Settings, AllocError> {
+    let mut overridden = Vec::new(alloc);
+    for name in names {
+        overridden.push(String::from_str(alloc, name)?)?;
+    }
+    Ok(Settings::new(draft, VocabularySet::all(), overridden))
+}
+
+// The keyword of a name says this of an instance given as a JSON text, over each representation;
+// or, where the text begins with `#`, of the decimal of the coefficient and the scale behind it, as
+// in `#20e-1`, which is 2.0.
+// The keyword's schema stands at `/items` and the instance is the item with index 7 of some array,
+// and an error is written by its kind alone where it says so: `minimum 1` stands at `/7`, by
+// `/items/minimum`.
 fn check(
     rt: &impl Abort,
     alloc: Global,
@@ -38,7 +79,7 @@ fn check(
     wanted: &str,
 ) -> Result<(), Fail> {
     let tree = match instance.strip_prefix('#') {
-        Some(decimal) => decimal_of(decimal)?,
+        Some(decimal) => DecimalTree::Number(decimal_of(decimal)?),
         None => {
             let value = Value::from_str(alloc, instance)?;
             let found = said::<SerdeJson>(rt, alloc, settings, schema, name, &value)?;
@@ -63,8 +104,14 @@ fn check(
     Ok(())
 }
 
-// Goes through the lines of a table: schema, instance, keyword, what is said under the settings, with a bar between each
-// two.
+// The first two columns of a table's line, with a bar behind each, and the rest of it.
+fn columns(line: &str) -> Result<(&str, &str, &str), Fail> {
+    let (first, rest) = line.split_once('|').ok_or("no second column")?;
+    let (second, rest) = rest.split_once('|').ok_or("no third column")?;
+    Ok((first, second, rest))
+}
+
+// Goes through the lines of a table under the settings: schema, instance, keyword, what is said.
 fn check_rows(
     rt: &impl Abort,
     alloc: Global,
@@ -72,8 +119,7 @@ fn check_rows(
     table: &str,
 ) -> Result<(), Fail> {
     for line in table.lines() {
-        let (schema, rest) = line.split_once('|').ok_or("no instance")?;
-        let (instance, rest) = rest.split_once('|').ok_or("no keyword")?;
+        let (schema, instance, rest) = columns(line)?;
         let (name, wanted) = rest.split_once('|').ok_or("no outcome")?;
         check(rt, alloc, settings, schema, name, instance, wanted)?;
     }

@@ -24,7 +24,8 @@ height [] = 0
 height (m ∷ ms) = max (depth m.1) (height ms)
 
 -- no item nests deeper than the deepest
-items_depth_above : (ts : Items) (i : ℕ) (t : Tree) → i < length (item_list ts) → t ≡ get_or (item_list ts) i t → depth t ≤ items_depth ts
+items_depth_above : (ts : Items) (i : ℕ) (t : Tree) → i < length (item_list ts) → t ≡ get_or (item_list ts) i t
+    → depth t ≤ items_depth ts
 items_depth_above no_items i t h e = absurd (omega arith)
 items_depth_above (item x ts) zero t h e = rw e (omega arith)
 items_depth_above (item x ts) (suc i) t h e = let r = items_depth_above ts i t (omega arith) e in omega arith
@@ -34,7 +35,7 @@ pub item_depth : (u : Tree) (i : ℕ) (t : Tree) → i < length (items u) → t 
 item_depth (array ts) i t h e = let r = items_depth_above ts i t h e in omega arith
 item_depth _ i t h e = absurd (omega arith)
 
--- the same greatest, of the list of members
+-- the greatest depth among the members, as a list
 members_depth_list : (ms : Members) → members_depth ms ≡ height (member_list ms)
 members_depth_list no_members = refl
 members_depth_list (member k t ms) = ap (max (depth t)) (members_depth_list ms)

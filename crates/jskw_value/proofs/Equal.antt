@@ -6,15 +6,15 @@ use Rattle.std.proofs.lemmas.List.{at_drop_all, drop_all}
 use Rattle.std.proofs.lemmas.Map.Entries.{length-keys_of}
 use Rattle.std.proofs.lemmas.Map.Keys.{IsDistinct-head, IsDistinct-tail}
 use Rattle.std.proofs.lemmas.Slice.Eq.{bytes_eq-Decides}
-use Rattle.std.specs.Bool.{⊤}
 use Rattle.std.specs.Cmp.Lexicographic.{pointwise}
 use Rattle.std.specs.List.{list_all, list_any, IsDistinct, AllByRecursion}
-use Rattle.std.specs.Map.{keys_of, lookup}
+use Rattle.std.specs.Map.{keys_of}
 use Rattle.std.specs.Str.{bytes_eq}
-use Rattle.jskw_value.specs.Equality.{equal, has_equal, unique, items_alike, members_alike, AreMembers}
+use Rattle.jskw_value.specs.Equality.{equal, has_equal, unique, items_alike, members_alike, AreAmong, AreMembers}
 use Rattle.jskw_value.specs.Number.{num_equal}
 use Rattle.jskw_value.specs.Tree.{Tree, array, object, Items, no_items, item, Members, no_members, member, item_list, member_list, items, members, names, get, has_name, is_array, is_object}
 use Rattle.jskw_value.proofs.Alike.{names_found}
+use Rattle.jskw_value.proofs.Depth.{item_depth}
 use Rattle.jskw_value.proofs.Lists.{at_index}
 use Rattle.jskw_value.proofs.SameNames.{same_length}
 
@@ -28,16 +28,22 @@ items_equal (item t ts) [] = refl
 items_equal (item t ts) (u ∷ us) = ap (λ b. equal t u && b) (items_equal ts us)
 
 -- arrays are equal index by index
-pub equal_arrays : (t u : Tree) → is_array t ≡ true → is_array u ≡ true → equal t u ≡ pointwise equal (items t) (items u)
+pub equal_arrays : (t u : Tree) → is_array t ≡ true → is_array u ≡ true
+    → equal t u ≡ pointwise equal (items t) (items u)
 equal_arrays (array ts) u h k = rw (k, items_equal ts (items u))
 equal_arrays _ u h k = cc
 
--- one index on
-pub pointwise_step : (ts us : List Tree) (i : ℕ) (t u : Tree) → i < length ts → i < length us → t ≡ get_or ts i t → u ≡ get_or us i u → pointwise equal (drop i ts) (drop i us) ≡ (equal t u && pointwise equal (drop (i + 1) ts) (drop (i + 1) us))
-pointwise_step ts us i t u h k e f = at_index (λ xs. pointwise equal xs (drop i us)) ts i t h e ∙ at_index (λ ys. pointwise equal (t ∷ drop (i + 1) ts) ys) us i u k f
+-- equality of the rests, one index on
+pub pointwise_step : (ts us : List Tree) (i : ℕ) (t u : Tree) → i < length ts → i < length us → t ≡ get_or ts i t
+    → u ≡ get_or us i u
+    → pointwise equal (drop i ts) (drop i us) ≡ (equal t u && pointwise equal (drop (i + 1) ts) (drop (i + 1) us))
+pointwise_step ts us i t u h k e f =
+    at_index (λ xs. pointwise equal xs (drop i us)) ts i t h e
+    ∙ at_index (λ ys. pointwise equal (t ∷ drop (i + 1) ts) ys) us i u k f
 
--- behind the last index
-pub pointwise_end : (ts us : List Tree) (n : ℕ) → n ≡ length ts → n ≡ length us → pointwise equal (drop n ts) (drop n us) ≡ true
+-- equality of the rests behind the last index
+pub pointwise_end : (ts us : List Tree) (n : ℕ) → n ≡ length ts → n ≡ length us
+    → pointwise equal (drop n ts) (drop n us) ≡ true
 pointwise_end ts us n h k = ap₂ (pointwise equal) (drop_all n ts (omega (arith, h))) (drop_all n us (omega (arith, k)))
 
 -- lists of two lengths are not equal
@@ -55,51 +61,48 @@ members_equal no_members u = refl
 members_equal (member k t ms) u = ap (λ b. has_equal u (k, t) && b) (members_equal ms u)
 
 -- where each of the left is found on the right, each name of the right is one of the left exactly where both have as many
-pub equal_objects : (t u : Tree) → is_object t ≡ true → is_object u ≡ true → IsDistinct bytes_eq (names t) → IsDistinct bytes_eq (names u) → equal t u ≡ ((length (members t) == length (members u)) && list_all (has_equal u) (members t))
+pub equal_objects : (t u : Tree) → is_object t ≡ true → is_object u ≡ true → IsDistinct bytes_eq (names t)
+    → IsDistinct bytes_eq (names u)
+    → equal t u ≡ ((length (members t) == length (members u)) && list_all (has_equal u) (members t))
 equal_objects (object ms) u h k d e = rw (k, members_equal ms u) (go (list_all (has_equal u) (member_list ms)) refl)
   where
-    go : (b : Bool) → list_all (has_equal u) (member_list ms) ≡ b → (b && list_all (has_name (object ms)) (names u)) ≡ ((length (member_list ms) == length (members u)) && b)
-    go true x = same_length (keys_of (member_list ms)) (names u) d e (names_found num_equal ms u (members_equal ms u ∙ x)) ∙ ap₂ (λ m n. m == n) (length-keys_of (member_list ms)) (length-keys_of (members u)) ∙ sym (and-true _)
+    go : (b : Bool) → list_all (has_equal u) (member_list ms) ≡ b
+        → (b && list_all (has_name (object ms)) (names u)) ≡ ((length (member_list ms) == length (members u)) && b)
+    go true x =
+        same_length (keys_of (member_list ms)) (names u) d e (names_found num_equal ms u (members_equal ms u ∙ x))
+        ∙ ap₂ (λ m n. m == n) (length-keys_of (member_list ms)) (length-keys_of (members u)) ∙ sym (and-true _)
     go false x = sym (and-false _)
 equal_objects _ u h k d e = cc
 
 -- ---- the members of an object by their names
 
--- each of the pairs is an entry
-AreIn : List (List ℕ × Tree) → List (List ℕ × Tree) → Type 0
-AreIn all [] = ⊤
-AreIn all (m ∷ ms) = (lookup (bytes_eq m.0) all ≡ Some m.1) × AreIn all ms
-
 -- one entry more in front, of another name
-past_first : (x : List ℕ × Tree) (all ms : List (List ℕ × Tree)) → AllByRecursion (λ y. bytes_eq x.0 y ≡ false) (keys_of ms) → AreIn all ms → AreIn (x ∷ all) ms
-unfolding AreIn
+past_first : (x : List ℕ × Tree) (all ms : List (List ℕ × Tree))
+    → AllByRecursion (λ y. bytes_eq x.0 y ≡ false) (keys_of ms) → AreAmong all ms → AreAmong (x ∷ all) ms
 past_first x all [] h e = tt
 past_first x all (m ∷ ms) h e = (rw (nat_list_eq_equiv.symm m.0 x.0, h.0) e.0, past_first x all ms h.1 e.1)
 
--- all entries are, where the names are distinct
-all_in : (ms : List (List ℕ × Tree)) → IsDistinct bytes_eq (keys_of ms) → AreIn ms ms
-unfolding AreIn
-all_in [] d = tt
-all_in (m ∷ ms) d = (rw (nat_list_eq_equiv.refl m.0) refl, past_first m ms ms (IsDistinct-head bytes_eq m.0 (keys_of ms) d) (all_in ms (IsDistinct-tail bytes_eq m.0 (keys_of ms) d)))
+-- entries with distinct names are among themselves
+all_among : (ms : List (List ℕ × Tree)) → IsDistinct bytes_eq (keys_of ms) → AreAmong ms ms
+all_among [] d = tt
+all_among (m ∷ ms) d =
+    let later = all_among ms (IsDistinct-tail bytes_eq m.0 (keys_of ms) d) in
+    (rw (nat_list_eq_equiv.refl m.0) refl, past_first m ms ms (IsDistinct-head bytes_eq m.0 (keys_of ms) d) later)
 
--- the same said of an object
-are_members : (t : Tree) (ms : List (List ℕ × Tree)) → AreIn (members t) ms → AreMembers t ms
-unfolding AreIn
-are_members t [] h = tt
-are_members t (m ∷ ms) h = (h.0, are_members t ms h.1)
-
--- the members of an object with distinct names are its members
+-- each member is what its name finds, where the names are distinct
 pub all_members : (t : Tree) → IsDistinct bytes_eq (names t) → AreMembers t (members t)
-all_members t d = are_members t (members t) (all_in (members t) d)
+all_members t d = all_among (members t) d
 
 -- the next member is what its name finds
-pub next_found : (t : Tree) (k name : List ℕ) (v : Tree) (ms : List (List ℕ × Tree)) → AreMembers t ((k, v) ∷ ms) → bytes_eq k name ≡ true → get name t ≡ Some v
+pub next_found : (t : Tree) (k name : List ℕ) (v : Tree) (ms : List (List ℕ × Tree)) → AreMembers t ((k, v) ∷ ms)
+    → bytes_eq k name ≡ true → get name t ≡ Some v
 next_found t k name v ms h e = subst (λ n. get n t ≡ Some v) ((bytes_eq-Decides k name).0 e) h.0
 
 -- ---- uniqueness
 
 -- uniqueness of the rest, one index on
-pub unique_step : (ts : List Tree) (i : ℕ) (t : Tree) → i < length ts → t ≡ get_or ts i t → unique (drop i ts) ≡ (not (list_any (equal t) (drop (i + 1) ts)) && unique (drop (i + 1) ts))
+pub unique_step : (ts : List Tree) (i : ℕ) (t : Tree) → i < length ts → t ≡ get_or ts i t
+    → unique (drop i ts) ≡ (not (list_any (equal t) (drop (i + 1) ts)) && unique (drop (i + 1) ts))
 unique_step ts i t h e = at_index unique ts i t h e
 
 -- no rest is unique
@@ -107,9 +110,14 @@ pub unique_end : (ts : List Tree) (n : ℕ) → length ts ≤ n → unique (drop
 unique_end ts n h = at_drop_all unique ts n h
 
 -- a search in the rest, one index on
-pub any_step : (p : Tree → Bool) (ts : List Tree) (i : ℕ) (t : Tree) → i < length ts → t ≡ get_or ts i t → list_any p (drop i ts) ≡ (p t || list_any p (drop (i + 1) ts))
+pub any_step : (p : Tree → Bool) (ts : List Tree) (i : ℕ) (t : Tree) → i < length ts → t ≡ get_or ts i t
+    → list_any p (drop i ts) ≡ (p t || list_any p (drop (i + 1) ts))
 any_step p ts i t h e = at_index (list_any p) ts i t h e
 
--- it finds nothing in no rest
+-- a search finds nothing in no rest
 pub any_end : (p : Tree → Bool) (ts : List Tree) (n : ℕ) → length ts ≤ n → list_any p (drop n ts) ≡ false
 any_end p ts n h = at_drop_all (list_any p) ts n h
+
+pub ruleset by_level = (equal_arrays, equal_objects)
+
+pub ruleset by_index = (pointwise_step, pointwise_end, pointwise_length, item_depth)

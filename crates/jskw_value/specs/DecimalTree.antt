@@ -11,7 +11,7 @@ abbrev pub items_from : List Tree → Items
 items_from [] = no_items
 items_from (t ∷ ts) = item t (items_from ts)
 
--- a list of members as those of an object
+-- a list of members as the members of an object
 abbrev pub members_from : List (Member Tree) → Members
 members_from [] = no_members
 members_from (m ∷ ms) = member (string_bytes m.name) m.value (members_from ms)

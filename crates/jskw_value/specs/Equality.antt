@@ -2,10 +2,11 @@
 use Rattle.std.specs.Prelude.{◌≡◌, ℕ, List, [], ◌∷◌, Bool, true, false, not, ◌&&◌, Some, ⊤}
 use Rattle.std.specs.Bool.{beq}
 use Rattle.std.specs.List.{list_any, list_all}
+use Rattle.std.specs.Map.{lookup}
 use Rattle.std.specs.Option.{option_map_or}
 use Rattle.std.specs.Str.{bytes_eq}
 use Rattle.jskw_value.specs.Number.{Num, num_equal, num_same}
-use Rattle.jskw_value.specs.Tree.{Tree, null, boolean, number, string, array, object, Items, no_items, item, Members, no_members, member, is_null, as_boolean, as_number, as_string, is_array, is_object, items, names, get, has_name}
+use Rattle.jskw_value.specs.Tree.{Tree, null, boolean, number, string, array, object, Items, no_items, item, Members, no_members, member, is_null, as_boolean, as_number, as_string, is_array, is_object, items, members, names, get, has_name}
 
 -- arrays item by item; objects where each name of the one is a name of the other, with values alike; numbers by the test `numbers`
 abbrev mutual
@@ -27,7 +28,8 @@ abbrev mutual
   -- each name is one of u, with values alike
   pub members_alike : (Num → Num → Bool) → Members → Tree → Bool
   members_alike numbers no_members u = true
-  members_alike numbers (member k t ms) u = option_map_or (alike numbers t) (get k u) false && members_alike numbers ms u
+  members_alike numbers (member k t ms) u =
+      option_map_or (alike numbers t) (get k u) false && members_alike numbers ms u
 
 -- numbers by their mathematical value
 abbrev pub equal : Tree → Tree → Bool
@@ -46,7 +48,11 @@ abbrev pub unique : List Tree → Bool
 unique [] = true
 unique (t ∷ ts) = not (list_any (equal t) ts) && unique ts
 
+-- each of the pairs is what its name finds among the entries
+abbrev pub AreAmong : List (List ℕ × Tree) → List (List ℕ × Tree) → Type 0
+AreAmong entries [] = ⊤
+AreAmong entries (m ∷ ms) = (lookup (bytes_eq m.0) entries ≡ Some m.1) × AreAmong entries ms
+
 -- each of the pairs is a member of t
 abbrev pub AreMembers : Tree → List (List ℕ × Tree) → Type 0
-AreMembers t [] = ⊤
-AreMembers t (m ∷ ms) = (get m.0 t ≡ Some m.1) × AreMembers t ms
+AreMembers t ms = AreAmong (members t) ms

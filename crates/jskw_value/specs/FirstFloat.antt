@@ -1,13 +1,9 @@
 -- The location of the first float of a tree.
 use Rattle.std.specs.Prelude.{ℕ, suc, List, [], ◌∷◌, ◌++◌, Option, Some, None, option_map}
+use Rattle.std.specs.Option.{option_or}
 use Rattle.jskw_value.specs.Number.{float}
 use Rattle.jskw_value.specs.Pointer.{Pointer, name_token, index_token}
 use Rattle.jskw_value.specs.Tree.{Tree, number, array, object, Items, no_items, item, Members, no_members, member}
-
--- the first of the two, if there is one
-abbrev pub or_else : Option Pointer → Option Pointer → Option Pointer
-or_else None q = q
-or_else (Some p) q = Some p
 
 -- a location in an item, from the array on
 abbrev pub below_index : ℕ → Pointer → Pointer
@@ -17,7 +13,7 @@ below_index i p = index_token i ++ p
 abbrev pub below_name : List ℕ → Pointer → Pointer
 below_name k p = name_token k ++ p
 
--- depth first, items by index, members in the order in which they stand
+-- the first float of a tree: depth first, items by index, members in the order in which they stand
 abbrev mutual
   pub first_float : Tree → Option Pointer
   first_float (number float) = Some []
@@ -25,22 +21,22 @@ abbrev mutual
   first_float (object ms) = members_float ms
   first_float _ = None
 
-  -- among the items from index i on
+  -- the first float among the items from index i on
   pub items_float : ℕ → Items → Option Pointer
   items_float i no_items = None
-  items_float i (item t ts) = or_else (option_map (below_index i) (first_float t)) (items_float (suc i) ts)
+  items_float i (item t ts) = option_or (option_map (below_index i) (first_float t)) (items_float (suc i) ts)
 
-  -- among the members, in the order in which they stand
+  -- the first float among the members
   pub members_float : Members → Option Pointer
   members_float no_members = None
-  members_float (member k t ms) = or_else (option_map (below_name k) (first_float t)) (members_float ms)
+  members_float (member k t ms) = option_or (option_map (below_name k) (first_float t)) (members_float ms)
 
--- the same of a list of items, the first having index i
+-- the first float among the items of a list, the first of which has index i
 abbrev pub float_from : ℕ → List Tree → Option Pointer
 float_from i [] = None
-float_from i (t ∷ ts) = or_else (option_map (below_index i) (first_float t)) (float_from (suc i) ts)
+float_from i (t ∷ ts) = option_or (option_map (below_index i) (first_float t)) (float_from (suc i) ts)
 
--- the same of a list of members
+-- the first float among the members of a list
 abbrev pub float_among : List (List ℕ × Tree) → Option Pointer
 float_among [] = None
-float_among (m ∷ ms) = or_else (option_map (below_name m.0) (first_float m.1)) (float_among ms)
+float_among (m ∷ ms) = option_or (option_map (below_name m.0) (first_float m.1)) (float_among ms)

@@ -1,8 +1,8 @@
 -- The members of an object as a list of pairs with distinct names, and the code by which a proof tells such lists apart.
 use Rattle.std.specs.Prelude.{ℕ, List, map, String, string_bytes, refl, Bool, Option}
 use Rattle.std.specs.Coded.{Coded, code_by, coded_list, coded×}
-use Rattle.std.specs.List.{list_any}
 use Rattle.std.specs.Map.{keys_of, lookup}
+use Rattle.std.specs.Set.{is_member}
 use Rattle.std.specs.Str.{bytes_eq}
 use Rattle.std.specs.contracts.alloc.Global as heap
 use Rattle.std.specs.contracts.string.String as text
@@ -25,15 +25,16 @@ module _ {V : Type 0} where
 
   -- whether a member has the name
   abbrev pub has_name : List ℕ → List (Member V) → Bool
-  has_name k ms = list_any (bytes_eq k) (names ms)
+  has_name k ms = is_member bytes_eq (names ms) k
 
 -- the code of a name
 abbrev pub text_code : Coded (String Global)
 text_code = (text.the_row heap.the_row ghosts).coded
 
--- the code of a member, from that of its value
+-- the code of a member, from the code of its value
 abbrev pub member_code : {V : Type 0} → Coded V → Coded (Member V)
-member_code {V} code = code_by (String Global × V) (coded× text_code code) (λ m. (m.name, m.value)) (λ v. record { name = v.0; value = v.1 }) (λ _. refl)
+member_code {V} code =
+    code_by (String Global × V) (coded× text_code code) (λ m. (m.name, m.value)) (λ v. record { name = v.0; value = v.1 }) (λ _. refl)
 
 -- the code of a list of members
 abbrev pub members_code : {V : Type 0} → Coded V → Coded (List (Member V))

@@ -8,7 +8,7 @@ pub data Num : Type 0 where
   exact : ℤ → ℕ → Num
   float : Num
 
--- no float
+-- it is a decimal of some size, and no float
 abbrev pub is_exact : Num → Bool
 is_exact (exact c k) = true
 is_exact float = false

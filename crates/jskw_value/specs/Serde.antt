@@ -13,7 +13,7 @@ num_of (serde.unsigned n) = exact (pos n) zero
 num_of (serde.negative z) = exact z zero
 num_of (serde.float x) = float
 
--- a value level by level; members keep their order, which is that of the names
+-- a value level by level; members stand in the order of their names
 abbrev mutual
   pub tree_of : serde.Data → Tree
   tree_of serde.null = null

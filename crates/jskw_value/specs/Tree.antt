@@ -1,7 +1,7 @@
 -- A JSON value as a tree (Core 4.2.1, "Instance Data Model"). Sections are those of Draft 2020-12.
 use Rattle.std.specs.Prelude.{ℕ, List, [], ◌∷◌, Bool, true, false, not, ◌&&◌, Option, Some, None}
-use Rattle.std.specs.List.{list_any}
 use Rattle.std.specs.Map.{lookup, keys_of, values_of}
+use Rattle.std.specs.Set.{is_member}
 use Rattle.std.specs.Str.{bytes_eq}
 use Rattle.jskw_value.specs.Number.{Num, is_exact}
 
@@ -91,7 +91,7 @@ get k t = lookup (bytes_eq k) (members t)
 
 -- whether a member has the name
 abbrev pub has_name : Tree → List ℕ → Bool
-has_name t k = list_any (bytes_eq k) (names t)
+has_name t k = is_member bytes_eq (names t) k
 
 -- ---- all levels
 
@@ -103,12 +103,12 @@ abbrev mutual
   is_lawful (object ms) = members_lawful ms
   is_lawful _ = true
 
-  -- in no item
+  -- no float stands in an item
   pub items_lawful : Items → Bool
   items_lawful no_items = true
   items_lawful (item t ts) = is_lawful t && items_lawful ts
 
-  -- in no member
+  -- no float stands in a member
   pub members_lawful : Members → Bool
   members_lawful no_members = true
   members_lawful (member k t ms) = is_lawful t && members_lawful ms
@@ -120,12 +120,12 @@ abbrev mutual
   has_distinct_names (object ms) = members_distinct ms
   has_distinct_names _ = true
 
-  -- in no item
+  -- no object in an item has a name twice
   pub items_distinct : Items → Bool
   items_distinct no_items = true
   items_distinct (item t ts) = has_distinct_names t && items_distinct ts
 
-  -- in no member, and each name is none of the later ones
+  -- no object in a member has a name twice, and each name is none of the later ones
   pub members_distinct : Members → Bool
   members_distinct no_members = true
   members_distinct (member k t ms) = not (has_name (object ms) k) && has_distinct_names t && members_distinct ms

@@ -1,5 +1,6 @@
 -- The types of JSON Schema (Validation 6.1.1, "type"), and sets of them.
-use Rattle.std.specs.Prelude.{ℕ, Bool, true, false, ◌&&◌, ◌||◌, List, [], ◌∷◌, codes, Option, Some, None, bytes_eq, if◌then◌else◌}
+use Rattle.std.specs.Prelude.{ℕ, Bool, true, false, ◌&&◌, ◌||◌, List, [], ◌∷◌, codes, Option, bytes_eq}
+use Rattle.std.specs.List.{find}
 use Rattle.std.specs.Option.{option_map_or}
 use Rattle.jskw_value.specs.Number.{is_integer}
 use Rattle.jskw_value.specs.Tree.{Tree, null, boolean, number, string, array, object, as_number}
@@ -41,14 +42,9 @@ type_name Number = codes "number"
 type_name Object = codes "object"
 type_name String = codes "string"
 
--- the first of the types that has the name
-abbrev type_among : List JsonType → List ℕ → Option JsonType
-type_among [] s = None
-type_among (j ∷ js) s = if bytes_eq (type_name j) s then Some j else type_among js s
-
 -- the type of a name, if it is one of the seven
 abbrev pub type_named : List ℕ → Option JsonType
-type_named s = type_among (Array ∷ Boolean ∷ Integer ∷ Null ∷ Number ∷ Object ∷ String ∷ []) s
+type_named s = find (λ j. bytes_eq (type_name j) s) (Array ∷ Boolean ∷ Integer ∷ Null ∷ Number ∷ Object ∷ String ∷ [])
 
 -- the type of a tree, an integer's being `number`
 abbrev pub json_type : Tree → JsonType

@@ -7,7 +7,7 @@ use Rattle.jskw_value.specs.declared.walk.Walk.{Walk}
 use Rattle.jskw_value.specs.declared.walk.Rest.{Rest}
 use Rattle.jskw_value.specs.declared.walk.Rest.TheVariants.{Sorted, Listed, ByPlace}
 
--- the same of a walk's state: what is left of a map, of a list, or behind a place
+-- what a walk's state has left of a map, of a list, or behind a place
 abbrev pub rest_left : {V : Type 0} → (V → Tree) → Rest V → List (List ℕ × Tree)
 rest_left tree (Sorted entries) = map (λ e. (string_bytes e.0, tree e.1)) entries
 rest_left tree (Listed list) = map (λ m. (string_bytes m.name, tree m.value)) (iter_rest list)

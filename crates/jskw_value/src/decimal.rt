@@ -1,5 +1,6 @@
 //! Exact decimals.
-ghost use Rattle.std.specs.Prelude.{◌≡◌, ◌≤◌, ◌<◌, ◌^◌, ℤ, pos, negsuc, ◌*ℤ◌, ◌≤ℤ◌, ◌<ℤ◌, option_map, Some, None, if◌then◌else◌};
+ghost use Rattle.std.specs.Prelude.{◌≡◌, ◌≤◌, ◌<◌, ◌^◌, ℤ, pos, negsuc, ◌*ℤ◌, ◌≤ℤ◌, ◌<ℤ◌};
+ghost use Rattle.std.specs.Prelude.{option_map, Some, None, if◌then◌else◌};
 ghost use Rattle.jskw_value.specs.Number.{exact, is_decimal, num_equal, cmp_whole, is_multiple_of};
 
 use crate::json::JsonNumber;

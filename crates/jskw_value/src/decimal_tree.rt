@@ -37,7 +37,7 @@ impl Rooted for DecimalTree {
     ghost tree = { decimal_tree };
 }
 
-#[tactic(auto, using(crate::proofs::Decimals::items_of_array, crate::proofs::Decimals::lawful_tree, std::proofs::lemmas::Grind::common_steps))]
+#[tactic(auto, using(crate::proofs::DecimalTrees::arrays))]
 impl Array for DecimalTree {
     fn len(&self) -> usize {
         match self {
@@ -54,7 +54,7 @@ impl Array for DecimalTree {
     }
 }
 
-#[tactic(auto, using(crate::proofs::Decimals::length_values, crate::proofs::Decimals::names_of_object, crate::proofs::Decimals::values_of_object, crate::proofs::Decimals::members_of_object, crate::proofs::Decimals::lawful_tree, crate::proofs::Lawful::lawful_members, crate::proofs::Lawful::lawful_found, std::proofs::lemmas::Grind::common_steps))]
+#[tactic(auto, using(crate::proofs::DecimalTrees::objects))]
 impl Object for DecimalTree {
     type PreparedKey = String;
 
@@ -100,7 +100,7 @@ impl Object for DecimalTree {
     }
 }
 
-#[tactic(auto, using(crate::proofs::Decimals::lawful_tree))]
+#[tactic(auto, using(crate::proofs::DecimalTrees::lawful_tree))]
 impl Node for DecimalTree {
     type Number = Decimal;
 

@@ -14,7 +14,7 @@ use crate::walk::Walk;
 
 // Whether two nodes are one value.
 #[cycle(equal)]
-#[tactic(auto, using(crate::proofs::Equal::equal_arrays, crate::proofs::Equal::equal_objects))]
+#[tactic(auto, using(crate::proofs::Equal::by_level))]
 pub(crate) fn equal_nodes<N: Node, M: Node>(left: &N, right: &M) -> bool
     ensures { result ≡ equal (N.tree left.now) (M.tree right.now) }
 {
@@ -27,8 +27,9 @@ pub(crate) fn equal_nodes<N: Node, M: Node>(left: &N, right: &M) -> bool
     }
 }
 
+// Whether two arrays have as many items, equal at each index.
 #[cycle(equal)]
-#[tactic(auto, using(crate::proofs::Equal::pointwise_step, crate::proofs::Equal::pointwise_end, crate::proofs::Equal::pointwise_length, crate::proofs::Depth::item_depth))]
+#[tactic(auto, using(crate::proofs::Equal::by_index))]
 fn equal_arrays<N: Node, M: Node>(left: &N, right: &M) -> bool
     requires left { IsTrue (is_array (N.tree left.now)) }
     requires right { IsTrue (is_array (M.tree right.now)) }
@@ -46,6 +47,7 @@ fn equal_arrays<N: Node, M: Node>(left: &N, right: &M) -> bool
     true
 }
 
+// Whether two objects have as many members, each of the left equal to the right one of its name.
 #[cycle(equal)]
 #[tactic(auto, using(crate::proofs::Depth::height_below, crate::proofs::Equal::all_members))]
 fn equal_objects<N: Node, M: Node>(left: &N, right: &M) -> bool
@@ -69,7 +71,7 @@ fn equal_objects<N: Node, M: Node>(left: &N, right: &M) -> bool
     true
 }
 
-// Whether what was found is an equal node.
+// Whether something was found, and it equals the member.
 #[cycle(equal)]
 fn equals_found<N: Node, M: Node>(member: &N, found: Option<&M>) -> bool
     ensures { let other = option_map (λ x. M.tree x.now) found.entry in
@@ -98,7 +100,7 @@ fn next_or_find<'a, M: Node>(object: &'a M, walk: &mut Walk<'a, M>, name: &str) 
     object.find(name)
 }
 
-// The same of nodes that hold no others.
+// Whether two nodes are one value, where the left one is neither an array nor an object.
 fn equal_leaves<N: Node, M: Node>(left: &N, right: &M) -> bool
     requires array { is_array (N.tree left.now) ≡ false }
     requires object { is_object (N.tree left.now) ≡ false }
@@ -122,13 +124,14 @@ fn equal_leaves<N: Node, M: Node>(left: &N, right: &M) -> bool
     right.is_null()
 }
 
+// Whether two numbers have the same mathematical value; a float has none.
 fn equal_numbers<A: JsonNumber, B: JsonNumber>(left: &A, right: &B) -> bool
     ensures { result ≡ num_equal (A.number left.now) (B.number right.now) }
 {
     left.is_lawful() && right.is_lawful() && left.decimal().equals(&right.decimal())
 }
 
-// Whether no two indices of the array hold equal items.
+// Whether no two different indices of the array hold equal items.
 #[tactic(auto, using(crate::proofs::Equal::unique_step, crate::proofs::Equal::unique_end))]
 pub(crate) fn has_unique_items<N: Node>(array: &N) -> bool
     requires { IsTrue (is_array (N.tree array.now)) }

@@ -1,15 +1,16 @@
 //! Where the first float of a node stands.
 ghost use Rattle.std.specs.Prelude.{◌≡◌, IsTrue, IfOk, option_map, string_bytes};
-ghost use Rattle.jskw_value.specs.FirstFloat.{first_float, float_from, float_among, below_index, below_name};
+ghost use Rattle.jskw_value.specs.FirstFloat.{first_float, float_from, float_among, below_index};
+ghost use Rattle.jskw_value.specs.FirstFloat.{below_name};
 ghost use Rattle.jskw_value.specs.Tree.{is_array, is_object, items, members};
 
 use crate::json::{Array, JsonNumber, Node, Object};
 use crate::pointer::{push_index, push_name};
 use std::alloc::{AllocError, Global};
 
-// The location of the first float, as a JSON pointer.
+// The location of the first float in a node, as a JSON pointer from the node on.
 #[cycle(location)]
-#[tactic(auto, using(crate::proofs::Floats::first_in_array, crate::proofs::Floats::first_in_object))]
+#[tactic(auto, using(crate::proofs::FirstFloat::by_level))]
 pub(crate) fn location_of_float<N: Node>(
     alloc: Global,
     node: &N,
@@ -30,8 +31,9 @@ pub(crate) fn location_of_float<N: Node>(
     Ok(None)
 }
 
+// The location of the first float in an array, from the array on.
 #[cycle(location)]
-#[tactic(auto, using(crate::proofs::Floats::from_step, crate::proofs::Floats::from_end, crate::proofs::Depth::item_depth))]
+#[tactic(auto, using(crate::proofs::FirstFloat::by_index))]
 fn location_in_array<N: Node>(alloc: Global, node: &N) -> Result<Option<String>, AllocError>
     requires { IsTrue (is_array (N.tree node.now)) }
     ensures { IfOk result (λ o. option_map string_bytes o
@@ -45,6 +47,7 @@ fn location_in_array<N: Node>(alloc: Global, node: &N) -> Result<Option<String>,
     Ok(None)
 }
 
+// The location of the first float in an object, from the object on.
 #[cycle(location)]
 #[tactic(auto, using(crate::proofs::Depth::height_below))]
 fn location_in_object<N: Node>(alloc: Global, node: &N) -> Result<Option<String>, AllocError>
@@ -60,6 +63,7 @@ fn location_in_object<N: Node>(alloc: Global, node: &N) -> Result<Option<String>
     Ok(None)
 }
 
+// The location of the first float in an item, from its array on.
 #[cycle(location)]
 fn location_in_item<N: Node>(
     alloc: Global,
@@ -80,6 +84,7 @@ fn location_in_item<N: Node>(
     }
 }
 
+// The location of the first float in a member, from its object on.
 #[cycle(location)]
 fn location_in_member<N: Node>(
     alloc: Global,

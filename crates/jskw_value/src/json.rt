@@ -1,13 +1,18 @@
 //! What code over any representation of JSON knows of a value.
-ghost use Rattle.std.specs.Prelude.{◌≡◌, ℕ, ◌<◌, ◌==◌, option_and_then, List, length, IsTrue, IfOk, OnOk, IfSome, option_map, is_none, is_some, string_bytes, slice_index_or};
+ghost use Rattle.std.specs.Prelude.{◌≡◌, ℕ, ◌<◌, ◌==◌, option_and_then, List, length, IsTrue, IfOk};
+ghost use Rattle.std.specs.Prelude.{IfSome, option_map, is_none, is_some, string_bytes};
+ghost use Rattle.std.specs.Prelude.{slice_index_or};
 ghost use Rattle.std.specs.List.{list_all, IsDistinct};
 ghost use Rattle.std.specs.Str.{bytes_eq};
 ghost use Rattle.jskw_value.specs.Equality.{equal, unique};
 ghost use Rattle.jskw_value.specs.FirstFloat.{first_float};
-ghost use Rattle.jskw_value.specs.Number.{Num, is_exact, is_integer, is_written_as_integer, whole, u64_of, i64_of};
+ghost use Rattle.jskw_value.specs.Number.{Num, is_exact, is_integer, is_written_as_integer, whole};
+ghost use Rattle.jskw_value.specs.Number.{u64_of, i64_of};
 ghost use Rattle.jskw_value.specs.Text.{Extends};
 ghost use Rattle.jskw_value.specs.Serde.{value_tree};
-ghost use Rattle.jskw_value.specs.Tree.{Tree, items, members, names, values, get, is_null, as_boolean, as_number, as_string, is_array, is_object, is_lawful as lawful};
+ghost use Rattle.jskw_value.specs.Tree.{Tree, items, members, names, values, get, is_null};
+ghost use Rattle.jskw_value.specs.Tree.{as_boolean, as_number, as_string, is_array, is_object};
+ghost use Rattle.jskw_value.specs.Tree.{is_lawful as lawful};
 ghost use Rattle.jskw_value.specs.Types.{json_type};
 ghost use Rattle.jskw_value.specs.Walk.{left};
 
@@ -42,7 +47,7 @@ pub trait Array: Rooted {
             → IsTrue (lawful (Self.tree result.now)) };
 
     /// Whether no two different indices hold equal items (Validation 6.4.3, "uniqueItems"). The
-    /// node is an array.
+    /// node is an array. It takes no memory.
     final fn is_unique(&self) -> bool
     where
         Self: Node,
@@ -83,7 +88,8 @@ pub trait Object: Rooted {
         requires { place < length (members (Self.tree self.now)) }
         ensures { result.now ≡ slice_index_or (names (Self.tree self.now)) place result.now };
 
-    /// The member at a place, under the conditions of [`name_at`](Object::name_at).
+    /// The member at a place. The node is an object of more members than that. To go over all
+    /// members, [`walk`](Object::walk).
     fn member_at(&self, place: usize) -> &Self
         requires { place < length (members (Self.tree self.now)) }
         ensures value { Self.tree result.now
@@ -101,7 +107,7 @@ pub trait Object: Rooted {
         ensures lawful { IsTrue (lawful (Self.tree self.now))
             → IsTrue (list_all lawful (values (Self.tree self.now))) };
 
-    /// The member of a name. The node is an object.
+    /// The member of a name, None where no member has it. The node is an object.
     fn find(&self, name: &str) -> Option<&Self>
         requires { IsTrue (is_object (Self.tree self.now)) }
         ensures value { option_map (λ x. Self.tree x.now) result
@@ -109,7 +115,8 @@ pub trait Object: Rooted {
         ensures lawful { IsTrue (lawful (Self.tree self.now))
             → IfSome result (λ x. IsTrue (lawful (Self.tree x.now))) };
 
-    /// The member of the name that a key was made from. The node is an object.
+    /// The member of the name that a key was made from, None where no member has it. The node is an
+    /// object.
     fn get(&self, key: &Self::PreparedKey) -> Option<&Self>
         requires { IsTrue (is_object (Self.tree self.now)) }
         ensures value { option_map (λ x. Self.tree x.now) result
@@ -139,13 +146,13 @@ pub trait JsonNumber {
         requires { IsTrue (is_exact (number self.now)) }
         ensures { result ≡ option_and_then u64_of (whole (number self.now)) };
 
-    /// The number where it is written without digits behind the point and lies from -2^63 to 2^63 -
-    /// 1, else None.
+    /// The number where it is written without digits behind the point and lies from -2^63 to
+    /// 2^63 - 1, else None.
     fn as_i64(&self) -> Option<i64>
         requires { IsTrue (is_exact (number self.now)) }
         ensures { result ≡ option_and_then i64_of (whole (number self.now)) };
 
-    /// Whether the fractional part is zero, as in 1.0 (Validation 6.1.1, "type").
+    /// Whether the fractional part is zero, as in 1 and 1.0 (Validation 6.1.1, "type").
     fn is_integer(&self) -> bool
         requires { IsTrue (is_exact (number self.now)) }
         ensures { result ≡ is_integer (number self.now) };
@@ -157,8 +164,9 @@ pub trait JsonNumber {
         ensures { result ≡ is_written_as_integer (number self.now) };
 }
 
-/// A JSON value of a representation. It is lawful where no number in it is a float.
+/// A JSON value of a representation. It is lawful where no number in it is a float, at any level.
 pub trait Node: Array + Object {
+    /// The numbers of the representation.
     type Number: JsonNumber;
 
     /// The value's type; `Number` for every number.
@@ -177,18 +185,18 @@ pub trait Node: Array + Object {
     fn is_object(&self) -> bool
         ensures { result ≡ is_object (Self.tree self.now) };
 
-    /// The boolean, where the value is one.
+    /// The boolean where the value is one, else None.
     fn as_boolean(&self) -> Option<bool>
         ensures { result ≡ as_boolean (Self.tree self.now) };
 
-    /// The number, where the value is one. A lawful node's is a decimal.
+    /// The number where the value is one, else None. A lawful node's is a decimal.
     fn as_number(&self) -> Option<&Self::Number>
         ensures value { option_map (λ n. Self.Number.number n.now) result
             ≡ as_number (Self.tree self.now) }
         ensures lawful { IsTrue (lawful (Self.tree self.now))
             → IfSome result (λ n. IsTrue (is_exact (Self.Number.number n.now))) };
 
-    /// The string, where the value is one.
+    /// The string where the value is one, else None.
     fn as_string(&self) -> Option<&str>
         ensures { option_map (λ s. s.now) result ≡ as_string (Self.tree self.now) };
 
@@ -210,10 +218,18 @@ pub trait Node: Array + Object {
         self.as_string().is_some()
     }
 
+    /// The number of items: an array's as [`Array::len`] gives it, and 0 of any other value.
+    #[tactic(auto, using(crate::proofs::Places::items_elsewhere))]
+    final fn item_count(&self) -> usize
+        ensures { result ≡ length (items (Self.tree self.now)) }
+    {
+        if self.is_array() { Array::len(self) } else { 0 }
+    }
+
     /// The location of the first float as a JSON pointer (RFC 6901), None exactly where the node is
     /// lawful. Floats are met depth first, items by index, members in the order of their places.
     /// Only memory can fail.
-    #[tactic(auto, using(crate::proofs::Floats::none_from_location))]
+    #[tactic(auto, using(crate::proofs::FirstFloat::none_from_location))]
     final fn first_unlawful(&self, alloc: Global) -> Result<Option<String>, AllocError>
         ensures location { IfOk result (λ o. option_map string_bytes o
             ≡ first_float (Self.tree self.now)) }
@@ -224,14 +240,15 @@ pub trait Node: Array + Object {
 
     /// Whether two nodes are one value (Core 4.2.2, "Instance Equality"): numbers by mathematical
     /// value, arrays item by item, objects in any order of their members. A float is equal to
-    /// nothing. It takes no memory.
+    /// nothing, itself included. It takes no memory.
     final fn equals(&self, other: &Self) -> bool
         ensures { result ≡ equal (Self.tree self.now) (Self.tree other.now) }
     {
         equal_nodes(self, other)
     }
 
-    /// Whether the node and a value of `serde_json` are one value, as in [`equals`](Node::equals).
+    /// Whether the node and a value of `serde_json` are one value, as [`equals`](Node::equals) has
+    /// it. It takes no memory.
     final fn equals_value(&self, other: &Value) -> bool
         ensures { result ≡ equal (value_tree other.now) (Self.tree self.now) }
     {
@@ -244,7 +261,7 @@ pub trait Node: Array + Object {
     /// nothing else is. Only memory can fail; what was in the text stays in front, and after a
     /// failure a beginning of the value's text may follow it.
     final fn write_json(&self, out: &mut String) -> Result<(), AllocError>
-        ensures { OnOk result (Extends (string_bytes out.old) (string_bytes out.new)) }
+        ensures { Extends (string_bytes out.old) (string_bytes out.new) }
     {
         write_node(self, out)
     }
@@ -252,6 +269,7 @@ pub trait Node: Array + Object {
 
 /// A representation of JSON.
 pub trait Json {
+    /// The values of the representation.
     type Node: Node;
 
     /// About how many members can be passed over in the time of one look-up by a prepared key.

@@ -1,17 +1,20 @@
-//! The compact JSON text of a node.
-ghost use Rattle.std.specs.Prelude.{IsTrue, OnOk, string_bytes};
+//! The compact JSON text of a node. Each function leaves what was in the text in front, also where
+//! memory is wanting.
+#![tactic(auto, using(crate::proofs::Texts::lemmas))]
+
+ghost use Rattle.std.specs.Prelude.{◌≤◌, IsTrue, string_bytes};
 ghost use Rattle.jskw_value.specs.Text.{Extends};
 ghost use Rattle.jskw_value.specs.Tree.{is_array, is_object};
 
 use crate::decimal::{Decimal, ten_to};
 use crate::json::{Array, JsonNumber, Node, Object};
+use itoa::Buffer;
 use std::alloc::AllocError;
 
-// Appends the text of a node.
+// Appends the text of a node of any type.
 #[cycle(write)]
-#[tactic(auto, using(crate::proofs::Texts::lemmas))]
 pub(crate) fn write_node<N: Node>(node: &N, out: &mut String) -> Result<(), AllocError>
-    ensures { OnOk result (Extends (string_bytes out.old) (string_bytes out.new)) }
+    ensures { Extends (string_bytes out.old) (string_bytes out.new) }
 {
     if node.is_array() {
         return write_array(node, out);
@@ -32,11 +35,12 @@ pub(crate) fn write_node<N: Node>(node: &N, out: &mut String) -> Result<(), Allo
     })
 }
 
+// Appends the items of an array between brackets.
 #[cycle(write)]
 #[tactic(auto, using(crate::proofs::Texts::lemmas, crate::proofs::Depth::item_depth))]
 fn write_array<N: Node>(node: &N, out: &mut String) -> Result<(), AllocError>
     requires { IsTrue (is_array (N.tree node.now)) }
-    ensures { OnOk result (Extends (string_bytes out.old) (string_bytes out.new)) }
+    ensures { Extends (string_bytes out.old) (string_bytes out.new) }
 {
     out.push('[')?;
     for i in 0..Array::len(node) {
@@ -48,11 +52,12 @@ fn write_array<N: Node>(node: &N, out: &mut String) -> Result<(), AllocError>
     out.push(']')
 }
 
+// Appends the members of an object between braces, in the order of their places.
 #[cycle(write)]
 #[tactic(auto, using(crate::proofs::Texts::lemmas, crate::proofs::Depth::height_below))]
 fn write_object<N: Node>(node: &N, out: &mut String) -> Result<(), AllocError>
     requires { IsTrue (is_object (N.tree node.now)) }
-    ensures { OnOk result (Extends (string_bytes out.old) (string_bytes out.new)) }
+    ensures { Extends (string_bytes out.old) (string_bytes out.new) }
 {
     out.push('{')?;
     let mut is_first = true;
@@ -66,10 +71,10 @@ fn write_object<N: Node>(node: &N, out: &mut String) -> Result<(), AllocError>
     out.push('}')
 }
 
+// Appends a name, a colon and its member.
 #[cycle(write)]
-#[tactic(auto, using(crate::proofs::Texts::lemmas))]
 fn write_member<N: Node>(name: &str, member: &N, out: &mut String) -> Result<(), AllocError>
-    ensures { OnOk result (Extends (string_bytes out.old) (string_bytes out.new)) }
+    ensures { Extends (string_bytes out.old) (string_bytes out.new) }
 {
     write_string(name, out)?;
     out.push(':')?;
@@ -77,9 +82,8 @@ fn write_member<N: Node>(name: &str, member: &N, out: &mut String) -> Result<(),
 }
 
 // Appends a string between quotes, escaped as RFC 8259, section 7, asks for.
-#[tactic(auto, using(crate::proofs::Texts::lemmas))]
 fn write_string(text: &str, out: &mut String) -> Result<(), AllocError>
-    ensures { OnOk result (Extends (string_bytes out.old) (string_bytes out.new)) }
+    ensures { Extends (string_bytes out.old) (string_bytes out.new) }
 {
     out.push('"')?;
     for c in text.chars() {
@@ -88,9 +92,9 @@ fn write_string(text: &str, out: &mut String) -> Result<(), AllocError>
     out.push('"')
 }
 
-#[tactic(auto, using(crate::proofs::Texts::lemmas))]
+// Appends a character of a string, escaped where RFC 8259, section 7, asks for it.
 fn write_char(c: char, out: &mut String) -> Result<(), AllocError>
-    ensures { OnOk result (Extends (string_bytes out.old) (string_bytes out.new)) }
+    ensures { Extends (string_bytes out.old) (string_bytes out.new) }
 {
     match c {
         '"' => out.push_str("\\\""),
@@ -100,14 +104,31 @@ fn write_char(c: char, out: &mut String) -> Result<(), AllocError>
         '\n' => out.push_str("\\n"),
         '\u{c}' => out.push_str("\\f"),
         '\r' => out.push_str("\\r"),
-        '\u{0}'..='\u{1f}' => write!(out, "\\u{:04x}", c as u32),
+        '\u{0}'..='\u{1f}' => write_control(c, out),
         _ => out.push(c),
     }
 }
 
-#[tactic(auto, using(crate::proofs::Texts::lemmas))]
+// The hexadecimal digit of a number from 0 to 15.
+fn hexadecimal(number: u32) -> char
+    requires { number ≤ 15 }
+{
+    char::from_digit(number, 16).unwrap()
+}
+
+// Appends a control character by its number, in four hexadecimal digits.
+fn write_control(c: char, out: &mut String) -> Result<(), AllocError>
+    requires { c ≤ 31 }
+    ensures { Extends (string_bytes out.old) (string_bytes out.new) }
+{
+    out.push_str("\\u00")?;
+    out.push(hexadecimal(c as u32 / 16))?;
+    out.push(hexadecimal(c as u32 % 16))
+}
+
+// Appends a decimal with the digits that it is written with, and a float as the word `float`.
 fn write_number<A: JsonNumber>(number: &A, out: &mut String) -> Result<(), AllocError>
-    ensures { OnOk result (Extends (string_bytes out.old) (string_bytes out.new)) }
+    ensures { Extends (string_bytes out.old) (string_bytes out.new) }
 {
     if number.is_lawful() {
         write_decimal(&number.decimal(), out)
@@ -117,9 +138,8 @@ fn write_number<A: JsonNumber>(number: &A, out: &mut String) -> Result<(), Alloc
 }
 
 // Appends a decimal, with as many digits behind the point as its scale says.
-#[tactic(auto, using(crate::proofs::Texts::lemmas))]
 fn write_decimal(decimal: &Decimal, out: &mut String) -> Result<(), AllocError>
-    ensures { OnOk result (Extends (string_bytes out.old) (string_bytes out.new)) }
+    ensures { Extends (string_bytes out.old) (string_bytes out.new) }
 {
     if decimal.coefficient() < 0 {
         out.push('-')?;
@@ -127,18 +147,22 @@ fn write_decimal(decimal: &Decimal, out: &mut String) -> Result<(), AllocError>
     let digits = decimal.coefficient().unsigned_abs();
     let unit = ten_to(decimal.scale()) as u128;
     let whole = digits / unit;
-    write!(out, "{whole}")?;
+    out.push_str(Buffer::new().format(whole))?;
     write_fraction(digits % unit, decimal.scale(), out)
 }
 
-// Appends the point and the digits behind it, if there are any.
-#[tactic(auto, using(crate::proofs::Texts::lemmas))]
+// Appends the point and so many digits behind it, if there are any.
 fn write_fraction(fraction: u128, scale: u8, out: &mut String) -> Result<(), AllocError>
-    ensures { OnOk result (Extends (string_bytes out.old) (string_bytes out.new)) }
+    ensures { Extends (string_bytes out.old) (string_bytes out.new) }
 {
     if scale == 0 {
         return Ok(());
     }
-    let width = scale as usize;
-    write!(out, ".{fraction:0width$}")
+    let mut buffer = Buffer::new();
+    let digits = buffer.format(fraction);
+    out.push('.')?;
+    for _ in digits.len()..scale as usize {
+        out.push('0')?;
+    }
+    out.push_str(digits)
 }

@@ -32,6 +32,3 @@ pub use property_name::{KeyHead, PropertyName};
 pub use serde_tree::SerdeJson;
 pub use types::{JsonType, JsonTypeSet};
 pub use walk::Walk;
-
-#[cfg(test)]
-mod tests;

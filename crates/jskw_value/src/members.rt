@@ -1,6 +1,7 @@
 //! The members of an object as a list of pairs with distinct names, in the order of their
 //! insertion.
-ghost use Rattle.std.specs.Prelude.{◌≡◌, ◌==◌, length, [], ◌∷◌, ◌++◌, ◌<◌, string_bytes, slice_index_or, OnOk, OnErr, IfErr, option_map, false};
+ghost use Rattle.std.specs.Prelude.{◌≡◌, ◌==◌, length, [], ◌∷◌, ◌++◌, ◌<◌, string_bytes};
+ghost use Rattle.std.specs.Prelude.{slice_index_or, OnOk, OnErr, IfErr, option_map, false};
 ghost use Rattle.std.specs.List.{IsDistinct};
 ghost use Rattle.std.specs.Map.{values_of};
 ghost use Rattle.std.specs.Str.{bytes_eq};
@@ -13,7 +14,9 @@ use std::marker::Model;
 /// A value beside its name.
 #[derive(Drop)]
 pub struct Member<V> {
+    /// the name
     pub name: String,
+    /// the value
     pub value: V,
 }
 
@@ -74,7 +77,7 @@ impl<V> MemberList<V> {
         self.list.is_empty()
     }
 
-    /// The value of a name.
+    /// The value of a name, None where no member has it. It takes a step for each member in front.
     pub fn get(&self, name: &str) -> Option<&V>
         ensures { option_map (λ x. x.now) result ≡ get name.now self.now }
     {
@@ -108,6 +111,7 @@ impl<V> MemberList<V> {
         Ok(())
     }
 
+    // Whether a member has the name.
     fn has_name(&self, name: &str) -> bool
         ensures { result ≡ has_name name.now self.now }
     {

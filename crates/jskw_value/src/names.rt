@@ -2,14 +2,15 @@
 ghost use Rattle.std.specs.Prelude.{IsTrue};
 ghost use Rattle.std.specs.List.{list_all, IsDistinct};
 ghost use Rattle.std.specs.Str.{bytes_eq};
-ghost use Rattle.jskw_value.specs.Tree.{has_distinct_names, is_array, is_object, items, names, values};
+ghost use Rattle.jskw_value.specs.Tree.{has_distinct_names, is_array, is_object, items, names};
+ghost use Rattle.jskw_value.specs.Tree.{values};
 
 use crate::json::{Array, Node, Object};
 
-/// Says of a whole node what its calls say of each level: no object in it has a name twice. A law
-/// for proofs; it goes over the node once and takes no memory.
+/// Says of a whole node what [`Object::len`] says of one level: no object in it has a name twice. A
+/// law for proofs; it goes over the node once and takes no memory.
 #[cycle(names)]
-#[tactic(auto, using(crate::proofs::Distinct::distinct_in_array, crate::proofs::Distinct::distinct_in_object, crate::proofs::Distinct::distinct_elsewhere))]
+#[tactic(auto, using(crate::proofs::DistinctNames::by_level))]
 pub fn names_are_distinct<N: Node>(node: &N)
     ensures { IsTrue (has_distinct_names (N.tree node.now)) }
 {
@@ -20,8 +21,9 @@ pub fn names_are_distinct<N: Node>(node: &N)
     }
 }
 
+// Says it of each item of an array.
 #[cycle(names)]
-#[tactic(auto, using(crate::proofs::Distinct::all_step, crate::proofs::Distinct::all_end, crate::proofs::Depth::item_depth))]
+#[tactic(auto, using(crate::proofs::DistinctNames::by_index))]
 fn in_items<N: Node>(node: &N)
     requires { IsTrue (is_array (N.tree node.now)) }
     ensures { IsTrue (list_all has_distinct_names (items (N.tree node.now))) }
@@ -31,6 +33,7 @@ fn in_items<N: Node>(node: &N)
     }
 }
 
+// Says it of an object's own names, and of each of its members.
 #[cycle(names)]
 #[tactic(auto, using(crate::proofs::Depth::height_below))]
 fn in_members<N: Node>(node: &N)

@@ -2,33 +2,43 @@
 ghost use Rattle.std.specs.Prelude.{◌≡◌, ◌++◌, OnOk, string_bytes};
 ghost use Rattle.std.specs.Char.{encode_utf8};
 ghost use Rattle.jskw_value.specs.Pointer.{escape, name_token, index_token};
+ghost use Rattle.jskw_value.specs.Text.{Extends};
 
+use itoa::Buffer;
 use std::alloc::AllocError;
 
 /// Appends the reference token of a member: a slash and the name, with `~` written `~0` and `/`
-/// written `~1` (RFC 6901, section 3). Only memory can fail, and then the text may have a beginning
-/// of the token.
+/// written `~1` (RFC 6901, section 3). Only memory can fail; what was in the text stays in front,
+/// and after a failure a beginning of the token may follow it.
+#[tactic(auto, using(crate::proofs::Texts::lemmas))]
 pub fn push_name(pointer: &mut String, name: &str) -> Result<(), AllocError>
-    ensures { OnOk result
+    ensures appended { OnOk result
         (string_bytes pointer.new ≡ string_bytes pointer.old ++ name_token name.now) }
+    ensures kept { Extends (string_bytes pointer.old) (string_bytes pointer.new) }
 {
     pointer.push('/')?;
     push_escaped(pointer, name)
 }
 
 /// Appends the reference token of an item: a slash and the index in decimal digits (RFC 6901,
-/// section 4). Only memory can fail, and then the text may have a beginning of the token.
+/// section 4). Only memory can fail; what was in the text stays in front, and after a failure a
+/// beginning of the token may follow it.
+#[tactic(auto, using(crate::proofs::Texts::lemmas))]
 pub fn push_index(pointer: &mut String, index: usize) -> Result<(), AllocError>
-    ensures { OnOk result
+    ensures appended { OnOk result
         (string_bytes pointer.new ≡ string_bytes pointer.old ++ index_token index) }
+    ensures kept { Extends (string_bytes pointer.old) (string_bytes pointer.new) }
 {
-    write!(pointer, "/{index}")
+    pointer.push('/')?;
+    pointer.push_str(Buffer::new().format(index))
 }
 
-#[tactic(auto, using(crate::proofs::Pointers::append_escaped, crate::proofs::Pointers::escape_nil, std::proofs::lemmas::Grind::common_steps))]
+// Appends a name, escaped character by character.
+#[tactic(auto, using(crate::proofs::Pointers::by_character))]
 fn push_escaped(pointer: &mut String, name: &str) -> Result<(), AllocError>
-    ensures { OnOk result
+    ensures appended { OnOk result
         (string_bytes pointer.new ≡ string_bytes pointer.old ++ escape name.now) }
+    ensures kept { Extends (string_bytes pointer.old) (string_bytes pointer.new) }
 {
     for c in name.chars() {
         push_escaped_char(pointer, c)?;
@@ -36,10 +46,12 @@ fn push_escaped(pointer: &mut String, name: &str) -> Result<(), AllocError>
     Ok(())
 }
 
-#[tactic(auto, using(crate::proofs::Pointers::escape_plain))]
+// Appends a character, escaped where it is `~` or `/`.
+#[tactic(auto, using(crate::proofs::Texts::lemmas, crate::proofs::Pointers::escape_plain))]
 fn push_escaped_char(pointer: &mut String, c: char) -> Result<(), AllocError>
-    ensures { OnOk result
+    ensures appended { OnOk result
         (string_bytes pointer.new ≡ string_bytes pointer.old ++ escape (encode_utf8 c)) }
+    ensures kept { Extends (string_bytes pointer.old) (string_bytes pointer.new) }
 {
     match c {
         '~' => pointer.push_str("~0"),

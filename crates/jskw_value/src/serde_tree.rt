@@ -53,7 +53,7 @@ impl JsonNumber for Number {
     }
 }
 
-#[tactic(auto, using(crate::proofs::Serde::items_of_array, crate::proofs::Serde::lawful_in_array, std::proofs::lemmas::Grind::common_steps))]
+#[tactic(auto, using(crate::proofs::Serde::arrays))]
 impl Array for Value {
     fn len(&self) -> usize {
         match self {
@@ -70,7 +70,7 @@ impl Array for Value {
     }
 }
 
-#[tactic(auto, using(crate::proofs::Serde::distinct_of_object, crate::proofs::Serde::names_of_object, crate::proofs::Serde::values_of_object, crate::proofs::Serde::members_of_object, crate::proofs::Serde::lawful_in_object, crate::proofs::Lawful::lawful_members, crate::proofs::Lawful::lawful_found, std::proofs::lemmas::Grind::common_steps))]
+#[tactic(auto, using(crate::proofs::Serde::objects))]
 impl Object for Value {
     type PreparedKey = String;
 
@@ -116,7 +116,7 @@ impl Object for Value {
     }
 }
 
-// The key at a place.
+// The key at a place of a map.
 fn key_at(members: &Map<String, Value>, place: usize) -> &String
     requires { place < btree_map_len members.now }
     ensures { result.now ≡ slice_index_or (keys members.now) place result.now }
@@ -124,7 +124,7 @@ fn key_at(members: &Map<String, Value>, place: usize) -> &String
     members.keys().nth(place).unwrap()
 }
 
-// The value at a place.
+// The value at a place of a map.
 fn value_at(members: &Map<String, Value>, place: usize) -> &Value
     requires { place < btree_map_len members.now }
     ensures { result.now ≡ slice_index_or (values members.now) place result.now }
@@ -178,7 +178,7 @@ impl Node for Value {
 
 // Whether no number in the value is a float.
 #[cycle(lawful)]
-#[tactic(auto, using(crate::proofs::Serde::lawful_of_array, crate::proofs::Serde::lawful_of_object))]
+#[tactic(auto, using(crate::proofs::Serde::lawful_by_level))]
 fn value_is_lawful(value: &Value) -> bool
     ensures { result ≡ lawful (value_tree value.now) }
 {
@@ -190,6 +190,7 @@ fn value_is_lawful(value: &Value) -> bool
     }
 }
 
+// Whether no number in an item is a float.
 #[cycle(lawful)]
 fn items_are_lawful(items: &Vec<Value>) -> bool
     ensures { result ≡ list_all (λ v. lawful (value_tree v)) items.now.items }
@@ -202,6 +203,7 @@ fn items_are_lawful(items: &Vec<Value>) -> bool
     true
 }
 
+// Whether no number in a member is a float.
 #[cycle(lawful)]
 fn members_are_lawful(members: &Map<String, Value>) -> bool
     ensures { result ≡ list_all (λ v. lawful (value_tree v)) (values members.now) }

@@ -3,7 +3,8 @@ ghost use Rattle.std.specs.Prelude.{◌≡◌, IsTrue};
 ghost use Rattle.std.specs.Result.{result_ok};
 ghost use Rattle.jskw_value.specs.Serde.{value_tree};
 ghost use Rattle.jskw_value.specs.Tree.{is_lawful};
-ghost use Rattle.jskw_value.specs.Types.{no_types, insert, contains, has_type_of, json_type, type_named};
+ghost use Rattle.jskw_value.specs.Types.{no_types, insert, contains, has_type_of, json_type};
+ghost use Rattle.jskw_value.specs.Types.{type_named};
 
 use crate::json::{Json, JsonNumber, Node};
 use serde_json::Value;

@@ -1,5 +1,6 @@
 //! A walk over the members of an object, in the order of their places.
-ghost use Rattle.std.specs.Prelude.{◌≡◌, ◌+◌, ◌<◌, [], ◌∷◌, map, drop, string_bytes, string_cmp, MatchOption, IfSome};
+ghost use Rattle.std.specs.Prelude.{◌≡◌, ◌+◌, ◌<◌, [], ◌∷◌, map, drop, string_bytes, string_cmp};
+ghost use Rattle.std.specs.Prelude.{MatchOption, IfSome};
 ghost use Rattle.std.specs.BTreeMap.{IsOrdered};
 ghost use Rattle.std.specs.Iterator.{YieldsFirstBy, item_count};
 ghost use Rattle.jskw_value.specs.Tree.{Tree, members as members_of};
@@ -88,7 +89,7 @@ impl<'a, V: Node> Iterator for Walk<'a, V> {
 }
 
 // The name and the member at a place, where there is one.
-#[tactic(auto, using(crate::proofs::Walks::drop_member, crate::proofs::Walks::drop_elsewhere))]
+#[tactic(auto, using(crate::proofs::Places::drop_member, crate::proofs::Places::drop_elsewhere))]
 fn member_at_place<'a, V: Node>(object: &'a V, place: usize) -> Option<(&'a str, &'a V)>
     ensures value { let all = members_of (V.tree object.now) in
         MatchOption result (drop place all ≡ [])

@@ -1,5 +1,6 @@
-// Want of memory. With `rt try --test --fail-alloc N` the Nth growth is refused, and these tests are to pass for every N:
-// what is said is said as with ample memory, or it is said that memory was wanted.
+// Want of memory. With `rt try --test --fail-alloc N` the Nth growth of each test is refused, and
+// these tests are to pass for every N: what is said is said as with ample memory, or it is said
+// that memory was wanted.
 use super::ALWAYS;
 use crate::memory::{ArraySink, SliceSource};
 use crate::node::{SchemaNode, compile};
@@ -14,9 +15,9 @@ use std::process::Abort;
 use std::test::Fail;
 
 // Every keyword without subschemas.
-const SCHEMA: &str =
-    r#"{"type":["array","null"],"minItems":1,"maxItems":9,"uniqueItems":true,"const":[1,{"a":"b"}],
-"enum":[[1,{"a":"b"}],"c"],"minimum":5,"maximum":-5,"exclusiveMinimum":0,"exclusiveMaximum":0,"multipleOf":3,
+const SCHEMA: &str = r#"{"type":["array","null"],"minItems":1,"maxItems":9,"uniqueItems":true,
+"const":[1,{"a":"b"}],"enum":[[1,{"a":"b"}],"c"],"minimum":5,"maximum":-5,
+"exclusiveMinimum":0,"exclusiveMaximum":0,"multipleOf":3,
 "minProperties":1,"maxProperties":2,"required":["a","b","c","d"]}"#;
 
 // The keywords of the errors of `{}`, in their order.

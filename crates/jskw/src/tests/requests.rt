@@ -133,7 +133,7 @@ fn reads_whole_requests(rt: HostRuntime) -> Result<(), Fail> {
     check_requests(&rt, rt.alloc(), REQUESTS)
 }
 
-// Whether the program answers of the type `name` and the value as it is to, which is of these types.
+// Whether the program answers as it is to of the type `name` and a value, which is of these types.
 fn is_judged(alloc: Global, name: &str, value: &str, types: &str) -> Result<bool, Fail> {
     let request = format!(in alloc; "{{\"schema\":{{\"type\":\"{name}\"}},\"instance\":{value}}}")?;
     let holds = types.split(' ').any(|one| one == name);

@@ -1,6 +1,6 @@
 //! `maximum` in Draft 4 (Validation 5.1.2): where `exclusiveMaximum` beside it is `true`, a number
 //! has to be below the limit.
-ghost use Rattle.std.specs.Prelude.{◌≡◌, false, IfOk, IfSome, Some};
+ghost use Rattle.std.specs.Prelude.{◌≡◌, false, IfOk, IfSome};
 ghost use Rattle.serde_json.specs.View.{view, members_view};
 ghost use Rattle.jskw_report.specs.Compile.{Compiles, reading};
 ghost use Rattle.jskw_report.specs.Setting.{is_after_draft_4};
@@ -16,10 +16,9 @@ use serde_json::{Map, Value};
 use std::alloc::Global;
 
 /// Compiles `maximum` of Draft 4. Where `parent` has `exclusiveMaximum` with the value `true` the
-/// limit is exclusive, and errors stand at `exclusiveMaximum`; every other value of it is as good as
-/// none. A value that is no limit is an error as in
-/// [`compile_maximum`](crate::minmax::compile_maximum).
-#[tactic(auto, using(crate::proofs::Drafts::maximum_in_draft_4, crate::proofs::Drafts::exclusive_maximum_in_draft_4))]
+/// limit is exclusive, and errors stand at `exclusiveMaximum`; every other value of it is as good
+/// as none. The limit keeps the value of the schema.
+#[tactic(auto, unfolding(jskw_report::specs::Read::asserted))]
 pub fn compile<'a, F: Json>(
     alloc: Global,
     ctx: &Context<'_, F>,

@@ -1,6 +1,6 @@
 //! `minimum` in Draft 4 (Validation 5.1.3): where `exclusiveMinimum` beside it is `true`, a number
 //! has to be above the limit.
-ghost use Rattle.std.specs.Prelude.{◌≡◌, false, IfOk, IfSome, Some};
+ghost use Rattle.std.specs.Prelude.{◌≡◌, false, IfOk, IfSome};
 ghost use Rattle.serde_json.specs.View.{view, members_view};
 ghost use Rattle.jskw_report.specs.Compile.{Compiles, reading};
 ghost use Rattle.jskw_report.specs.Setting.{is_after_draft_4};
@@ -16,10 +16,9 @@ use serde_json::{Map, Value};
 use std::alloc::Global;
 
 /// Compiles `minimum` of Draft 4. Where `parent` has `exclusiveMinimum` with the value `true` the
-/// limit is exclusive, and errors stand at `exclusiveMinimum`; every other value of it is as good as
-/// none. A value that is no limit is an error as in
-/// [`compile_minimum`](crate::minmax::compile_minimum).
-#[tactic(auto, using(crate::proofs::Drafts::minimum_in_draft_4, crate::proofs::Drafts::exclusive_minimum_in_draft_4))]
+/// limit is exclusive, and errors stand at `exclusiveMinimum`; every other value of it is as good
+/// as none. The limit keeps the value of the schema.
+#[tactic(auto, unfolding(jskw_report::specs::Read::asserted))]
 pub fn compile<'a, F: Json>(
     alloc: Global,
     ctx: &Context<'_, F>,

@@ -1,7 +1,10 @@
-// Relations and divisors around the ends of the ranges, and around 2^53, where a double starts to lose digits.
-use super::{all_of, check};
+// Relations and divisors around the ends of the ranges, and around 2^53, where a double starts to
+// lose digits: of decimals by themselves, and of the keywords.
+use super::trees::decimal_of;
+use super::{all_of, check, columns};
 use jskw_report::{Draft, Settings};
 use std::alloc::Global;
+use std::cmp::Ordering;
 use std::process::Abort;
 use std::test::Fail;
 
@@ -36,54 +39,54 @@ const RELATIONS: [(&str, &str); 4] = [
     ("exclusiveMaximum", "<"),
 ];
 
-// Coefficient and scale; how the number stands to each of `LIMITS`; whether it is a multiple of each of `DIVISORS`. The
-// table was made by Python's `fractions.Fraction`, with no code of this crate.
-const NUMBERS: &str = r#"-9223372036854775808 0:=<<<<<<<<<< yynnnn
--1 0:>=<<<<<<<<< ynnnnn
-0 0:>>=<<<<<<<< yyyyyy
-1 0:>>>=<<<<<<< ynnnnn
-9007199254740991 0:>>>>=<<<<<< ynnnnn
-9007199254740992 0:>>>>>=<<<<< yynnnn
-9007199254740993 0:>>>>>>=<<<< ynynyn
-9223372036854775807 0:>>>>>>>=<<< ynnnnn
-9223372036854775808 0:>>>>>>>>=<< yynnnn
-9223372036854775809 0:>>>>>>>>>=< ynynnn
-18446744073709551615 0:>>>>>>>>>>= ynynny
--9223372036854775808 1:><<<<<<<<<< nnnnnn
--1 1:>><<<<<<<<< nnnnnn
-0 1:>>=<<<<<<<< yyyyyy
-1 1:>>><<<<<<<< nnnnnn
-9007199254740991 1:>>>><<<<<<< nnnnnn
-9007199254740992 1:>>>><<<<<<< nnnnnn
-9007199254740993 1:>>>><<<<<<< nnnnnn
-9223372036854775807 1:>>>>>>><<<< nnnnnn
-9223372036854775808 1:>>>>>>><<<< nnnnnn
-9223372036854775809 1:>>>>>>><<<< nnnnnn
-18446744073709551615 1:>>>>>>><<<< nnnnnn
--9223372036854775808 18:><<<<<<<<<< nnnnnn
--1 18:>><<<<<<<<< nnnnnn
-0 18:>>=<<<<<<<< yyyyyy
-1 18:>>><<<<<<<< nnnnnn
-9007199254740991 18:>>><<<<<<<< nnnnnn
-9007199254740992 18:>>><<<<<<<< nnnnnn
-9007199254740993 18:>>><<<<<<<< nnnnnn
-9223372036854775807 18:>>>><<<<<<< nnnnnn
-9223372036854775808 18:>>>><<<<<<< nnnnnn
-9223372036854775809 18:>>>><<<<<<< nnnnnn
-18446744073709551615 18:>>>><<<<<<< nnnnnn
-10 1:>>>=<<<<<<< ynnnnn
--30 1:><<<<<<<<<< ynynnn
-90071992547409930 1:>>>>>>=<<<< ynynyn
--9223372036854775800 1:><<<<<<<<<< yyyynn
-1000000000000000000 18:>>>=<<<<<<< ynnnnn
-3000000000000000000 18:>>>><<<<<<< ynynnn
-18000000000000000000 18:>>>><<<<<<< yyynnn
--9000000000000000000 18:><<<<<<<<<< ynynnn
-9 1:>>><<<<<<<< nnnnnn
--15 1:><<<<<<<<<< nnnnnn
-300 2:>>>><<<<<<< ynynnn
-5 1:>>><<<<<<<< nnnnnn
-90071992547409920 1:>>>>>=<<<<< yynnnn"#;
+// Coefficient and scale, as `20e-1`; how the number stands to each of `LIMITS`; whether it is a multiple of
+// each of `DIVISORS`. The table was made by Python's `fractions.Fraction`, with no code of ours.
+const NUMBERS: &str = r#"-9223372036854775808e-0|=<<<<<<<<<<|yynnnn
+-1e-0|>=<<<<<<<<<|ynnnnn
+0e-0|>>=<<<<<<<<|yyyyyy
+1e-0|>>>=<<<<<<<|ynnnnn
+9007199254740991e-0|>>>>=<<<<<<|ynnnnn
+9007199254740992e-0|>>>>>=<<<<<|yynnnn
+9007199254740993e-0|>>>>>>=<<<<|ynynyn
+9223372036854775807e-0|>>>>>>>=<<<|ynnnnn
+9223372036854775808e-0|>>>>>>>>=<<|yynnnn
+9223372036854775809e-0|>>>>>>>>>=<|ynynnn
+18446744073709551615e-0|>>>>>>>>>>=|ynynny
+-9223372036854775808e-1|><<<<<<<<<<|nnnnnn
+-1e-1|>><<<<<<<<<|nnnnnn
+0e-1|>>=<<<<<<<<|yyyyyy
+1e-1|>>><<<<<<<<|nnnnnn
+9007199254740991e-1|>>>><<<<<<<|nnnnnn
+9007199254740992e-1|>>>><<<<<<<|nnnnnn
+9007199254740993e-1|>>>><<<<<<<|nnnnnn
+9223372036854775807e-1|>>>>>>><<<<|nnnnnn
+9223372036854775808e-1|>>>>>>><<<<|nnnnnn
+9223372036854775809e-1|>>>>>>><<<<|nnnnnn
+18446744073709551615e-1|>>>>>>><<<<|nnnnnn
+-9223372036854775808e-18|><<<<<<<<<<|nnnnnn
+-1e-18|>><<<<<<<<<|nnnnnn
+0e-18|>>=<<<<<<<<|yyyyyy
+1e-18|>>><<<<<<<<|nnnnnn
+9007199254740991e-18|>>><<<<<<<<|nnnnnn
+9007199254740992e-18|>>><<<<<<<<|nnnnnn
+9007199254740993e-18|>>><<<<<<<<|nnnnnn
+9223372036854775807e-18|>>>><<<<<<<|nnnnnn
+9223372036854775808e-18|>>>><<<<<<<|nnnnnn
+9223372036854775809e-18|>>>><<<<<<<|nnnnnn
+18446744073709551615e-18|>>>><<<<<<<|nnnnnn
+10e-1|>>>=<<<<<<<|ynnnnn
+-30e-1|><<<<<<<<<<|ynynnn
+90071992547409930e-1|>>>>>>=<<<<|ynynyn
+-9223372036854775800e-1|><<<<<<<<<<|yyyynn
+1000000000000000000e-18|>>>=<<<<<<<|ynnnnn
+3000000000000000000e-18|>>>><<<<<<<|ynynnn
+18000000000000000000e-18|>>>><<<<<<<|yyynnn
+-9000000000000000000e-18|><<<<<<<<<<|ynynnn
+9e-1|>>><<<<<<<<|nnnnnn
+-15e-1|><<<<<<<<<<|nnnnnn
+300e-2|>>>><<<<<<<|ynynnn
+5e-1|>>><<<<<<<<|nnnnnn
+90071992547409920e-1|>>>>>=<<<<<|yynnnn"#;
 
 // A keyword with a bound, asked of a number, and where it is whole, of its JSON text too.
 fn check_bound(
@@ -97,7 +100,7 @@ fn check_bound(
 ) -> Result<(), Fail> {
     let schema = format!(in alloc; "{{\"{keyword}\":{bound}}}")?;
     let schema = schema.as_str();
-    let failure = format!(in alloc; "{keyword} {bound} at /7 by /items/{keyword}")?;
+    let failure = format!(in alloc; "{keyword} {bound}")?;
     let wanted = if holds { "valid" } else { failure.as_str() };
     let decimal = format!(in alloc; "#{number}")?;
     check(
@@ -109,12 +112,13 @@ fn check_bound(
         decimal.as_str(),
         wanted,
     )?;
-    if let Some(whole) = number.strip_suffix(" 0") {
+    if let Some(whole) = number.strip_suffix("e-0") {
         check(rt, alloc, settings, schema, keyword, whole, wanted)?;
     }
     Ok(())
 }
 
+// The limits of a number, which stands to them like this.
 fn check_limits(
     rt: &impl Abort,
     alloc: Global,
@@ -138,6 +142,7 @@ fn check_limits(
     Ok(())
 }
 
+// The divisors of a number, which divide it or not like this.
 fn check_divisors(
     rt: &impl Abort,
     alloc: Global,
@@ -160,14 +165,49 @@ fn check_divisors(
 }
 
 #[test]
-fn numbers_around_boundaries(rt: HostRuntime) -> Result<(), Fail> {
+fn keywords_are_exact_at_boundaries(rt: HostRuntime) -> Result<(), Fail> {
     let settings = all_of(rt.alloc(), Draft::Draft202012);
     for line in NUMBERS.lines() {
-        let (number, rest) = line.split_once(':').ok_or("no relations")?;
-        let (stands, divides) = rest.split_once(' ').ok_or("no divisors")?;
+        let (number, stands, divides) = columns(line)?;
         assert!(rt; stands.len() == LIMITS.len() && divides.len() == DIVISORS.len());
         check_limits(&rt, rt.alloc(), &settings, number, stands)?;
         check_divisors(&rt, rt.alloc(), &settings, number, divides)?;
+    }
+    Ok(())
+}
+
+// The symbol of how a number stands to another.
+fn symbol(ordering: Ordering) -> char {
+    match ordering {
+        Ordering::Less => '<',
+        Ordering::Equal => '=',
+        Ordering::Greater => '>',
+    }
+}
+
+#[test]
+fn decimals_compare_and_divide_exactly_at_boundaries(rt: HostRuntime) -> Result<(), Fail> {
+    for line in NUMBERS.lines() {
+        let (number, stands, divides) = columns(line)?;
+        let number = decimal_of(number)?;
+        let mut found = String::new(rt.alloc());
+        for limit in LIMITS {
+            let whole: i128 = limit.parse()?;
+            assert!(rt; -(1 << 63) <= whole && whole < 1 << 64);
+            found.push(symbol(number.cmp_whole(whole)))?;
+        }
+        assert_eq!(rt; found.as_str(), stands, "{line}");
+        let mut found = String::new(rt.alloc());
+        for divisor in DIVISORS {
+            let divisor: u64 = divisor.parse()?;
+            assert!(rt; divisor > 0);
+            found.push(if number.is_multiple_of(divisor) {
+                'y'
+            } else {
+                'n'
+            })?;
+        }
+        assert_eq!(rt; found.as_str(), divides, "{line}");
     }
     Ok(())
 }

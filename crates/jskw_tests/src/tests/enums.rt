@@ -1,5 +1,5 @@
 // `enum`.
-use super::{all_of, check, check_rows};
+use super::{all_of, check, check_rows, columns};
 use jskw_report::Draft;
 use std::alloc::{AllocError, Global};
 use std::process::Abort;
@@ -14,7 +14,7 @@ fn check_options(
     holds: bool,
 ) -> Result<(), Fail> {
     let schema = format!(in alloc; "{{\"enum\":{options}}}")?;
-    let failure = format!(in alloc; "enum {options} at /7 by /items/enum")?;
+    let failure = format!(in alloc; "enum {options}")?;
     let wanted = if holds { "valid" } else { failure.as_str() };
     let settings = all_of(alloc, Draft::Draft202012);
     check(
@@ -28,130 +28,61 @@ fn check_options(
     )
 }
 
-// Goes through the lines of a table: options, instance, whether it is one of them, with a bar between each two.
+// Goes through the lines of a table: options, instances that are among them, and instances that are
+// not, with a space between each two.
 fn check_table(rt: &impl Abort, alloc: Global, table: &str) -> Result<(), Fail> {
     for line in table.lines() {
-        let (options, rest) = line.split_once('|').ok_or("no instance")?;
-        let (instance, answer) = rest.split_once('|').ok_or("no answer")?;
-        check_options(rt, alloc, options, instance, answer == "yes")?;
+        let (options, among, others) = columns(line)?;
+        for (instances, holds) in [(among, true), (others, false)] {
+            for instance in instances.split(' ') {
+                if !instance.is_empty() {
+                    check_options(rt, alloc, options, instance, holds)?;
+                }
+            }
+        }
     }
     Ok(())
 }
 
 // One option, or options of any types.
-const VALUES: &str = r#"[]|null|no
-[]|[]|no
-[null]|null|yes
-[null]|false|no
-[1]|1|yes
-[1]|2|no
-[1]|18446744073709551615|no
-[9007199254740993]|9007199254740993|yes
-[9007199254740993]|9007199254740992|no
-["a"]|"a"|yes
-["a"]|["a"]|no
-[[1,2]]|[1,2]|yes
-[[1,2]]|[2,1]|no
-[{"a":1,"b":2}]|{"b":2,"a":1}|yes
-[{"a":1,"b":2}]|{"a":1}|no
-["a",1,null,true,[1],{"a":1}]|"a"|yes
-["a",1,null,true,[1],{"a":1}]|1|yes
-["a",1,null,true,[1],{"a":1}]|null|yes
-["a",1,null,true,[1],{"a":1}]|true|yes
-["a",1,null,true,[1],{"a":1}]|[1]|yes
-["a",1,null,true,[1],{"a":1}]|{"a":1}|yes
-["a",1,null,true,[1],{"a":1}]|"1"|no
-["a",1,null,true,[1],{"a":1}]|false|no
-["a",1,null,true,[1],{"a":1}]|[]|no
-["a",1,null,true,[1],{"a":1}]|{"a":2}|no
-[0,false]|0|yes
-[0,false]|false|yes
-[0,false]|null|no
-[0,false]|""|no
-[[1],[1]]|[1]|yes
-[[1],[1]]|1|no
-[18446744073709551615,1]|18446744073709551615|yes
-[18446744073709551615,1]|1|yes
-[18446744073709551615,1]|-1|no
-[18446744073709551615,1]|18446744073709551614|no"#;
+const VALUES: &str = r#"[]||null []
+[null]|null|false
+[1]|1|2 18446744073709551615
+[9007199254740993]|9007199254740993|9007199254740992
+["a"]|"a"|["a"]
+[[1,2]]|[1,2]|[2,1]
+[{"a":1,"b":2}]|{"b":2,"a":1}|{"a":1}
+["a",1,null,true,[1],{"a":1}]|"a" 1 null true [1] {"a":1}|"1" false [] {"a":2}
+[0,false]|0 false|null ""
+[[1],[1]]|[1]|1
+[18446744073709551615,1]|18446744073709551615 1|-1 18446744073709551614"#;
 
-const INTEGERS: &str = r#"[1,3]|2|no
-[1,2,3]|2|yes
-[1,2,3]|4|no
-[1,2,3]|0|no
-[1,2,3]|-2|no
-[1,2,3]|"2"|no
-[1,2,3]|null|no
-[1,2,3]|true|no
-[1,2,3]|[2]|no
-[1,2,null]|1|yes
-[1,2,null]|null|yes
-[1,2,null]|"1"|no
-[1,2,null]|3|no
-[1,2,null]|{}|no
-[null,10,20]|null|yes
-[null,10,20]|10|yes
-[null,10,20]|15|no
-[3,1,2,1,3]|1|yes
-[3,1,2,1,3]|2|yes
-[3,1,2,1,3]|3|yes
-[3,1,2,1,3]|4|no
-[9007199254740993,1]|9007199254740993|yes
-[9007199254740993,1]|9007199254740992|no
-[9223372036854775807,-9223372036854775808]|9223372036854775807|yes
-[9223372036854775807,-9223372036854775808]|-9223372036854775808|yes
-[9223372036854775807,-9223372036854775808]|9223372036854775806|no
-[9223372036854775807,-9223372036854775808]|9223372036854775808|no
-[9223372036854775807,-9223372036854775808]|18446744073709551615|no
-[9223372036854775807,-9223372036854775808]|0|no
-[-1,0]|18446744073709551615|no"#;
+const INTEGERS: &str = r#"[1,3]||2
+[1,2,3]|2|4 0 -2 "2" null true [2]
+[1,2,null]|1 null|"1" 3 {}
+[null,10,20]|null 10|15
+[3,1,2,1,3]|1 2 3|4
+[9007199254740993,1]|9007199254740993|9007199254740992
+[9223372036854775807,-9223372036854775808]|9223372036854775807 -9223372036854775808|9223372036854775806 9223372036854775808 18446744073709551615 0
+[-1,0]||18446744073709551615"#;
 
-const STRINGS: &str = r#"["a","b"]|"b"|yes
-["a","b"]|""|no
-["a","b"]|null|no
-["a","b",null]|null|yes
-["a","b",null]|"b"|yes
-["a","b",null]|"z"|no
-["a","b",null]|1|no
-[null,"a"]|"a"|yes
-["a","a"]|"a"|yes
-["a","a"]|"aa"|no
-["","null"]|""|yes
-["","null"]|null|no
-[null,null]|null|yes
-[null,null]|""|no
-["1","2"]|1|no
-["prefix0001suffix00","prefix0002suffix00"]|"prefix0002suffix00"|yes
-["prefix0001suffix00","prefix0002suffix00"]|"prefix0003suffix00"|no"#;
+const STRINGS: &str = r#"["a","b"]|"b"|"" null
+["a","b",null]|null "b"|"z" 1
+[null,"a"]|"a"|
+["a","a"]|"a"|"aa"
+["","null"]|""|null
+[null,null]|null|""
+["1","2"]||1
+["prefix0001suffix00","prefix0002suffix00"]|"prefix0002suffix00"|"prefix0003suffix00" "prefix0002suffix0""#;
 
 // Up to ten options, and more.
-const MANY_STRINGS: &str = r#"["a","b","c","d","e","f","g","h","i","j"]|"a"|yes
-["a","b","c","d","e","f","g","h","i","j"]|"j"|yes
-["a","b","c","d","e","f","g","h","i","j"]|"k"|no
-["a","b","c","d","e","f","g","h","i","j"]|null|no
-["a","b","c","d","e","f","g","h","i","j","k"]|"a"|yes
-["a","b","c","d","e","f","g","h","i","j","k"]|"k"|yes
-["a","b","c","d","e","f","g","h","i","j","k"]|"z"|no
-["a","b","c","d","e","f","g","h","i","j","k"]|""|no
-["a","b","c","d","e","f","g","h","i","j","k"]|null|no
-["a","b","c","d","e","f","g","h","i","j","k"]|1|no
-["l","k","j","i","h","g","f","e","d","c","b","a"]|"a"|yes
-["l","k","j","i","h","g","f","e","d","c","b","a"]|"l"|yes
-["l","k","j","i","h","g","f","e","d","c","b","a"]|"m"|no
-["a","b","c","d","e","f","g","h","i",null]|"i"|yes
-["a","b","c","d","e","f","g","h","i",null]|null|yes
-["a","b","c","d","e","f","g","h","i",null]|"j"|no
-["a","b","c","d","e","f","g","h","i","j",null]|"a"|yes
-["a","b","c","d","e","f","g","h","i","j",null]|null|yes
-["a","b","c","d","e","f","g","h","i","j",null]|false|no
-["a","b","c","d","e","f","g","h","i","j","k",null]|"k"|yes
-["a","b","c","d","e","f","g","h","i","j","k",null]|null|yes
-["a","b","c","d","e","f","g","h","i","j","k",null]|"z"|no
-["a","b","c","d","e","f","g","h","i","j","k",null]|1|no
-["head0000-k-tail0000","head0000-j-tail0000","head0000-i-tail0000","head0000-h-tail0000","head0000-g-tail0000","head0000-f-tail0000","head0000-e-tail0000","head0000-d-tail0000","head0000-c-tail0000","head0000-b-tail0000","head0000-a-tail0000"]|"head0000-a-tail0000"|yes
-["head0000-k-tail0000","head0000-j-tail0000","head0000-i-tail0000","head0000-h-tail0000","head0000-g-tail0000","head0000-f-tail0000","head0000-e-tail0000","head0000-d-tail0000","head0000-c-tail0000","head0000-b-tail0000","head0000-a-tail0000"]|"head0000-k-tail0000"|yes
-["head0000-k-tail0000","head0000-j-tail0000","head0000-i-tail0000","head0000-h-tail0000","head0000-g-tail0000","head0000-f-tail0000","head0000-e-tail0000","head0000-d-tail0000","head0000-c-tail0000","head0000-b-tail0000","head0000-a-tail0000"]|"head0000-l-tail0000"|no
-["head0000-k-tail0000","head0000-j-tail0000","head0000-i-tail0000","head0000-h-tail0000","head0000-g-tail0000","head0000-f-tail0000","head0000-e-tail0000","head0000-d-tail0000","head0000-c-tail0000","head0000-b-tail0000","head0000-a-tail0000"]|"head0000-`-tail0000"|no"#;
+const MANY_STRINGS: &str = r#"["a","b","c","d","e","f","g","h","i","j"]|"a" "j"|"k" null
+["a","b","c","d","e","f","g","h","i","j","k"]|"a" "k"|"z" "" null 1
+["l","k","j","i","h","g","f","e","d","c","b","a"]|"a" "l"|"m"
+["a","b","c","d","e","f","g","h","i",null]|"i" null|"j"
+["a","b","c","d","e","f","g","h","i","j",null]|"a" null|false
+["a","b","c","d","e","f","g","h","i","j","k",null]|"k" null|"z" 1
+["head0000-k-tail0000","head0000-j-tail0000","head0000-i-tail0000","head0000-h-tail0000","head0000-g-tail0000","head0000-f-tail0000","head0000-e-tail0000","head0000-d-tail0000","head0000-c-tail0000","head0000-b-tail0000","head0000-a-tail0000"]|"head0000-a-tail0000" "head0000-k-tail0000"|"head0000-l-tail0000" "head0000-`-tail0000""#;
 
 #[test]
 fn options_of_one_value_or_of_any_types(rt: HostRuntime) -> Result<(), Fail> {
@@ -228,36 +159,30 @@ fn ten_thousand_strings(rt: HostRuntime) -> Result<(), Fail> {
 }
 
 // Integers, and decimals.
-const FRACTIONS: &str = r#"{"enum":[1,2,3]}|#20 1|enum|valid
-{"enum":[1,2,3]}|#3000000000000000000 18|enum|valid
-{"enum":[1,2,3]}|#25 1|enum|enum [1,2,3] at /7 by /items/enum
-{"enum":[1,2,3]}|#20 2|enum|enum [1,2,3] at /7 by /items/enum
-{"enum":[1,2,3]}|#-20 1|enum|enum [1,2,3] at /7 by /items/enum
-{"enum":[1,2,null]}|#10 1|enum|valid
-{"enum":[-1,0]}|#0 1|enum|valid
-{"enum":[-1,0]}|#-100 2|enum|valid
-{"enum":[-1,0]}|#-1 1|enum|enum [-1,0] at /7 by /items/enum
-{"enum":[18446744073709551615,1]}|#10 1|enum|valid
-{"enum":[9007199254740993]}|#90071992547409930 1|enum|valid
-{"enum":[9007199254740993]}|#90071992547409920 1|enum|enum [9007199254740993] at /7 by /items/enum
-{"enum":[9007199254740993,1]}|#90071992547409930 1|enum|valid
-{"enum":[9007199254740993,1]}|#90071992547409920 1|enum|enum [9007199254740993,1] at /7 by /items/enum"#;
+const FRACTIONS: &str = r#"[1,2,3]|#20e-1 #3000000000000000000e-18|#25e-1 #20e-2 #-20e-1
+[1,2,null]|#10e-1|
+[-1,0]|#0e-1 #-100e-2|#-1e-1
+[18446744073709551615,1]|#10e-1|
+[9007199254740993]|#90071992547409930e-1|#90071992547409920e-1
+[9007199254740993,1]|#90071992547409930e-1|#90071992547409920e-1"#;
 
 const BAD_OPTIONS: &str = r#"{"enum":5}|null|enum|refused: type Array at /items/enum, 5
-{"enum":2.5}|null|enum|refused: type Array at /items/enum, float
+{"enum":2.5}|null|enum|refused: type Array at /items/enum, 2.5
 {"enum":null}|null|enum|refused: type Array at /items/enum, null
 {"enum":"a"}|null|enum|refused: type Array at /items/enum, "a"
-{"enum":{"a":1.5}}|null|enum|refused: type Array at /items/enum, {"a":float}
-{"enum":[1.0,"a"]}|null|enum|refused: compileError Not a whole number of 64 bits at /items/enum, float
-{"enum":[1.5]}|null|enum|refused: compileError Not a whole number of 64 bits at /items/enum, float
-{"enum":["a","b",2.0]}|null|enum|refused: compileError Not a whole number of 64 bits at /items/enum, float
-{"enum":[1,null,18446744073709551616]}|null|enum|refused: compileError Not a whole number of 64 bits at /items/enum, float
-{"enum":[{"a":[0,{"b":2.5}]},{}]}|null|enum|refused: compileError Not a whole number of 64 bits at /items/enum, float"#;
+{"enum":{"a":1.5}}|null|enum|refused: type Array at /items/enum, {"a":1.5}
+{"enum":[1.0,"a"]}|null|enum|refused: compileError Not a whole number of 64 bits at /items/enum, 1.0
+{"enum":[1.5]}|null|enum|refused: compileError Not a whole number of 64 bits at /items/enum, 1.5
+{"enum":[1.5,2.5]}|null|enum|refused: compileError Not a whole number of 64 bits at /items/enum, 1.5
+{"enum":[1,[2,{"a":1.5}]]}|null|enum|refused: compileError Not a whole number of 64 bits at /items/enum, 1.5
+{"enum":[{"b":1.5,"a":2.5},3.5]}|null|enum|refused: compileError Not a whole number of 64 bits at /items/enum, 2.5
+{"enum":["a","b",2.0]}|null|enum|refused: compileError Not a whole number of 64 bits at /items/enum, 2.0
+{"enum":[1,null,18446744073709551616]}|null|enum|refused: compileError Not a whole number of 64 bits at /items/enum, 1.8446744073709552e+19
+{"enum":[{"a":[0,{"b":2.5}]},{}]}|null|enum|refused: compileError Not a whole number of 64 bits at /items/enum, 2.5"#;
 
 #[test]
 fn numbers_with_a_fraction_among_options(rt: HostRuntime) -> Result<(), Fail> {
-    let settings = all_of(rt.alloc(), Draft::Draft202012);
-    check_rows(&rt, rt.alloc(), &settings, FRACTIONS)
+    check_table(&rt, rt.alloc(), FRACTIONS)
 }
 
 #[test]

@@ -37,7 +37,8 @@ fn compile_leaf<'a, F: Json>(
     }
 }
 
-fn compile_number<'a, F: Json>(
+// The keyword on numbers or sizes of a name, where it asserts something.
+pub(super) fn compile_number<'a, F: Json>(
     alloc: Global,
     ctx: &Context<'_, F>,
     parent: &'a Map<String, Value>,

@@ -1,8 +1,7 @@
 // The four observers of a validator, which have to agree.
+use super::places::at_item;
 use super::texts::{error_text, errors_text};
-use jskw_report::{
-    EvaluationResult, Fault, LazyLocation, Validate, ValidationContext, ValidationError,
-};
+use jskw_report::{EvaluationResult, Fault, Validate, ValidationContext, ValidationError};
 use jskw_value::{Json, Node};
 use std::alloc::Global;
 use std::process::Abort;
@@ -16,15 +15,14 @@ pub(super) fn observed<F: Json, V: Validate<F>>(
     instance: &F::Node,
 ) -> Result<String, Fail> {
     assert!(rt; instance.is_lawful());
-    let mut location = LazyLocation::new(alloc);
-    location.push(7)?;
+    let mut location = at_item(alloc, 7)?;
     let mut ctx = ValidationContext::new();
     let mut errors: Vec<ValidationError<F>> = Vec::new(alloc);
     let is_valid = validator.is_valid(instance, &mut ctx);
     let unit = validator.evaluate(alloc, instance, &mut location, &mut ctx)?;
     validator.collect_errors(instance, &mut location, &mut ctx, &mut errors)?;
     assert_eq!(rt; is_valid, errors.is_empty());
-    check_unit(rt, &unit, &errors)?;
+    check_unit(rt, alloc, &unit, &errors)?;
     match validator.validate(instance, &mut location, &mut ctx) {
         Ok(()) => assert!(rt; errors.is_empty()),
         Err(Fault::Invalid(error)) => {
@@ -37,9 +35,10 @@ pub(super) fn observed<F: Json, V: Validate<F>>(
     errors_text(alloc, &errors)
 }
 
-// The unit describes these errors.
+// The unit describes these errors, with their messages.
 fn check_unit<F: Json>(
     rt: &impl Abort,
+    alloc: Global,
     unit: &EvaluationResult,
     errors: &Vec<ValidationError<F>>,
 ) -> Result<(), Fail> {
@@ -52,6 +51,7 @@ fn check_unit<F: Json>(
             assert_eq!(rt; descriptions.len(), errors.len());
             for (description, error) in descriptions.iter().zip(errors) {
                 assert_eq!(rt; description.keyword(), error.kind().keyword());
+                assert_eq!(rt; description.message(), error.message(alloc)?.as_str());
             }
         }
     }

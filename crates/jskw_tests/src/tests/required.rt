@@ -1,8 +1,9 @@
 // `required`: its forms, and where it is handed on.
 use super::keywords::outcome;
-use super::{all_of, check, check_rows};
+use super::places::member_location;
+use super::{all_of, check, check_rows, columns, overriding, settings_of};
 use jskw_leaf::{LeafValidator, required};
-use jskw_report::{Draft, Location, LocationSegment, Settings, Vocabulary, VocabularySet};
+use jskw_report::{Draft, Vocabulary, VocabularySet};
 use jskw_value::{Json, SerdeJson};
 use serde_json::Value;
 use std::alloc::{AllocError, Global};
@@ -12,76 +13,61 @@ use std::test::Fail;
 // By the number of names.
 const FORMS: &str = r#"{"required":["a"]}|{"a":null}|required|valid
 {"required":["a"]}|{"b":1,"a":{}}|required|valid
-{"required":["a"]}|{}|required|required a at /7 by /items/required
-{"required":["a"]}|{"b":1}|required|required a at /7 by /items/required
-{"required":["a"]}|{"aa":1,"A":1,"":1}|required|required a at /7 by /items/required
+{"required":["a"]}|{}|required|required a
+{"required":["a"]}|{"b":1}|required|required a
+{"required":["a"]}|{"aa":1,"A":1,"":1}|required|required a
 {"required":["a","b"]}|{"a":1,"b":2}|required|valid
-{"required":["a","b"]}|{"b":1}|required|required a at /7 by /items/required
-{"required":["a","b"]}|{"a":1}|required|required b at /7 by /items/required
-{"required":["a","b"]}|{"c":1,"d":2}|required|required a at /7 by /items/required, required b at /7 by /items/required
-{"required":["a","b"]}|{}|required|required a at /7 by /items/required, required b at /7 by /items/required
+{"required":["a","b"]}|{"b":1}|required|required a
+{"required":["a","b"]}|{"a":1}|required|required b
+{"required":["a","b"]}|{"c":1,"d":2}|required|required a, required b
+{"required":["a","b"]}|{}|required|required a, required b
 {"required":["a","b","c"]}|{"c":1,"b":2,"a":3}|required|valid
-{"required":["a","b","c"]}|{"a":1,"c":3,"d":4,"e":5,"f":6,"g":7,"h":8}|required|required b at /7 by /items/required
-{"required":["a","b","c"]}|{"b":1}|required|required a at /7 by /items/required, required c at /7 by /items/required
-{"required":["a","b","c","d"]}|{"b":1,"d":2}|required|required a at /7 by /items/required, required c at /7 by /items/required
+{"required":["a","b","c"]}|{"a":1,"b":2,"c":3,"d":4}|required|valid
+{"required":["a","b","c"]}|{"a":1,"b":2}|required|required c
+{"required":["a","b","c"]}|{"b":2,"c":3}|required|required a
+{"required":["a","b","c"]}|{"a":1}|required|required b, required c
+{"required":["a","b","c"]}|{}|required|required a, required b, required c
+{"required":["a","b","c"]}|{"a":1,"b":2,"c":3,"d":4,"e":5,"f":6,"g":7}|required|valid
+{"required":["a","b","c"]}|{"b":2,"c":3,"d":4,"e":5,"f":6,"g":7,"h":8}|required|required a
+{"required":["a","b","c"]}|{"a":1,"c":3,"d":4,"e":5,"f":6,"g":7,"h":8}|required|required b
+{"required":["a","b","c"]}|{"a":1,"b":2,"d":4,"e":5,"f":6,"g":7,"h":8}|required|required c
+{"required":["a","b","c"]}|{"b":1}|required|required a, required c
+{"required":["a","b","c","d"]}|{"b":1,"d":2}|required|required a, required c
 {"required":["a","b","c","d"]}|{"d":1,"c":2,"b":3,"a":4}|required|valid
-{"required":["a","b","c","d"]}|{"e":1,"d":2,"x":3,"y":4,"c":5}|required|required a at /7 by /items/required, required b at /7 by /items/required"#;
+{"required":["a","b","c","d"]}|{"a":1,"b":2,"c":3,"d":4,"e":5,"f":6,"g":7,"h":8,"i":9}|required|valid
+{"required":["a","b","c","d"]}|{"a":1,"b":2,"c":3,"e":5,"f":6,"g":7,"h":8,"i":9,"j":10}|required|required d
+{"required":["a","b","c","d"]}|{"a":1,"c":3,"e":5,"f":6,"g":7,"h":8,"i":9,"j":10,"k":11}|required|required b, required d
+{"required":["a","b","c","d"]}|{"e":1,"d":2,"x":3,"y":4,"c":5}|required|required a, required b"#;
 
 // The errors stand in the order of the list.
-const ORDER: &str =
-    r#"{"required":["c","a"]}|{"b":1}|required|required c at /7 by /items/required, required a at /7 by /items/required
-{"required":["z","b","a","y"]}|{"b":1}|required|required z at /7 by /items/required, required a at /7 by /items/required, required y at /7 by /items/required"#;
+const ORDER: &str = r#"{"required":["c","a"]}|{"b":1}|required|required c, required a
+{"required":["z","b","a","y"]}|{"b":1}|required|required z, required a, required y"#;
 
 // Each name once.
 const REPEATED: &str = r#"{"required":["a","a"]}|{"a":1}|required|valid
-{"required":["a","a"]}|{}|required|required a at /7 by /items/required
+{"required":["a","a"]}|{}|required|required a
 {"required":["a","b","a"]}|{"a":1,"b":2}|required|valid
-{"required":["a","b","a"]}|{}|required|required a at /7 by /items/required, required b at /7 by /items/required
-{"required":["a","a","b","b"]}|{"c":1}|required|required a at /7 by /items/required, required b at /7 by /items/required
-{"required":["a","a","b","a","c","b"]}|{"b":1}|required|required a at /7 by /items/required, required c at /7 by /items/required
-{"required":["a","b","a","c","d","d"]}|{"b":1,"d":2}|required|required a at /7 by /items/required, required c at /7 by /items/required"#;
+{"required":["a","b","a"]}|{}|required|required a, required b
+{"required":["a","a","b","b"]}|{"c":1}|required|required a, required b
+{"required":["a","a","b","a","c","b"]}|{"b":1}|required|required a, required c
+{"required":["a","b","a","c","d","d"]}|{"b":1,"d":2}|required|required a, required c"#;
 
-// It holds of what is no object, and without a name of every object.
-const OTHER_TYPES: &str = r#"{"required":[]}|null|required|valid
-{"required":[]}|true|required|valid
-{"required":[]}|5|required|valid
-{"required":[]}|"a"|required|valid
-{"required":[]}|[]|required|valid
-{"required":[]}|[{"b":1}]|required|valid
-{"required":["a"]}|null|required|valid
-{"required":["a"]}|true|required|valid
-{"required":["a"]}|5|required|valid
-{"required":["a"]}|"a"|required|valid
-{"required":["a"]}|[]|required|valid
-{"required":["a"]}|[{"b":1}]|required|valid
-{"required":["a","b"]}|null|required|valid
-{"required":["a","b"]}|true|required|valid
-{"required":["a","b"]}|5|required|valid
-{"required":["a","b"]}|"a"|required|valid
-{"required":["a","b"]}|[]|required|valid
-{"required":["a","b"]}|[{"b":1}]|required|valid
-{"required":["a","b","c"]}|null|required|valid
-{"required":["a","b","c"]}|true|required|valid
-{"required":["a","b","c"]}|5|required|valid
-{"required":["a","b","c"]}|"a"|required|valid
-{"required":["a","b","c"]}|[]|required|valid
-{"required":["a","b","c"]}|[{"b":1}]|required|valid
-{"required":["a","b","c","d"]}|null|required|valid
-{"required":["a","b","c","d"]}|true|required|valid
-{"required":["a","b","c","d"]}|5|required|valid
-{"required":["a","b","c","d"]}|"a"|required|valid
-{"required":["a","b","c","d"]}|[]|required|valid
-{"required":["a","b","c","d"]}|[{"b":1}]|required|valid
-{"required":[]}|{}|required|valid
+// Without a name it holds of every object.
+const NO_NAMES: &str = r#"{"required":[]}|{}|required|valid
 {"required":[]}|{"a":1}|required|valid"#;
 
 const BAD_VALUES: &str = r#"{"required":5}|{}|required|refused: type Array at /items/required, 5
 {"required":"a","properties":{},"additionalProperties":false}|{}|required|refused: type Array at /items/required, "a"
 {"required":["a",5]}|{}|required|refused: type String at /items/required, 5
+{"required":[1]}|{}|required|refused: type String at /items/required, 1
+{"required":[1,"a"]}|{}|required|refused: type String at /items/required, 1
+{"required":["a","b",1]}|{}|required|refused: type String at /items/required, 1
 {"required":["a",1,"c"]}|{}|required|refused: type String at /items/required, 1
+{"required":[1,"b","c"]}|{}|required|refused: type String at /items/required, 1
+{"required":["a","b","c",1]}|{}|required|refused: type String at /items/required, 1
 {"required":["a",null,5]}|{}|required|refused: type String at /items/required, null
 {"required":["a","a","b","c",["d"]]}|{}|required|refused: type String at /items/required, ["d"]
-{"required":[1.5]}|{}|required|refused: type String at /items/required, float"#;
+{"required":[1.5]}|{}|required|refused: type String at /items/required, 1.5"#;
 
 #[test]
 fn each_form_by_the_number_of_names(rt: HostRuntime) -> Result<(), Fail> {
@@ -102,9 +88,21 @@ fn each_name_once(rt: HostRuntime) -> Result<(), Fail> {
 }
 
 #[test]
-fn it_holds_of_what_is_no_object(rt: HostRuntime) -> Result<(), Fail> {
-    let settings = all_of(rt.alloc(), Draft::Draft202012);
-    check_rows(&rt, rt.alloc(), &settings, OTHER_TYPES)
+fn it_holds_of_what_is_no_object_and_without_a_name(rt: HostRuntime) -> Result<(), Fail> {
+    let alloc = rt.alloc();
+    let settings = all_of(alloc, Draft::Draft202012);
+    for schema in [
+        r#"{"required":[]}"#,
+        r#"{"required":["a"]}"#,
+        r#"{"required":["a","b"]}"#,
+        r#"{"required":["a","b","c"]}"#,
+        r#"{"required":["a","b","c","d"]}"#,
+    ] {
+        for instance in ["null", "true", "5", r#""a""#, "[]", r#"[{"b":1}]"#] {
+            check(&rt, alloc, &settings, schema, "required", instance, "valid")?;
+        }
+    }
+    check_rows(&rt, alloc, &settings, NO_NAMES)
 }
 
 #[test]
@@ -113,8 +111,8 @@ fn bad_values_are_refused(rt: HostRuntime) -> Result<(), Fail> {
     check_rows(&rt, rt.alloc(), &settings, BAD_VALUES)
 }
 
-// The texts `prefix0000suffix00` and so on, so many, which have the same length, beginning and end; each quoted, and
-// followed by `behind`.
+// The texts `prefix0000suffix00` and so on, so many, which have the same length, beginning and end;
+// each quoted, and followed by `behind`.
 fn colliding(alloc: Global, count: usize, behind: &str) -> Result<String, AllocError> {
     let mut text = String::new(alloc);
     for index in 0..count {
@@ -150,34 +148,55 @@ fn check_colliding(
     )
 }
 
+// A required name, a key of the object, and whether they are one name. They agree on their length
+// or on a long beginning, and in part on their end.
+const ALIKE: &str = r#"abcdefghijklX|abcdefghijklX|yes
+abcdefghijklX|abcdefghijklY|no
+abcdefghijkl|abcdefghijkL|no
+abcdEFGHijkl|abcdefghijkl|no
+abcd|abce|no
+abcd|abcde|no
+||yes
+café-résumé-naïve|café-rÉsumé-naïve|no
+café-résumé-naïve|café-résumé-naïve|yes"#;
+
 #[test]
-fn names_that_collide(rt: HostRuntime) -> Result<(), Fail> {
+fn names_that_are_alike(rt: HostRuntime) -> Result<(), Fail> {
     let alloc = rt.alloc();
     let settings = all_of(alloc, Draft::Draft202012);
-    let schema = r#"{"required":["abcdefghijklX","p","q"]}"#;
-    let instance = r#"{"abcdefghijklY":1,"p":1,"q":1}"#;
-    let wanted = "required abcdefghijklX at /7 by /items/required";
-    check(&rt, alloc, &settings, schema, "required", instance, wanted)?;
+    for line in ALIKE.lines() {
+        let (name, key, is_one) = columns(line)?;
+        let instance = format!(in alloc; "{{\"{key}\":1,\"p\":1,\"q\":1,\"r\":1}}")?;
+        let instance = instance.as_str();
+        let missing = format!(in alloc; "required {name}")?;
+        let wanted = if is_one == "yes" {
+            "valid"
+        } else {
+            missing.as_str()
+        };
+        for others in ["", ",\"p\"", ",\"p\",\"q\"", ",\"p\",\"q\",\"r\""] {
+            let schema = format!(in alloc; "{{\"required\":[\"{name}\"{others}]}}")?;
+            let schema = schema.as_str();
+            check(&rt, alloc, &settings, schema, "required", instance, wanted)?;
+        }
+    }
+    Ok(())
+}
+
+#[test]
+fn names_that_collide(rt: HostRuntime) -> Result<(), Fail> {
     for (count, members, wanted) in [
-        (
-            16,
-            15,
-            "required prefix0015suffix00 at /7 by /items/required",
-        ),
+        (16, 15, "required prefix0015suffix00"),
         (16, 16, "valid"),
         (16, 40, "valid"),
-        (
-            17,
-            16,
-            "required prefix0016suffix00 at /7 by /items/required",
-        ),
+        (17, 16, "required prefix0016suffix00"),
         (17, 17, "valid"),
-        (3, 2, "required prefix0002suffix00 at /7 by /items/required"),
-        (2, 1, "required prefix0001suffix00 at /7 by /items/required"),
+        (3, 2, "required prefix0002suffix00"),
+        (2, 1, "required prefix0001suffix00"),
         (2, 2, "valid"),
         (1, 40, "valid"),
     ] {
-        check_colliding(&rt, alloc, count, members, wanted)?;
+        check_colliding(&rt, rt.alloc(), count, members, wanted)?;
     }
     Ok(())
 }
@@ -187,13 +206,13 @@ const ONE_ITEM: &str =
     r#"{"required":["a"],"properties":{"a":{}},"additionalProperties":false}|{}|required|nothing is asserted
 {"required":["a"],"properties":5,"additionalProperties":false}|{}|required|nothing is asserted
 {"required":[5],"properties":{"a":{}},"additionalProperties":false}|{}|required|nothing is asserted
-{"required":["a"],"additionalProperties":false}|{}|required|required a at /7 by /items/required
-{"required":["a"],"properties":{"a":{}}}|{}|required|required a at /7 by /items/required
-{"required":["a"],"properties":{"a":{}},"additionalProperties":true}|{}|required|required a at /7 by /items/required
-{"required":["a"],"properties":{"a":{}},"additionalProperties":{}}|{}|required|required a at /7 by /items/required
-{"required":["a"],"properties":{"a":{}},"additionalProperties":null}|{}|required|required a at /7 by /items/required
-{"required":["a"],"properties":{"a":{}},"additionalProperties":false,"patternProperties":{}}|{}|required|required a at /7 by /items/required
-{"required":["a","b","b"],"properties":{"a":{}},"additionalProperties":false}|{}|required|required a at /7 by /items/required, required b at /7 by /items/required
+{"required":["a"],"additionalProperties":false}|{}|required|required a
+{"required":["a"],"properties":{"a":{}}}|{}|required|required a
+{"required":["a"],"properties":{"a":{}},"additionalProperties":true}|{}|required|required a
+{"required":["a"],"properties":{"a":{}},"additionalProperties":{}}|{}|required|required a
+{"required":["a"],"properties":{"a":{}},"additionalProperties":null}|{}|required|required a
+{"required":["a"],"properties":{"a":{}},"additionalProperties":false,"patternProperties":{}}|{}|required|required a
+{"required":["a","b","b"],"properties":{"a":{}},"additionalProperties":false}|{}|required|required a, required b
 {"required":[],"properties":{"a":{}},"additionalProperties":false}|{}|required|valid"#;
 
 // Two items beside `properties`.
@@ -205,14 +224,14 @@ const TWO_ITEMS: &str =
 {"required":[1,2],"properties":{"a":{}}}|{}|required|nothing is asserted
 {"required":["a","b"],"properties":{"a":{}},"additionalProperties":true}|{}|required|nothing is asserted
 {"required":["a","b"],"properties":{"a":{}},"additionalProperties":5}|{}|required|nothing is asserted
-{"required":["a","b"]}|{}|required|required a at /7 by /items/required, required b at /7 by /items/required
-{"required":["a","b"],"properties":[]}|{}|required|required a at /7 by /items/required, required b at /7 by /items/required
-{"required":["a","b"],"properties":true}|{}|required|required a at /7 by /items/required, required b at /7 by /items/required
-{"required":["a","a"],"properties":{"a":{}},"additionalProperties":false}|{}|required|required a at /7 by /items/required
-{"required":["a","b"],"properties":{"a":{}},"additionalProperties":{}}|{}|required|required a at /7 by /items/required, required b at /7 by /items/required
-{"required":["a","b"],"properties":{"a":{}},"patternProperties":{}}|{}|required|required a at /7 by /items/required, required b at /7 by /items/required
-{"required":["a","b","a"],"properties":{"a":{}}}|{}|required|required a at /7 by /items/required, required b at /7 by /items/required
-{"required":["a"],"properties":{"a":{}}}|{}|required|required a at /7 by /items/required"#;
+{"required":["a","b"]}|{}|required|required a, required b
+{"required":["a","b"],"properties":[]}|{}|required|required a, required b
+{"required":["a","b"],"properties":true}|{}|required|required a, required b
+{"required":["a","a"],"properties":{"a":{}},"additionalProperties":false}|{}|required|required a
+{"required":["a","b"],"properties":{"a":{}},"additionalProperties":{}}|{}|required|required a, required b
+{"required":["a","b"],"properties":{"a":{}},"patternProperties":{}}|{}|required|required a, required b
+{"required":["a","b","a"],"properties":{"a":{}}}|{}|required|required a, required b
+{"required":["a"],"properties":{"a":{}}}|{}|required|required a"#;
 
 #[test]
 fn one_item_is_handed_on(rt: HostRuntime) -> Result<(), Fail> {
@@ -228,9 +247,9 @@ fn two_items_are_handed_on(rt: HostRuntime) -> Result<(), Fail> {
 
 const HANDED_ON: &str = "nothing is asserted";
 
-const A: &str = "required a at /7 by /items/required";
+const A: &str = "required a";
 
-const A_AND_B: &str = "required a at /7 by /items/required, required b at /7 by /items/required";
+const A_AND_B: &str = "required a, required b";
 
 #[test]
 fn two_items_beside_many_properties(rt: HostRuntime) -> Result<(), Fail> {
@@ -270,9 +289,7 @@ fn overridden_siblings(rt: HostRuntime) -> Result<(), Fail> {
         ("additionalProperties", closed, A_AND_B),
         ("additionalProperties", schemas, A_AND_B),
     ] {
-        let mut overridden = Vec::new(alloc);
-        overridden.push(String::from_str(alloc, name)?)?;
-        let settings = Settings::new(Draft::Draft202012, VocabularySet::all(), overridden);
+        let settings = overriding(alloc, Draft::Draft202012, &[name])?;
         check(&rt, alloc, &settings, schema, "required", "{}", wanted)?;
     }
     Ok(())
@@ -284,7 +301,17 @@ fn without_the_applicator_vocabulary(rt: HostRuntime) -> Result<(), Fail> {
     let one = r#"{"required":["a"],"properties":{"a":{}},"additionalProperties":false}"#;
     let two = r#"{"properties":{"a":false},"required":["a","b"]}"#;
     let bad = r#"{"properties":{"a":false},"required":["a",5]}"#;
+    let closed = r#"{"properties":{"a":false},"additionalProperties":false,"required":["b"]}"#;
+    let three = r#"{"properties":{"a":false},"required":["a","b","c"]}"#;
+    let alone = r#"{"required":["a","b"]}"#;
     for (draft, schema, wanted) in [
+        (Draft::Draft202012, closed, "required b"),
+        (
+            Draft::Draft202012,
+            three,
+            "required a, required b, required c",
+        ),
+        (Draft::Draft202012, alone, A_AND_B),
         (Draft::Draft202012, one, A),
         (Draft::Draft201909, one, A),
         (Draft::Draft202012, two, A_AND_B),
@@ -299,8 +326,12 @@ fn without_the_applicator_vocabulary(rt: HostRuntime) -> Result<(), Fail> {
         (Draft::Draft4, two, HANDED_ON),
     ] {
         let vocabularies = VocabularySet::empty().insert(Vocabulary::Validation);
-        let settings = Settings::new(draft, vocabularies, Vec::new(alloc));
+        let settings = settings_of(alloc, draft, vocabularies);
         check(&rt, alloc, &settings, schema, "required", "{}", wanted)?;
+        let all = r#"{"a":1,"b":1,"c":1}"#;
+        if wanted.starts_with("required") {
+            check(&rt, alloc, &settings, schema, "required", all, "valid")?;
+        }
     }
     Ok(())
 }
@@ -313,8 +344,7 @@ fn answer_at<F: Json>(
     instance: &F::Node,
 ) -> Result<String, Fail> {
     let schema = Value::from_str(alloc, value)?;
-    let segment = LocationSegment::Name("dependentRequired");
-    let location = Location::new(alloc).join(alloc, segment)?;
+    let location = member_location(alloc, "dependentRequired")?;
     let compiled = required::compile_with_path::<F>(alloc, &schema, location);
     outcome::<F, LeafValidator<F>>(rt, alloc, compiled, instance)
 }

@@ -1,6 +1,6 @@
 // Bounds on sizes.
 use super::texts::fault_text;
-use super::{all_of, check_rows};
+use super::{all_of, check_rows, columns};
 use jskw_number::helpers::{fail_on_non_positive_integer, map_get_u64, size_limit};
 use jskw_report::{Context, Draft, Location};
 use jskw_value::SerdeJson;
@@ -30,9 +30,9 @@ const BOUNDS: &str = r#"{"minContains":0}|minContains|0
 {"a":-1}|a|refused: minimum 0 at /a, -1
 {"a":-9223372036854775808}|a|refused: minimum 0 at /a, -9223372036854775808
 {"a/b":"x"}|a/b|refused: type Integer at /a~1b, "x"
-{"a":1.0}|a|refused: type Integer at /a, float
-{"a":-1.0}|a|refused: type Integer at /a, float
-{"a":18446744073709551616}|a|refused: type Integer at /a, float
+{"a":1.0}|a|refused: type Integer at /a, 1.0
+{"a":-1.0}|a|refused: type Integer at /a, -1.0
+{"a":18446744073709551616}|a|refused: type Integer at /a, 1.8446744073709552e+19
 {"a":null}|a|refused: type Integer at /a, null
 {"a":true}|a|refused: type Integer at /a, true
 {"a":[1]}|a|refused: type Integer at /a, [1]
@@ -41,8 +41,7 @@ const BOUNDS: &str = r#"{"minContains":0}|minContains|0
 #[test]
 fn bounds_of_a_schema(rt: HostRuntime) -> Result<(), Fail> {
     for line in BOUNDS.lines() {
-        let (schema, rest) = line.split_once('|').ok_or("no name")?;
-        let (name, wanted) = rest.split_once('|').ok_or("no bound")?;
+        let (schema, name, wanted) = columns(line)?;
         assert_eq!(rt;
             bound_of(rt.alloc(), schema, name)?.as_str(),
             wanted,
@@ -78,37 +77,37 @@ fn a_bound_by_itself(rt: HostRuntime) -> Result<(), Fail> {
     Ok(())
 }
 
-const SIZES: &str = r#"{"minItems":1}|[]|minItems|minItems 1 at /7 by /items/minItems
-{"minItems":2}|[1]|minItems|minItems 2 at /7 by /items/minItems
+const SIZES: &str = r#"{"minItems":1}|[]|minItems|minItems 1
+{"minItems":2}|[1]|minItems|minItems 2
 {"minItems":2}|[1,1]|minItems|valid
 {"minItems":2}|[1,2,3]|minItems|valid
 {"minItems":2}|{}|minItems|valid
 {"minItems":2}|""|minItems|valid
 {"minItems":2,"maxItems":1}|[1,2]|minItems|valid
-{"minItems":2,"maxItems":1}|[1,2]|maxItems|maxItems 1 at /7 by /items/maxItems
+{"minItems":2,"maxItems":1}|[1,2]|maxItems|maxItems 1
 {"maxItems":2}|[1]|maxItems|valid
 {"maxItems":2}|[1,2]|maxItems|valid
-{"maxItems":2}|[1,2,3]|maxItems|maxItems 2 at /7 by /items/maxItems
+{"maxItems":2}|[1,2,3]|maxItems|maxItems 2
 {"maxItems":0}|{"a":1}|maxItems|valid
 {"maxItems":0}|[]|maxItems|valid
-{"minProperties":2}|{"a":1}|minProperties|minProperties 2 at /7 by /items/minProperties
+{"minProperties":2}|{"a":1}|minProperties|minProperties 2
 {"minProperties":2}|{"a":1,"b":2}|minProperties|valid
 {"minProperties":2}|{"a":1,"b":2,"c":3}|minProperties|valid
 {"minProperties":2}|[]|minProperties|valid
-{"maxProperties":1}|{"a":1,"b":2}|maxProperties|maxProperties 1 at /7 by /items/maxProperties
+{"maxProperties":1}|{"a":1,"b":2}|maxProperties|maxProperties 1
 {"maxProperties":1}|{"a":1}|maxProperties|valid
 {"maxProperties":1}|{}|maxProperties|valid
 {"maxProperties":0}|[1]|maxProperties|valid
 {"maxProperties":0}|null|maxProperties|valid
-{"minItems":18446744073709551615}|[]|minItems|minItems 18446744073709551615 at /7 by /items/minItems
+{"minItems":18446744073709551615}|[]|minItems|minItems 18446744073709551615
 {"maxItems":18446744073709551615}|[]|maxItems|valid
-{"minProperties":18446744073709551615}|{"a":1}|minProperties|minProperties 18446744073709551615 at /7 by /items/minProperties
+{"minProperties":18446744073709551615}|{"a":1}|minProperties|minProperties 18446744073709551615
 {"maxProperties":18446744073709551615}|{"a":1}|maxProperties|valid
 {"minItems":-1}|null|minItems|refused: minimum 0 at /items/minItems, -1
-{"minItems":1.0}|null|minItems|refused: type Integer at /items/minItems, float
+{"minItems":1.0}|null|minItems|refused: type Integer at /items/minItems, 1.0
 {"maxItems":-1}|null|maxItems|refused: minimum 0 at /items/maxItems, -1
 {"maxItems":"a"}|null|maxItems|refused: type Integer at /items/maxItems, "a"
-{"minProperties":1.5}|null|minProperties|refused: type Integer at /items/minProperties, float
+{"minProperties":1.5}|null|minProperties|refused: type Integer at /items/minProperties, 1.5
 {"maxProperties":[]}|null|maxProperties|refused: type Integer at /items/maxProperties, []
 {"maxProperties":-2}|null|maxProperties|refused: minimum 0 at /items/maxProperties, -2"#;
 
@@ -124,9 +123,9 @@ fn sizes_around_their_bounds(rt: HostRuntime) -> Result<(), Fail> {
 }
 
 // From no item or member to one more than the bound.
-const SIZES_AROUND_THREE: &str = r#"{"minItems":3}|[]|minItems|minItems 3 at /7 by /items/minItems
-{"minItems":3}|[null]|minItems|minItems 3 at /7 by /items/minItems
-{"minItems":3}|[null,null]|minItems|minItems 3 at /7 by /items/minItems
+const SIZES_AROUND_THREE: &str = r#"{"minItems":3}|[]|minItems|minItems 3
+{"minItems":3}|[null]|minItems|minItems 3
+{"minItems":3}|[null,null]|minItems|minItems 3
 {"minItems":3}|[null,null,null]|minItems|valid
 {"minItems":3}|[null,null,null,null]|minItems|valid
 {"minItems":3}|{"a":null,"b":null}|minItems|valid
@@ -134,11 +133,11 @@ const SIZES_AROUND_THREE: &str = r#"{"minItems":3}|[]|minItems|minItems 3 at /7 
 {"maxItems":3}|[null]|maxItems|valid
 {"maxItems":3}|[null,null]|maxItems|valid
 {"maxItems":3}|[null,null,null]|maxItems|valid
-{"maxItems":3}|[null,null,null,null]|maxItems|maxItems 3 at /7 by /items/maxItems
+{"maxItems":3}|[null,null,null,null]|maxItems|maxItems 3
 {"maxItems":3}|{"a":null,"b":null}|maxItems|valid
-{"minProperties":3}|{}|minProperties|minProperties 3 at /7 by /items/minProperties
-{"minProperties":3}|{"a":null}|minProperties|minProperties 3 at /7 by /items/minProperties
-{"minProperties":3}|{"a":null,"b":null}|minProperties|minProperties 3 at /7 by /items/minProperties
+{"minProperties":3}|{}|minProperties|minProperties 3
+{"minProperties":3}|{"a":null}|minProperties|minProperties 3
+{"minProperties":3}|{"a":null,"b":null}|minProperties|minProperties 3
 {"minProperties":3}|{"a":null,"b":null,"c":null}|minProperties|valid
 {"minProperties":3}|{"a":null,"b":null,"c":null,"d":null}|minProperties|valid
 {"minProperties":3}|[null,null]|minProperties|valid
@@ -146,7 +145,7 @@ const SIZES_AROUND_THREE: &str = r#"{"minItems":3}|[]|minItems|minItems 3 at /7 
 {"maxProperties":3}|{"a":null}|maxProperties|valid
 {"maxProperties":3}|{"a":null,"b":null}|maxProperties|valid
 {"maxProperties":3}|{"a":null,"b":null,"c":null}|maxProperties|valid
-{"maxProperties":3}|{"a":null,"b":null,"c":null,"d":null}|maxProperties|maxProperties 3 at /7 by /items/maxProperties
+{"maxProperties":3}|{"a":null,"b":null,"c":null,"d":null}|maxProperties|maxProperties 3
 {"maxProperties":3}|[null,null]|maxProperties|valid"#;
 
 #[test]

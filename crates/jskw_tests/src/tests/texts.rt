@@ -1,4 +1,4 @@
-// Errors as texts: the kind with what the keyword asked for, the instance location and the keyword location.
+// Errors as texts: the kind with what the keyword asked for, and both locations.
 use jskw_report::{CompileFault, EnumOptions, TypeKind, ValidationError, ValidationErrorKind};
 use jskw_value::{Json, JsonType, JsonTypeSet, Node, SerdeJson};
 use serde_json::Value;
@@ -25,24 +25,25 @@ fn set_text(alloc: Global, types: JsonTypeSet) -> Result<String, AllocError> {
     Ok(text)
 }
 
-fn value_text(alloc: Global, value: &Value) -> Result<String, AllocError> {
-    let mut text = String::new(alloc);
-    value.write_json(&mut text)?;
+// A text, with the compact text of a node behind it.
+pub(super) fn written<N: Node>(node: &N, mut text: String) -> Result<String, AllocError> {
+    node.write_json(&mut text)?;
     Ok(text)
 }
 
+// What an error says, with what the keyword asked for.
 fn kind_text(alloc: Global, kind: &ValidationErrorKind) -> Result<String, AllocError> {
     let keyword = kind.keyword();
     match kind {
         ValidationErrorKind::CompileError { message } => format!(in alloc; "{keyword} {message}"),
         ValidationErrorKind::Constant { expected_value } => {
-            let value = value_text(alloc, expected_value)?;
+            let value = written(*expected_value, String::new(alloc))?;
             format!(in alloc; "{keyword} {value}")
         }
         ValidationErrorKind::Enum {
             options: EnumOptions::Listed(options),
         } => {
-            let value = value_text(alloc, options)?;
+            let value = written(*options, String::new(alloc))?;
             format!(in alloc; "{keyword} {value}")
         }
         ValidationErrorKind::Enum {
@@ -81,6 +82,8 @@ fn bound_text(alloc: Global, kind: &ValidationErrorKind) -> Result<String, Alloc
     }
 }
 
+// The kind of an error, its instance location and its keyword location; the kind alone where the
+// error stands at `/7`, and at the keyword of its kind at `/items`.
 pub(super) fn error_text<F: Json>(
     alloc: Global,
     error: &ValidationError<F>,
@@ -88,6 +91,9 @@ pub(super) fn error_text<F: Json>(
     let kind = kind_text(alloc, error.kind())?;
     let instance = error.instance_path().as_str();
     let schema = error.schema_path().as_str();
+    if instance == "/7" && schema.strip_prefix("/items/") == Some(error.kind().keyword()) {
+        return Ok(kind);
+    }
     format!(in alloc; "{kind} at {instance} by {schema}")
 }
 
@@ -110,14 +116,16 @@ pub(super) fn errors_text<F: Json>(
     Ok(text)
 }
 
-// The kind of a compile error, its keyword location and the value there.
+// The kind of a compile error, its keyword location and the value at fault, whose floats are
+// written with all their digits.
 fn refusal_text(alloc: Global, error: &ValidationError<SerdeJson>) -> Result<String, AllocError> {
     let kind = kind_text(alloc, error.kind())?;
     let schema = error.schema_path().as_str();
-    let value = value_text(alloc, error.instance())?;
+    let value = error.instance().to_string(alloc)?;
     format!(in alloc; "refused: {kind} at {schema}, {value}")
 }
 
+// What a compile error says.
 pub(super) fn fault_text(alloc: Global, fault: &CompileFault) -> Result<String, AllocError> {
     match fault {
         CompileFault::Bad(error) => refusal_text(alloc, error),

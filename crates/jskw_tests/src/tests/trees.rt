@@ -63,13 +63,48 @@ fn decimal_object(alloc: Global, members: &Map<String, Value>) -> Result<Decimal
     let mut trees = Members::new(alloc);
     for (name, member) in members.iter() {
         let tree = decimal_tree(alloc, member)?;
-        match trees.insert(name.clone()?, tree) {
-            Ok(()) => {}
-            Err(InsertFault::Repeated(_, _)) => return Err("a name twice")?,
-            Err(InsertFault::Memory(_, _)) => return Err(AllocError)?,
-        }
+        insert(alloc, &mut trees, name.as_str(), tree)?;
     }
     Ok(DecimalTree::Object(trees))
+}
+
+// Adds a member whose name is new.
+pub(super) fn insert(
+    alloc: Global,
+    members: &mut Members,
+    name: &str,
+    value: DecimalTree,
+) -> Result<(), Fail> {
+    match members.insert(String::from_str(alloc, name)?, value) {
+        Ok(()) => Ok(()),
+        Err(InsertFault::Repeated(_, _)) => Err("a name twice")?,
+        Err(InsertFault::Memory(_, _)) => Err(AllocError)?,
+    }
+}
+
+// The name and the value that a refused insertion hands back, and whether the name was there.
+pub(super) fn handed_back(fault: InsertFault<DecimalTree>) -> (String, DecimalTree, bool) {
+    match fault {
+        InsertFault::Repeated(name, value) => (name, value, true),
+        InsertFault::Memory(name, value) => (name, value, false),
+    }
+}
+
+// A string of this text.
+pub(super) fn string(alloc: Global, text: &str) -> Result<DecimalTree, Fail> {
+    Ok(DecimalTree::Text(String::from_str(alloc, text)?))
+}
+
+// Two equal objects, with the members `a` and `b` in this order, and in the other.
+pub(super) fn objects_in_two_orders(alloc: Global) -> Result<DecimalTree, Fail> {
+    let mut left = Members::new(alloc);
+    insert(alloc, &mut left, "a", number(1, 0)?)?;
+    insert(alloc, &mut left, "b", number(2, 0)?)?;
+    let mut right = Members::new(alloc);
+    insert(alloc, &mut right, "b", number(2, 0)?)?;
+    insert(alloc, &mut right, "a", number(1, 0)?)?;
+    let objects = [DecimalTree::Object(left), DecimalTree::Object(right)];
+    Ok(DecimalTree::Array(Vec::from_array(alloc, objects)?))
 }
 
 // The number of a coefficient and a scale.
@@ -78,8 +113,8 @@ pub(super) fn number(coefficient: i128, scale: u8) -> Result<DecimalTree, Fail> 
     Ok(DecimalTree::Number(decimal))
 }
 
-// The number of a coefficient and a scale, which are written with a space between them.
-pub(super) fn decimal_of(text: &str) -> Result<DecimalTree, Fail> {
-    let (coefficient, scale) = text.split_once(' ').ok_or("no scale")?;
-    number(coefficient.parse()?, scale.parse()?)
+// The decimal of a coefficient and a scale, which are written as in `20e-1`.
+pub(super) fn decimal_of(text: &str) -> Result<Decimal, Fail> {
+    let (coefficient, scale) = text.split_once("e-").ok_or("no scale")?;
+    Ok(Decimal::new(coefficient.parse()?, scale.parse()?).ok_or("no decimal")?)
 }

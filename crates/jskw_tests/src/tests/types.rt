@@ -1,42 +1,45 @@
 // `type`, in Draft 4 and in the later drafts, and the schema `false`.
 use super::observers::observed;
+use super::places::member_location;
 use super::trees::number;
-use super::{all_of, check_rows};
+use super::{DRAFTS_AFTER_4, all_of, check_rows};
 use jskw_leaf::boolean::FalseValidator;
 use jskw_leaf::legacy::type_draft_4;
 use jskw_leaf::type_::{
     ArrayTypeValidator, BooleanTypeValidator, IntegerTypeValidator, NullTypeValidator,
     NumberTypeValidator, ObjectTypeValidator, StringTypeValidator, is_integer,
 };
-use jskw_report::{Draft, Location, LocationSegment, Validate};
+use jskw_report::{Draft, Location, Validate};
 use jskw_value::{DecimalJson, DecimalTree, JsonNumber, Node, SerdeJson};
 use serde_json::Value;
-use std::alloc::{AllocError, Global};
+use std::alloc::Global;
 use std::process::Abort;
 use std::test::Fail;
 
 // In every draft.
 const TYPES: &str = r#"{"type":"null"}|null|type|valid
-{"type":"null"}|0|type|type Null at /7 by /items/type
+{"type":"null"}|0|type|type Null
 {"type":"boolean"}|false|type|valid
-{"type":"boolean"}|null|type|type Boolean at /7 by /items/type
+{"type":"boolean"}|null|type|type Boolean
 {"type":"string"}|""|type|valid
-{"type":"string"}|[]|type|type String at /7 by /items/type
+{"type":"string"}|[]|type|type String
 {"type":"array"}|[]|type|valid
-{"type":"array"}|{}|type|type Array at /7 by /items/type
+{"type":"array"}|{}|type|type Array
 {"type":"object"}|{}|type|valid
-{"type":"object"}|[]|type|type Object at /7 by /items/type
+{"type":"object"}|[]|type|type Object
 {"type":"number"}|5|type|valid
-{"type":"number"}|"5"|type|type Number at /7 by /items/type
+{"type":"number"}|"5"|type|type Number
 {"type":"integer"}|5|type|valid
-{"type":"integer"}|true|type|type Integer at /7 by /items/type
-{"type":["integer"]}|true|type|type Integer at /7 by /items/type
-{"type":["string","object"]}|1|type|types Object String at /7 by /items/type
+{"type":"integer"}|9223372036854775807|type|valid
+{"type":"integer"}|18446744073709551615|type|valid
+{"type":"integer"}|true|type|type Integer
+{"type":["integer"]}|true|type|type Integer
+{"type":["string","object"]}|1|type|types Object String
 {"type":["string","object"]}|{}|type|valid
 {"type":["integer","null"]}|5|type|valid
 {"type":["number","null"]}|5|type|valid
 {"type":["boolean","array"]}|[1]|type|valid
-{"type":[]}|null|type|types at /7 by /items/type"#;
+{"type":[]}|null|type|types"#;
 
 // In every draft.
 const BAD_TYPES: &str = r#"{"type":5}|null|type|refused: types Array String at /items/type, 5
@@ -45,24 +48,26 @@ const BAD_TYPES: &str = r#"{"type":5}|null|type|refused: types Array String at /
 {"type":["foo"]}|null|type|refused: compileError Unexpected type at /items/type, "foo"
 {"type":[5]}|null|type|refused: type String at /items/type, 5
 {"type":["foo","string"]}|null|type|refused: enum of the types at /items/type, "foo"
+{"type":["string","foo"]}|null|type|refused: enum of the types at /items/type, "foo"
+{"type":[5,"string"]}|null|type|refused: type String at /items/type, 5
 {"type":["string",5,"foo"]}|null|type|refused: type String at /items/type, 5"#;
 
 // An integer is written without a fraction.
-const FRACTIONS_IN_DRAFT_4: &str = r#"{"type":"integer"}|#10 0|type|valid
-{"type":"integer"}|#10 1|type|type Integer at /7 by /items/type
-{"type":"integer"}|#15 1|type|type Integer at /7 by /items/type
-{"type":["integer","null"]}|#10 1|type|types Integer Null at /7 by /items/type
-{"type":["integer","number"]}|#15 1|type|valid
-{"type":"number"}|#15 1|type|valid"#;
+const FRACTIONS_IN_DRAFT_4: &str = r#"{"type":"integer"}|#10e-0|type|valid
+{"type":"integer"}|#10e-1|type|type Integer
+{"type":"integer"}|#15e-1|type|type Integer
+{"type":["integer","null"]}|#10e-1|type|types Integer Null
+{"type":["integer","number"]}|#15e-1|type|valid
+{"type":"number"}|#15e-1|type|valid"#;
 
 // An integer is a number without a fraction, however it is written.
-const FRACTIONS: &str = r#"{"type":"integer"}|#10 1|type|valid
-{"type":"integer"}|#10 1|type|valid
-{"type":"integer"}|#15 1|type|type Integer at /7 by /items/type
-{"type":["integer","null"]}|#10 1|type|valid
-{"type":["integer","null"]}|#15 1|type|types Integer Null at /7 by /items/type
-{"type":"number"}|#15 1|type|valid
-{"type":["number"]}|#15 1|type|valid"#;
+const FRACTIONS: &str = r#"{"type":"integer"}|#10e-0|type|valid
+{"type":"integer"}|#10e-1|type|valid
+{"type":"integer"}|#15e-1|type|type Integer
+{"type":["integer","null"]}|#10e-1|type|valid
+{"type":["integer","null"]}|#15e-1|type|types Integer Null
+{"type":"number"}|#15e-1|type|valid
+{"type":["number"]}|#15e-1|type|valid"#;
 
 #[test]
 fn named_types(rt: HostRuntime) -> Result<(), Fail> {
@@ -78,20 +83,11 @@ fn named_types(rt: HostRuntime) -> Result<(), Fail> {
 fn integers_with_a_zero_fraction(rt: HostRuntime) -> Result<(), Fail> {
     let settings = all_of(rt.alloc(), Draft::Draft4);
     check_rows(&rt, rt.alloc(), &settings, FRACTIONS_IN_DRAFT_4)?;
-    for draft in [
-        Draft::Draft6,
-        Draft::Draft7,
-        Draft::Draft201909,
-        Draft::Draft202012,
-    ] {
+    for draft in DRAFTS_AFTER_4 {
         let settings = all_of(rt.alloc(), draft);
         check_rows(&rt, rt.alloc(), &settings, FRACTIONS)?;
     }
     Ok(())
-}
-
-fn made_for(alloc: Global) -> Result<Location, AllocError> {
-    Location::new(alloc).join(alloc, LocationSegment::Name("a"))
 }
 
 // Whether a validator says this of 1, over both representations.
@@ -122,43 +118,43 @@ fn validators_that_are_made_for_a_location(rt: HostRuntime) -> Result<(), Fail> 
     says(
         &rt,
         alloc,
-        FalseValidator::new(made_for(alloc)?),
+        FalseValidator::new(member_location(alloc, "a")?),
         "falseSchema at /7 by /a",
     )?;
     says(
         &rt,
         alloc,
-        ArrayTypeValidator::new(made_for(alloc)?),
+        ArrayTypeValidator::new(member_location(alloc, "a")?),
         "type Array at /7 by /a",
     )?;
     says(
         &rt,
         alloc,
-        BooleanTypeValidator::new(made_for(alloc)?),
+        BooleanTypeValidator::new(member_location(alloc, "a")?),
         "type Boolean at /7 by /a",
     )?;
     says(
         &rt,
         alloc,
-        NullTypeValidator::new(made_for(alloc)?),
+        NullTypeValidator::new(member_location(alloc, "a")?),
         "type Null at /7 by /a",
     )?;
     says(
         &rt,
         alloc,
-        NumberTypeValidator::new(made_for(alloc)?),
+        NumberTypeValidator::new(member_location(alloc, "a")?),
         "valid",
     )?;
     says(
         &rt,
         alloc,
-        ObjectTypeValidator::new(made_for(alloc)?),
+        ObjectTypeValidator::new(member_location(alloc, "a")?),
         "type Object at /7 by /a",
     )?;
     says(
         &rt,
         alloc,
-        StringTypeValidator::new(made_for(alloc)?),
+        StringTypeValidator::new(member_location(alloc, "a")?),
         "type String at /7 by /a",
     )?;
     Ok(())
@@ -171,20 +167,20 @@ fn integer_validators_that_are_made_for_a_location(rt: HostRuntime) -> Result<()
     says(
         &rt,
         alloc,
-        IntegerTypeValidator::new(made_for(alloc)?),
+        IntegerTypeValidator::new(member_location(alloc, "a")?),
         "valid",
     )?;
     says(
         &rt,
         alloc,
-        type_draft_4::IntegerTypeValidator::new(made_for(alloc)?),
+        type_draft_4::IntegerTypeValidator::new(member_location(alloc, "a")?),
         "valid",
     )?;
     let fraction = number(10, 1)?;
-    let by_value = IntegerTypeValidator::new(made_for(alloc)?);
+    let by_value = IntegerTypeValidator::new(member_location(alloc, "a")?);
     let text = observed::<DecimalJson, IntegerTypeValidator>(&rt, alloc, &by_value, &fraction)?;
     assert_eq!(rt; text.as_str(), "valid");
-    let written = type_draft_4::IntegerTypeValidator::new(made_for(alloc)?);
+    let written = type_draft_4::IntegerTypeValidator::new(member_location(alloc, "a")?);
     let text = observed::<DecimalJson, _>(&rt, alloc, &written, &fraction)?;
     assert_eq!(rt; text.as_str(), invalid);
     Ok(())

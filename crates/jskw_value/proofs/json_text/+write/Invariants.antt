@@ -18,7 +18,8 @@ abbrev pub decreases-write_member : goal.decreases-write_member
 decreases-write_member g l = 3 * depth (g.N.Rooted.tree l.member.now) + 2
 
 abbrev pub invariant-write_array-loop-i : goal.invariant-write_array-loop-i
-invariant-write_array-loop-i g l = (l.i-end ≡ length (items (g.N.Rooted.tree l.node))) × Extends (string_bytes l.fn.out) (string_bytes l.out)
+invariant-write_array-loop-i g l =
+    (l.i-end ≡ length (items (g.N.Rooted.tree l.node))) × Extends (string_bytes l.fn.out) (string_bytes l.out)
 
 abbrev pub invariant-write_object-loop-name : goal.invariant-write_object-loop-name
 invariant-write_object-loop-name g l =

@@ -1,4 +1,4 @@
-use Rattle.jskw_value.proofs.Decimals.{found_of_object}
+use Rattle.jskw_value.proofs.DecimalTrees.{found_of_object}
 use Rattle.jskw_value.proofs.decimal_tree.DecimalTreeObject.find.Goals as goal
 
 pub returns-clause-value : goal.returns-clause-value

@@ -1,0 +1,6 @@
+// What errors, evaluations, locations and settings answer.
+mod errors;
+mod messages;
+mod observers;
+mod paths;
+mod settings;

@@ -1,0 +1,88 @@
+// What errors report, at both representations.
+use crate::tests::places::member_location;
+use jskw_report::{
+    ErrorDescription, EvaluationResult, Location, LocationSegment, ValidationError,
+    ValidationErrorKind,
+};
+use jskw_value::{DecimalJson, DecimalTree, Node, SerdeJson};
+use serde_json::Value;
+use std::test::Fail;
+
+#[test]
+fn an_error_of_a_serde_json_value_has_what_it_was_made_of(rt: HostRuntime) -> Result<(), Fail> {
+    let instance = Value::from_str(rt.alloc(), "[5]")?;
+    let schema_path = member_location(rt.alloc(), "minItems")?;
+    let error: ValidationError<SerdeJson> = ValidationError::new(
+        ValidationErrorKind::MinItems { limit: 2 },
+        Location::new(rt.alloc()).join(rt.alloc(), LocationSegment::Index(4))?,
+        &schema_path,
+        &instance,
+    );
+    assert_eq!(rt; error.kind().keyword(), "minItems");
+    assert_eq!(rt; error.instance_path().as_str(), "/4");
+    assert_eq!(rt; error.schema_path().as_str(), "/minItems");
+    assert_eq!(rt; error.evaluation_path().as_str(), "/minItems");
+    assert!(rt; error.instance().equals(&instance));
+    Ok(())
+}
+
+#[test]
+fn an_error_of_a_decimal_tree_has_what_it_was_made_of(rt: HostRuntime) -> Result<(), Fail> {
+    let instance = DecimalTree::Bool(true);
+    let schema_path = member_location(rt.alloc(), "uniqueItems")?;
+    let error: ValidationError<DecimalJson> = ValidationError::new(
+        ValidationErrorKind::UniqueItems,
+        Location::new(rt.alloc()),
+        &schema_path,
+        &instance,
+    );
+    assert_eq!(rt; error.kind().keyword(), "uniqueItems");
+    assert_eq!(rt; error.instance_path().as_str(), "");
+    assert_eq!(rt; error.schema_path().as_str(), "/uniqueItems");
+    assert_eq!(rt; error.evaluation_path().as_str(), "/uniqueItems");
+    assert!(rt; error.instance().as_boolean() == Some(true));
+    Ok(())
+}
+
+#[test]
+fn a_compile_error_stands_at_the_whole_instance(rt: HostRuntime) -> Result<(), Fail> {
+    let value = Value::from_str(rt.alloc(), "-1")?;
+    let error = ValidationError::refused(
+        rt.alloc(),
+        ValidationErrorKind::Minimum { limit: 0 },
+        member_location(rt.alloc(), "minItems")?,
+        &value,
+    );
+    assert_eq!(rt; error.kind().keyword(), "minimum");
+    assert_eq!(rt; error.instance_path().as_str(), "");
+    assert_eq!(rt; error.schema_path().as_str(), "/minItems");
+    assert_eq!(rt; error.evaluation_path().as_str(), "/minItems");
+    assert!(rt; error.instance().as_i64() == Some(-1));
+    Ok(())
+}
+
+#[test]
+fn a_description_is_the_pair(rt: HostRuntime) -> Result<(), Fail> {
+    let message = String::from_str(rt.alloc(), "a text")?;
+    let description = ErrorDescription::new("type", message);
+    assert_eq!(rt; description.keyword(), "type");
+    assert_eq!(rt; description.message(), "a text");
+    Ok(())
+}
+
+#[test]
+fn an_invalid_unit_has_its_descriptions(rt: HostRuntime) -> Result<(), Fail> {
+    let mut errors = Vec::new(rt.alloc());
+    errors.push(ErrorDescription::new("type", String::new(rt.alloc())))?;
+    errors.push(ErrorDescription::new("enum", String::new(rt.alloc())))?;
+    match EvaluationResult::invalid_empty(errors) {
+        EvaluationResult::Valid => assert!(rt; false),
+        EvaluationResult::Invalid { errors } => {
+            let mut keywords = errors.iter().map(ErrorDescription::keyword);
+            assert!(rt; keywords.next() == Some("type") && keywords.next() == Some("enum"));
+            assert!(rt; keywords.next().is_none());
+        }
+    }
+    assert!(rt; matches!(EvaluationResult::valid_empty(), EvaluationResult::Valid));
+    Ok(())
+}

@@ -1,0 +1,47 @@
+// Members with distinct names.
+use crate::tests::trees::{handed_back, insert, number};
+use jskw_value::{DecimalTree, Members, Node, Object};
+use std::test::Fail;
+
+#[test]
+fn a_repeated_name_comes_back_and_the_first_member_stays(rt: HostRuntime) -> Result<(), Fail> {
+    let mut members = Members::new(rt.alloc());
+    assert!(rt; members.is_empty());
+    insert(rt.alloc(), &mut members, "a", number(1, 0)?)?;
+    assert!(rt; !members.is_empty());
+    let again = String::from_str(rt.alloc(), "a")?;
+    let fault = members
+        .insert(again, number(2, 0)?)
+        .err()
+        .ok_or("inserted")?;
+    let (name, value, is_repeated) = handed_back(fault);
+    assert!(rt; is_repeated);
+    assert_eq!(rt; name.as_str(), "a");
+    assert_eq!(rt; value.as_number().ok_or("a number")?.coefficient(), 2);
+    assert_eq!(rt; members.len(), 1);
+    let first = members.get("a").and_then(|tree| tree.as_number());
+    assert_eq!(rt; first.ok_or("a number")?.coefficient(), 1);
+    assert!(rt; members.get("b").is_none());
+    Ok(())
+}
+
+#[test]
+fn a_thousand_members_are_found(rt: HostRuntime) -> Result<(), Fail> {
+    let mut members = Members::new(rt.alloc());
+    for i in 0..1000u64 {
+        let name = format!(in rt.alloc(); "{i}")?;
+        insert(
+            rt.alloc(),
+            &mut members,
+            name.as_str(),
+            number(i128::from(i), 0)?,
+        )?;
+    }
+    let object = DecimalTree::Object(members);
+    assert!(rt; object.is_object());
+    assert_eq!(rt; Object::len(&object), 1000);
+    let found = object.find("999").and_then(|tree| tree.as_number());
+    assert_eq!(rt; found.ok_or("a number")?.coefficient(), 999);
+    assert!(rt; object.find("1000").is_none());
+    Ok(())
+}
