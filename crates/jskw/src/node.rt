@@ -7,12 +7,8 @@ ghost use Rattle.jskw_report.specs.Fail.{all_fail, fail};
 ghost use Rattle.jskw_report.specs.Holds.{all_hold, holds};
 ghost use Rattle.jskw_report.specs.Observe.{Appends, IsFirst};
 ghost use Rattle.jskw_report.specs.Paths.{path_of};
-ghost use Rattle.jskw_report.specs.Keyword.{
-  false_schema,
-  hands_on_required,
-  no_keywords,
-  schema_object,
-};
+ghost use Rattle.jskw_report.specs.Keyword.{false_schema, hands_on_required, no_keywords};
+ghost use Rattle.jskw_report.specs.Keyword.{schema_object};
 ghost use Rattle.jskw_report.specs.Sibling.{is_handed_on};
 ghost use Rattle.jskw_report.specs.Read.{part_named, read, read_word, read_words, whole};
 ghost use Rattle.jskw_report.specs.Setting.{name_of};

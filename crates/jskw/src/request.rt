@@ -1,19 +1,9 @@
 //! What the input asks for.
 ghost use Rattle.std.specs.Prelude.{◌≡◌, IfOk, option_map, map, string_bytes};
 ghost use Rattle.serde_json.specs.View.{view, items_view, members_view};
-ghost use Rattle.jskw.specs.Request.{
-  draft_of,
-  draft_named,
-  overridden_of,
-  request_of,
-  setting_of,
-  text_of,
-  texts_of,
-  vocabularies_of,
-  vocabulary_named,
-  vocabulary_of,
-  vocabulary_set,
-};
+ghost use Rattle.jskw.specs.Request.{draft_of, draft_named, overridden_of, request_of, setting_of};
+ghost use Rattle.jskw.specs.Request.{text_of, texts_of, vocabularies_of, vocabulary_named};
+ghost use Rattle.jskw.specs.Request.{vocabulary_of, vocabulary_set};
 ghost use Rattle.jskw.specs.RequestView.{request_view};
 
 use jskw_report::compiler::member_of;

@@ -1,34 +1,12 @@
 //! From the bytes of a request to the bytes of its answer.
-ghost use Rattle.std.specs.Prelude.{
-  ◌≡◌,
-  ◌++◌,
-  [],
-  ◌∷◌,
-  IfOk,
-  OnOk,
-  OnErr,
-  IsErrOf,
-  Some,
-  false,
-  true,
-  option_map,
-  string_bytes,
-};
+ghost use Rattle.std.specs.Prelude.{◌≡◌, ◌++◌, [], ◌∷◌, IfOk, OnOk, OnErr, IsErrOf, Some, false};
+ghost use Rattle.std.specs.Prelude.{true, option_map, string_bytes};
 ghost use Rattle.serde_json.specs.View.{view};
 ghost use Rattle.jskw_value.specs.Serde.{value_tree};
 ghost use Rattle.jskw_report.specs.Compile.{refusal_of};
 ghost use Rattle.jskw_report.specs.Errors.{failures_of};
-ghost use Rattle.jskw.specs.Answer.{
-  answer,
-  bad_schema,
-  error_lines,
-  errors,
-  no_request,
-  output,
-  output_of,
-  verdict,
-  verdict_of,
-};
+ghost use Rattle.jskw.specs.Answer.{answer, bad_schema, error_lines, errors, no_request, output};
+ghost use Rattle.jskw.specs.Answer.{output_of, verdict, verdict_of};
 ghost use Rattle.jskw.specs.Request.{value_of};
 ghost use Rattle.jskw.specs.RequestView.{request_view};
 ghost use Rattle.jskw.specs.Reply.{text_in, verdict_in};

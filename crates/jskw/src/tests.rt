@@ -15,6 +15,7 @@ use std::alloc::{AllocError, Global};
 use std::process::Abort;
 use std::test::Fail;
 
+// More calls, or bytes, than any run has.
 const ALWAYS: usize = usize::MAX;
 
 // What is written for an answer, in which a bar stands for a tab, and a semicolon for the end of a
@@ -61,6 +62,7 @@ fn row(line: &str) -> Result<(&str, &str), Fail> {
     Ok(line.split_once(" => ").ok_or("no answer")?)
 }
 
+// Goes through the requests of a table.
 fn check_requests(rt: &impl Abort, alloc: Global, table: &str) -> Result<(), Fail> {
     for line in table.lines() {
         let (request, answer) = row(line)?;

@@ -1,18 +1,6 @@
 //! Reading all there is, and writing all of a text.
-ghost use Rattle.std.specs.Prelude.{
-  ◌≡◌,
-  ℕ,
-  ◌||◌,
-  false,
-  true,
-  length,
-  take,
-  is_err,
-  OnOk,
-  OnErr,
-  IfOk,
-  IsErrOf,
-};
+ghost use Rattle.std.specs.Prelude.{◌≡◌, ℕ, ◌||◌, false, true, length, take, is_err, OnOk, OnErr};
+ghost use Rattle.std.specs.Prelude.{IfOk, IsErrOf};
 ghost use Rattle.std.specs.Io.KnownBytes.{Consumes, Appends, IsAtEnd};
 ghost use Rattle.jskw.specs.declared.whole.ReadFault.TheVariants.{Memory, Device};
 

@@ -15,11 +15,9 @@ use Rattle.jskw_leaf.specs.declared.boolean.FalseValidator.{FalseValidator}
 use Rattle.jskw_leaf.specs.declared.type_.MultipleTypesValidator.{MultipleTypesValidator}
 use Rattle.jskw_leaf.specs.declared.type_.SingleTypeValidator.{SingleTypeValidator}
 use Rattle.jskw_leaf.specs.declared.legacy.type_draft_4.MultipleTypesValidator as multiple_draft_4
-use Rattle.jskw_leaf.specs.declared.const_.ConstArrayValidator.{ConstArrayValidator}
+use Rattle.jskw_leaf.specs.declared.const_.ConstValueValidator.{ConstValueValidator}
 use Rattle.jskw_leaf.specs.declared.const_.ConstBooleanValidator.{ConstBooleanValidator}
 use Rattle.jskw_leaf.specs.declared.const_.ConstNullValidator.{ConstNullValidator}
-use Rattle.jskw_leaf.specs.declared.const_.ConstNumberValidator.{ConstNumberValidator}
-use Rattle.jskw_leaf.specs.declared.const_.ConstObjectValidator.{ConstObjectValidator}
 use Rattle.jskw_leaf.specs.declared.const_.ConstStringValidator.{ConstStringValidator}
 use Rattle.jskw_leaf.specs.declared.enum_.EnumValidator.{EnumValidator}
 use Rattle.jskw_leaf.specs.declared.enum_.SingleValueEnumValidator.{SingleValueEnumValidator}
@@ -60,20 +58,14 @@ multiple_types_draft_4 v = record { location = v.location; claim = type_is (Mult
 abbrev pub constant_at : Pointer → Value → Placed
 constant_at q v = record { location = q; claim = constant (view v) }
 
-abbrev pub const_array : ConstArrayValidator → Placed
-const_array v = constant_at v.location v.value
+abbrev pub const_value : ConstValueValidator → Placed
+const_value v = constant_at v.location v.value
 
 abbrev pub const_boolean : ConstBooleanValidator → Placed
 const_boolean v = constant_at v.location v.value
 
 abbrev pub const_null : ConstNullValidator → Placed
 const_null v = constant_at v.location v.value
-
-abbrev pub const_number : ConstNumberValidator → Placed
-const_number v = constant_at v.location v.value
-
-abbrev pub const_object : ConstObjectValidator → Placed
-const_object v = constant_at v.location v.value
 
 abbrev pub const_string : ConstStringValidator → Placed
 const_string v = constant_at v.location v.value
@@ -130,11 +122,11 @@ leaf_assertion (ObjectType v) = single_type Object by_value v
 leaf_assertion (StringType v) = single_type String by_value v
 leaf_assertion (MultipleTypesDraft4 v) = multiple_types_draft_4 v
 leaf_assertion (IntegerTypeDraft4 v) = single_type Integer as_written v
-leaf_assertion (ConstArray v) = const_array v
+leaf_assertion (ConstArray v) = const_value v
 leaf_assertion (ConstBoolean v) = const_boolean v
 leaf_assertion (ConstNull v) = const_null v
-leaf_assertion (ConstNumber v) = const_number v
-leaf_assertion (ConstObject v) = const_object v
+leaf_assertion (ConstNumber v) = const_value v
+leaf_assertion (ConstObject v) = const_value v
 leaf_assertion (ConstString v) = const_string v
 leaf_assertion (Enum v) = enum_any v
 leaf_assertion (SingleValueEnum v) = enum_single v

@@ -23,7 +23,9 @@ impl FalseValidator {
 
 impl Assertion for FalseValidator {
     ghost asserts = { false_schema };
+
     ghost error = { λ _. kind.FalseSchema };
+
     ghost fails_once = { λ _ _. refl };
 
     fn holds<F: Json>(&self, _instance: &F::Node) -> bool {

@@ -11,18 +11,20 @@ use jskw_value::{Json, Node};
 pub use make::compile;
 use serde_json::Value;
 
-/// The validator of an array.
+/// The validator of a value that is compared as a whole: an array, a number or an object.
 #[derive(Drop)]
-pub struct ConstArrayValidator {
+pub struct ConstValueValidator {
     value: Value,
     location: Location,
 }
 
-impl Assertion for ConstArrayValidator {
-    ghost use Rattle.jskw_leaf.specs.Meaning.{const_array};
+impl Assertion for ConstValueValidator {
+    ghost use Rattle.jskw_leaf.specs.Meaning.{const_value};
 
-    ghost asserts = { const_array };
+    ghost asserts = { const_value };
+
     ghost error = { λ v. kind.Constant (view v.value) };
+
     ghost fails_once = { λ _ _. refl };
 
     fn holds<F: Json>(&self, instance: &F::Node) -> bool {
@@ -40,6 +42,15 @@ impl Assertion for ConstArrayValidator {
     }
 }
 
+/// The validator of an array.
+pub type ConstArrayValidator = ConstValueValidator;
+
+/// The validator of a number.
+pub type ConstNumberValidator = ConstValueValidator;
+
+/// The validator of an object.
+pub type ConstObjectValidator = ConstValueValidator;
+
 /// The validator of a boolean.
 #[derive(Drop)]
 pub struct ConstBooleanValidator {
@@ -52,7 +63,9 @@ impl Assertion for ConstBooleanValidator {
     ghost use Rattle.jskw_leaf.specs.Meaning.{const_boolean};
 
     ghost asserts = { const_boolean };
+
     ghost error = { λ v. kind.Constant (view v.value) };
+
     ghost fails_once = { λ _ _. refl };
 
     fn holds<F: Json>(&self, instance: &F::Node) -> bool {
@@ -82,69 +95,13 @@ impl Assertion for ConstNullValidator {
     ghost use Rattle.jskw_leaf.specs.Meaning.{const_null};
 
     ghost asserts = { const_null };
+
     ghost error = { λ v. kind.Constant (view v.value) };
+
     ghost fails_once = { λ _ _. refl };
 
     fn holds<F: Json>(&self, instance: &F::Node) -> bool {
         instance.is_null()
-    }
-
-    fn kind(&self) -> ValidationErrorKind<'_> {
-        ValidationErrorKind::Constant {
-            expected_value: &self.value,
-        }
-    }
-
-    fn location(&self) -> &Location {
-        &self.location
-    }
-}
-
-/// The validator of a number.
-#[derive(Drop)]
-pub struct ConstNumberValidator {
-    value: Value,
-    location: Location,
-}
-
-impl Assertion for ConstNumberValidator {
-    ghost use Rattle.jskw_leaf.specs.Meaning.{const_number};
-
-    ghost asserts = { const_number };
-    ghost error = { λ v. kind.Constant (view v.value) };
-    ghost fails_once = { λ _ _. refl };
-
-    fn holds<F: Json>(&self, instance: &F::Node) -> bool {
-        instance.equals_value(&self.value)
-    }
-
-    fn kind(&self) -> ValidationErrorKind<'_> {
-        ValidationErrorKind::Constant {
-            expected_value: &self.value,
-        }
-    }
-
-    fn location(&self) -> &Location {
-        &self.location
-    }
-}
-
-/// The validator of an object.
-#[derive(Drop)]
-pub struct ConstObjectValidator {
-    value: Value,
-    location: Location,
-}
-
-impl Assertion for ConstObjectValidator {
-    ghost use Rattle.jskw_leaf.specs.Meaning.{const_object};
-
-    ghost asserts = { const_object };
-    ghost error = { λ v. kind.Constant (view v.value) };
-    ghost fails_once = { λ _ _. refl };
-
-    fn holds<F: Json>(&self, instance: &F::Node) -> bool {
-        instance.equals_value(&self.value)
     }
 
     fn kind(&self) -> ValidationErrorKind<'_> {
@@ -170,7 +127,9 @@ impl Assertion for ConstStringValidator {
     ghost use Rattle.jskw_leaf.specs.Meaning.{const_string};
 
     ghost asserts = { const_string };
+
     ghost error = { λ v. kind.Constant (view v.value) };
+
     ghost fails_once = { λ _ _. refl };
 
     fn holds<F: Json>(&self, instance: &F::Node) -> bool {

@@ -37,7 +37,9 @@ impl Assertion for EnumValidator {
     ghost use Rattle.jskw_leaf.specs.Meaning.{enum_any};
 
     ghost asserts = { enum_any };
+
     ghost error = { λ v. not_among (view v.options) };
+
     ghost fails_once = { λ _ _. refl };
 
     fn holds<F: Json>(&self, instance: &F::Node) -> bool {
@@ -68,7 +70,9 @@ impl Assertion for SingleValueEnumValidator {
     ghost use Rattle.jskw_leaf.specs.Meaning.{enum_single};
 
     ghost asserts = { enum_single };
+
     ghost error = { λ v. not_among (view v.options) };
+
     ghost fails_once = { λ _ _. refl };
 
     fn holds<F: Json>(&self, instance: &F::Node) -> bool {

@@ -2,12 +2,8 @@
 ghost use Rattle.std.specs.Prelude.{◌≡◌, option_map};
 ghost use Rattle.serde_json.specs.View.{view, items_view, members_view};
 ghost use Rattle.jskw_report.specs.Compile.{Makes};
-ghost use Rattle.jskw_report.specs.KeywordValue.{
-  const_value,
-  first_float,
-  first_float_item,
-  first_float_member,
-};
+ghost use Rattle.jskw_report.specs.KeywordValue.{const_value, first_float, first_float_item};
+ghost use Rattle.jskw_report.specs.KeywordValue.{first_float_member};
 
 use jskw_report::{CompilationResult, CompileFault, Location, ValidationErrorKind};
 use serde_json::{Map, Value};

@@ -5,26 +5,15 @@ ghost use Rattle.serde_json.specs.View.{view, items_view, members_view};
 ghost use Rattle.jskw_value.specs.Number.{is_exact, is_integer};
 ghost use Rattle.jskw_value.specs.Tree.{is_lawful};
 ghost use Rattle.jskw_value.specs.declared.types.JsonType.{JsonType};
-ghost use Rattle.jskw_value.specs.declared.types.JsonType.TheVariants.{
-  Array,
-  Boolean,
-  Integer,
-  Null,
-  Number,
-  Object,
-  String,
-};
+ghost use Rattle.jskw_value.specs.declared.types.JsonType.TheVariants.{Array, Boolean, Integer};
+ghost use Rattle.jskw_value.specs.declared.types.JsonType.TheVariants.{Null, Number, Object};
+ghost use Rattle.jskw_value.specs.declared.types.JsonType.TheVariants.{String};
 ghost use Rattle.jskw_report.specs.Compile.{Makes, Compiles, reading};
 ghost use Rattle.jskw_report.specs.Errors.{kind_of};
 ghost use Rattle.jskw_report.specs.Holds.{assertion_holds};
 ghost use Rattle.jskw_report.specs.Keyword.{Integers, by_value, type_is};
-ghost use Rattle.jskw_report.specs.KeywordValue.{
-  type_value,
-  array_types,
-  one_type,
-  type_set,
-  named_type,
-};
+ghost use Rattle.jskw_report.specs.KeywordValue.{type_value, array_types, one_type, type_set};
+ghost use Rattle.jskw_report.specs.KeywordValue.{named_type};
 ghost use Rattle.jskw_report.specs.Kind.{WrongType};
 ghost use Rattle.jskw_report.specs.Meaning.{placed};
 ghost use Rattle.jskw_report.specs.Read.{keyword_location, type_keyword};
@@ -53,7 +42,9 @@ pub struct MultipleTypesValidator {
 
 impl Assertion for MultipleTypesValidator {
     ghost asserts = { multiple_types };
+
     ghost error = { λ v. WrongType (Multiple v.types) };
+
     ghost fails_once = { λ _ _. refl };
 
     fn holds<F: Json>(&self, instance: &F::Node) -> bool {
@@ -109,7 +100,9 @@ impl<T: TypeTest> SingleTypeValidator<T> {
 
 impl<T: TypeTest> Assertion for SingleTypeValidator<T> {
     ghost asserts = { single_type T.json_type T.rule };
+
     ghost error = { λ _. WrongType (Single T.json_type) };
+
     ghost fails_once = { λ _ _. refl };
 
     fn holds<F: Json>(&self, instance: &F::Node) -> bool {
@@ -131,6 +124,7 @@ pub struct NullType;
 
 impl TypeTest for NullType {
     ghost json_type = { Null };
+
     ghost rule = { by_value };
 
     fn json_type() -> JsonType {
@@ -151,6 +145,7 @@ pub struct BooleanType;
 
 impl TypeTest for BooleanType {
     ghost json_type = { Boolean };
+
     ghost rule = { by_value };
 
     fn json_type() -> JsonType {
@@ -171,6 +166,7 @@ pub struct IntegerType;
 
 impl TypeTest for IntegerType {
     ghost json_type = { Integer };
+
     ghost rule = { by_value };
 
     fn json_type() -> JsonType {
@@ -194,6 +190,7 @@ pub struct NumberType;
 
 impl TypeTest for NumberType {
     ghost json_type = { Number };
+
     ghost rule = { by_value };
 
     fn json_type() -> JsonType {
@@ -214,6 +211,7 @@ pub struct StringType;
 
 impl TypeTest for StringType {
     ghost json_type = { String };
+
     ghost rule = { by_value };
 
     fn json_type() -> JsonType {
@@ -234,6 +232,7 @@ pub struct ArrayType;
 
 impl TypeTest for ArrayType {
     ghost json_type = { Array };
+
     ghost rule = { by_value };
 
     fn json_type() -> JsonType {
@@ -254,6 +253,7 @@ pub struct ObjectType;
 
 impl TypeTest for ObjectType {
     ghost json_type = { Object };
+
     ghost rule = { by_value };
 
     fn json_type() -> JsonType {
@@ -279,11 +279,7 @@ pub fn is_integer<N: JsonNumber>(number: &N) -> bool
 /// Compiles `type` of the drafts after Draft 4. Always Some. The value is a name or an array of
 /// names. A name by itself that no type has is a compile error with the message `Unexpected type`;
 /// one among others is an error of the options `TypeNames`.
-#[tactic(
-    auto,
-    using(jskw_report::proofs::TypeReading::type_after_draft_4),
-    unfolding(jskw_report::specs::Read::asserted)
-)]
+#[tactic(auto, using(jskw_report::proofs::TypeReading::type_after_draft_4), unfolding(jskw_report::specs::Read::asserted))]
 pub fn compile<'a, F: Json>(
     alloc: Global,
     ctx: &Context<'_, F>,

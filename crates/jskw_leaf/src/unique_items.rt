@@ -1,16 +1,14 @@
 //! `uniqueItems` (Validation 6.4.3): no two items of an array are equal.
-ghost use Rattle.std.specs.Prelude.{Ok, refl};
+ghost use Rattle.std.specs.Prelude.{refl};
 ghost use Rattle.serde_json.specs.View.{view, members_view};
-ghost use Rattle.jskw_report.specs.Compile.{Makes, Compiles, reading};
-ghost use Rattle.jskw_report.specs.Keyword.{assertion, unique};
+ghost use Rattle.jskw_report.specs.Compile.{Compiles, reading};
 ghost use Rattle.jskw_report.specs.Kind as kind;
-ghost use Rattle.jskw_report.specs.Read.{keyword_location};
 ghost use Rattle.jskw_report.specs.declared.keyword.KeywordName.TheVariants.{UniqueItems};
 ghost use Rattle.jskw_leaf.specs.Meaning.{unique_items, leaf_keyword};
 
 use crate::leaf::LeafValidator;
 use jskw_report::{
-    Assertion, CompilationResult, Context, KeywordName, Location, ValidationErrorKind,
+    Assertion, CompilationResult, CompileFault, Context, KeywordName, Location, ValidationErrorKind,
 };
 use jskw_value::{Array, Json, Node};
 use serde_json::{Map, Value};
@@ -24,7 +22,9 @@ pub struct UniqueItemsValidator {
 
 impl Assertion for UniqueItemsValidator {
     ghost asserts = { unique_items };
+
     ghost error = { λ _. kind.UniqueItems };
+
     ghost fails_once = { λ _ _. refl };
 
     #[tactic(auto, using(crate::proofs::Options::no_items_unique))]
@@ -54,19 +54,11 @@ pub fn compile<'a, F: Json>(
         (reading UniqueItems ctx.now (members_view parent.now.entries) (view schema.now)) }
 {
     let _ = parent;
-    match schema {
-        Value::Bool(true) => Some(unique_validator(alloc, ctx)),
-        _ => None,
+    if !matches!(schema, Value::Bool(true)) {
+        return None;
     }
-}
-
-fn unique_validator<'a, F: Json>(
-    alloc: Global,
-    ctx: &Context<'_, F>,
-) -> CompilationResult<'a, LeafValidator<F>>
-    ensures { Makes leaf_keyword result
-        (Ok (assertion (keyword_location ctx.now.location UniqueItems) unique)) }
-{
-    let location = ctx.keyword_location(alloc, KeywordName::UniqueItems)?;
-    Ok(LeafValidator::UniqueItems(UniqueItemsValidator { location }))
+    match ctx.keyword_location(alloc, KeywordName::UniqueItems) {
+        Ok(location) => Some(Ok(LeafValidator::UniqueItems(UniqueItemsValidator { location }))),
+        Err(error) => Some(Err(CompileFault::Memory(error))),
+    }
 }

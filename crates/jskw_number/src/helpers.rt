@@ -1,11 +1,12 @@
 //! The bounds and limits that a schema has.
-ghost use Rattle.std.specs.Prelude.{◌≡◌, ◌≢◌, [], None, Err, option_map, alloc_error};
+ghost use Rattle.std.specs.Prelude.{◌≡◌, ◌≢◌, [], None, Err, IfOk, option_map, alloc_error};
 ghost use Rattle.std.specs.Result.{result_ok};
 ghost use Rattle.serde_json.specs.Find.{get_member};
 ghost use Rattle.serde_json.specs.View.{view, members_view};
 ghost use Rattle.jskw_value.specs.Pointer.{member_location};
 ghost use Rattle.jskw_report.specs.Compile.{Compiles, Makes};
 ghost use Rattle.jskw_report.specs.KeywordValue.{size_value, limit_value};
+ghost use Rattle.jskw_report.specs.Read.{keyword_location};
 ghost use Rattle.jskw_report.specs.Setting.{name_of};
 ghost use Rattle.jskw_report.specs.Sibling.{is_true, member_passes};
 ghost use Rattle.jskw_report.specs.declared.error.CompileFault.TheVariants as fault;
@@ -80,6 +81,26 @@ pub fn fail_on_non_positive_integer<'a>(
         ValidationErrorKind::of_type(JsonType::Integer)
     };
     CompileFault::Bad(ValidationError::refused(alloc, kind, location, value))
+}
+
+// The bound on a size that a value of a schema is, with the location of its keyword, or the value's
+// fault there.
+pub(crate) fn bound_at<'a, F: Json>(
+    alloc: Global,
+    ctx: &Context<'_, F>,
+    keyword: KeywordName,
+    value: &'a Value,
+) -> CompilationResult<'a, (u64, Location)>
+    ensures bound { let q = keyword_location ctx.now.location keyword in
+        Makes (λ found. found.0) result (size_value q (view value.now)) }
+    ensures location { IfOk result (λ found. found.1
+        ≡ keyword_location ctx.now.location keyword) }
+{
+    let location = ctx.keyword_location(alloc, keyword)?;
+    match size_limit(value) {
+        Some(limit) => Ok((limit, location)),
+        None => Err(fail_on_non_positive_integer(alloc, value, location)),
+    }
 }
 
 // A whole number of a schema.

@@ -8,7 +8,9 @@
 //! A `compile` is given an object of the schema as `parent`, the value of its keyword as `schema`,
 //! and as `ctx` where `parent` stands. That the keyword is there, and that it stands under the
 //! setting, is for the caller to see. The answer is always Some. A value that the keyword does not
-//! take is an error at the keyword location of the keyword, and the other error is want of memory.
+//! take is an error at the keyword location of the keyword; its kind stands at the keyword's
+//! module, and that of bounds on sizes at [`helpers::fail_on_non_positive_integer`]. The other
+//! error is want of memory.
 //!
 //! ```rust
 //! let schema = member_of(parent, keyword.as_str())?;

@@ -1,14 +1,12 @@
 //! `maxProperties` (Validation 6.5.1): an object has at most as many members as the bound.
 ghost use Rattle.std.specs.Prelude.{refl};
 ghost use Rattle.serde_json.specs.View.{view, members_view};
-ghost use Rattle.jskw_report.specs.Compile.{Compiles, Makes, reading};
-ghost use Rattle.jskw_report.specs.Keyword as which;
+ghost use Rattle.jskw_report.specs.Compile.{Compiles, reading};
 ghost use Rattle.jskw_report.specs.Kind as kind;
-ghost use Rattle.jskw_report.specs.Read.{keyword_location, size_keyword};
 ghost use Rattle.jskw_report.specs.declared.keyword.KeywordName.TheVariants as word;
 ghost use Rattle.jskw_number.specs.Meaning.{max_properties, number_keyword};
 
-use crate::helpers::{fail_on_non_positive_integer, size_limit};
+use crate::helpers::bound_at;
 use crate::number::NumberValidator;
 use jskw_report::{
     Assertion, CompilationResult, Context, KeywordName, Location, ValidationErrorKind,
@@ -57,24 +55,10 @@ pub fn compile<'a, F: Json>(
         (reading word.MaxProperties ctx.now (members_view parent.now.entries) (view schema.now)) }
 {
     let _ = parent;
-    Some(make(alloc, ctx, schema))
-}
-
-// The validator of a value, or the value's fault.
-fn make<'a, F: Json>(
-    alloc: Global,
-    ctx: &Context<'_, F>,
-    schema: &'a Value,
-) -> CompilationResult<'a, NumberValidator>
-    ensures { let q = keyword_location ctx.now.location word.MaxProperties in
-        Makes number_keyword result (size_keyword which.MaxProperties q (view schema.now)) }
-{
-    let location = ctx.keyword_location(alloc, KeywordName::MaxProperties)?;
-    match size_limit(schema) {
-        Some(limit) => Ok(NumberValidator::MaxProperties(MaxPropertiesValidator {
-            limit,
-            location,
-        })),
-        None => Err(fail_on_non_positive_integer(alloc, schema, location)),
+    match bound_at(alloc, ctx, KeywordName::MaxProperties, schema) {
+        Ok((limit, location)) => {
+            Some(Ok(NumberValidator::MaxProperties(MaxPropertiesValidator { limit, location })))
+        }
+        Err(fault) => Some(Err(fault)),
     }
 }

@@ -1,14 +1,12 @@
 //! `minItems` (Validation 6.4.2): an array has at least as many items as the bound.
 ghost use Rattle.std.specs.Prelude.{refl};
 ghost use Rattle.serde_json.specs.View.{view, members_view};
-ghost use Rattle.jskw_report.specs.Compile.{Compiles, Makes, reading};
-ghost use Rattle.jskw_report.specs.Keyword as which;
+ghost use Rattle.jskw_report.specs.Compile.{Compiles, reading};
 ghost use Rattle.jskw_report.specs.Kind as kind;
-ghost use Rattle.jskw_report.specs.Read.{keyword_location, size_keyword};
 ghost use Rattle.jskw_report.specs.declared.keyword.KeywordName.TheVariants as word;
 ghost use Rattle.jskw_number.specs.Meaning.{min_items, number_keyword};
 
-use crate::helpers::{fail_on_non_positive_integer, size_limit};
+use crate::helpers::bound_at;
 use crate::number::NumberValidator;
 use jskw_report::{
     Assertion, CompilationResult, Context, KeywordName, Location, ValidationErrorKind,
@@ -57,21 +55,10 @@ pub fn compile<'a, F: Json>(
         (reading word.MinItems ctx.now (members_view parent.now.entries) (view schema.now)) }
 {
     let _ = parent;
-    Some(make(alloc, ctx, schema))
-}
-
-// The validator of a value, or the value's fault.
-fn make<'a, F: Json>(
-    alloc: Global,
-    ctx: &Context<'_, F>,
-    schema: &'a Value,
-) -> CompilationResult<'a, NumberValidator>
-    ensures { let q = keyword_location ctx.now.location word.MinItems in
-        Makes number_keyword result (size_keyword which.MinItems q (view schema.now)) }
-{
-    let location = ctx.keyword_location(alloc, KeywordName::MinItems)?;
-    match size_limit(schema) {
-        Some(limit) => Ok(NumberValidator::MinItems(MinItemsValidator { limit, location })),
-        None => Err(fail_on_non_positive_integer(alloc, schema, location)),
+    match bound_at(alloc, ctx, KeywordName::MinItems, schema) {
+        Ok((limit, location)) => {
+            Some(Ok(NumberValidator::MinItems(MinItemsValidator { limit, location })))
+        }
+        Err(fault) => Some(Err(fault)),
     }
 }

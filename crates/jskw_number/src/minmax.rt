@@ -2,19 +2,8 @@
 //! `exclusiveMaximum`. Numbers are compared exactly, however they are written. A limit is a whole
 //! number from -2^63 to 2^64-1. The error of any other number is of the kind `CompileError`, and
 //! that of any other value of the type number.
-ghost use Rattle.std.specs.Prelude.{
-  ◌≡◌,
-  ◌≤ℤ◌,
-  ◌<ℤ◌,
-  ℤ,
-  pos,
-  negsuc,
-  true,
-  refl,
-  IfOk,
-  IfSome,
-  IsTrue,
-};
+ghost use Rattle.std.specs.Prelude.{◌≡◌, ◌≤ℤ◌, ◌<ℤ◌, ℤ, pos, negsuc, true, refl, IfOk, IfSome};
+ghost use Rattle.std.specs.Prelude.{IsTrue};
 ghost use Rattle.serde_json.specs.View.{view, members_view};
 ghost use Rattle.jskw_value.specs.Tree.{is_lawful};
 ghost use Rattle.jskw_report.specs.Compile.{Compiles, Makes, reading};

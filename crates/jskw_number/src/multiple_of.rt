@@ -1,7 +1,7 @@
 //! `multipleOf` (Validation 6.2.1): division of a number by the divisor gives an integer. Numbers
 //! are divided exactly, however they are written. A divisor is a whole number from 1 to 2^64-1. The
-//! error of a whole number at or below 0 is of the kind `ExclusiveMinimum` with the limit 0, that of
-//! any other number of the kind `CompileError`, and that of any other value of the type number.
+//! error of a whole number at or below 0 is of the kind `ExclusiveMinimum` with the limit 0, that
+//! of any other number of the kind `CompileError`, and that of any other value of the type number.
 ghost use Rattle.std.specs.Int.NonZero.{non_zero_u64_get};
 ghost use Rattle.std.specs.Prelude.{refl};
 ghost use Rattle.serde_json.specs.View.{view, members_view};

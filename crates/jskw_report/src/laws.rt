@@ -2,7 +2,11 @@
 //! function that does nothing.
 ghost use Rattle.std.specs.Prelude.{IsTrue};
 ghost use Rattle.jskw_value.specs.Equality.{same};
-ghost use Rattle.jskw_report.specs.Laws.{HoldsWhereNothingFails, KeywordHoldsWhereNothingFails, TreeIsValidWhereHolds, UnitIsValidWhereHolds, FailsAlikeBelow, HoldsElsewhere, ConstIsOneOption, ContainsMatches, FirstFloatIsOne, NeedsSomePairs, PairsMeetAtOneDepth, SameTreesAreOne, CannotBeToldApart};
+ghost use Rattle.jskw_report.specs.Laws.{HoldsWhereNothingFails, KeywordHoldsWhereNothingFails};
+ghost use Rattle.jskw_report.specs.Laws.{TreeIsValidWhereHolds, UnitIsValidWhereHolds};
+ghost use Rattle.jskw_report.specs.Laws.{FailsAlikeBelow, HoldsElsewhere, ConstIsOneOption};
+ghost use Rattle.jskw_report.specs.Laws.{ContainsMatches, FirstFloatIsOne, NeedsSomePairs};
+ghost use Rattle.jskw_report.specs.Laws.{PairsMeetAtOneDepth, SameTreesAreOne, CannotBeToldApart};
 
 use jskw_value::json::Node;
 use jskw_value::names::names_are_distinct;

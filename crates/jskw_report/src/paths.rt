@@ -1,5 +1,6 @@
 //! Locations in schemas and instances: JSON pointers (RFC 6901).
-ghost use Rattle.std.specs.Prelude.{◌≡◌, ◌-◌, List, ℕ, [], ◌∷◌, ◌++◌, IfOk, OnOk, OnErr, length, take, string_bytes};
+ghost use Rattle.std.specs.Prelude.{◌≡◌, ◌-◌, List, ℕ, [], ◌∷◌, ◌++◌, IfOk, OnOk, OnErr, length};
+ghost use Rattle.std.specs.Prelude.{take, string_bytes};
 ghost use Rattle.jskw_report.specs.Paths.{segment_location, path_of};
 
 use jskw_value::pointer::{push_index, push_name};

@@ -1,6 +1,7 @@
 //! What a schema is read under: its draft, the vocabularies, and the overridden names.
 ghost use Rattle.std.specs.Prelude.{◌≡◌, map, string_bytes};
-ghost use Rattle.jskw_report.specs.Setting.{has, with_vocabulary, no_vocabulary, all_vocabularies, has_vocabulary, is_overridden};
+ghost use Rattle.jskw_report.specs.Setting.{has, with_vocabulary, no_vocabulary, all_vocabularies};
+ghost use Rattle.jskw_report.specs.Setting.{has_vocabulary, is_overridden};
 
 use std::marker::Model;
 

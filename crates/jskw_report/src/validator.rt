@@ -5,15 +5,8 @@ ghost use Rattle.jskw_report.specs.Errors.{kind_of, failures_of};
 ghost use Rattle.jskw_report.specs.Evaluation.{of_errors};
 ghost use Rattle.jskw_report.specs.EvaluationView.{result_of};
 ghost use Rattle.jskw_report.specs.Fail.{Failure};
-ghost use Rattle.jskw_report.specs.Meaning.{
-  Meaning,
-  is_assertion,
-  meaning_holds,
-  meaning_fail,
-  meaning_unit,
-  meaning_pairs,
-  meaning_needed,
-};
+ghost use Rattle.jskw_report.specs.Meaning.{Meaning, is_assertion, meaning_holds, meaning_fail};
+ghost use Rattle.jskw_report.specs.Meaning.{meaning_unit, meaning_pairs, meaning_needed};
 ghost use Rattle.jskw_report.specs.Observe.{Appends, CountsUpTo, IsFirst, failures_unless};
 ghost use Rattle.jskw_report.specs.Paths.{path_of};
 

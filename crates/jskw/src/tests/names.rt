@@ -43,6 +43,7 @@ const HANDED_ON: &str =
 {"schema":true,"instance":null} => false
 {"schema":false,"instance":null} => false"#;
 
+// Whether the schema of a request hands `required` on.
 fn hands_on(alloc: Global, text: &str) -> Result<bool, Fail> {
     let value = Value::from_str(alloc, text)?;
     let request = request_of(alloc, &value)?.ok_or("no request")?;

@@ -7,17 +7,8 @@ ghost use Rattle.serde_json.specs.Find.{as_array};
 ghost use Rattle.serde_json.specs.View.{view, items_view};
 ghost use Rattle.jskw_value.specs.Decimal.{value};
 ghost use Rattle.jskw_value.specs.Tree.{as_number};
-ghost use Rattle.jskw_leaf.specs.Options.{
-  not_among,
-  options_of,
-  AreOptions,
-  some_integer,
-  integer_against,
-  integer_of,
-  picked,
-  only,
-  has_null,
-};
+ghost use Rattle.jskw_leaf.specs.Options.{not_among, options_of, AreOptions, some_integer};
+ghost use Rattle.jskw_leaf.specs.Options.{integer_against, integer_of, picked, only, has_null};
 
 use super::{NullOption, not_among};
 use jskw_report::{Assertion, Location, ValidationErrorKind};
@@ -69,7 +60,9 @@ impl<N: Nullability> Assertion for IntegerEnumValidator<N> {
     ghost use Rattle.jskw_leaf.specs.Meaning.{enum_integer};
 
     ghost asserts = { enum_integer };
+
     ghost error = { λ v. not_among (view v.options) };
+
     ghost fails_once = { λ _ _. refl };
 
     fn holds<F: Json>(&self, instance: &F::Node) -> bool {

@@ -1,29 +1,12 @@
 //! Options that are strings, and perhaps null.
-ghost use Rattle.std.specs.Prelude.{
-  ◌≡◌,
-  IsSome,
-  IfOk,
-  true,
-  map,
-  refl,
-  string_bytes,
-  string_cmp,
-};
+ghost use Rattle.std.specs.Prelude.{◌≡◌, IsSome, IfOk, true, map, refl, string_bytes, string_cmp};
 ghost use Rattle.std.specs.List.Sorted.{IsSorted, IsPermutation};
 ghost use Rattle.serde_json.specs.Data.{array};
 ghost use Rattle.serde_json.specs.Find.{as_array, as_str};
 ghost use Rattle.serde_json.specs.View.{view, items_view};
 ghost use Rattle.jskw_value.specs.Tree.{as_string};
-ghost use Rattle.jskw_leaf.specs.Options.{
-  not_among,
-  options_of,
-  AreOptions,
-  some_text,
-  text_against,
-  picked,
-  only,
-  has_null,
-};
+ghost use Rattle.jskw_leaf.specs.Options.{not_among, options_of, AreOptions, some_text};
+ghost use Rattle.jskw_leaf.specs.Options.{text_against, picked, only, has_null};
 
 use super::{NullOption, not_among};
 use jskw_report::{Assertion, Location, ValidationErrorKind};
@@ -74,7 +57,9 @@ impl<N: Nullability> Assertion for SmallStringEnumValidator<N> {
     ghost use Rattle.jskw_leaf.specs.Meaning.{enum_small_string};
 
     ghost asserts = { enum_small_string };
+
     ghost error = { λ v. not_among (view v.options) };
+
     ghost fails_once = { λ _ _. refl };
 
     fn holds<F: Json>(&self, instance: &F::Node) -> bool {
@@ -136,7 +121,9 @@ impl<N: Nullability> Assertion for BigStringEnumValidator<N> {
     ghost use Rattle.jskw_leaf.specs.Meaning.{enum_big_string};
 
     ghost asserts = { enum_big_string };
+
     ghost error = { λ v. not_among (view v.options) };
+
     ghost fails_once = { λ _ _. refl };
 
     fn holds<F: Json>(&self, instance: &F::Node) -> bool {

@@ -32,7 +32,9 @@ pub struct MultipleTypesValidator {
 
 impl Assertion for MultipleTypesValidator {
     ghost asserts = { multiple_types_draft_4 };
+
     ghost error = { λ v. WrongType (Multiple v.types) };
+
     ghost fails_once = { λ _ _. refl };
 
     fn holds<F: Json>(&self, instance: &F::Node) -> bool {
@@ -60,6 +62,7 @@ pub struct IntegerType;
 
 impl TypeTest for IntegerType {
     ghost json_type = { Integer };
+
     ghost rule = { as_written };
 
     fn json_type() -> JsonType {
@@ -87,11 +90,7 @@ pub fn is_integer<N: JsonNumber>(number: &N) -> bool
 
 /// Compiles `type` of Draft 4, as [`type_::compile`](crate::type_::compile) does that of later
 /// drafts.
-#[tactic(
-    auto,
-    using(jskw_report::proofs::TypeReading::type_in_draft_4),
-    unfolding(jskw_report::specs::Read::asserted)
-)]
+#[tactic(auto, using(jskw_report::proofs::TypeReading::type_in_draft_4), unfolding(jskw_report::specs::Read::asserted))]
 pub fn compile<'a, F: Json>(
     alloc: Global,
     ctx: &Context<'_, F>,

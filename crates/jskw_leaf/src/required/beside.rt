@@ -3,17 +3,9 @@ ghost use Rattle.std.specs.Prelude.{◌≡◌, IsTrue, Some, codes, not};
 ghost use Rattle.serde_json.specs.Find.{get_member};
 ghost use Rattle.serde_json.specs.View.{view, members_view};
 ghost use Rattle.jskw_report.specs.Setting.{stands};
-ghost use Rattle.jskw_report.specs.Sibling.{
-  has_few_members,
-  has_items,
-  is_absent,
-  is_false,
-  is_handed_on,
-  is_object,
-  member_passes,
-  requires_one_of_properties,
-  requires_two_of_properties,
-};
+ghost use Rattle.jskw_report.specs.Sibling.{has_few_members, has_items, is_absent, is_false};
+ghost use Rattle.jskw_report.specs.Sibling.{is_handed_on, is_object, member_passes};
+ghost use Rattle.jskw_report.specs.Sibling.{requires_one_of_properties, requires_two_of_properties};
 ghost use Rattle.jskw_report.specs.declared.keyword.KeywordName.TheVariants.{Required};
 
 use jskw_report::compiler::member_of;

@@ -1,21 +1,7 @@
 //! Which of some names an object has. A few names are looked for in one walk over an object of not
 //! too many members; else each is looked up by its key.
-ghost use Rattle.std.specs.Prelude.{
-  ◌≡◌,
-  ◌<◌,
-  ◌≤◌,
-  ◌==◌,
-  ◌^◌,
-  [],
-  IfSome,
-  Some,
-  IsTrue,
-  is_some,
-  not,
-  length,
-  slice_get,
-  slice_index_or,
-};
+ghost use Rattle.std.specs.Prelude.{◌≡◌, ◌<◌, ◌≤◌, ◌==◌, ◌^◌, [], IfSome, Some, IsTrue, is_some};
+ghost use Rattle.std.specs.Prelude.{not, length, slice_get, slice_index_or};
 ghost use Rattle.std.specs.Int.{bit_at};
 ghost use Rattle.std.specs.List.{list_all};
 ghost use Rattle.jskw_value.specs.Tree.{has_name, is_object};
@@ -53,14 +39,7 @@ fn is_scanned<F: Json>(count: usize, object: &F::Node) -> bool
 
 // Counts the names that a walk meets, and stops where none is left to be met: both the names and
 // those of the members are distinct.
-#[tactic(
-    auto,
-    using(
-        crate::proofs::Counting::found_at_most,
-        crate::proofs::Counting::all_found,
-        crate::proofs::Counting::not_all_found
-    )
-)]
+#[tactic(auto, using(crate::proofs::Counting::found_at_most, crate::proofs::Counting::all_found, crate::proofs::Counting::not_all_found))]
 fn walk_finds_all<F: Json, L: Names<F>>(names: &L, object: &F::Node) -> bool
     requires { IsTrue (is_object (F.Node.tree object.now)) }
     ensures { result ≡ list_all (has_name (F.Node.tree object.now)) (L.names names.now) }
@@ -92,14 +71,7 @@ fn lookups_find_all<F: Json, L: Names<F>>(names: &L, object: &F::Node) -> bool
 }
 
 // The index of the text among the names.
-#[tactic(
-    auto,
-    using(
-        crate::proofs::Marking::place_step,
-        crate::proofs::Marking::place_end,
-        crate::proofs::Marking::place_found
-    )
-)]
+#[tactic(auto, using(crate::proofs::Marking::place_step, crate::proofs::Marking::place_end, crate::proofs::Marking::place_found))]
 fn place_of<F: Json, L: Names<F>>(names: &L, text: &str) -> Option<usize>
     ensures place { IfSome result (λ i. (i < length (L.names names.now))
         × (slice_get (L.names names.now) i ≡ Some text.now)) }

@@ -13,9 +13,9 @@ ghost use Rattle.jskw_report.specs.declared.keyword.KeywordName.TheVariants.{Req
 ghost use Rattle.jskw_leaf.specs.Meaning.{leaf_keyword, required_at};
 ghost use Rattle.jskw_leaf.specs.Required.{name_value};
 
+use super::RequiredNames;
 use super::beside::is_handed_on;
 use super::names::{NameList, OneName, ThreeNames, TwoNames};
-use super::RequiredNames;
 use crate::leaf::LeafValidator;
 use jskw_report::{
     CompilationResult, CompileFault, Context, KeywordName, Location, ValidationErrorKind,

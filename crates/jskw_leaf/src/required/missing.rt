@@ -1,18 +1,7 @@
 //! What is wrong with an object that lacks required names: one error for each, in the order of the
 //! names.
-ghost use Rattle.std.specs.Prelude.{
-  ◌≡◌,
-  ◌++◌,
-  [],
-  ◌∷◌,
-  IfOk,
-  OnOk,
-  OnErr,
-  MatchOption,
-  IsTrue,
-  IsOk,
-  List,
-};
+ghost use Rattle.std.specs.Prelude.{◌≡◌, ◌++◌, [], ◌∷◌, IfOk, OnOk, OnErr, MatchOption, IsTrue};
+ghost use Rattle.std.specs.Prelude.{IsOk, List};
 ghost use Rattle.jskw_report.specs.Errors.{failure_of, failures_of};
 ghost use Rattle.jskw_report.specs.Fail.{missing};
 ghost use Rattle.jskw_report.specs.Holds.{required_holds};
@@ -50,10 +39,7 @@ pub(crate) fn fail_first<'i, F: Json + 'i, L: Names<F>>(
 }
 
 // The first name that an object lacks.
-fn first_missing<'n, F: Json + 'n, L: Names<F>>(
-    names: &'n L,
-    instance: &F::Node,
-) -> Option<&'n str>
+fn first_missing<'n, F: Json + 'n, L: Names<F>>(names: &'n L, instance: &F::Node) -> Option<&'n str>
     ensures { let kinds = missing (L.names names.now) (F.Node.tree instance.now) in
         MatchOption result (kinds ≡ [])
         (λ name. (rest : List ErrorKind) × (kinds ≡ Required name.now ∷ rest)) }

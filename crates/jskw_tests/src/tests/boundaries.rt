@@ -8,6 +8,7 @@ use std::cmp::Ordering;
 use std::process::Abort;
 use std::test::Fail;
 
+// The ends of the ranges, and the numbers around 2^53.
 const LIMITS: [&str; 11] = [
     "-9223372036854775808",
     "-1",
@@ -22,6 +23,7 @@ const LIMITS: [&str; 11] = [
     "18446744073709551615",
 ];
 
+// Small divisors, one that no double is, and the greatest.
 const DIVISORS: [&str; 6] = [
     "1",
     "2",

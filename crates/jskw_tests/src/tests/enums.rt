@@ -57,6 +57,7 @@ const VALUES: &str = r#"[]||null []
 [[1],[1]]|[1]|1
 [18446744073709551615,1]|18446744073709551615 1|-1 18446744073709551614"#;
 
+// Integers, some with null.
 const INTEGERS: &str = r#"[1,3]||2
 [1,2,3]|2|4 0 -2 "2" null true [2]
 [1,2,null]|1 null|"1" 3 {}
@@ -66,6 +67,7 @@ const INTEGERS: &str = r#"[1,3]||2
 [9223372036854775807,-9223372036854775808]|9223372036854775807 -9223372036854775808|9223372036854775806 9223372036854775808 18446744073709551615 0
 [-1,0]||18446744073709551615"#;
 
+// Strings, some with null.
 const STRINGS: &str = r#"["a","b"]|"b"|"" null
 ["a","b",null]|null "b"|"z" 1
 [null,"a"]|"a"|
@@ -166,6 +168,7 @@ const FRACTIONS: &str = r#"[1,2,3]|#20e-1 #3000000000000000000e-18|#25e-1 #20e-2
 [9007199254740993]|#90071992547409930e-1|#90071992547409920e-1
 [9007199254740993,1]|#90071992547409930e-1|#90071992547409920e-1"#;
 
+// What is no array, and arrays with a float, of which the first is named.
 const BAD_OPTIONS: &str = r#"{"enum":5}|null|enum|refused: type Array at /items/enum, 5
 {"enum":2.5}|null|enum|refused: type Array at /items/enum, 2.5
 {"enum":null}|null|enum|refused: type Array at /items/enum, null

@@ -1,7 +1,8 @@
 // Limits and divisors.
-use super::keywords::compile_number;
+use super::keywords::compiled;
 use super::texts::written;
 use super::{DRAFTS_AFTER_4, all_of, check_rows, columns, overriding};
+use jskw_leaf::LeafValidator;
 use jskw_number::NumberValidator;
 use jskw_number::minmax::{ExclusiveMaximum, ExclusiveMinimum, Maximum, Minimum};
 use jskw_report::{Context, Draft, Location};
@@ -173,11 +174,10 @@ fn limit_value_of(limit: &NumberValidator) -> Option<(&str, &Value)> {
 fn kept(alloc: Global, draft: Draft, schema: &str, name: &str) -> Result<String, Fail> {
     let schema = Value::from_str(alloc, schema)?;
     let parent = schema.as_object().ok_or("no object")?;
-    let value = parent.get(name).ok_or("no such member")?;
     let settings = all_of(alloc, draft);
     let ctx: Context<SerdeJson> = Context::new(alloc, &settings);
-    match compile_number(alloc, &ctx, parent, name, value) {
-        Some(Ok(limit)) => {
+    match compiled(alloc, &ctx, parent, name)? {
+        Some(Ok(LeafValidator::Number(limit))) => {
             let (keyword, value) = limit_value_of(&limit).ok_or("no limit")?;
             Ok(written(value, format!(in alloc; "{keyword} ")?)?)
         }
@@ -193,6 +193,7 @@ const KEPT: &str = r#"{"minimum":0}|minimum|minimum 0
 {"maximum":9223372036854775808}|maximum|maximum 9223372036854775808
 {"maximum":-9223372036854775808}|maximum|maximum -9223372036854775808"#;
 
+// The exclusive limits have names of their own after Draft 4 ..
 const KEPT_AFTER_DRAFT_4: &str = r#"{"exclusiveMinimum":0}|exclusiveMinimum|exclusiveMinimum 0
 {"exclusiveMinimum":18446744073709551615}|exclusiveMinimum|exclusiveMinimum 18446744073709551615
 {"exclusiveMinimum":-5}|exclusiveMinimum|exclusiveMinimum -5
@@ -200,6 +201,7 @@ const KEPT_AFTER_DRAFT_4: &str = r#"{"exclusiveMinimum":0}|exclusiveMinimum|excl
 {"exclusiveMaximum":9223372036854775808}|exclusiveMaximum|exclusiveMaximum 9223372036854775808
 {"exclusiveMaximum":-9223372036854775808}|exclusiveMaximum|exclusiveMaximum -9223372036854775808"#;
 
+// .. and in Draft 4 those of the limits beside them.
 const KEPT_IN_DRAFT_4: &str = r#"{"minimum":5,"exclusiveMinimum":true}|minimum|exclusiveMinimum 5
 {"minimum":-5,"exclusiveMinimum":true}|minimum|exclusiveMinimum -5
 {"minimum":-5,"exclusiveMinimum":false}|minimum|minimum -5

@@ -32,6 +32,7 @@ const FORMS: &str = r#"{"required":["a"]}|{"a":null}|required|valid
 {"required":["a","b","c"]}|{"a":1,"c":3,"d":4,"e":5,"f":6,"g":7,"h":8}|required|required b
 {"required":["a","b","c"]}|{"a":1,"b":2,"d":4,"e":5,"f":6,"g":7,"h":8}|required|required c
 {"required":["a","b","c"]}|{"b":1}|required|required a, required c
+{"required":["abcdefghijklX","p","q"]}|{"abcdefghijklY":1,"p":1,"q":1}|required|required abcdefghijklX
 {"required":["a","b","c","d"]}|{"b":1,"d":2}|required|required a, required c
 {"required":["a","b","c","d"]}|{"d":1,"c":2,"b":3,"a":4}|required|valid
 {"required":["a","b","c","d"]}|{"a":1,"b":2,"c":3,"d":4,"e":5,"f":6,"g":7,"h":8,"i":9}|required|valid
@@ -56,6 +57,7 @@ const REPEATED: &str = r#"{"required":["a","a"]}|{"a":1}|required|valid
 const NO_NAMES: &str = r#"{"required":[]}|{}|required|valid
 {"required":[]}|{"a":1}|required|valid"#;
 
+// What is no array of strings; the first item at fault is named.
 const BAD_VALUES: &str = r#"{"required":5}|{}|required|refused: type Array at /items/required, 5
 {"required":"a","properties":{},"additionalProperties":false}|{}|required|refused: type Array at /items/required, "a"
 {"required":["a",5]}|{}|required|refused: type String at /items/required, 5
@@ -245,10 +247,13 @@ fn two_items_are_handed_on(rt: HostRuntime) -> Result<(), Fail> {
     check_rows(&rt, rt.alloc(), &settings, TWO_ITEMS)
 }
 
+// What is said where others are to look for the names.
 const HANDED_ON: &str = "nothing is asserted";
 
+// What is said of an object without `a`.
 const A: &str = "required a";
 
+// What is said of an object without both.
 const A_AND_B: &str = "required a, required b";
 
 #[test]

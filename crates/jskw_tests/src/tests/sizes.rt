@@ -77,6 +77,7 @@ fn a_bound_by_itself(rt: HostRuntime) -> Result<(), Fail> {
     Ok(())
 }
 
+// Arrays and objects, other values, and what is no bound.
 const SIZES: &str = r#"{"minItems":1}|[]|minItems|minItems 1
 {"minItems":2}|[1]|minItems|minItems 2
 {"minItems":2}|[1,1]|minItems|valid

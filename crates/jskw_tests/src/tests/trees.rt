@@ -49,6 +49,7 @@ pub(super) fn decimal_tree(alloc: Global, value: &Value) -> Result<DecimalTree, 
     }
 }
 
+// The array of its items as trees of decimals.
 #[cycle(tree)]
 fn decimal_array(alloc: Global, items: &Vec<Value>) -> Result<DecimalTree, Fail> {
     let mut trees = Vec::new(alloc);
@@ -58,6 +59,7 @@ fn decimal_array(alloc: Global, items: &Vec<Value>) -> Result<DecimalTree, Fail>
     Ok(DecimalTree::Array(trees))
 }
 
+// The object of its members as trees of decimals.
 #[cycle(tree)]
 fn decimal_object(alloc: Global, members: &Map<String, Value>) -> Result<DecimalTree, Fail> {
     let mut trees = Members::new(alloc);

@@ -6,6 +6,7 @@ use jskw_report::Draft;
 use jskw_value::{DecimalJson, DecimalTree};
 use std::test::Fail;
 
+// Items of each type, in pairs and alone, and values that are no array.
 const ITEMS: &str = r#"{"uniqueItems":true}|[]|uniqueItems|valid
 {"uniqueItems":true}|[1]|uniqueItems|valid
 {"uniqueItems":true}|[1,2]|uniqueItems|valid
