@@ -38,7 +38,7 @@ fn compiled(
     jskw_leaf::compile(alloc, &ctx, parent, keyword, names)?.ok()
 }
 
-// The errors of a value, which is lawful: those that the standard's keyword has, in order.
+// The errors of a value, which is lawful: those of the keyword that the validator stands for.
 fn errors_of<'i>(
     alloc: Global,
     validator: &'i LeafValidator<SerdeJson>,
