@@ -47,22 +47,22 @@ abbrev IsAbout : Option JsonType → Asserts → Type 0
 IsAbout o (Some (Ok k)) = subject k ≡ o
 IsAbout o _ = ⊤
 
--- a keyword that is made of a value
+-- a keyword that is made of its value
 about_map : {A : Type 0} (o : Option JsonType) (f : A → Keyword) (r : Result A Refusal) → ((a : A) → subject (f a) ≡ o) → IsAbout o (Some (map_ok f r))
 about_map o f (Ok a) h = h a
 about_map o f (Err e) h = tt
 
--- one of two
+-- a choice of two
 about_if : (o : Option JsonType) (b : Bool) (x y : Asserts) → IsAbout o x → IsAbout o y → IsAbout o (if b then x else y)
 about_if o true x y h k = h
 about_if o false x y h k = k
 
--- `contains`
+-- what `contains` asserts is about arrays
 about_contains : (b : Result Bounds Refusal) (r : Reading) → IsAbout (Some Array) (Some (join_ok (λ b sub. contains sub b) b r))
 about_contains (Err e) r = tt
 about_contains (Ok b) r = about_map (Some Array) (λ sub. contains sub b) r (λ sub. refl)
 
--- `items`
+-- what `items` asserts is about arrays
 about_items : (s : Setting) (q : Pointer) (ms : Members) (part : Part) (d : Data) → IsAbout (Some Array) (items_keyword s q ms part d)
 about_items s q ms part (array ds) = about_map (Some Array) _ (part.schemas s q) (λ ss. refl)
 about_items s q ms part (object ns) = about_map (Some Array) _ (part.schema s q) (λ sub. refl)
@@ -70,12 +70,12 @@ about_items s q ms part (boolean false) = about_map (Some Array) _ (part.schema 
 about_items s q ms part (boolean true) = tt
 about_items s q ms part _ = tt
 
--- `prefixItems`
+-- what `prefixItems` asserts is about arrays
 about_prefix : (s : Setting) (q : Pointer) (part : Part) (d : Data) → IsAbout (Some Array) (prefix_keyword s q part d)
 about_prefix s q part (array ds) = about_map (Some Array) _ (part.schemas s q) (λ ss. refl)
 about_prefix s q part _ = tt
 
--- `additionalItems`
+-- what `additionalItems` asserts is about arrays
 about_additional : (s : Setting) (q : Pointer) (o : Option Data) (part : Part) (d : Data) → IsAbout (Some Array) (additional_keyword s q o part d)
 about_additional s q (Some (array ds)) part (boolean true) = tt
 about_additional s q (Some (array ds)) part (boolean false) = refl
@@ -83,11 +83,11 @@ about_additional s q (Some (array ds)) part _ = about_map (Some Array) _ (part.s
 about_additional s q (Some _) part d = tt
 about_additional s q None part d = tt
 
--- a limit
+-- what a limit asserts is about numbers
 about_limit : (r : Relation) (p : Pointer) (d : Data) → IsAbout (Some Number) (Some (limit_keyword r p d))
 about_limit r p d = about_map (Some Number) _ (limit_value (keyword_location p (limit_word r)) d) (λ z. refl)
 
--- what a keyword asserts
+-- what a keyword asserts is about the type that the keyword concerns
 about_asserted : (w : KeywordName) (s : Setting) (p : Pointer) (ms : Members) (part : Part) → IsAbout (concerns w) (asserted w s p ms part)
 unfolding asserted
 about_asserted word.TypeKeyword s p ms part = about_map None _ (type_value (keyword_location p word.TypeKeyword) part.value) (λ k. refl)
@@ -110,7 +110,7 @@ about_asserted word.MaxProperties s p ms part = about_map (Some Object) _ (size_
 about_asserted word.Required s p ms part = about_if (Some Object) (is_handed_on s ms) None _ tt
     (about_map (Some Object) (λ names. assertion (keyword_location p word.Required) (required names)) (required_value (keyword_location p word.Required) part.value) (λ names. refl))
 
--- what is read of a keyword
+-- what is read of a keyword is about the type that the keyword concerns
 about_read : (w : KeywordName) (s : Setting) (p : Pointer) (ms : Members) (o : Option Part) → IsAbout (concerns w) (read_word w s p ms o)
 unfolding read_word
 about_read w s p ms None = tt
@@ -132,7 +132,7 @@ abbrev IsOther : Option JsonType → Tree → Type 0
 IsOther None t = ⊥
 IsOther (Some j) t = json_type t ≢ j
 
--- of an assertion and of a keyword with subschemas
+-- a keyword holds of a tree of another type than the one that it is about
 holds_of_other : (k : Keyword) (t : Tree) → IsOther (subject k) t → IsTrue (keyword_holds k t)
 holds_of_other (assertion q (limit r n)) (tree.number m) h = absurd (h refl)
 holds_of_other (assertion q (limit r n)) _ h = refl

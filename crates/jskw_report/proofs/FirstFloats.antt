@@ -44,7 +44,7 @@ value_of-or token None q = refl
 value_of-or token (Some f) q = refl
 
 -- the location of the first float is one token longer one level up
-place_of-or : (token : Pointer) (o q : Option Found) → place_of (option_or (option_map (under_token token) o) q) ≡ location_of.or_else (option_map (λ p. token ++ p) (place_of o)) (place_of q)
+place_of-or : (token : Pointer) (o q : Option Found) → place_of (option_or (option_map (under_token token) o) q) ≡ option_or (option_map (λ p. token ++ p) (place_of o)) (place_of q)
 place_of-or token None q = refl
 place_of-or token (Some f) q = refl
 
@@ -84,13 +84,13 @@ mutual
   -- the location of the first float in items
   place_found_items : (i : ℕ) (ds : Items) → location_of.items_float i (items_of ds) ≡ place_of (float_of (found_in_items i ds))
   place_found_items i no_items = refl
-  place_found_items i (item d ds) = ap₂ (λ o q. location_of.or_else (option_map (location_of.below_index i) o) q) (place_found d) (place_found_items (suc i) ds)
+  place_found_items i (item d ds) = ap₂ (λ o q. option_or (option_map (location_of.below_index i) o) q) (place_found d) (place_found_items (suc i) ds)
       ∙ sym (ap place_of (float_of-both (index_token i) (found_in d) (found_in_items (suc i) ds)) ∙ place_of-or (index_token i) (float_of (found_in d)) (float_of (found_in_items (suc i) ds)))
 
   -- the location of the first float in members
   place_found_members : (ms : Members) → location_of.members_float (members_of ms) ≡ place_of (float_of (found_in_members ms))
   place_found_members no_members = refl
-  place_found_members (member k d ms) = ap₂ (λ o q. location_of.or_else (option_map (location_of.below_name k) o) q) (place_found d) (place_found_members ms)
+  place_found_members (member k d ms) = ap₂ (λ o q. option_or (option_map (location_of.below_name k) o) q) (place_found d) (place_found_members ms)
       ∙ sym (ap place_of (float_of-both (name_token k) (found_in d) (found_in_members ms)) ∙ place_of-or (name_token k) (float_of (found_in d)) (float_of (found_in_members ms)))
 
 -- the law

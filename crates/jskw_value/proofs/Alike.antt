@@ -92,9 +92,9 @@ module _ (f : Num → Num → Bool) (numbers : (n : Num) → is_exact n ≡ true
     members_refl no_members t h d at = refl
     members_refl (member k x ms) t h d at = and_from _ _
         (ap (λ o. option_map_or (alike f x) o false) (at k x (get_head k x ms))
-          ∙ alike_refl x (and_parts _ _ h).0 (and_parts _ _ (and_parts _ _ d).0).1)
+        ∙ alike_refl x (and_parts _ _ h).0 (and_parts _ _ (and_parts _ _ d).0).1)
         (members_refl ms t (and_parts _ _ h).1 (and_parts _ _ d).1
-          (λ l y e. at l y (get_tail k x ms (and_parts _ _ (and_parts _ _ d).0).0 l y e)))
+        (λ l y e. at l y (get_tail k x ms (and_parts _ _ (and_parts _ _ d).0).0 l y e)))
 
 -- ---- symmetric
 
@@ -151,8 +151,8 @@ module _ (f g l : Num → Num → Bool) (numbers : (m n o : Num) → f m n ≡ t
     alike_trans (object ms) (object ns) (object os) h k = and_from _ _
         (members_trans ms (object ns) (object os) (and_parts _ _ h).0 (get_alike g ns (object os) (and_parts _ _ k).0))
         (all_from_each (has_name (object ms)) (names (object os)) (λ q e.
-          among_all (names (object ns)) (names (object ms)) (and_parts _ _ h).1 q
-          (among_all (names (object os)) (names (object ns)) (and_parts _ _ k).1 q e)))
+        among_all (names (object ns)) (names (object ms)) (and_parts _ _ h).1 q
+        (among_all (names (object os)) (names (object ns)) (and_parts _ _ k).1 q e)))
     alike_trans _ _ _ h k = cc
 
     -- item by item
@@ -172,7 +172,7 @@ module _ (f g l : Num → Num → Bool) (numbers : (m n o : Num) → f m n ≡ t
         let y = passed (alike f t) (get k u) (and_parts _ _ h).0 in
         let z = at k y.0 y.1.0 in
         and_from _ _ (ap (λ o. option_map_or (alike l t) o false) z.1.0 ∙ alike_trans t y.0 z.0 y.1.1 z.1.1)
-          (members_trans ms u v (and_parts _ _ h).1 at)
+        (members_trans ms u v (and_parts _ _ h).1 at)
 
 -- ---- equality
 
@@ -184,7 +184,7 @@ equal_refl t h d = alike_refl num_equal num_equal_refl t h d
 pub equal_symm : (t u : Tree) → has_distinct_names t ≡ true → has_distinct_names u ≡ true → equal t u ≡ equal u t
 equal_symm t u d e =
     each_way (equal t u) (equal u t)
-      (alike_symm num_equal num_equal num_equal_symm u t e) (alike_symm num_equal num_equal num_equal_symm t u d)
+    (alike_symm num_equal num_equal num_equal_symm u t e) (alike_symm num_equal num_equal num_equal_symm t u d)
 
 -- what equals an equal tree is equal
 pub equal_trans : (t u v : Tree) → equal t u ≡ true → equal u v ≡ true → equal t v ≡ true

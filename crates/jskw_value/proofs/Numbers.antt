@@ -68,7 +68,7 @@ cross : (c d e : ℤ) (k l m : ℕ) → c *ℤ pos (10 ^ l) ≡ d *ℤ pos (10 ^
     → int_eq (d *ℤ pos (10 ^ m)) (e *ℤ pos (10 ^ l)) ≡ true → int_eq (c *ℤ pos (10 ^ m)) (e *ℤ pos (10 ^ k)) ≡ true
 cross c d e k l m h i = sym (scaled (c *ℤ pos (10 ^ m)) (e *ℤ pos (10 ^ k)) l)
     ∙ ap (λ z. int_eq z (e *ℤ pos (10 ^ k) *ℤ pos (10 ^ l)))
-        (times_right_comm c (10 ^ m) (10 ^ l) ∙ ap (λ z. z *ℤ pos (10 ^ m)) h ∙ times_right_comm d (10 ^ k) (10 ^ m))
+    (times_right_comm c (10 ^ m) (10 ^ l) ∙ ap (λ z. z *ℤ pos (10 ^ m)) h ∙ times_right_comm d (10 ^ k) (10 ^ m))
     ∙ ap (λ z. int_eq (d *ℤ pos (10 ^ m) *ℤ pos (10 ^ k)) z) (times_right_comm e (10 ^ k) (10 ^ l))
     ∙ scaled (d *ℤ pos (10 ^ m)) (e *ℤ pos (10 ^ l)) k ∙ i
 

@@ -20,14 +20,14 @@ pub among_all : (xs ys : List (List ℕ)) → list_all (is_member bytes_eq ys) x
     → is_member bytes_eq xs q ≡ true → is_member bytes_eq ys q ≡ true
 among_all xs ys h q e =
     All-contains (λ k. is_member bytes_eq ys k ≡ true) xs q
-      (AllPass-from_list_all (is_member bytes_eq ys) xs h) ((is_member-Decides bytes_eq-Decides xs q).0 e)
+    (AllPass-from_list_all (is_member bytes_eq ys) xs h) ((is_member-Decides bytes_eq-Decides xs q).0 e)
 
 -- a test that holds of each name holds of all
 pub all_from_each : (p : List ℕ → Bool) (ys : List (List ℕ))
     → ((q : List ℕ) → is_member bytes_eq ys q ≡ true → p q ≡ true) → list_all p ys ≡ true
 all_from_each p ys h =
     list_all-from_AllPass p ys
-      (All-weaker (λ q. is_member bytes_eq ys q ≡ true) (λ q. p q ≡ true) h ys (All-is_member nat_list_eq_equiv ys))
+    (All-weaker (λ q. is_member bytes_eq ys q ≡ true) (λ q. p q ≡ true) h ys (All-is_member nat_list_eq_equiv ys))
 
 -- a name that is not among others differs from each
 pub apart : (y : List ℕ) (xs : List (List ℕ)) → is_member bytes_eq xs y ≡ false

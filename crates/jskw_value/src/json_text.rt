@@ -8,7 +8,6 @@ ghost use Rattle.jskw_value.specs.Tree.{is_array, is_object};
 
 use crate::decimal::{Decimal, ten_to};
 use crate::json::{Array, JsonNumber, Node, Object};
-use itoa::Buffer;
 use std::alloc::AllocError;
 
 // Appends the text of a node of any type.
@@ -146,8 +145,8 @@ fn write_decimal(decimal: &Decimal, out: &mut String) -> Result<(), AllocError>
     }
     let digits = decimal.coefficient().unsigned_abs();
     let unit = ten_to(decimal.scale()) as u128;
-    let whole = digits / unit;
-    out.push_str(Buffer::new().format(whole))?;
+    let whole = format!(in *out.allocator(); "{}", digits / unit)?;
+    out.push_str(whole.as_str())?;
     write_fraction(digits % unit, decimal.scale(), out)
 }
 
@@ -158,11 +157,10 @@ fn write_fraction(fraction: u128, scale: u8, out: &mut String) -> Result<(), All
     if scale == 0 {
         return Ok(());
     }
-    let mut buffer = Buffer::new();
-    let digits = buffer.format(fraction);
+    let digits = format!(in *out.allocator(); "{fraction}")?;
     out.push('.')?;
     for _ in digits.len()..scale as usize {
         out.push('0')?;
     }
-    out.push_str(digits)
+    out.push_str(digits.as_str())
 }

@@ -4,7 +4,6 @@ ghost use Rattle.std.specs.Char.{encode_utf8};
 ghost use Rattle.jskw_value.specs.Pointer.{escape, name_token, index_token};
 ghost use Rattle.jskw_value.specs.Text.{Extends};
 
-use itoa::Buffer;
 use std::alloc::AllocError;
 
 /// Appends the reference token of a member: a slash and the name, with `~` written `~0` and `/`
@@ -29,8 +28,8 @@ pub fn push_index(pointer: &mut String, index: usize) -> Result<(), AllocError>
         (string_bytes pointer.new ≡ string_bytes pointer.old ++ index_token index) }
     ensures kept { Extends (string_bytes pointer.old) (string_bytes pointer.new) }
 {
-    pointer.push('/')?;
-    pointer.push_str(Buffer::new().format(index))
+    let token = format!(in *pointer.allocator(); "/{index}")?;
+    pointer.push_str(token.as_str())
 }
 
 // Appends a name, escaped character by character.

@@ -3,6 +3,7 @@
 use super::trees::decimal_of;
 use super::{all_of, check, columns};
 use jskw_report::{Draft, Settings};
+use jskw_value::Decimal;
 use std::alloc::Global;
 use std::cmp::Ordering;
 use std::process::Abort;
@@ -178,12 +179,23 @@ fn keywords_are_exact_at_boundaries(rt: HostRuntime) -> Result<(), Fail> {
     Ok(())
 }
 
-// The symbol of how a number stands to another.
-fn symbol(ordering: Ordering) -> char {
-    match ordering {
+// The symbol of how a decimal stands to a limit, which is in the range of limits.
+fn symbol(rt: &impl Abort, number: &Decimal, limit: i128) -> char {
+    assert!(rt; -(1 << 63) <= limit && limit < 1 << 64);
+    match number.cmp_whole(limit) {
         Ordering::Less => '<',
         Ordering::Equal => '=',
         Ordering::Greater => '>',
+    }
+}
+
+// The letter of whether a decimal is a multiple of a divisor, which is positive.
+fn letter(rt: &impl Abort, number: &Decimal, divisor: u64) -> char {
+    assert!(rt; divisor > 0);
+    if number.is_multiple_of(divisor) {
+        'y'
+    } else {
+        'n'
     }
 }
 
@@ -194,20 +206,12 @@ fn decimals_compare_and_divide_exactly_at_boundaries(rt: HostRuntime) -> Result<
         let number = decimal_of(number)?;
         let mut found = String::new(rt.alloc());
         for limit in LIMITS {
-            let whole: i128 = limit.parse()?;
-            assert!(rt; -(1 << 63) <= whole && whole < 1 << 64);
-            found.push(symbol(number.cmp_whole(whole)))?;
+            found.push(symbol(&rt, &number, limit.parse()?))?;
         }
         assert_eq!(rt; found.as_str(), stands, "{line}");
         let mut found = String::new(rt.alloc());
         for divisor in DIVISORS {
-            let divisor: u64 = divisor.parse()?;
-            assert!(rt; divisor > 0);
-            found.push(if number.is_multiple_of(divisor) {
-                'y'
-            } else {
-                'n'
-            })?;
+            found.push(letter(&rt, &number, divisor.parse()?))?;
         }
         assert_eq!(rt; found.as_str(), divides, "{line}");
     }

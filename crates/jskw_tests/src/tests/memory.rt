@@ -94,39 +94,36 @@ fn check_location(rt: &impl Abort, location: &LazyLocation) {
     }
 }
 
-// Each observer of a failing instance answers that memory was wanted, or all of these errors, each
-// given by its keyword and its message. The list of `collect_errors` holds an old error, of the
-// whole schema, and after want of memory that one and a beginning of the errors.
-fn check_observers<'i, F: Json, V: Validate<F>>(
+// `is_valid` is false, and `validate` answers that memory was wanted, or the first of these errors.
+fn check_first<'i, F: Json, V: Validate<F>>(
     rt: &impl Abort,
-    alloc: Global,
     validator: &'i V,
     instance: &'i F::Node,
-    whole: &'i Location,
+    location: &mut LazyLocation,
     wanted: &[(&str, &str)],
 ) -> Result<(), Fail> {
     assert!(rt; instance.is_lawful());
-    let Ok(mut location) = at_item(alloc, 7) else {
-        return Ok(());
-    };
     let mut ctx = ValidationContext::new();
     assert!(rt; !validator.is_valid(instance, &mut ctx));
     let (keyword, message) = wanted.first().ok_or("no error")?;
-    match validator.validate(instance, &mut location, &mut ctx) {
+    match validator.validate(instance, location, &mut ctx) {
         Ok(()) => assert!(rt; false),
         Err(Fault::Invalid(error)) => assert!(rt; is_told(&error, keyword, message)),
         Err(Fault::Memory(_)) => {}
     }
-    check_location(rt, &location);
-    let mut errors = Vec::new(alloc);
-    let old = root_error(alloc, ValidationErrorKind::Contains, whole, instance);
-    if errors.push(old).is_err() {
-        return Ok(());
-    }
-    let collected = validator.collect_errors(instance, &mut location, &mut ctx, &mut errors);
+    Ok(())
+}
+
+// The list is an old error and a beginning of these, or all of them.
+fn check_list<F: Json>(
+    rt: &impl Abort,
+    errors: &Vec<ValidationError<F>>,
+    are_all: bool,
+    wanted: &[(&str, &str)],
+) {
     let count = errors.len().saturating_sub(1);
     assert!(rt; count <= wanted.len());
-    assert_eq!(rt; collected.is_ok(), count == wanted.len());
+    assert_eq!(rt; are_all, count == wanted.len());
     let mut told = errors.iter();
     assert!(rt;
         told.next()
@@ -135,8 +132,42 @@ fn check_observers<'i, F: Json, V: Validate<F>>(
     for (error, (keyword, message)) in told.zip(wanted) {
         assert!(rt; is_told(error, keyword, message));
     }
-    check_location(rt, &location);
-    match validator.evaluate(alloc, instance, &mut location, &mut ctx) {
+}
+
+// `collect_errors` of a list with an old error, of the whole schema, appends these errors; after
+// want of memory the list is the old error and a beginning of them.
+fn check_collected<'i, F: Json, V: Validate<F>>(
+    rt: &impl Abort,
+    alloc: Global,
+    validator: &'i V,
+    instance: &'i F::Node,
+    whole: &'i Location,
+    location: &mut LazyLocation,
+    wanted: &[(&str, &str)],
+) {
+    assert!(rt; instance.is_lawful());
+    let mut ctx = ValidationContext::new();
+    let mut errors = Vec::new(alloc);
+    let old = root_error(alloc, ValidationErrorKind::Contains, whole, instance);
+    if errors.push(old).is_err() {
+        return;
+    }
+    let collected = validator.collect_errors(instance, location, &mut ctx, &mut errors);
+    check_list(rt, &errors, collected.is_ok(), wanted);
+}
+
+// `evaluate` answers that memory was wanted, or a unit with all of these errors.
+fn check_unit<F: Json, V: Validate<F>>(
+    rt: &impl Abort,
+    alloc: Global,
+    validator: &V,
+    instance: &F::Node,
+    location: &mut LazyLocation,
+    wanted: &[(&str, &str)],
+) {
+    assert!(rt; instance.is_lawful());
+    let mut ctx = ValidationContext::new();
+    match validator.evaluate(alloc, instance, location, &mut ctx) {
         Ok(EvaluationResult::Valid) => assert!(rt; false),
         Ok(EvaluationResult::Invalid { errors }) => {
             assert_eq!(rt; errors.len(), wanted.len());
@@ -147,6 +178,26 @@ fn check_observers<'i, F: Json, V: Validate<F>>(
         }
         Err(_) => {}
     }
+}
+
+// Each observer of a failing instance answers that memory was wanted, or all of these errors, each
+// given by its keyword and its message; and the location is then as before.
+fn check_observers<'i, F: Json, V: Validate<F>>(
+    rt: &impl Abort,
+    alloc: Global,
+    validator: &'i V,
+    instance: &'i F::Node,
+    whole: &'i Location,
+    wanted: &[(&str, &str)],
+) -> Result<(), Fail> {
+    let Ok(mut location) = at_item(alloc, 7) else {
+        return Ok(());
+    };
+    check_first::<F, V>(rt, validator, instance, &mut location, wanted)?;
+    check_location(rt, &location);
+    check_collected::<F, V>(rt, alloc, validator, instance, whole, &mut location, wanted);
+    check_location(rt, &location);
+    check_unit::<F, V>(rt, alloc, validator, instance, &mut location, wanted);
     check_location(rt, &location);
     Ok(())
 }
