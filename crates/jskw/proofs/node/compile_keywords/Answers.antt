@@ -1,6 +1,5 @@
-use Rattle.std.proofs.Common.{List, ℕ, Option, ap₂, ◌∙◌}
+use Rattle.std.proofs.Common.{List, ℕ, Option}
 use Rattle.serde_json.specs.View.{members_view}
-use Rattle.jskw_value.specs.Pointer.{member_location}
 use Rattle.jskw_report.specs.Read.{Part, part_named, read_words}
 use Rattle.jskw_report.specs.declared.keyword.KeywordName.TheVariants.{TypeKeyword}
 use Rattle.jskw_leaf.specs.Meaning.{leaf_keyword}
@@ -33,7 +32,7 @@ loop-keyword-preserved g c =
           rw w.units-is (turn_silent (leaf_keyword {F = g.row.F.Denot} {N = g.row.F-Node.Denot} {O = g.row.F-Node-Number.Denot} {P = g.row.F-Node-PreparedKey.Denot}) done all s p ms parts program_keywords index TypeKeyword c.loop-keyword-test.true l.invariant w.in-None.ensures)
       | in-Some-Ok+in_ok-location-in-Some-Ok+in_ok-push-in-Some-Ok w ↦
           let turn = turn_made (leaf_keyword {F = g.row.F.Denot} {N = g.row.F-Node.Denot} {O = g.row.F-Node-Number.Denot} {P = g.row.F-Node-PreparedKey.Denot}) done all s p ms parts program_keywords index TypeKeyword c.loop-keyword-test.true l.invariant _ _ w.in-Some-Ok.field-0-is w.in-Some-Ok.ensures in
-          let location = w.in_ok-location-in-Some-Ok.ensures ∙ ap₂ member_location w.location.ensures w.as_str.ensures in
+          let location = w.in_ok-location-in-Some-Ok.ensures in
           rw (w.units-is, w.in_ok-push-in-Some-Ok.ensures.items, keywords_of_more, location) turn
     ]
 
