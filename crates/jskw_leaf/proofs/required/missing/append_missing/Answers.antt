@@ -23,7 +23,6 @@ loop-index-preserved g c =
     let names = (g.L.Names.names c.args.names.now) in
     let i = c.loop-index.index in
     let fails = required_fails q t p in
-    let old = failures_of tree c.args.errors.now.items in
     let now = failures_of tree c.loop-index.errors.items in
     let name = get_or names i [] in
     let is_object : is_object t ≡ true = sym c.is_object.ensures ∙ c.if-not-is_object.false in
@@ -32,12 +31,11 @@ loop-index-preserved g c =
       | then-is_missing+in_ok-append_error w ↦
           let lacks : has_name t name ≡ false = not-true _ (sym c.is_missing.ensures ∙ w.if-is_missing.true) in
           let is : w.as_str-property.result.now ≡ name = w.as_str-property.ensures ∙ get_or_read names i _ within w.at.ensures [] in
-          let left = subst (λ fs. Collects old now fs (fails names)) (fails_here q t p names i [] is_object within lacks) c.loop-index.invariant.collects in
+          let left = rw (fails_here q t p names i [] is_object within lacks) at c.loop-index.invariant.collects in
           record { within = c.loop-index.invariant.within; collects = collects_more (required_fail q t p name ∷ []) (fails (drop (i + 1) names)) left (rw w.errors-is (w.in_ok-append_error.ensures.appended ∙ ap (λ (n : List ℕ). now ++ required_fail q t p n ∷ []) is)) }
       | else-is_missing w ↦
           let has : has_name t name ≡ true = not-false _ (sym c.is_missing.ensures ∙ w.if-is_missing.false) in
-          let left = subst (λ fs. Collects old now fs (fails names)) (fails_there q t p names i [] within has) c.loop-index.invariant.collects in
-          record { within = c.loop-index.invariant.within; collects = rw w.errors-is left }
+          record { within = c.loop-index.invariant.within; collects = rw w.errors-is (rw (fails_there q t p names i [] within has) at c.loop-index.invariant.collects) }
     ]
 
 pub returns-in_err-append_error-clause-ok : goal.returns-in_err-append_error-clause-ok
