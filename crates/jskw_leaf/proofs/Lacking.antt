@@ -1,5 +1,5 @@
 -- The errors of the names that an object lacks, one name at a time.
-use Rattle.std.proofs.Common.{◌≡◌, ℕ, ◌+◌, ◌<◌, List, [], ◌∷◌, length, get_or, drop, map, true, false, refl, sym, ap, ◌∙◌}
+use Rattle.std.proofs.Common.{◌≡◌, ℕ, ◌+◌, ◌<◌, List, [], ◌∷◌, length, get_or, drop, map, true, false, refl, ◌∙◌}
 use Rattle.std.proofs.lemmas.Bool.{and_parts}
 use Rattle.std.proofs.lemmas.List.{at_drop_more}
 use Rattle.std.proofs.lemmas.List.Sums.{AllPass-from_list_all}
@@ -7,7 +7,7 @@ use Rattle.jskw_value.specs.Pointer.{Pointer}
 use Rattle.jskw_value.specs.Tree.{Tree, object, is_object, has_name}
 use Rattle.jskw_report.specs.Holds.{required_holds}
 use Rattle.jskw_report.specs.Fail.{Failure, missing}
-use Rattle.jskw_report.specs.Kind.{ErrorKind, Required}
+use Rattle.jskw_report.specs.Kind.{ErrorKind}
 use Rattle.jskw_leaf.specs.Required.{required_fail, required_fails}
 
 -- ---- none, where it holds

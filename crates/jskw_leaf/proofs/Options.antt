@@ -15,7 +15,7 @@ use Rattle.jskw_value.specs.Number.{Num, exact, num_equal}
 use Rattle.jskw_value.specs.Serde.{num_of, tree_of}
 use Rattle.jskw_value.specs.Tree as tree
 use Rattle.jskw_value.specs.Tree.{Tree}
-use Rattle.jskw_value.specs.Types.{no_types, insert, contains, json_type, has_type_of, holds_integer}
+use Rattle.jskw_value.specs.Types.{no_types, insert, contains, json_type, has_type_of}
 use Rattle.jskw_value.specs.declared.types.JsonType.{JsonType}
 use Rattle.jskw_value.specs.declared.types.JsonType.TheVariants.{Array, Boolean, Integer, Null, Number, Object, String}
 use Rattle.jskw_value.specs.declared.types.JsonTypeSet.{JsonTypeSet}

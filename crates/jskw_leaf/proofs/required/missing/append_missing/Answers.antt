@@ -1,9 +1,8 @@
-use Rattle.std.proofs.Common.{◌≡◌, ◌+◌, ◌<◌, length, List, ℕ, [], ◌∷◌, ◌++◌, true, false, drop, get_or, ap, subst, sym, ◌∙◌, arith}
+use Rattle.std.proofs.Common.{◌≡◌, ◌+◌, ◌<◌, length, List, ℕ, [], ◌∷◌, ◌++◌, true, false, drop, get_or, ap, sym, ◌∙◌, arith}
 use Rattle.std.proofs.lemmas.Bool.{both_ways, not-true, not-false}
 use Rattle.std.proofs.lemmas.List.{get_or_read}
 use Rattle.jskw_value.specs.Tree.{has_name, is_object}
 use Rattle.jskw_report.specs.Errors.{failures_of}
-use Rattle.jskw_report.specs.Observe.{Collects}
 use Rattle.jskw_report.specs.Paths.{path_of}
 use Rattle.jskw_leaf.specs.Required.{required_fail, required_fails}
 use Rattle.jskw_report.proofs.Appending.{collects_nothing, collects_more}
