@@ -28,7 +28,7 @@ wanted_distinct t ws d = IsDistinct-from_AllPairs bytes_eq-Decides _ (AllPairs-f
 all_wanted : (t : Tree) (ws : List (List ℕ)) → list_all (is_among ws) (wanted t ws) ≡ true
 all_wanted t ws = list_all-from_AllPass (is_among ws) (wanted t ws) (filter_passes (is_among ws) (names t))
 
--- two tests that agree at each name
+-- two tests that agree at each name hold of all or not alike
 agree : (p q : List ℕ → Bool) (ws : List (List ℕ)) → All (λ w. p w ≡ q w) ws → list_all p ws ≡ list_all q ws
 agree p q [] h = refl
 agree p q (w ∷ ws) h = rw (All-head (λ w. p w ≡ q w) w ws h, agree p q ws (All-tail (λ w. p w ≡ q w) w ws h)) refl
@@ -36,7 +36,8 @@ agree p q (w ∷ ws) h = rw (All-head (λ w. p w ≡ q w) w ws h, agree p q ws (
 -- an object has all exactly where it has as many
 all_if_as_many : (t : Tree) (ws : List (List ℕ)) → IsDistinct bytes_eq (names t) → IsDistinct bytes_eq ws → list_all (has_name t) ws ≡ (count_by (is_among ws) (names t) == length ws)
 all_if_as_many t ws d e =
-    sym (agree (is_among (wanted t ws)) (has_name t) ws (All-weaker (λ w. is_among ws w ≡ true) (λ w. is_among (wanted t ws) w ≡ has_name t w) (λ w h. named w h) ws (All-is_member nat_list_eq_equiv ws)))
+    sym (agree (is_among (wanted t ws)) (has_name t) ws
+    (All-weaker (λ w. is_among ws w ≡ true) (λ w. is_among (wanted t ws) w ≡ has_name t w) named ws (All-is_member nat_list_eq_equiv ws)))
     ∙ same_length (wanted t ws) ws (wanted_distinct t ws d) e (all_wanted t ws) ∙ ap (λ n. n == length ws) (length-filter (is_among ws) (names t))
   where
     named : (w : List ℕ) → is_among ws w ≡ true → is_among (wanted t ws) w ≡ has_name t w

@@ -29,7 +29,7 @@ use Rattle.jskw_leaf.specs.Required.{is_among, name_value}
 abbrev pub add : List (List ℕ) → List ℕ → List (List ℕ)
 add done n = cond (is_among done n) done (done ++ n ∷ [])
 
--- what is there then
+-- the names that are there once a name was added
 among_added : (done : List (List ℕ)) (n m : List ℕ) → is_among (add done n) m ≡ (bytes_eq n m || is_among done m)
 among_added done n m = cond_both (is_among done n) done (done ++ n ∷ []) (λ ns. is_among ns m ≡ (bytes_eq n m || is_among done m))
     (λ h. absorbed (bytes_eq n m) (is_among done m) (λ e. sym (alike_from_same bytes_eq-Decides (is_among done) n m e) ∙ h))
@@ -53,7 +53,8 @@ after : (done ns : List (List ℕ)) → fold add done ns ≡ done ++ filter (λ 
 after done [] = sym (append-nil done)
 after done (n ∷ ns) =
     after (add done n) ns
-    ∙ ap (λ xs. add done n ++ xs) (filter_both (λ m. not (is_among done m)) (λ m. not (bytes_eq n m)) _ (λ m. ap not (among_added done n m) ∙ neither (bytes_eq n m) (is_among done m)) (distinct ns))
+    ∙ ap (λ xs. add done n ++ xs) (filter_both (λ m. not (is_among done m)) (λ m. not (bytes_eq n m)) _
+    (λ m. ap not (among_added done n m) ∙ neither (bytes_eq n m) (is_among done m)) (distinct ns))
     ∙ go (is_among done n) (filter (λ m. not (is_among done m)) (filter (λ m. not (bytes_eq n m)) (distinct ns)))
   where
     neither : (a b : Bool) → not (a || b) ≡ (not a && not b)
@@ -96,7 +97,7 @@ next_name p vs i d done n h e is = rw (at_item p vs i d h e, is) (go (texts p (i
     go (Ok ns) = refl
     go (Err x) = refl
 
--- it is no name
+-- the item at index i is no name
 pub next_fault : (p : Pointer) (vs : List Value) (i : ℕ) (d : Value) (done : List (List ℕ)) (f : Refusal) → i < length vs → d ≡ get_or vs i d → name_value p (view d) ≡ Err f
     → map_ok (fold add done) (texts p (items_view (drop i vs))) ≡ Err f
 next_fault p vs i d done f h e is = rw (at_item p vs i d h e, is) refl

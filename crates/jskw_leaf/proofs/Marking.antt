@@ -39,10 +39,10 @@ MarksBefore m rest t ws = (i : ℕ) (w : List ℕ) → slice_get ws i ≡ Some w
 -- the names at two indices of distinct names differ
 apart_places : (ws : List (List ℕ)) (i j : ℕ) (w k : List ℕ) → IsDistinct bytes_eq ws → slice_get ws i ≡ Some w → slice_get ws j ≡ Some k → i ≢ j → bytes_eq w k ≡ false
 apart_places ws i j w k d e f n = elim (cases_order i j) [
-    | inl s ↦ absurd (n s)
-    | inr (inl l) ↦ in_order i j w k l e f
-    | inr (inr l) ↦ nat_list_eq_equiv.symm w k ∙ in_order j i k w l f e
-  ]
+  | inl s ↦ absurd (n s)
+  | inr (inl l) ↦ in_order i j w k l e f
+  | inr (inr l) ↦ nat_list_eq_equiv.symm w k ∙ in_order j i k w l f e
+]
   where
     in_order : (i j : ℕ) (w k : List ℕ) → i < j → slice_get ws i ≡ Some w → slice_get ws j ≡ Some k → bytes_eq w k ≡ false
     in_order i j w k l e f =

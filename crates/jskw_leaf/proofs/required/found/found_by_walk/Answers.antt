@@ -10,7 +10,8 @@ returns-then-found-all g c =
     let names = g.L.Names.names c.args.names.now in
     let rest = keys_of (left g.F.Node.Rooted.tree c.next.new.self) in
     mark_full _ rest t names (search rules) (rw c.bit-found.ensures.value
-    (mark_hit c.loop-text.found c.in-Some-place_of.place c.in-Some.text.now rest t names c.len.ensures.distinct c.in-Some-place_of.ensures.place.1 (rw c.in-Some.ensures.steps at c.loop-text.invariant)))
+    (mark_hit c.loop-text.found c.in-Some-place_of.place c.in-Some.text.now rest t names c.len.ensures.distinct c.in-Some-place_of.ensures.place.1
+    (rw c.in-Some.ensures.steps at c.loop-text.invariant)))
 
 pub loop-text-preserved-else-found-all : goal.loop-text-preserved-else-found-all
 loop-text-preserved-else-found-all g c =
