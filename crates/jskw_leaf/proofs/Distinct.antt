@@ -1,5 +1,6 @@
 -- Names that are put together item by item, each once.
 use Rattle.std.proofs.Common.{◌≡◌, ℕ, ◌+◌, ◌<◌, ◌≤◌, List, [], ◌∷◌, ◌++◌, length, drop, get_or, filter, Bool, true, false, not, ◌&&◌, ◌||◌, cond, Bor, Result, Ok, Err, refl, ap, subst, sym, ◌∙◌, append_assoc}
+use Rattle.std.proofs.Math.Bool.{or-false, or_comm}
 use Rattle.std.proofs.lemmas.Bool.{cond_both}
 use Rattle.std.proofs.lemmas.Cmp.{nat_list_eq_equiv}
 use Rattle.std.proofs.lemmas.List.{append-nil, at_drop_all, at_drop_more}
@@ -28,21 +29,15 @@ use Rattle.jskw_leaf.specs.Required.{is_among, name_value}
 abbrev pub add : List (List ℕ) → List ℕ → List (List ℕ)
 add done n = cond (is_among done n) done (done ++ n ∷ [])
 
--- what is there then
+-- the names that are there once a name was added
 among_added : (done : List (List ℕ)) (n m : List ℕ) → is_among (add done n) m ≡ (bytes_eq n m || is_among done m)
 among_added done n m = cond_both (is_among done n) done (done ++ n ∷ []) (λ ns. is_among ns m ≡ (bytes_eq n m || is_among done m))
     (λ h. absorbed (bytes_eq n m) (is_among done m) (λ e. sym (alike_from_same bytes_eq-Decides (is_among done) n m e) ∙ h))
-    (λ h. list_any-append (bytes_eq m) done (n ∷ []) ∙ turned (is_among done m) (bytes_eq m n) ∙ ap (λ b. b || is_among done m) (nat_list_eq_equiv.symm m n))
+    (λ h. list_any-append (bytes_eq m) done (n ∷ []) ∙ rw (or-false (bytes_eq m n), nat_list_eq_equiv.symm m n) (or_comm (is_among done m) (bytes_eq n m)))
   where
     absorbed : (a b : Bool) → (a ≡ true → b ≡ true) → b ≡ (a || b)
     absorbed true b h = h refl
     absorbed false b h = refl
-
-    turned : (a b : Bool) → (a || (b || false)) ≡ (b || a)
-    turned true true = refl
-    turned true false = refl
-    turned false true = refl
-    turned false false = refl
 
 -- two tests one after another are both
 filter_both : (p q r : List ℕ → Bool) → ((n : List ℕ) → r n ≡ (q n && p n)) → (ns : List (List ℕ)) → filter r ns ≡ filter p (filter q ns)
@@ -58,7 +53,8 @@ after : (done ns : List (List ℕ)) → fold add done ns ≡ done ++ filter (λ 
 after done [] = sym (append-nil done)
 after done (n ∷ ns) =
     after (add done n) ns
-    ∙ ap (λ xs. add done n ++ xs) (filter_both (λ m. not (is_among done m)) (λ m. not (bytes_eq n m)) _ (λ m. ap not (among_added done n m) ∙ neither (bytes_eq n m) (is_among done m)) (distinct ns))
+    ∙ ap (λ xs. add done n ++ xs) (filter_both (λ m. not (is_among done m)) (λ m. not (bytes_eq n m)) _
+    (λ m. ap not (among_added done n m) ∙ neither (bytes_eq n m) (is_among done m)) (distinct ns))
     ∙ go (is_among done n) (filter (λ m. not (is_among done m)) (filter (λ m. not (bytes_eq n m)) (distinct ns)))
   where
     neither : (a b : Bool) → not (a || b) ≡ (not a && not b)
@@ -101,7 +97,7 @@ next_name p vs i d done n h e is = rw (at_item p vs i d h e, is) (go (texts p (i
     go (Ok ns) = refl
     go (Err x) = refl
 
--- it is no name
+-- the item at index i is no name
 pub next_fault : (p : Pointer) (vs : List Value) (i : ℕ) (d : Value) (done : List (List ℕ)) (f : Refusal) → i < length vs → d ≡ get_or vs i d → name_value p (view d) ≡ Err f
     → map_ok (fold add done) (texts p (items_view (drop i vs))) ≡ Err f
 next_fault p vs i d done f h e is = rw (at_item p vs i d h e, is) refl

@@ -1,5 +1,6 @@
 -- When `required` is left to the keywords of objects.
-use Rattle.std.proofs.Common.{None, ◌≡◌, Bool, true, false, ◌&&◌, ◌||◌, Some, refl, ap, List, ℕ}
+use Rattle.std.proofs.Common.{None, ◌≡◌, Bool, true, false, ◌&&◌, ◌||◌, Some, refl, sym, ap, List, ℕ}
+use Rattle.std.proofs.lemmas.Bool.{and_right}
 use Rattle.std.specs.Prelude.{codes}
 use Rattle.std.specs.Option.{option_map_or}
 use Rattle.serde_json.specs.Data.{Data, Members}
@@ -21,10 +22,6 @@ pub not_handed_on : (s : Setting) (ms : Members) → stands s Required ≡ false
 unfolding is_handed_on
 not_handed_on s ms h = rw h refl
 
-and_false : (b : Bool) → false ≡ (b && false)
-and_false true = refl
-and_false false = refl
-
 pub absent_not_handed_on : (s : Setting) (ms : Members) → get_member (codes "required") ms ≡ None → false ≡ is_handed_on s ms
 unfolding is_handed_on
-absent_not_handed_on s ms e = rw e (and_false (stands s Required && has_vocabulary s Applicator && is_absent (codes "patternProperties") ms))
+absent_not_handed_on s ms e = rw e (sym (and_right _ false refl))

@@ -15,7 +15,7 @@ use Rattle.jskw_value.specs.Number.{Num, exact, num_equal}
 use Rattle.jskw_value.specs.Serde.{num_of, tree_of}
 use Rattle.jskw_value.specs.Tree as tree
 use Rattle.jskw_value.specs.Tree.{Tree}
-use Rattle.jskw_value.specs.Types.{no_types, insert, contains, json_type, has_type_of, holds_integer}
+use Rattle.jskw_value.specs.Types.{no_types, insert, contains, json_type, has_type_of}
 use Rattle.jskw_value.specs.declared.types.JsonType.{JsonType}
 use Rattle.jskw_value.specs.declared.types.JsonType.TheVariants.{Array, Boolean, Integer, Null, Number, Object, String}
 use Rattle.jskw_value.specs.declared.types.JsonTypeSet.{JsonTypeSet}
@@ -80,7 +80,7 @@ no_option s ds t e h = false_from_ne_true _ (λ k. both_ways _ (or_parts _ _ h).
 -- `each` says what one option accepts: where `kind` sees a string or a number, what is the same; else null, where it is null
 module _ {X Y : Type 0} (pick : Data → Option X) (kind : Tree → Option Y) (same : X → Y → Bool)
     (each : (d : Data) (t : Tree) → (is_some (pick d) || is_some (as_null d)) ≡ true
-        → equal (tree_of d) t ≡ option_map_or (λ y. option_map_or (λ x. same x y) (pick d) false) (kind t) (is_some (as_null d) && tree.is_null t)) where
+    → equal (tree_of d) t ≡ option_map_or (λ y. option_map_or (λ x. same x y) (pick d) false) (kind t) (is_some (as_null d) && tree.is_null t)) where
   -- one option before others; z tells whether the tree is null, a and n whether null is the option and one of the others
   one_more : (v : Option Y) (p : Option X) (xs : List X) (a n z : Bool)
       → (option_map_or (λ y. option_map_or (λ x. same x y) p false) v (a && z) || option_map_or (λ y. list_any (λ x. same x y) xs) v (n && z))
@@ -102,7 +102,7 @@ module _ {X Y : Type 0} (pick : Data → Option X) (kind : Tree → Option Y) (s
       let all = and_parts (is_some (pick d) || is_some (as_null d)) (only pick ds) h in
       rw (each d t all.0, of_picked ds all.1 t) (one_more (kind t) (pick d) (picked pick ds) (is_some (as_null d)) (has_null ds) (tree.is_null t))
 
-  -- in any order, and with a mark that tells whether null is one of them
+  -- the options in any order, with a mark that tells whether null is one of them
   are_options : (d : Data) (ds : Items) (xs : List X) (n : Bool) → d ≡ array ds → only pick ds ≡ true → IsPermutation (picked pick ds) xs → n ≡ has_null ds
       → AreOptions kind (λ y. list_any (λ x. same x y) xs) n (options_of d)
   are_options d ds xs n e h p g t = rw (e, g) (of_picked ds h t ∙ go (kind t))
@@ -111,6 +111,7 @@ module _ {X Y : Type 0} (pick : Data → Option X) (kind : Tree → Option Y) (s
       go (Some y) = list_any-IsPermutation (λ x. same x y) (picked pick ds) xs p
       go None = refl
 
+-- what a string among the options, or null, accepts
 text_option : (d : Data) (t : Tree) → (is_some (as_str d) || is_some (as_null d)) ≡ true
     → equal (tree_of d) t ≡ option_map_or (λ s. option_map_or (λ n. bytes_eq n s) (as_str d) false) (tree.as_string t) (is_some (as_null d) && tree.is_null t)
 text_option json.null tree.null h = refl
@@ -131,6 +132,7 @@ number_option (json.unsigned k) m h = go (nat_lt k (2 ^ 63)) h
 number_option (json.negative w) m h = refl
 number_option (json.float x) m h = absurd (true≢false (sym h))
 
+-- what an integer among the options, or null, accepts
 integer_option : (d : Data) (t : Tree) → (is_some (integer_of d) || is_some (as_null d)) ≡ true
     → equal (tree_of d) t ≡ option_map_or (λ m. option_map_or (λ z. num_equal (exact z zero) m) (integer_of d) false) (tree.as_number t) (is_some (as_null d) && tree.is_null t)
 integer_option json.null tree.null h = refl

@@ -14,8 +14,5 @@ few_members m = ap has_few_members (view-Object m) ∙ ap (λ k. nat_lt k 15) (m
 
 -- a list of three
 pub three : {A B : Type 0} (f : A → B) (xs : List A) (d : A) → length xs ≡ 3 → f (get_or xs 0 d) ∷ f (get_or xs 1 d) ∷ f (get_or xs 2 d) ∷ [] ≡ map f xs
-three f [] d h = absurd (omega (arith, h))
-three f (x ∷ []) d h = absurd (omega (arith, h))
-three f (x ∷ y ∷ []) d h = absurd (omega (arith, h))
 three f (x ∷ y ∷ z ∷ []) d h = refl
-three f (x ∷ y ∷ z ∷ w ∷ xs) d h = absurd (omega (arith, h))
+three f xs d h = absurd (omega (arith, h))

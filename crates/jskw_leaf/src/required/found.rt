@@ -71,7 +71,7 @@ fn lookups_find_all<F: Json, L: Names<F>>(names: &L, object: &F::Node) -> bool
 }
 
 // The index of the text among the names.
-#[tactic(auto, using(crate::proofs::Marking::place_step, crate::proofs::Marking::place_end, crate::proofs::Marking::place_found))]
+#[tactic(auto, using(crate::proofs::Marking::place_hit, crate::proofs::Marking::place_miss, crate::proofs::Marking::place_end, crate::proofs::Marking::place_found))]
 fn place_of<F: Json, L: Names<F>>(names: &L, text: &str) -> Option<usize>
     ensures place { IfSome result (λ i. (i < length (L.names names.now))
         × (slice_get (L.names names.now) i ≡ Some text.now)) }

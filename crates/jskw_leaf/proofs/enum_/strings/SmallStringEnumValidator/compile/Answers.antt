@@ -10,4 +10,6 @@ pub invariant_of-result-clause-array : goal.invariant_of-result-clause-array
 invariant_of-result-clause-array g c = rw (c.in_ok-clone.ensures.cases ∙ c.requires.array) refl
 
 pub invariant_of-result-clause-listed : goal.invariant_of-result-clause-listed
-invariant_of-result-clause-listed g c = are_texts _ _ _ _ (c.in_ok-clone.ensures.cases ∙ c.requires.array) c.requires.texts (rw c.in_ok-names_of.ensures (IsPermutation-refl (picked as_str (items_view c.args.items.now)))) (c.new.ensures ∙ c.requires.null)
+invariant_of-result-clause-listed g c =
+    are_texts _ _ _ _ (c.in_ok-clone.ensures.cases ∙ c.requires.array) c.requires.texts
+    (rw c.in_ok-names_of.ensures (IsPermutation-refl (picked as_str (items_view c.args.items.now)))) (c.new.ensures ∙ c.requires.null)
