@@ -1,9 +1,8 @@
 -- The options of an `enum`, as the validators look for them.
-use Rattle.std.proofs.Common.{◌≡◌, ℕ, zero, ◌^◌, ℤ, pos, List, ◌∷◌, Bool, true, false, ◌&&◌, ◌||◌, if◌then◌else◌, nat_lt, Option, Some, None, is_some, unwrap_or, refl, ap, sym, ◌∙◌, subst}
-use Rattle.std.proofs.lemmas.Bool.{true≢false}
+use Rattle.std.proofs.Common.{◌≡◌, ℕ, zero, ◌^◌, ℤ, pos, List, ◌∷◌, Bool, true, false, ◌&&◌, ◌||◌, if◌then◌else◌, nat_lt, Option, Some, None, is_some, refl, sym, ◌∙◌, subst, inl, inr}
+use Rattle.std.proofs.lemmas.Bool.{true≢false, and_parts, or_cases, or_parts, both_ways, false_from_ne_true}
 use Rattle.std.proofs.lemmas.List.Sorted.{list_any-IsPermutation}
-use Rattle.std.proofs.lemmas.Option.{none-some}
-use Rattle.std.specs.Prelude.{IsSome, ⊤}
+use Rattle.std.specs.Prelude.{IsSome}
 use Rattle.std.specs.List.{list_any}
 use Rattle.std.specs.List.Sorted.{IsPermutation}
 use Rattle.std.specs.Option.{option_map_or}
@@ -12,7 +11,7 @@ use Rattle.serde_json.specs.Data as json
 use Rattle.serde_json.specs.Data.{Data, array, Items, no_items, item}
 use Rattle.serde_json.specs.Find.{as_array, as_null, as_str, as_i64}
 use Rattle.jskw_value.specs.Equality.{equal, unique}
-use Rattle.jskw_value.specs.Number.{exact, num_equal}
+use Rattle.jskw_value.specs.Number.{Num, exact, num_equal}
 use Rattle.jskw_value.specs.Serde.{num_of, tree_of}
 use Rattle.jskw_value.specs.Tree as tree
 use Rattle.jskw_value.specs.Tree.{Tree}
@@ -26,9 +25,6 @@ use Rattle.jskw_report.specs.Holds.{is_option}
 use Rattle.jskw_leaf.specs.Options.{options_of, option_types, AreOptions, some_text, some_integer, picked, only, has_null, integer_of}
 
 -- an array lists its items
-pub is_listed : (d : Data) (ds : Items) → d ≡ array ds → IsSome (as_array d)
-is_listed d ds e = ap (λ d. is_some (as_array d)) e
-
 pub listed : (d : Data) → IsSome (as_array d) → array (options_of d) ≡ d
 listed (array ds) h = refl
 listed d h = absurd (true≢false (sym h))
@@ -38,12 +34,7 @@ listed d h = absurd (true≢false (sym h))
 -- a type that was put in is there
 inserted : (j : JsonType) (s : JsonTypeSet) → contains (insert j s) j ≡ true
 inserted Array s = refl
-inserted Boolean s = refl
-inserted Integer s = refl
-inserted Null s = refl
-inserted Number s = refl
-inserted Object s = refl
-inserted String s = refl
+inserted j s = refl
 
 -- and what was there stays
 stays : (i j : JsonType) (s : JsonTypeSet) → contains s j ≡ true → contains (insert i s) j ≡ true
@@ -73,70 +64,33 @@ of_equal a t h = absurd (true≢false (sym h))
 -- the type of an option is one of those
 type_of_option : (s : JsonTypeSet) (ds : Items) (t : Tree) → is_option ds t ≡ true → contains (option_types s ds) (json_type t) ≡ true
 type_of_option s no_items t h = absurd (true≢false (sym h))
-type_of_option s (item d ds) t h = go (equal (tree_of d) t) refl h (type_of_option (insert (json_type (tree_of d)) s) ds t)
-  where
-    there : contains (option_types s (item d ds)) (json_type (tree_of d)) ≡ true
-    there = all_stay (insert (json_type (tree_of d)) s) ds (json_type (tree_of d)) (inserted (json_type (tree_of d)) s)
-
-    go : (b : Bool) → equal (tree_of d) t ≡ b → (b || is_option ds t) ≡ true → (is_option ds t ≡ true → contains (option_types s (item d ds)) (json_type t) ≡ true) → contains (option_types s (item d ds)) (json_type t) ≡ true
-    go true e h k = subst (λ j. contains (option_types s (item d ds)) j ≡ true) (of_equal (tree_of d) t e) there
-    go false e h k = k h
-
-left_false : (a b : Bool) → (a || b) ≡ false → a ≡ false
-left_false true b h = h
-left_false false b h = refl
+type_of_option s (item d ds) t h =
+    let j = json_type (tree_of d) in
+    elim (or_cases (equal (tree_of d) t) (is_option ds t) h) [
+      | inl e ↦ subst (λ i. contains (option_types s (item d ds)) i ≡ true) (of_equal (tree_of d) t e) (all_stay (insert j s) ds j (inserted j s))
+      | inr k ↦ type_of_option (insert j s) ds t k
+    ]
 
 -- a tree of another type is no option
 pub no_option : (s : JsonTypeSet) (ds : Items) (t : Tree) → s ≡ option_types no_types ds → has_type_of s t ≡ false → is_option ds t ≡ false
-no_option s ds t e h = go (is_option ds t) refl
-  where
-    go : (b : Bool) → is_option ds t ≡ b → b ≡ false
-    go true k = sym (subst (λ s. contains s (json_type t) ≡ true) (sym e) (type_of_option no_types ds t k)) ∙ left_false (contains s (json_type t)) (s.integers && holds_integer t) h
-    go false k = refl
+no_option s ds t e h = false_from_ne_true _ (λ k. both_ways _ (or_parts _ _ h).0 (subst (λ s. contains s (json_type t) ≡ true) (sym e) (type_of_option no_types ds t k)))
 
 -- ---- options of one kind, and null
 
--- an option that is null equals null alone
-null_equal : (d : Data) (t : Tree) → is_some (as_null d) ≡ true → equal (tree_of d) t ≡ tree.is_null t
-null_equal json.null t h = refl
-null_equal d t h = absurd (true≢false (sym h))
-
-false_of : (b : Bool) → (b ≡ true → true ≡ false) → b ≡ false
-false_of true f = f refl
-false_of false f = refl
-
-null_or : (n b : Bool) → (b || (n && b)) ≡ b
-null_or n true = refl
-null_or true false = refl
-null_or false false = refl
-
-left_true : (a b : Bool) → (a && b) ≡ true → a ≡ true
-left_true true b h = refl
-left_true false b h = h
-
-right_true : (a b : Bool) → (a && b) ≡ true → b ≡ true
-right_true true b h = h
-right_true false b h = absurd (true≢false (sym h))
-
+-- `each` says what one option accepts: where `kind` sees a string or a number, what is the same; else null, where it is null
 module _ {X Y : Type 0} (pick : Data → Option X) (kind : Tree → Option Y) (same : X → Y → Bool)
-    (apart : kind tree.null ≡ None)
-    (picks : (d : Data) (x : X) → pick d ≡ Some x → as_null d ≡ None)
-    (equals : (d : Data) (x : X) (t : Tree) → pick d ≡ Some x → equal (tree_of d) t ≡ option_map_or (same x) (kind t) false) where
-  -- a tree of the kind is not null
-  not_null : (t : Tree) (y : Y) → kind t ≡ Some y → tree.is_null t ≡ false
-  not_null tree.null y e = absurd (none-some y (sym apart ∙ e))
-  not_null t y e = refl
-
-  -- an option before those for which it is known
-  one_more : (p : Option X) (u : Option ⊤) (v : Option Y) (xs : List X) (e n z : Bool)
-      → (is_some p || is_some u) ≡ true → ((x : X) → p ≡ Some x → u ≡ None) → ((x : X) → p ≡ Some x → e ≡ option_map_or (same x) v false)
-      → (is_some u ≡ true → e ≡ z) → ((y : Y) → v ≡ Some y → z ≡ false)
-      → (e || option_map_or (λ y. list_any (λ x. same x y) xs) v (n && z)) ≡ option_map_or (λ y. list_any (λ x. same x y) (option_map_or (λ x. x ∷ xs) p xs)) v ((is_some u || n) && z)
-  one_more (Some x) u (Some y) xs e n z h k q r s = ap (λ b. b || list_any (λ x. same x y) xs) (q x refl)
-  one_more (Some x) u None xs e n z h k q r s = ap (λ b. b || (n && z)) (q x refl) ∙ sym (ap (λ u. (is_some u || n) && z) (k x refl))
-  one_more None (Some u) (Some y) xs e n z h k q r s = ap (λ b. b || list_any (λ x. same x y) xs) (r refl ∙ s y refl)
-  one_more None (Some u) None xs e n z h k q r s = ap (λ b. b || (n && z)) (r refl) ∙ null_or n z
-  one_more None None v xs e n z h k q r s = absurd (true≢false (sym h))
+    (each : (d : Data) (t : Tree) → (is_some (pick d) || is_some (as_null d)) ≡ true
+        → equal (tree_of d) t ≡ option_map_or (λ y. option_map_or (λ x. same x y) (pick d) false) (kind t) (is_some (as_null d) && tree.is_null t)) where
+  -- one option before others; z tells whether the tree is null, a and n whether null is the option and one of the others
+  one_more : (v : Option Y) (p : Option X) (xs : List X) (a n z : Bool)
+      → (option_map_or (λ y. option_map_or (λ x. same x y) p false) v (a && z) || option_map_or (λ y. list_any (λ x. same x y) xs) v (n && z))
+      ≡ option_map_or (λ y. list_any (λ x. same x y) (option_map_or (λ x. x ∷ xs) p xs)) v ((a || n) && z)
+  one_more (Some y) (Some x) xs a n z = refl
+  one_more (Some y) None xs a n z = refl
+  one_more None p xs false n z = refl
+  one_more None p xs true n true = refl
+  one_more None p xs true true false = refl
+  one_more None p xs true false false = refl
 
   of_picked : (ds : Items) → only pick ds ≡ true → AreOptions kind (λ y. list_any (λ x. same x y) (picked pick ds)) (has_null ds) ds
   of_picked no_items h t = go (kind t)
@@ -145,63 +99,54 @@ module _ {X Y : Type 0} (pick : Data → Option X) (kind : Tree → Option Y) (s
       go None = refl
       go (Some y) = refl
   of_picked (item d ds) h t =
-      ap (λ b. equal (tree_of d) t || b) (of_picked ds (right_true (is_some (pick d) || is_some (as_null d)) (only pick ds) h) t)
-      ∙ one_more (pick d) (as_null d) (kind t) (picked pick ds) (equal (tree_of d) t) (has_null ds) (tree.is_null t)
-      (left_true (is_some (pick d) || is_some (as_null d)) (only pick ds) h) (picks d) (λ x. equals d x t) (null_equal d t) (not_null t)
+      let all = and_parts (is_some (pick d) || is_some (as_null d)) (only pick ds) h in
+      rw (each d t all.0, of_picked ds all.1 t) (one_more (kind t) (pick d) (picked pick ds) (is_some (as_null d)) (has_null ds) (tree.is_null t))
 
-  -- the same of a test and a mark that are known to be theirs
-  are_options : (d : Data) (ds : Items) (test : Y → Bool) (n : Bool) → d ≡ array ds → only pick ds ≡ true → ((y : Y) → test y ≡ list_any (λ x. same x y) (picked pick ds)) → n ≡ has_null ds → AreOptions kind test n (options_of d)
-  are_options d ds test n e h f g t = ap (λ d. is_option (options_of d) t) e ∙ of_picked ds h t ∙ go (kind t)
+  -- in any order, and with a mark that tells whether null is one of them
+  are_options : (d : Data) (ds : Items) (xs : List X) (n : Bool) → d ≡ array ds → only pick ds ≡ true → IsPermutation (picked pick ds) xs → n ≡ has_null ds
+      → AreOptions kind (λ y. list_any (λ x. same x y) xs) n (options_of d)
+  are_options d ds xs n e h p g t = rw (e, g) (of_picked ds h t ∙ go (kind t))
     where
-      go : (v : Option Y) → option_map_or (λ y. list_any (λ x. same x y) (picked pick ds)) v (has_null ds && tree.is_null t) ≡ option_map_or test v (n && tree.is_null t)
-      go (Some y) = sym (f y)
-      go None = ap (λ n. n && tree.is_null t) (sym g)
+      go : (v : Option Y) → option_map_or (λ y. list_any (λ x. same x y) (picked pick ds)) v (has_null ds && tree.is_null t) ≡ option_map_or (λ y. list_any (λ x. same x y) xs) v (has_null ds && tree.is_null t)
+      go (Some y) = list_any-IsPermutation (λ x. same x y) (picked pick ds) xs p
+      go None = refl
 
--- ---- strings
+text_option : (d : Data) (t : Tree) → (is_some (as_str d) || is_some (as_null d)) ≡ true
+    → equal (tree_of d) t ≡ option_map_or (λ s. option_map_or (λ n. bytes_eq n s) (as_str d) false) (tree.as_string t) (is_some (as_null d) && tree.is_null t)
+text_option json.null tree.null h = refl
+text_option json.null t h = refl
+text_option (json.string n) t h = refl
+text_option d t h = absurd (true≢false (sym h))
 
-text_apart : (d : Data) (s : List ℕ) → as_str d ≡ Some s → as_null d ≡ None
-text_apart json.null s e = absurd (none-some _ e)
-text_apart d s e = refl
+pub are_texts : (d : Data) (ds : Items) (names : List (List ℕ)) (n : Bool) → d ≡ array ds → only as_str ds ≡ true → IsPermutation (picked as_str ds) names → n ≡ has_null ds → AreOptions tree.as_string (some_text names) n (options_of d)
+are_texts = are_options as_str tree.as_string bytes_eq text_option
 
-text_equal : (d : Data) (s : List ℕ) (t : Tree) → as_str d ≡ Some s → equal (tree_of d) t ≡ option_map_or (bytes_eq s) (tree.as_string t) false
-text_equal (json.string u) s t e = ap (λ o. option_map_or (λ s. option_map_or (bytes_eq s) (tree.as_string t) false) o false) e
-text_equal d s t e = absurd (none-some _ e)
-
-pub are_texts : (d : Data) (ds : Items) (names : List (List ℕ)) (n : Bool) → d ≡ array ds → only as_str ds ≡ true → names ≡ picked as_str ds → n ≡ has_null ds → AreOptions tree.as_string (some_text names) n (options_of d)
-are_texts d ds names n e h f g = are_options as_str tree.as_string bytes_eq refl text_apart text_equal d ds (some_text names) n e h (λ s. ap (λ ns. some_text ns s) f) g
-
-pub are_sorted_texts : (d : Data) (ds : Items) (names : List (List ℕ)) (n : Bool) → d ≡ array ds → only as_str ds ≡ true → IsPermutation (picked as_str ds) names → n ≡ has_null ds → AreOptions tree.as_string (some_text names) n (options_of d)
-are_sorted_texts d ds names n e h p g = are_options as_str tree.as_string bytes_eq refl text_apart text_equal d ds (some_text names) n e h (λ s. sym (list_any-IsPermutation (λ n. bytes_eq n s) (picked as_str ds) names p)) g
-
--- ---- integers
-
-integer_apart : (d : Data) (z : ℤ) → integer_of d ≡ Some z → as_null d ≡ None
-integer_apart json.null z e = absurd (none-some _ e)
-integer_apart d z e = refl
-
--- the number that an integer is
-integer_number : (n : json.Num) (z : ℤ) → as_i64 n ≡ Some z → num_of n ≡ exact z zero
-integer_number (json.unsigned m) z e = go (nat_lt m (2 ^ 63)) e
+-- an integer as a number
+number_option : (n : json.Num) (m : Num) → (is_some (as_i64 n) || false) ≡ true → num_equal (num_of n) m ≡ option_map_or (λ z. num_equal (exact z zero) m) (as_i64 n) false
+number_option (json.unsigned k) m h = go (nat_lt k (2 ^ 63)) h
   where
-    go : (b : Bool) → (if b then Some (pos m) else None) ≡ Some z → exact (pos m) zero ≡ exact z zero
-    go true e = ap (λ o. exact (unwrap_or o z) zero) e
-    go false e = absurd (none-some z e)
-integer_number (json.negative w) z e = ap (λ o. exact (unwrap_or o z) zero) e
-integer_number (json.float x) z e = absurd (none-some z e)
+    go : (b : Bool) → (is_some (if b then Some (pos k) else None) || false) ≡ true → num_equal (exact (pos k) zero) m ≡ option_map_or (λ z. num_equal (exact z zero) m) (if b then Some (pos k) else None) false
+    go true h = refl
+    go false h = absurd (true≢false (sym h))
+number_option (json.negative w) m h = refl
+number_option (json.float x) m h = absurd (true≢false (sym h))
 
-integer_equal : (d : Data) (z : ℤ) (t : Tree) → integer_of d ≡ Some z → equal (tree_of d) t ≡ option_map_or (num_equal (exact z zero)) (tree.as_number t) false
-integer_equal (json.number n) z t e = ap (λ m. option_map_or (num_equal m) (tree.as_number t) false) (integer_number n z e)
-integer_equal d z t e = absurd (none-some z e)
+integer_option : (d : Data) (t : Tree) → (is_some (integer_of d) || is_some (as_null d)) ≡ true
+    → equal (tree_of d) t ≡ option_map_or (λ m. option_map_or (λ z. num_equal (exact z zero) m) (integer_of d) false) (tree.as_number t) (is_some (as_null d) && tree.is_null t)
+integer_option json.null tree.null h = refl
+integer_option json.null t h = refl
+integer_option (json.number n) (tree.number m) h = number_option n m h
+integer_option (json.number n) t h = refl
+integer_option d t h = absurd (true≢false (sym h))
 
-pub are_sorted_integers : (d : Data) (ds : Items) (zs : List ℤ) (n : Bool) → d ≡ array ds → only integer_of ds ≡ true → IsPermutation (picked integer_of ds) zs → n ≡ has_null ds → AreOptions tree.as_number (some_integer zs) n (options_of d)
-are_sorted_integers d ds zs n e h p g =
-    are_options integer_of tree.as_number (λ z. num_equal (exact z zero)) refl integer_apart integer_equal d ds (some_integer zs) n e h (λ m. sym (list_any-IsPermutation (λ z. num_equal (exact z zero) m) (picked integer_of ds) zs p)) g
+pub are_integers : (d : Data) (ds : Items) (zs : List ℤ) (n : Bool) → d ≡ array ds → only integer_of ds ≡ true → IsPermutation (picked integer_of ds) zs → n ≡ has_null ds → AreOptions tree.as_number (some_integer zs) n (options_of d)
+are_integers = are_options integer_of tree.as_number (λ z. num_equal (exact z zero)) integer_option
 
 -- ---- floats among the options
 
 -- an array of options is at fault as a value is
 pub as_value : (q : Pointer) (d : Data) (ds : Items) → d ≡ array ds → enum_value q d ≡ map_ok (λ e. ds) (const_value q d)
-as_value q d ds h = ap (enum_value q) h ∙ go (first_float_item ds) ∙ sym (ap (λ d. map_ok (λ e. ds) (const_value q d)) h)
+as_value q d ds h = rw h (go (first_float_item ds))
   where
     go : (o : Option Data) → unless_float q o ds ≡ map_ok (λ e. ds) (unless_float q o (array ds))
     go None = refl

@@ -2,9 +2,11 @@
 use Rattle.std.proofs.Common.{◌≡◌, List, [], ◌∷◌, ◌++◌, Result, Ok, Err, IsErrAnd, refl, subst, sym, ap, ◌∙◌, append_assoc, append-nil}
 use Rattle.jskw_value.specs.Tree.{Tree}
 use Rattle.jskw_report.specs.Fail.{Failure}
-use Rattle.jskw_report.specs.Observe.{Collects, AppendsBeginning, IsFirst}
+use Rattle.jskw_report.specs.Errors.{failures_of}
+use Rattle.jskw_report.specs.Observe.{Appends, AppendsBeginning, Collects, IsFirst}
 use Rattle.jskw_report.specs.declared.error.Fault.{Fault}
 use Rattle.jskw_report.specs.declared.error.Fault.TheVariants.{Invalid, Memory}
+use Rattle.jskw_report.specs.declared.error.ValidationError.{ValidationError}
 
 -- at first all is still to come
 pub collects_nothing : (old all : List Failure) → Collects old old all all
@@ -49,3 +51,9 @@ first_before {F} {N} {O} {P} tree (Err y) x fs rest all is first so = subst (λ 
     behind : (z : Fault F N O P) → IsFirst tree fs (Err z) → IsFirst tree all (Err z)
     behind (Invalid e) (more, is) = (more ++ rest, sym so ∙ ap (λ xs. xs ++ rest) is)
     behind (Memory m) first = tt
+
+-- a beginning of all is appended where want of memory is handed on
+pub appends_begun : {F N O P E : Type 0} (tree : N → Tree) (old new : List (ValidationError F N O P)) (all : List Failure) (r : Result Unit E) (x : E)
+    → IsErrAnd r (λ y. y ≡ x) → AppendsBeginning (failures_of tree old) (failures_of tree new) all → Appends tree old new all r
+appends_begun tree old new all (Ok u) x is begun = absurd is
+appends_begun tree old new all (Err e) x is begun = begun

@@ -6,7 +6,7 @@ use Rattle.jskw_report.specs.Observe.{Collects, AppendsBeginning}
 use Rattle.jskw_report.specs.Paths.{path_of}
 use Rattle.jskw_leaf.specs.Meaning.{leaf_keyword}
 use Rattle.jskw.specs.Node.{keywords_of}
-use Rattle.jskw_report.proofs.Appending.{collects_all, collects_more, collects_nothing, collects_part}
+use Rattle.jskw_report.proofs.Appending.{appends_begun, collects_all, collects_more, collects_nothing, collects_part}
 use Rattle.jskw.proofs.Units.{fail_here}
 use Rattle.jskw.proofs.node.collect_all.Goals as goal
 
@@ -54,4 +54,4 @@ returns-in_err-collect_errors-clause-appended g c =
     let here = fail_here units l.unit-index u c.loop-unit-test.true t p in
     let left = subst (λ fs. Collects old now fs (all_fail (keywords_of units) t p)) (here ∙ ap (λ v. keyword_fail (leaf_keyword v.validator) t p ++ all_fail (keywords_of (drop (l.unit-index + 1) units)) t p) (sym c.unit-item.is)) l.invariant.collects in
     let begun = subst (λ q. AppendsBeginning now new (keyword_fail (leaf_keyword u.validator) t (path_of q))) l.invariant.location c.in_err-collect_errors.ensures.appended in
-    collects_part _ _ left begun
+    appends_begun tree _ _ _ _ _ c.from_residual.ensures.1 (collects_part _ _ left begun)

@@ -1,9 +1,9 @@
-use Rattle.std.proofs.Common.{◌∙◌}
-use Rattle.jskw_leaf.proofs.Options.{is_listed, are_sorted_texts}
+use Rattle.std.proofs.Common.{refl, ◌∙◌}
+use Rattle.jskw_leaf.proofs.Options.{are_texts}
 use Rattle.jskw_leaf.proofs.enum_.strings.BigStringEnumValidator.compile.Goals as goal
 
 pub invariant_of-result-clause-array : goal.invariant_of-result-clause-array
-invariant_of-result-clause-array g c = is_listed _ _ (c.in_ok-clone.ensures.cases ∙ c.requires.array)
+invariant_of-result-clause-array g c = rw (c.in_ok-clone.ensures.cases ∙ c.requires.array) refl
 
 pub invariant_of-result-clause-listed : goal.invariant_of-result-clause-listed
-invariant_of-result-clause-listed g c = are_sorted_texts _ _ _ _ (c.in_ok-clone.ensures.cases ∙ c.requires.array) c.requires.texts c.in_ok-sorted_texts_of.ensures.same (c.new.ensures ∙ c.requires.null)
+invariant_of-result-clause-listed g c = are_texts _ _ _ _ (c.in_ok-clone.ensures.cases ∙ c.requires.array) c.requires.texts c.in_ok-sorted_texts_of.ensures.same (c.new.ensures ∙ c.requires.null)
