@@ -6,6 +6,16 @@
 //! They answer None where the keyword asserts nothing, the error of a value that the keyword does
 //! not take, or want of memory; else a validator, whose four observers are those of
 //! [`Validate`](jskw_report::Validate).
+//!
+//! ```rust
+//! let schema = member_of(parent, keyword.as_str())?;
+//! if !jskw_leaf::is_leaf(keyword) || !keyword.stands(ctx) {
+//!     return None;
+//! }
+//! jskw_leaf::compile(alloc, ctx, parent, keyword, schema)
+//! ```
+//!
+//! The validator is asked of an instance that is lawful: it holds no float, as `is_lawful` tells.
 #![tactic(auto)]
 
 pub mod boolean;
