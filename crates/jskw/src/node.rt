@@ -134,13 +134,7 @@ fn node_of_object<'a, F: Json>(
 }
 
 // Whether the schema leaves its `required` to the keywords of objects.
-#[tactic(
-    auto,
-    using(
-        jskw_leaf::proofs::HandedOn::not_handed_on,
-        jskw_leaf::proofs::HandedOn::absent_not_handed_on
-    )
-)]
+#[tactic(auto, using(jskw_leaf::proofs::HandedOn::not_handed_on, jskw_leaf::proofs::HandedOn::absent_not_handed_on))]
 fn is_handed_on<F: Json>(ctx: &Context<'_, F>, parent: &Map<String, Value>) -> bool
     ensures { result ≡ is_handed_on ctx.now.setting (members_view parent.now.entries) }
 {
@@ -181,14 +175,7 @@ fn compile_keywords<'a, F: Json>(
     Ok(units)
 }
 
-#[tactic(
-    auto,
-    using(
-        jskw_report::proofs::Reading::read_absent,
-        jskw_report::proofs::Reading::read_not_standing,
-        crate::proofs::Built::read_built
-    )
-)]
+#[tactic(auto, using(jskw_report::proofs::Reading::read_absent, jskw_report::proofs::Reading::read_not_standing, crate::proofs::Built::read_built))]
 fn compile_keyword<'a, F: Json>(
     alloc: Global,
     ctx: &Context<'_, F>,
