@@ -23,8 +23,8 @@ use names::{NameList, Names, OneName, ThreeNames, TwoNames};
 use std::alloc::{AllocError, Global};
 use std::marker::PhantomData;
 
-/// The validator of the names that `L` holds, each once, over the representation `F`. It fails once for each name that an object
-/// lacks.
+/// The validator of the names that `L` holds, each once, over the representation `F`. It fails once
+/// for each name that an object lacks.
 #[derive(Drop)]
 pub struct RequiredNames<F: Json, L> {
     names: L,

@@ -16,8 +16,8 @@ pub enum KeywordName {
     MinItems,
     /// `maxItems` (Validation 6.4.1)
     MaxItems,
-    /// `items` (Core 10.3.1.2; of an array of schemas Draft 7 Validation 6.4.1, by this library's own
-    /// rule in 2020-12 too)
+    /// `items` (Core 10.3.1.2; of an array of schemas Draft 7 Validation 6.4.1, by this library's
+    /// own rule in 2020-12 too)
     Items,
     /// `prefixItems` (Core 10.3.1.1)
     PrefixItems,
@@ -108,7 +108,7 @@ impl KeywordName {
             && !ctx.is_keyword_overridden(self.as_str())
     }
 
-    /// Whether the draft has the keyword.
+    // Whether the draft has the keyword.
     fn is_in(self, draft: Draft) -> bool
         ensures { result ≡ is_in draft self }
     {
@@ -123,8 +123,8 @@ impl KeywordName {
         }
     }
 
-    /// The vocabulary that defines the keyword: that of applicators for the keywords with
-    /// subschemas (Core 10.3.1), and that of validation for the others (Validation 6).
+    // The vocabulary that defines the keyword: that of applicators for the keywords with subschemas
+    // (Core 10.3.1), and that of validation for the others (Validation 6).
     fn vocabulary(self) -> Vocabulary
         ensures { result ≡ vocabulary_of self }
     {

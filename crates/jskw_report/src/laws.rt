@@ -1,5 +1,5 @@
-//! Laws of the definitions: what holds of every schema and every instance. Each is the contract of a
-//! function that does nothing.
+//! Laws of the definitions: what holds of every schema and every instance. Each is the contract of
+//! a function that does nothing.
 ghost use Rattle.std.specs.Prelude.{IsTrue};
 ghost use Rattle.jskw_value.specs.Equality.{same};
 ghost use Rattle.jskw_report.specs.Laws.{HoldsWhereNothingFails, KeywordHoldsWhereNothingFails};
@@ -33,9 +33,9 @@ pub fn keywords_hold_elsewhere()
     ensures { HoldsElsewhere }
 {}
 
-/// `const` and an `enum` of that one value accept the same instances, wherever they stand and whatever
-/// stands beside them. Where both stand, and each is alone in its schema, both schemas can be read or
-/// neither can (Validation 6.1.2, 6.1.3).
+/// `const` and an `enum` of that one value accept the same instances, wherever they stand and
+/// whatever stands beside them. Where both stand, and each is alone in its schema, both schemas can
+/// be read or neither can (Validation 6.1.2, 6.1.3).
 pub fn const_is_one_option()
     ensures { ConstIsOneOption }
 {}
@@ -53,8 +53,8 @@ pub fn first_float_is_one()
     ensures { FirstFloatIsOne }
 {}
 
-/// What is needed up to the first failure is part of the pairs of a schema and a tree. Each pair lies
-/// at one depth, and at each depth lie no more than schemas times trees.
+/// What is needed up to the first failure is part of the pairs of a schema and a tree. Each pair
+/// lies at one depth, and at each depth lie no more than schemas times trees.
 pub fn applications_are_bounded()
     ensures needed { NeedsSomePairs }
     ensures depths { PairsMeetAtOneDepth }

@@ -31,7 +31,8 @@ pub enum Vocabulary {
     Validation,
 }
 
-/// A set of vocabularies. Drafts 4, 6 and 7 know none: there no keyword is left out for want of one.
+/// A set of vocabularies. Drafts 4, 6 and 7 know none: there no keyword is left out for want of
+/// one.
 #[derive(Clone, Copy, PartialEq, Eq, Debug)]
 pub struct VocabularySet {
     core: bool,

@@ -42,8 +42,9 @@ const RELATIONS: [(&str, &str); 4] = [
     ("exclusiveMaximum", "<"),
 ];
 
-// Coefficient and scale, as `20e-1`; how the number stands to each of `LIMITS`; whether it is a multiple of
-// each of `DIVISORS`. The table was made by Python's `fractions.Fraction`, with no code of ours.
+// Coefficient and scale, as `20e-1`; how the number stands to each of `LIMITS`; whether it is a
+// multiple of each of `DIVISORS`. The table was made by Python's `fractions.Fraction`, with no code
+// of ours.
 const NUMBERS: &str = r#"-9223372036854775808e-0|=<<<<<<<<<<|yynnnn
 -1e-0|>=<<<<<<<<<|ynnnnn
 0e-0|>>=<<<<<<<<|yyyyyy
