@@ -32,9 +32,8 @@ impl Assertion for ConstValueValidator {
     }
 
     fn kind(&self) -> ValidationErrorKind<'_> {
-        ValidationErrorKind::Constant {
-            expected_value: &self.value,
-        }
+        let expected_value = &self.value;
+        ValidationErrorKind::Constant { expected_value }
     }
 
     fn location(&self) -> &Location {
@@ -73,9 +72,8 @@ impl Assertion for ConstBooleanValidator {
     }
 
     fn kind(&self) -> ValidationErrorKind<'_> {
-        ValidationErrorKind::Constant {
-            expected_value: &self.value,
-        }
+        let expected_value = &self.value;
+        ValidationErrorKind::Constant { expected_value }
     }
 
     fn location(&self) -> &Location {
@@ -105,9 +103,8 @@ impl Assertion for ConstNullValidator {
     }
 
     fn kind(&self) -> ValidationErrorKind<'_> {
-        ValidationErrorKind::Constant {
-            expected_value: &self.value,
-        }
+        let expected_value = &self.value;
+        ValidationErrorKind::Constant { expected_value }
     }
 
     fn location(&self) -> &Location {
@@ -137,9 +134,8 @@ impl Assertion for ConstStringValidator {
     }
 
     fn kind(&self) -> ValidationErrorKind<'_> {
-        ValidationErrorKind::Constant {
-            expected_value: &self.value,
-        }
+        let expected_value = &self.value;
+        ValidationErrorKind::Constant { expected_value }
     }
 
     fn location(&self) -> &Location {

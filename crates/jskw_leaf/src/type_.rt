@@ -91,10 +91,8 @@ impl<T: TypeTest> SingleTypeValidator<T> {
     pub fn new(location: Location) -> SingleTypeValidator<T>
         ensures { single_type T.json_type T.rule result ≡ type_at T.json_type T.rule location }
     {
-        SingleTypeValidator {
-            location,
-            test: PhantomData,
-        }
+        let test = PhantomData;
+        SingleTypeValidator { location, test }
     }
 }
 
