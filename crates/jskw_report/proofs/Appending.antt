@@ -1,5 +1,5 @@
 -- Lists of failures that are appended, one part after another.
-use Rattle.std.proofs.Common.{◌≡◌, List, [], ◌∷◌, ◌++◌, Result, Ok, Err, IsErrAnd, refl, subst, sym, ap, ◌∙◌, append_assoc, append-nil}
+use Rattle.std.proofs.Common.{◌≡◌, List, [], ◌++◌, Result, Ok, Err, IsErrAnd, refl, subst, sym, ap, ◌∙◌, append_assoc, append-nil}
 use Rattle.jskw_value.specs.Tree.{Tree}
 use Rattle.jskw_report.specs.Fail.{Failure}
 use Rattle.jskw_report.specs.Errors.{failures_of}

@@ -1,5 +1,5 @@
 -- Failures of an assertion that is not `required`.
-use Rattle.std.proofs.Common.{◌≡◌, ◌≤◌, List, [], ◌∷◌, length, map, Bool, true, false, ap, sym, subst, arith}
+use Rattle.std.proofs.Common.{◌≡◌, ◌≤◌, length, map, Bool, true, false, ap, sym, subst, arith}
 use Rattle.jskw_value.specs.Pointer.{Pointer}
 use Rattle.jskw_value.specs.Tree.{Tree}
 use Rattle.jskw_report.specs.Fail.{error_kinds, keyword_fail, unless}
@@ -10,12 +10,12 @@ use Rattle.jskw_report.specs.Meaning.{Placed, placed}
 use Rattle.jskw_report.specs.Observe.{failures_unless}
 
 -- there is at most one
-pub once : (holds : Bool) (kind : ErrorKind) (q : Pointer) (t : Tree) (p : Pointer) → length (failures_unless holds kind q t p) ≤ 1
+once : (holds : Bool) (kind : ErrorKind) (q : Pointer) (t : Tree) (p : Pointer) → length (failures_unless holds kind q t p) ≤ 1
 once true kind q t p = omega arith
 once false kind q t p = omega arith
 
 -- an assertion with one kind of error fails by that kind
-pub as_unless : (a : Assertion) (k : ErrorKind) → ((t : Tree) → error_kinds a t ≡ unless (assertion_holds a t) k)
+as_unless : (a : Assertion) (k : ErrorKind) → ((t : Tree) → error_kinds a t ≡ unless (assertion_holds a t) k)
     → (q : Pointer) (t : Tree) (p : Pointer) → keyword_fail (assertion q a) t p ≡ failures_unless (assertion_holds a t) k q t p
 as_unless a k h q t p = ap (λ ks. map (λ k. record { kind = k; instance_location = p; keyword_location = q; tree = t }) ks) (h t)
 

@@ -1,5 +1,5 @@
 -- How a schema's members are found.
-use Rattle.std.specs.Prelude.{◌≡◌, List, ℕ, Bool, true, false, Some, None, option_map, if◌then◌else◌}
+use Rattle.std.specs.Prelude.{◌≡◌, List, ℕ, true, false, Some, None, option_map, if◌then◌else◌}
 use Rattle.std.proofs.Common.{refl, ap, ◌∙◌}
 use Rattle.std.specs.Ordering.{nat_cmp, match_ordering}
 use Rattle.std.proofs.Common.{Ordering}

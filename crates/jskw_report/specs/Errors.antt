@@ -1,10 +1,9 @@
 -- What an error of the code says, what a list of errors says, and what answers owe to them.
-use Rattle.std.specs.Prelude.{◌≡◌, List, [], ◌∷◌, ◌++◌, map, Option, Some, None, Result, Ok, Err, ⊤}
+use Rattle.std.specs.Prelude.{List, map}
 use Rattle.serde_json.specs.View.{view}
 use Rattle.jskw_value.specs.Pointer.{Pointer}
 use Rattle.jskw_value.specs.Tree.{Tree}
 use Rattle.jskw_report.specs.Fail.{Failure}
-use Rattle.jskw_report.specs.KeywordValue as reading
 use Rattle.jskw_report.specs.Kind.{ErrorKind}
 use Rattle.jskw_report.specs.Kind as kind
 use Rattle.jskw_report.specs.declared.error.EnumOptions as declared_options

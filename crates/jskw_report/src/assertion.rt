@@ -42,7 +42,6 @@ pub trait Assertion {
         ≡ unless (assertion_holds (asserts a).claim t) (error a) };
 }
 
-#[tactic(auto, using(crate::proofs::Once::once))]
 impl<F: Json, A: Assertion> Validate<F> for A {
     ghost meaning = { λ a. one (placed (A.asserts a)) };
 
