@@ -1,5 +1,2 @@
-pub mod Built
 pub mod Reading
 pub mod Requests
-pub mod Turns
-pub mod Units

@@ -8,15 +8,10 @@ use Rattle.jskw_report.specs.Fail.{Failure, fail}
 use Rattle.jskw_report.specs.KeywordValue.{Refusal}
 use Rattle.jskw_report.specs.Kind.{keyword_of}
 use Rattle.jskw_report.specs.Read.{Reading, read}
-use Rattle.jskw_report.specs.declared.keyword.KeywordName.{KeywordName}
-use Rattle.jskw_report.specs.declared.keyword.KeywordName.TheVariants.{TypeKeyword, MinItems, MaxItems, UniqueItems, Const, Enum, Minimum, Maximum, ExclusiveMinimum, ExclusiveMaximum, MultipleOf, MinProperties, MaxProperties, Required}
+use Rattle.jskw_report.specs.Setting.{keywords}
 use Rattle.jskw.specs.Request.{Request, request_in}
 use Rattle.jskw.specs.declared.service.Verdict.{Verdict}
 use Rattle.jskw.specs.declared.service.Verdict.TheVariants.{Valid, Invalid, Refused}
-
--- the keywords that the program has so far, in the order in which a schema is read; the others assert nothing here
-abbrev pub program_keywords : List KeywordName
-program_keywords = TypeKeyword ∷ MinItems ∷ MaxItems ∷ UniqueItems ∷ Const ∷ Enum ∷ Minimum ∷ Maximum ∷ ExclusiveMinimum ∷ ExclusiveMaximum ∷ MultipleOf ∷ MinProperties ∷ MaxProperties ∷ Required ∷ []
 
 pub data Answer : Type 0 where
   -- the input is no request
@@ -36,7 +31,7 @@ judged (Ok s) None t = errors (fail s t [])
 -- the schema first, then the floats of the instance, then its errors
 abbrev pub answer : Option Request → Answer
 answer None = no_request
-answer (Some r) = judged (read program_keywords r.schema r.setting []) (first_float (tree_of r.instance)) (tree_of r.instance)
+answer (Some r) = judged (read keywords r.schema r.setting []) (first_float (tree_of r.instance)) (tree_of r.instance)
 
 abbrev pub verdict_of : Answer → Verdict
 verdict_of (errors []) = Valid

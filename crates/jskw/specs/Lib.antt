@@ -1,6 +1,5 @@
 pub mod Request
 pub mod RequestView
 pub mod Answer
-pub mod Node
 pub mod Reply
 pub mod Run

@@ -4,7 +4,6 @@
 mod device;
 #[cfg(test)]
 mod memory;
-mod node;
 mod request;
 mod service;
 mod std_sink;

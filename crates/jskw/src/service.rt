@@ -13,9 +13,9 @@ ghost use Rattle.jskw.specs.Reply.{text_in, verdict_in};
 ghost use Rattle.jskw.specs.Run.{Begins, IsOutput, Writes, status_of};
 
 use crate::device::{DeviceFault, Sink, Source};
-use crate::node::compile;
 use crate::request::{Request, request_of};
 use crate::whole::{ReadFault, read_all, write_all};
+use jskw_array::compiler::compile;
 use jskw_report::{CompileFault, Context, LazyLocation, ValidationContext, ValidationError};
 use jskw_value::{Node, SerdeJson};
 use serde_json::Value;

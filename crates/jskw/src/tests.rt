@@ -1,9 +1,8 @@
-// Whole requests, over a reader and a writer in memory, and the compiled schema by itself.
+// Whole requests, over a reader and a writer in memory.
 ghost use Rattle.std.specs.Prelude.{◌<◌};
 
 mod devices;
 mod names;
-mod node;
 mod numbers;
 mod options;
 mod refused;

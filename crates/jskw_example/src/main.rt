@@ -76,8 +76,8 @@ fn ask(rt: &HostRuntime, validator: &LeafValidator<SerdeJson>, value: &Value) ->
         )?;
     }
     match validator.evaluate(rt.alloc(), value, &mut location, &mut ctx)? {
-        EvaluationResult::Valid => println!(rt; "  evaluated: valid"),
-        EvaluationResult::Invalid { errors } => println!(rt;
+        EvaluationResult::Valid { .. } => println!(rt; "  evaluated: valid"),
+        EvaluationResult::Invalid { errors, .. } => println!(rt;
             "  evaluated: {} errors",
             errors.len()
         ),

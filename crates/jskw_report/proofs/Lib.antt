@@ -5,6 +5,7 @@ pub mod Counts
 pub mod Elsewhere
 pub mod Fails
 pub mod FirstFloats
+pub mod Gathering
 pub mod Matches
 pub mod Once
 pub mod OneOption

@@ -40,6 +40,26 @@ evaluations (e ∷ es) = evaluation e (evaluations es)
 abbrev pub is_valid : Evaluation → Bool
 is_valid (node valid q p a ds es) = valid
 
+-- its keyword location
+abbrev pub keyword_location_at : Evaluation → Pointer
+keyword_location_at (node valid q p a ds es) = q
+
+-- its instance location
+abbrev pub instance_location_at : Evaluation → Pointer
+instance_location_at (node valid q p a ds es) = p
+
+-- its annotation
+abbrev pub annotation_at : Evaluation → Option Annotation
+annotation_at (node valid q p a ds es) = a
+
+-- the keywords of its errors
+abbrev pub keywords_at : Evaluation → List (List ℕ)
+keywords_at (node valid q p a ds es) = ds
+
+-- the nodes below it
+abbrev pub children_at : Evaluation → Evaluations
+children_at (node valid q p a ds es) = es
+
 -- the result as a node, with its keyword location q and its instance location p
 abbrev pub node_at : Pointer → Pointer → Result → Evaluation
 node_at q p r = node r.valid q p r.annotation r.descriptions (evaluations r.children)

@@ -14,5 +14,9 @@ pub mod Errors
 pub mod Observe
 pub mod Meaning
 pub mod Compile
-pub mod Description
+pub mod EvaluationParts
+pub mod EvaluationCode
 pub mod EvaluationView
+pub mod LabelTree
+pub mod DataCode
+pub mod SchemaCode

@@ -25,7 +25,7 @@ pub use error::{
     CompilationResult, CompileFault, EnumOptions, Fault, TypeKind, ValidationError,
     ValidationErrorKind,
 };
-pub use evaluation::{ErrorDescription, EvaluationResult};
+pub use evaluation::{Annotations, ErrorDescription, EvaluationNode, EvaluationResult};
 pub use keyword::KeywordName;
 pub use paths::{LazyLocation, Location, LocationSegment};
 pub use settings::{Draft, Settings, Vocabulary, VocabularySet};

@@ -1,5 +1,5 @@
 //! What every validator answers of an instance.
-ghost use Rattle.std.specs.Prelude.{◌≡◌, ◌≤◌, length, IfOk, IsOk, List, IsTrue};
+ghost use Rattle.std.specs.Prelude.{◌≡◌, ◌≤◌, ◌+◌, min, length, IfOk, IsOk, List, IsTrue};
 ghost use Rattle.jskw_value.specs.Tree.{is_lawful};
 ghost use Rattle.jskw_report.specs.Errors.{kind_of, failures_of};
 ghost use Rattle.jskw_report.specs.Evaluation.{of_errors};
@@ -38,6 +38,22 @@ impl ValidationContext {
         ensures { result ≡ 0 }
     {
         ValidationContext { applications: 0 }
+    }
+
+    /// Counts one application more. Where the count is 2^64-1 it stays.
+    pub fn count_one(&mut self)
+        ensures applied { min (self.old + 1) u64.MAX ≤ self.new }
+        ensures counted { CountsUpTo self.old self.new 1 }
+    {
+        self.applications = self.applications.saturating_add(1);
+    }
+
+    /// The number of subschema applications so far: how often a schema or subschema was applied to
+    /// the instance or an item. It stays at 2^64-1 once there.
+    pub fn applications(&self) -> u64
+        ensures { result ≡ self.now }
+    {
+        self.applications
     }
 }
 
@@ -167,11 +183,11 @@ pub fn evaluate_first<F: Json>(
     ensures ok { IsOk answer.entry → IsOk result }
 {
     match answer {
-        Ok(()) => Ok(EvaluationResult::valid_empty()),
+        Ok(()) => Ok(EvaluationResult::valid_empty(alloc)),
         Err(Fault::Invalid(error)) => {
             let mut errors = Vec::new(alloc);
             errors.push(ErrorDescription::from_validation_error(alloc, &error)?)?;
-            Ok(EvaluationResult::invalid_empty(errors))
+            Ok(EvaluationResult::invalid_empty(alloc, errors))
         }
         Err(Fault::Memory(error)) => Err(error),
     }
@@ -187,11 +203,11 @@ pub fn evaluate_errors<F: Json>(
     ensures { IfOk result (λ r. result_of r ≡ of_errors (failures_of F.Node.tree errors.now)) }
 {
     if errors.is_empty() {
-        return Ok(EvaluationResult::valid_empty());
+        return Ok(EvaluationResult::valid_empty(alloc));
     }
     let mut descriptions = Vec::new(alloc);
     for error in errors {
         descriptions.push(ErrorDescription::from_validation_error(alloc, error)?)?;
     }
-    Ok(EvaluationResult::invalid_empty(descriptions))
+    Ok(EvaluationResult::invalid_empty(alloc, descriptions))
 }

@@ -19,6 +19,12 @@ of_pairs = tt
         ≡ Some 6
     pairs_are_counted_at_each_depth = refl
 
+    -- {"prefixItems":[{"items":{}},{"items":{}}]} on [[1,2],[3]]
+    prefix_items_meet_what_their_schemas_meet :
+        pairs_on latest (obj (is "prefixItems" (arr (obj (is "items" (obj []) ∷ []) ∷ obj (is "items" (obj []) ∷ []) ∷ [])) ∷ [])) (arr (arr (num 1 ∷ num 2 ∷ []) ∷ arr (num 3 ∷ []) ∷ []))
+        ≡ Some 6
+    prefix_items_meet_what_their_schemas_meet = refl
+
     -- {"prefixItems":[true],"items":{"const":1}} on [1,1,1]
     items_meet_those_behind_the_prefix :
         pairs_on latest (obj (is "prefixItems" (arr (yes ∷ [])) ∷ is "items" (obj (is "const" (num 1) ∷ [])) ∷ [])) (arr (num 1 ∷ num 1 ∷ num 1 ∷ []))
@@ -48,6 +54,12 @@ of_needed = tt
         needed_on latest (obj (is "items" (obj (is "items" (obj (is "const" (num 1) ∷ [])) ∷ [])) ∷ [])) (arr (arr (num 1 ∷ num 2 ∷ []) ∷ arr (num 3 ∷ []) ∷ []))
         ≡ Some 4
     nothing_is_needed_behind_a_failure = refl
+
+    -- {"items":{"const":1}} on [2,1,1]
+    items_need_nothing_behind_a_failure :
+        needed_on latest (obj (is "items" (obj (is "const" (num 1) ∷ [])) ∷ [])) (arr (num 2 ∷ num 1 ∷ num 1 ∷ []))
+        ≡ Some 2
+    items_need_nothing_behind_a_failure = refl
 
     -- {"contains":{"const":1}} on [1,2]
     contains_needs_every_item :

@@ -65,6 +65,18 @@ of_items = tt
         ≡ errors (error FalseSchema "/0" "/items" ∷ [])
     items_of_2019_09_begin_at_the_first = refl
 
+    -- {"items":{"items":{"const":1}}} on [[1,2],[3]]
+    errors_of_items_stand_at_their_locations :
+        on latest (obj (is "items" (obj (is "items" (obj (is "const" (num 1) ∷ [])) ∷ [])) ∷ [])) (arr (arr (num 1 ∷ num 2 ∷ []) ∷ arr (num 3 ∷ []) ∷ []))
+        ≡ errors (error (Constant (num 1)) "/0/1" "/items/items/const" ∷ error (Constant (num 1)) "/1/0" "/items/items/const" ∷ [])
+    errors_of_items_stand_at_their_locations = refl
+
+    -- {"items":{"type":"string"}} on [5], with `type` overridden
+    a_keyword_of_a_subschema_may_be_overridden :
+        on (without "type" latest) (obj (is "items" (obj (is "type" (str "string") ∷ [])) ∷ [])) (arr (num 5 ∷ []))
+        ≡ valid
+    a_keyword_of_a_subschema_may_be_overridden = refl
+
     -- {"items":5} on [1]
     items_of_no_schema_assert_nothing : on latest (obj (is "items" (num 5) ∷ [])) (arr (num 1 ∷ [])) ≡ valid
     items_of_no_schema_assert_nothing = refl
@@ -86,6 +98,12 @@ of_prefix_items = tt
         on (without "prefixItems" latest) (obj (is "prefixItems" (arr (no ∷ [])) ∷ is "items" (obj (is "type" (str "string") ∷ [])) ∷ [])) (arr (num 5 ∷ num 5 ∷ []))
         ≡ errors (error (WrongType (Single String)) "/1" "/items/type" ∷ [])
     items_read_an_overridden_prefix = refl
+
+    -- {"prefixItems":5,"items":false} on [1], with `prefixItems` overridden
+    items_begin_at_the_first_beside_no_prefix :
+        on (without "prefixItems" latest) (obj (is "prefixItems" (num 5) ∷ is "items" no ∷ [])) (arr (num 1 ∷ []))
+        ≡ errors (error FalseSchema "/0" "/items" ∷ [])
+    items_begin_at_the_first_beside_no_prefix = refl
 
     -- {"prefixItems":[true],"items":false} on [1], in Draft 7
     draft_7_has_no_prefix :
@@ -134,6 +152,12 @@ of_additional_items = tt
         on (with applicator_only (under Draft201909)) (obj (is "items" (arr (obj [] ∷ [])) ∷ is "additionalItems" no ∷ [])) (arr (num 1 ∷ num 2 ∷ []))
         ≡ errors (error (AdditionalItems 1) "" "/additionalItems" ∷ [])
     additional_items_are_applicators = refl
+
+    -- {"items":[{}],"additionalItems":false} on [1,2]
+    additional_items_went_with_2020_12 :
+        on latest (obj (is "items" (arr (obj [] ∷ [])) ∷ is "additionalItems" no ∷ [])) (arr (num 1 ∷ num 2 ∷ []))
+        ≡ valid
+    additional_items_went_with_2020_12 = refl
 
     -- {"items":{},"additionalItems":false} on [1], in Draft 7
     additional_items_need_a_list_of_schemas :
@@ -186,6 +210,12 @@ of_contains = tt
         on (with applicator_only (under Draft201909)) (obj (is "contains" (obj (is "items" no ∷ [])) ∷ is "minContains" (num 2) ∷ [])) (arr (arr (num 1 ∷ []) ∷ arr [] ∷ []))
         ≡ valid
     bounds_of_contains_are_validation = refl
+
+    -- {"contains":{"items":false},"minContains":2} on [], in 2019-09 with the vocabulary of Core 10 alone
+    contains_needs_a_match_without_its_bounds :
+        on (with applicator_only (under Draft201909)) (obj (is "contains" (obj (is "items" no ∷ [])) ∷ is "minContains" (num 2) ∷ [])) (arr [])
+        ≡ errors (error Contains "" "/contains" ∷ [])
+    contains_needs_a_match_without_its_bounds = refl
 
     -- {"contains":{"type":"integer"},"minContains":3,"maxContains":1} on [1,2]
     too_many_matches_come_first :

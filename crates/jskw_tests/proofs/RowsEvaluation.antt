@@ -7,7 +7,7 @@ use Rattle.std.proofs.Common.{refl}
 use Rattle.jskw_report.specs.declared.settings.Draft.TheVariants.{Draft4, Draft7}
 use Rattle.jskw_report.specs.Evaluation.{flag, index, indices, of_errors}
 use Rattle.jskw_report.specs.Read.{asserted, read_word}
-use Rattle.jskw_tests.proofs.Worked.{num, str, yes, arr, is, obj, under, latest, ev, evaluated}
+use Rattle.jskw_tests.proofs.Worked.{num, str, yes, no, arr, is, obj, under, latest, ev, evaluated}
 
 -- ---- evaluation trees
 
@@ -92,6 +92,12 @@ of_evaluations = tt
         evaluated latest (obj (is "prefixItems" (arr (yes ∷ [])) ∷ is "items" (obj []) ∷ [])) (arr (num 1 ∷ num 2 ∷ []))
         ≡ Some (ev true "" "" None [] (ev true "/items" "" (Some (flag true)) [] (ev true "/items" "/1" None [] [] ∷ []) ∷ ev true "/prefixItems" "" (Some (index 0)) [] (ev true "/prefixItems/0" "/0" None [] [] ∷ []) ∷ []))
     items_tell_those_behind_the_prefix = refl
+
+    -- {"prefixItems":[true,false]} on [1,2,3]
+    an_invalid_node_keeps_what_it_tells :
+        evaluated latest (obj (is "prefixItems" (arr (yes ∷ no ∷ [])) ∷ [])) (arr (num 1 ∷ num 2 ∷ num 3 ∷ []))
+        ≡ Some (ev false "" "" None [] (ev false "/prefixItems" "" (Some (index 1)) [] (ev true "/prefixItems/0" "/0" None [] [] ∷ ev false "/prefixItems/1" "/1" None ("falseSchema" ∷ []) [] ∷ []) ∷ []))
+    an_invalid_node_keeps_what_it_tells = refl
 
     -- {"prefixItems":[]} on [1]
     prefix_items_of_no_schemas_tell_nothing :

@@ -53,6 +53,12 @@ of_refusals = tt
         ≡ refusal (of_type Integer) "/maxContains" (str "a")
     bounds_are_judged_before_contains = refl
 
+    -- {"contains":{"type":"foo"},"minContains":2}
+    contains_is_judged_at_its_own_location :
+        compile latest (obj (is "contains" (obj (is "type" (str "foo") ∷ [])) ∷ is "minContains" (num 2) ∷ []))
+        ≡ refusal unknown_type "/contains/type" (str "foo")
+    contains_is_judged_at_its_own_location = refl
+
     -- {"contains":{},"maxContains":"a","minContains":-1}
     min_contains_is_judged_before_max_contains :
         compile latest (obj (is "contains" (obj []) ∷ is "maxContains" (str "a") ∷ is "minContains" (minus 1) ∷ []))

@@ -1,12 +1,5 @@
 // Names that are required, and where they are left to the keywords of objects.
-use super::node::check_nodes;
-use super::{check_requests, row};
-use crate::node::compile;
-use crate::request::request_of;
-use jskw_report::Context;
-use jskw_value::SerdeJson;
-use serde_json::Value;
-use std::alloc::Global;
+use super::check_requests;
 use std::test::Fail;
 
 const REQUIRED: &str = r#"{"schema":{"required":["a","a"]},"instance":{"a":1}} => valid
@@ -27,44 +20,7 @@ const REQUIRED: &str = r#"{"schema":{"required":["a","a"]},"instance":{"a":1}} =
 {"schema":{"required":["a"]},"instance":{},"overridden":["required"]} => valid
 {"schema":{"required":["a"],"maxProperties":0,"type":"array"},"instance":{"b":1}} => type||/type;maxProperties||/maxProperties;required||/required"#;
 
-// Whether `required` is handed on.
-const HANDED_ON: &str =
-    r#"{"schema":{"required":["a"],"properties":{"a":{}},"additionalProperties":false},"instance":null} => true
-{"schema":{"required":[5],"properties":{"a":{}},"additionalProperties":false},"instance":null} => true
-{"schema":{"required":["a"],"properties":{"a":{}}},"instance":null} => false
-{"schema":{"required":["a","b"],"properties":{"a":{}}},"instance":null} => true
-{"schema":{"required":["a","a"],"properties":{"a":{}},"additionalProperties":false},"instance":null} => false
-{"schema":{"required":["a","b","c"],"properties":{"a":{}}},"instance":null} => false
-{"schema":{"required":["a","b"],"properties":{"a":{}}},"instance":null,"overridden":["required"]} => false
-{"schema":{"required":["a","b"],"properties":{"a":{}}},"instance":null,"draft":"2020-12","vocabularies":["validation"]} => false
-{"schema":{"required":["a","b"],"properties":{"a":{}}},"instance":null,"draft":"4","vocabularies":[]} => true
-{"schema":{"properties":{"a":{}},"additionalProperties":false},"instance":null} => false
-{"schema":{},"instance":null} => false
-{"schema":true,"instance":null} => false
-{"schema":false,"instance":null} => false"#;
-
-// Whether the schema of a request hands `required` on.
-fn hands_on(alloc: Global, text: &str) -> Result<bool, Fail> {
-    let value = Value::from_str(alloc, text)?;
-    let request = request_of(alloc, &value)?.ok_or("no request")?;
-    let ctx: Context<SerdeJson> = Context::new(alloc, &request.settings);
-    match compile(alloc, &ctx, request.schema) {
-        Ok(node) => Ok(node.hands_on_required()),
-        Err(_) => Err("not compiled")?,
-    }
-}
-
 #[test]
 fn required_names(rt: HostRuntime) -> Result<(), Fail> {
-    check_requests(&rt, rt.alloc(), REQUIRED)?;
-    check_nodes(&rt, rt.alloc(), REQUIRED)
-}
-
-#[test]
-fn required_is_handed_on(rt: HostRuntime) -> Result<(), Fail> {
-    for line in HANDED_ON.lines() {
-        let (text, answer) = row(line)?;
-        assert_eq!(rt; hands_on(rt.alloc(), text)?, answer == "true", "{line}");
-    }
-    Ok(())
+    check_requests(&rt, rt.alloc(), REQUIRED)
 }

@@ -1,6 +1,5 @@
-// Limits and divisors, and numbers with a fraction.
+// Limits and divisors.
 use super::check_requests;
-use super::node::{check_decimals, check_nodes};
 use std::test::Fail;
 
 const NUMBERS: &str =
@@ -36,34 +35,7 @@ const NUMBERS: &str =
 {"schema":{"minimum":5,"multipleOf":2},"instance":1,"draft":"7","vocabularies":["core","applicator"]} => minimum||/minimum;multipleOf||/multipleOf
 {"schema":{"minimum":"x","multipleOf":2},"instance":1,"overridden":["minimum"]} => multipleOf||/multipleOf"#;
 
-// Each text of an instance stands for a number, its coefficient and its scale: `20e-1` is 2.0.
-const DECIMALS: &str =
-    r#"{"schema":{"type":"integer"},"instance":"10e-1","draft":"4"} => type||/type
-{"schema":{"type":"integer"},"instance":"10e-1","draft":"7"} => valid
-{"schema":{"type":"integer"},"instance":"15e-1","draft":"4"} => type||/type
-{"schema":{"type":"integer"},"instance":"15e-1","draft":"7"} => type||/type
-{"schema":{"type":["integer","null"]},"instance":"10e-1","draft":"4"} => type||/type
-{"schema":{"type":"number"},"instance":"15e-1","draft":"4"} => valid
-{"schema":{"const":1},"instance":"10e-1"} => valid
-{"schema":{"const":1},"instance":"11e-1"} => const||/const
-{"schema":{"const":[1,2]},"instance":["10e-1","2000e-3"]} => valid
-{"schema":{"minimum":1},"instance":"9e-1"} => minimum||/minimum
-{"schema":{"maximum":-1},"instance":"-15e-1"} => valid
-{"schema":{"exclusiveMaximum":18446744073709551615},"instance":"18446744073709551615e-18"} => valid
-{"schema":{"exclusiveMinimum":18},"instance":"18446744073709551615e-18"} => valid
-{"schema":{"minimum":19},"instance":"18446744073709551615e-18"} => minimum||/minimum
-{"schema":{"multipleOf":18446744073709551615},"instance":"0e-18"} => valid
-{"schema":{"multipleOf":3},"instance":"300e-2"} => valid
-{"schema":{"multipleOf":3},"instance":"5e-1"} => multipleOf||/multipleOf
-{"schema":{"minItems":3},"instance":["1e-0","10e-1"]} => minItems||/minItems"#;
-
 #[test]
 fn limits_and_divisors(rt: HostRuntime) -> Result<(), Fail> {
-    check_requests(&rt, rt.alloc(), NUMBERS)?;
-    check_nodes(&rt, rt.alloc(), NUMBERS)
-}
-
-#[test]
-fn numbers_with_a_fraction(rt: HostRuntime) -> Result<(), Fail> {
-    check_decimals(&rt, rt.alloc(), DECIMALS)
+    check_requests(&rt, rt.alloc(), NUMBERS)
 }

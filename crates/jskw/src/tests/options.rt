@@ -1,6 +1,5 @@
 // Options, and items that are all different.
 use super::check_requests;
-use super::node::{check_decimals, check_nodes};
 use std::test::Fail;
 
 const OPTIONS: &str =
@@ -37,22 +36,7 @@ const OPTIONS: &str =
 {"schema":{"uniqueItems":false},"instance":[1,1]} => valid
 {"schema":{"uniqueItems":5},"instance":[1,1]} => valid"#;
 
-// Each text of an instance stands for a number, its coefficient and its scale: `20e-1` is 2.0.
-const DECIMALS: &str = r#"{"schema":{"enum":[1,2,null]},"instance":"10e-1"} => valid
-{"schema":{"enum":[1,2,3]},"instance":"2000e-3"} => valid
-{"schema":{"enum":[1,2,3]},"instance":"2001e-3"} => enum||/enum
-{"schema":{"enum":[18446744073709551615,1]},"instance":"10e-1"} => valid
-{"schema":{"enum":[18446744073709551615,1]},"instance":"18446744073709551615e-1"} => enum||/enum
-{"schema":{"uniqueItems":true},"instance":["1e-0","10e-1"]} => uniqueItems||/uniqueItems
-{"schema":{"uniqueItems":true},"instance":["1e-0","10e-2"]} => valid"#;
-
 #[test]
 fn options_and_different_items(rt: HostRuntime) -> Result<(), Fail> {
-    check_requests(&rt, rt.alloc(), OPTIONS)?;
-    check_nodes(&rt, rt.alloc(), OPTIONS)
-}
-
-#[test]
-fn options_with_a_fraction(rt: HostRuntime) -> Result<(), Fail> {
-    check_decimals(&rt, rt.alloc(), DECIMALS)
+    check_requests(&rt, rt.alloc(), OPTIONS)
 }

@@ -4,7 +4,7 @@ use std::alloc::Global;
 use std::test::Fail;
 
 // Boolean schemas, and `type` with what it takes and what it does not.
-pub(super) const SCHEMAS: &str = r#"{"schema":{"type":"integer"},"instance":5} => valid
+const SCHEMAS: &str = r#"{"schema":{"type":"integer"},"instance":5} => valid
 {"schema":{"type":["string","null"]},"instance":5} => type||/type
 {"schema":{"type":[]},"instance":null} => type||/type
 {"schema":false,"instance":null} => falseSchema||
@@ -19,7 +19,7 @@ pub(super) const SCHEMAS: &str = r#"{"schema":{"type":"integer"},"instance":5} =
 {"schema":null,"instance":1} => refused: schema|type|"#;
 
 // The bounds on sizes and `const`, with what they take and what they do not.
-pub(super) const SIZES_AND_CONST: &str =
+const SIZES_AND_CONST: &str =
     r#"{"schema":{"const":{"a":1,"b":2}},"instance":{"b":2,"a":1}} => valid
 {"schema":{"const":{"a":1,"b":2}},"instance":{"b":2,"a":1,"c":3}} => const||/const
 {"schema":{"const":[1,2]},"instance":[1,3]} => const||/const
@@ -50,8 +50,7 @@ pub(super) const SIZES_AND_CONST: &str =
 {"schema":{"minItems":"x","const":1.5},"instance":[1],"overridden":["minItems","const"]} => valid"#;
 
 // The draft, the vocabularies and the overridden names.
-pub(super) const SETTINGS: &str =
-    r#"{"schema":{"type":"foo"},"instance":5,"overridden":["type"]} => valid
+const SETTINGS: &str = r#"{"schema":{"type":"foo"},"instance":5,"overridden":["type"]} => valid
 {"schema":{"type":"string"},"instance":5,"draft":"2019-09","vocabularies":["applicator"]} => valid
 {"schema":{"type":"string"},"instance":5,"draft":"7","vocabularies":["applicator"]} => type||/type
 {"schema":{"type":"string"},"instance":5,"draft":"2019-09","vocabularies":["core","validation","validation"]} => type||/type
@@ -73,7 +72,7 @@ const FLOATS: &str = r#"{"schema":true,"instance":[1,1.5]} => refused: float|/1
 {"schema":{"type":"foo"},"instance":1.5} => refused: schema|compileError|/type"#;
 
 // Members that say nothing, and members that stand twice.
-pub(super) const REQUESTS: &str = r#"{"schema":true,"x":1.5,"instance":null,"":[]} => valid
+const REQUESTS: &str = r#"{"schema":true,"x":1.5,"instance":null,"":[]} => valid
 {"schema":true,"instance":1,"schema":false} => falseSchema||
  {"instance" : "\u00e9~/" , "schema" : {"type":"null"}} => type||/type"#;
 

@@ -7,8 +7,8 @@ use jskw_leaf::boolean::FalseValidator;
 use jskw_leaf::required;
 use jskw_leaf::type_::IntegerTypeValidator;
 use jskw_report::{
-    CompileFault, EvaluationResult, Fault, LazyLocation, Location, Validate, ValidationContext,
-    ValidationError, ValidationErrorKind,
+    CompileFault, ErrorDescription, EvaluationNode, EvaluationResult, Fault, LazyLocation,
+    Location, Validate, ValidationContext, ValidationError, ValidationErrorKind,
 };
 use jskw_value::{DecimalJson, DecimalTree, Json, Members, Node, Object, SerdeJson};
 use serde_json::Value;
@@ -168,8 +168,8 @@ fn check_unit<F: Json, V: Validate<F>>(
     assert!(rt; instance.is_lawful());
     let mut ctx = ValidationContext::new();
     match validator.evaluate(alloc, instance, location, &mut ctx) {
-        Ok(EvaluationResult::Valid) => assert!(rt; false),
-        Ok(EvaluationResult::Invalid { errors }) => {
+        Ok(EvaluationResult::Valid { .. }) => assert!(rt; false),
+        Ok(EvaluationResult::Invalid { errors, .. }) => {
             assert_eq!(rt; errors.len(), wanted.len());
             for (error, (keyword, message)) in errors.iter().zip(wanted) {
                 assert_eq!(rt; error.keyword(), *keyword);
@@ -272,7 +272,7 @@ fn check_holding<F: Json, V: Validate<F>>(
     let collected = validator.collect_errors(instance, &mut location, &mut ctx, &mut errors);
     assert!(rt; collected.is_ok() && errors.is_empty());
     let unit = validator.evaluate(alloc, instance, &mut location, &mut ctx)?;
-    assert!(rt; matches!(unit, EvaluationResult::Valid));
+    assert!(rt; matches!(unit, EvaluationResult::Valid { .. }));
     Ok(())
 }
 
@@ -292,4 +292,43 @@ fn a_leaf_that_holds_needs_no_memory(rt: HostRuntime) -> Result<(), Fail> {
         Some(Err(CompileFault::Memory(_))) => Ok(()),
         _ => Err("a validator, or want of memory")?,
     }
+}
+
+#[test]
+fn a_node_has_its_parts_or_memory_is_wanted(rt: HostRuntime) -> Result<(), Fail> {
+    let Ok(place) = member_location(rt.alloc(), "items") else {
+        return Ok(());
+    };
+    let Ok(at) = member_location(rt.alloc(), "7") else {
+        return Ok(());
+    };
+    let mut children = Vec::new(rt.alloc());
+    for _ in 0..3 {
+        let mut errors = Vec::new(rt.alloc());
+        let description = ErrorDescription::new("type", String::new(rt.alloc()));
+        if errors.push(description).is_err() {
+            continue;
+        }
+        let unit = EvaluationResult::invalid_empty(rt.alloc(), errors);
+        let Ok(node) = EvaluationNode::new(rt.alloc(), unit, &place, &at) else {
+            continue;
+        };
+        let before = children.len();
+        let is_pushed = children.push(node).is_ok();
+        assert_eq!(rt; children.len() > before, is_pushed);
+    }
+    let count = children.len();
+    let unit = EvaluationResult::from_children(rt.alloc(), children);
+    if let Ok(node) = EvaluationNode::new(rt.alloc(), unit, &place, &at) {
+        assert_eq!(rt; node.valid(), count == 0);
+        assert_eq!(rt; node.children().len(), count);
+        assert!(rt;
+            node.children()
+                .iter()
+                .all(|child| child.errors().len() == 1)
+        );
+        assert_eq!(rt; node.instance_location().as_str(), "/7");
+    }
+    assert!(rt; place.as_str() == "/items" && at.as_str() == "/7");
+    Ok(())
 }

@@ -43,9 +43,10 @@ fn check_unit<F: Json>(
     errors: &Vec<ValidationError<F>>,
 ) -> Result<(), Fail> {
     match unit {
-        EvaluationResult::Valid => assert!(rt; errors.is_empty()),
+        EvaluationResult::Valid { .. } => assert!(rt; errors.is_empty()),
         EvaluationResult::Invalid {
             errors: descriptions,
+            ..
         } => {
             assert!(rt; !errors.is_empty());
             assert_eq!(rt; descriptions.len(), errors.len());

@@ -1,5 +1,6 @@
 // What errors, evaluations, locations and settings answer.
 mod errors;
+mod evaluation;
 mod messages;
 mod observers;
 mod paths;

@@ -75,14 +75,15 @@ fn an_invalid_unit_has_its_descriptions(rt: HostRuntime) -> Result<(), Fail> {
     let mut errors = Vec::new(rt.alloc());
     errors.push(ErrorDescription::new("type", String::new(rt.alloc())))?;
     errors.push(ErrorDescription::new("enum", String::new(rt.alloc())))?;
-    match EvaluationResult::invalid_empty(errors) {
-        EvaluationResult::Valid => assert!(rt; false),
-        EvaluationResult::Invalid { errors } => {
+    match EvaluationResult::invalid_empty(rt.alloc(), errors) {
+        EvaluationResult::Valid { .. } => assert!(rt; false),
+        EvaluationResult::Invalid { errors, .. } => {
             let mut keywords = errors.iter().map(ErrorDescription::keyword);
             assert!(rt; keywords.next() == Some("type") && keywords.next() == Some("enum"));
             assert!(rt; keywords.next().is_none());
         }
     }
-    assert!(rt; matches!(EvaluationResult::valid_empty(), EvaluationResult::Valid));
+    let valid = EvaluationResult::valid_empty(rt.alloc());
+    assert!(rt; matches!(valid, EvaluationResult::Valid { .. }));
     Ok(())
 }

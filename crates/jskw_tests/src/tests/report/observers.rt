@@ -80,15 +80,15 @@ fn an_error_makes_an_invalid_unit(rt: HostRuntime) -> Result<(), Fail> {
     let kind = ValidationErrorKind::FalseSchema;
     let error = root_error(rt.alloc(), kind, &schema_path, &instance);
     match evaluate_first::<DecimalJson>(rt.alloc(), Err(Fault::Invalid(error)))? {
-        EvaluationResult::Valid => assert!(rt; false),
-        EvaluationResult::Invalid { errors } => {
+        EvaluationResult::Valid { .. } => assert!(rt; false),
+        EvaluationResult::Invalid { errors, .. } => {
             assert!(rt; errors.len() == 1);
             let mut texts = errors.iter().map(ErrorDescription::message);
             assert!(rt; texts.next() == Some("False schema does not allow null"));
         }
     }
     let valid = evaluate_first::<SerdeJson>(rt.alloc(), Ok(()))?;
-    assert!(rt; matches!(valid, EvaluationResult::Valid));
+    assert!(rt; matches!(valid, EvaluationResult::Valid { .. }));
     let wanting = evaluate_first::<SerdeJson>(rt.alloc(), Err(Fault::Memory(AllocError)));
     assert!(rt; wanting.is_err());
     Ok(())

@@ -1,0 +1,52 @@
+use Rattle.std.proofs.Common.{◌≡◌, ◌+◌, ◌*◌, drop}
+use Rattle.serde_json.specs.Data.{depth, items_depth, members_depth}
+use Rattle.serde_json.specs.View.{view, items_view, members_view}
+use Rattle.jskw_report.specs.Read.{part_named, read_each, read_words}
+use Rattle.jskw_report.specs.Setting.{keywords}
+use Rattle.jskw_array.specs.Meaning.{schemas_of}
+use Rattle.jskw_array.specs.Node.{keywords_of}
+use Rattle.jskw_array.proofs.EachSchema.{after as after_schemas}
+use Rattle.jskw_array.proofs.Turns.{after}
+use Rattle.jskw_array.proofs.+compile.Given as goal
+
+abbrev pub decreases-compiler::compile : goal.decreases-compiler::compile
+decreases-compiler::compile g l = 5 * depth (view l.schema.now)
+
+abbrev pub decreases-compiler::compile_at : goal.decreases-compiler::compile_at
+decreases-compiler::compile_at g l = 5 * depth (view l.schema.now) + 1
+
+abbrev pub decreases-compiler::compile_each : goal.decreases-compiler::compile_each
+decreases-compiler::compile_each g l = 5 * items_depth (items_view l.schemas.now) + 1
+
+abbrev pub decreases-compiler::compile_each_at : goal.decreases-compiler::compile_each_at
+decreases-compiler::compile_each_at g l = 5 * items_depth (items_view l.schemas.now) + 2
+
+abbrev pub decreases-items::compile : goal.decreases-items::compile
+decreases-items::compile g l = 5 * depth (view l.schema.now) + 2
+
+abbrev pub decreases-prefix_items::compile : goal.decreases-prefix_items::compile
+decreases-prefix_items::compile g l = 5 * depth (view l.schema.now) + 2
+
+abbrev pub decreases-additional_items::compile : goal.decreases-additional_items::compile
+decreases-additional_items::compile g l = 5 * depth (view l.schema.now) + 2
+
+abbrev pub decreases-contains::compile : goal.decreases-contains::compile
+decreases-contains::compile g l = 5 * depth (view l.schema.now) + 2
+
+abbrev pub decreases-compiler::compile_keyword : goal.decreases-compiler::compile_keyword
+decreases-compiler::compile_keyword g l = 5 * members_depth (members_view l.parent.now.entries) + 3
+
+abbrev pub decreases-compiler::compile_keywords : goal.decreases-compiler::compile_keywords
+decreases-compiler::compile_keywords g l = 5 * members_depth (members_view l.parent.now.entries) + 4
+
+-- those that are made, with those that are still to be read
+abbrev pub invariant-compiler::compile_keywords-loop-keyword : goal.invariant-compiler::compile_keywords-loop-keyword
+invariant-compiler::compile_keywords-loop-keyword g l =
+    let ms = members_view l.parent.entries in
+    after (keywords_of l.units.items) (read_words (drop l.keyword-index l.keyword-items) l.ctx.setting l.ctx.location ms (λ name. part_named keywords name ms))
+    ≡ read_words keywords l.ctx.setting l.ctx.location ms (λ name. part_named keywords name ms)
+
+abbrev pub invariant-compiler::compile_each-loop-index : goal.invariant-compiler::compile_each-loop-index
+invariant-compiler::compile_each-loop-index g l =
+    after_schemas (schemas_of l.nodes.items) (read_each keywords (items_view (drop l.index l.schemas)) l.ctx.setting l.ctx.location l.index)
+    ≡ read_each keywords (items_view l.schemas) l.ctx.setting l.ctx.location 0

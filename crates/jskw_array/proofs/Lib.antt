@@ -1,0 +1,13 @@
+pub mod Agreed
+pub mod Bare
+pub mod BareReading
+pub mod BareTypes
+pub mod Depths
+pub mod EachSchema
+pub mod Faults
+pub mod Keywords
+pub mod Matching
+pub mod Meetings
+pub mod Readings
+pub mod Turns
+pub mod Units

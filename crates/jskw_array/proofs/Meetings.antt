@@ -1,0 +1,131 @@
+-- What a walk over items has left at an item, and at the end.
+use Rattle.std.proofs.Common.{◌≡◌, ℕ, zero, suc, ◌+◌, ◌<◌, ◌≤◌, min, List, [], ◌∷◌, ◌++◌, length, get_or, drop, sum_by, count_by, Bool, true, false, ◌&&◌, if◌then◌else◌, refl, sym, ap, ap₂, ◌∙◌, arith, cond}
+use Rattle.std.proofs.Math.Seq.{drop-nil}
+use Rattle.std.proofs.lemmas.List.{drop_all}
+use Rattle.std.proofs.lemmas.List.Sums.{sum_by-cons}
+use Rattle.std.specs.List.{list_all}
+use Rattle.jskw_value.specs.Pointer.{Pointer, item_location}
+use Rattle.jskw_value.specs.Tree.{Tree, items}
+use Rattle.jskw_report.proofs.Gathering.{drop_here}
+use Rattle.jskw_report.proofs.Pointers.{path_of_push}
+use Rattle.jskw_report.specs.Applications.{needed, pairs, each_needed, each_pairs, sum_to_failure, height, each_height}
+use Rattle.jskw_report.specs.Evaluation.{Result, evaluate_pairs, of_children, prefix_annotation, schema_count, tree, unit}
+use Rattle.jskw_report.specs.Fail.{Failure, fail, each_fails, each_item}
+use Rattle.jskw_report.specs.Holds.{holds, each_holds}
+use Rattle.jskw_report.specs.Keyword.{Schema, Schemas, no_schemas, schema, prefix_items}
+use Rattle.jskw_report.specs.Paths.{path_of}
+use Rattle.jskw_array.specs.Meaning.{schemas_of}
+
+-- where an item stands that was entered
+pub entered : {new now old : List ℕ} (i : ℕ) → new ≡ now ++ i ∷ [] → now ≡ old → path_of new ≡ item_location (path_of old) i
+entered {old = old} i pushed same = ap path_of (pushed ∙ ap (λ is. is ++ i ∷ []) same) ∙ path_of_push old i
+
+-- ---- one schema for all items
+
+module _ (ts : List Tree) (i : ℕ) (t : Tree) (within : i < length ts) (is : t ≡ get_or ts i t) where
+  pub all_at : (p : Tree → Bool) → list_all p (drop i ts) ≡ (p t && list_all p (drop (i + 1) ts))
+  all_at p = ap (list_all p) (drop_here ts i t within is)
+
+  pub sum_at : (f : Tree → ℕ) → sum_by f (drop i ts) ≡ f t + sum_by f (drop (i + 1) ts)
+  sum_at f = ap (sum_by f) (drop_here ts i t within is) ∙ sum_by-cons f t (drop (i + 1) ts)
+
+  pub count_at : (p : Tree → Bool) → count_by p (drop i ts) ≡ cond (p t) 1 0 + count_by p (drop (i + 1) ts)
+  count_at p = sum_at (λ x. cond (p x) 1 0)
+
+  pub until_at : (p : Tree → Bool) (f : Tree → ℕ)
+      → sum_to_failure p f (drop i ts) ≡ f t + (if p t then sum_to_failure p f (drop (i + 1) ts) else 0)
+  until_at p f = ap (sum_to_failure p f) (drop_here ts i t within is)
+
+  pub fails_at : (f : Tree → Pointer → List Failure) (p : Pointer)
+      → each_item f i (drop i ts) p ≡ f t (item_location p i) ++ each_item f (i + 1) (drop (i + 1) ts) p
+  fails_at f p = ap (λ us. each_item f i us p) (drop_here ts i t within is)
+      ∙ ap (λ j. f t (item_location p i) ++ each_item f j (drop (i + 1) ts) p) (omega arith)
+
+module _ (ts : List Tree) (i : ℕ) (end : length ts ≤ i) where
+  pub all_end : (p : Tree → Bool) → list_all p (drop i ts) ≡ true
+  all_end p = ap (list_all p) (drop_all i ts end)
+
+  pub count_end : (p : Tree → Bool) → count_by p (drop i ts) ≡ 0
+  count_end p = ap (count_by p) (drop_all i ts end)
+
+  pub fails_end : (f : Tree → Pointer → List Failure) (p : Pointer) → each_item f i (drop i ts) p ≡ []
+  fails_end f p = ap (λ us. each_item f i us p) (drop_all i ts end)
+
+-- ---- a schema for each item
+
+module _ (ss : List Schema) (ts : List Tree) (i : ℕ) (s : Schema) (t : Tree)
+    (schema_within : i < length ss) (within : i < length ts) (schema_is : s ≡ get_or ss i s) (is : t ≡ get_or ts i t) where
+  at_both : {B : Type 0} (f : List Schema → List Tree → B) → f (drop i ss) (drop i ts) ≡ f (s ∷ drop (i + 1) ss) (t ∷ drop (i + 1) ts)
+  at_both f = ap₂ f (drop_here ss i s schema_within schema_is) (drop_here ts i t within is)
+
+  pub each_holds_at : each_holds (schemas_of (drop i ss)) (drop i ts)
+      ≡ (holds s t && each_holds (schemas_of (drop (i + 1) ss)) (drop (i + 1) ts))
+  each_holds_at = at_both (λ rs us. each_holds (schemas_of rs) us)
+
+  pub each_needed_at : each_needed (schemas_of (drop i ss)) (drop i ts)
+      ≡ needed s t + (if holds s t then each_needed (schemas_of (drop (i + 1) ss)) (drop (i + 1) ts) else 0)
+  each_needed_at = at_both (λ rs us. each_needed (schemas_of rs) us)
+
+  pub each_pairs_at : each_pairs (schemas_of (drop i ss)) (drop i ts)
+      ≡ pairs s t + each_pairs (schemas_of (drop (i + 1) ss)) (drop (i + 1) ts)
+  each_pairs_at = at_both (λ rs us. each_pairs (schemas_of rs) us)
+
+  pub each_fails_at : (p : Pointer) → each_fails (schemas_of (drop i ss)) i (drop i ts) p
+      ≡ fail s t (item_location p i) ++ each_fails (schemas_of (drop (i + 1) ss)) (i + 1) (drop (i + 1) ts) p
+  each_fails_at p = at_both (λ rs us. each_fails (schemas_of rs) i us p)
+      ∙ ap (λ j. fail s t (item_location p i) ++ each_fails (schemas_of (drop (i + 1) ss)) j (drop (i + 1) ts) p) (omega arith)
+
+  pub each_units_at : (p : Pointer) → evaluate_pairs (schemas_of (drop i ss)) i (drop i ts) p
+      ≡ tree s t (item_location p i) ∷ evaluate_pairs (schemas_of (drop (i + 1) ss)) (i + 1) (drop (i + 1) ts) p
+  each_units_at p = at_both (λ rs us. evaluate_pairs (schemas_of rs) i us p)
+      ∙ ap (λ j. tree s t (item_location p i) ∷ evaluate_pairs (schemas_of (drop (i + 1) ss)) j (drop (i + 1) ts) p) (omega arith)
+
+-- where either list ends
+at_end : {A B C : Type 0} (f : List A → List B → C) (z : C) → ((us : List B) → f [] us ≡ z) → ((ms : List A) → f ms [] ≡ z)
+    → (ns : List A) (ts : List B) (i : ℕ) → min (length ts) (length ns) ≤ i → f (drop i ns) (drop i ts) ≡ z
+at_end f z a b [] ts i h = ap (λ ms. f ms (drop i ts)) (drop-nil i) ∙ a (drop i ts)
+at_end f z a b (n ∷ ns) [] i h = ap (f (drop i (n ∷ ns))) (drop-nil i) ∙ b (drop i (n ∷ ns))
+at_end f z a b (n ∷ ns) (t ∷ ts) zero h = absurd (omega arith)
+at_end f z a b (n ∷ ns) (t ∷ ts) (suc i) h = at_end f z a b ns ts i (omega arith)
+
+no_item_holds : (ss : Schemas) → each_holds ss [] ≡ true
+no_item_holds no_schemas = refl
+no_item_holds (schema s ss) = refl
+
+no_item_fails : (ss : Schemas) (i : ℕ) (p : Pointer) → each_fails ss i [] p ≡ []
+no_item_fails no_schemas i p = refl
+no_item_fails (schema s ss) i p = refl
+
+no_item_unit : (ss : Schemas) (i : ℕ) (p : Pointer) → evaluate_pairs ss i [] p ≡ []
+no_item_unit no_schemas i p = refl
+no_item_unit (schema s ss) i p = refl
+
+module _ (ss : List Schema) (ts : List Tree) (i : ℕ) (end : min (length ts) (length ss) ≤ i) where
+  pub each_holds_end : each_holds (schemas_of (drop i ss)) (drop i ts) ≡ true
+  each_holds_end = at_end (λ rs us. each_holds (schemas_of rs) us) true (λ us. refl) (λ rs. no_item_holds (schemas_of rs)) ss ts i end
+
+  pub each_fails_end : (p : Pointer) → each_fails (schemas_of (drop i ss)) i (drop i ts) p ≡ []
+  each_fails_end p = at_end (λ rs us. each_fails (schemas_of rs) i us p) [] (λ us. refl) (λ rs. no_item_fails (schemas_of rs) i p) ss ts i end
+
+  pub each_units_end : (p : Pointer) → evaluate_pairs (schemas_of (drop i ss)) i (drop i ts) p ≡ []
+  each_units_end p = at_end (λ rs us. evaluate_pairs (schemas_of rs) i us p) [] (λ us. refl) (λ rs. no_item_unit (schemas_of rs) i p) ss ts i end
+
+-- none of the schemas is higher than all
+pub height_at : (ss : List Schema) (i : ℕ) (s : Schema) → i < length ss → s ≡ get_or ss i s → height s ≤ each_height (schemas_of ss)
+height_at [] i s within is = absurd (omega arith)
+height_at (r ∷ ss) zero s within is = let e = ap height is in omega arith
+height_at (r ∷ ss) (suc i) s within is = let below = height_at ss i s (omega arith) is in omega arith
+
+-- ---- `prefixItems`
+
+-- there are as many schemas as in the list
+count_of : (ss : List Schema) → schema_count (schemas_of ss) ≡ length ss
+count_of [] = refl
+count_of (s ∷ ss) = ap suc (count_of ss)
+
+-- the unit of so many schemas, with the nodes of each
+pub prefix_is_unit : {k : ℕ} {r : Result} {es : _} (slice ss : List Schema) (t : Tree) (p : Pointer) → slice ≡ ss
+    → r ≡ of_children (prefix_annotation k (length (items t))) es → k ≡ length ss → es ≡ evaluate_pairs (schemas_of slice) 0 (items t) p
+    → r ≡ unit (prefix_items (schemas_of ss)) t p
+prefix_is_unit slice ss t p same is count gives =
+    is ∙ ap₂ (λ k es. of_children (prefix_annotation k (length (items t))) es) (count ∙ sym (count_of ss)) (gives ∙ ap (λ rs. evaluate_pairs (schemas_of rs) 0 (items t) p) same)

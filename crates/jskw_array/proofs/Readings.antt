@@ -1,0 +1,185 @@
+-- What is read of the keywords with subschemas, by the forms of their values.
+use Rattle.std.proofs.Common.{◌≡◌, ℕ, Bool, true, false, not, ◌&&◌, if◌then◌else◌, Option, Some, None, Ok, refl, ap, ◌∙◌, rules}
+use Rattle.std.specs.Option.{option_map_or}
+use Rattle.serde_json.specs.Data.{Data, boolean, array, object, Items, Members}
+use Rattle.serde_json.specs.Events.{items_len}
+use Rattle.serde_json.specs.Find.{get_member, as_array, as_bool}
+use Rattle.serde_json.specs.View.{view}
+use Rattle.serde_json.specs.declared.value.Value.{the_lemmas}
+use Rattle.serde_json.specs.declared.value.Value.TheVariants as value
+use Rattle.jskw_value.specs.Pointer.{Pointer}
+use Rattle.jskw_value.specs.declared.types.JsonType.TheVariants.{Array}
+use Rattle.jskw_report.specs.Compile.{reading}
+use Rattle.jskw_report.specs.Keyword.{Bounds, additional_items, assertion, at_most, contains, items_from, items_list, prefix_items}
+use Rattle.jskw_report.specs.KeywordValue.{join_ok, of_type, wrong}
+use Rattle.jskw_report.specs.Read.{additional_keyword, asserted, asserts, items_start, keyword_location, part, read, read_bounds, read_each}
+use Rattle.jskw_report.specs.Setting.{Setting, Spot, is_2020_12, keywords, name_of, stands}
+use Rattle.jskw_report.specs.Sibling.{is_array, is_bare, is_items_schema, is_only_type, item_count, member_passes}
+use Rattle.jskw_leaf.specs.Names.{is_leaf}
+use Rattle.jskw_report.specs.declared.keyword.KeywordName.{KeywordName}
+use Rattle.jskw_report.specs.declared.keyword.KeywordName.TheVariants as word
+use Rattle.jskw_array.specs.Node.{boolean_schema}
+use Rattle.jskw_array.specs.Siblings.{schema_count}
+use Rattle.jskw_array.proofs.Depths.{same_items}
+
+-- ---- `items`
+
+pub items_of_array : (spot : Spot) (ms : Members) (d : Data) (ds : Items) → as_array d ≡ Some ds
+    → reading word.Items spot ms d ≡ asserts items_list (read_each keywords ds spot.setting (keyword_location spot.location word.Items) 0)
+unfolding asserted
+items_of_array spot ms (array es) ds e =
+    ap (λ xs. asserts items_list (read_each keywords xs spot.setting (keyword_location spot.location word.Items) 0)) (same_items es ds e)
+items_of_array spot ms _ ds e = cc
+
+pub items_silent : (spot : Spot) (ms : Members) (d : Data) → as_array d ≡ None → is_items_schema d ≡ false → reading word.Items spot ms d ≡ None
+unfolding asserted
+items_silent spot ms (array es) e h = cc
+items_silent spot ms (object ns) e h = cc
+items_silent spot ms (boolean false) e h = cc
+items_silent spot ms (boolean true) e h = refl
+items_silent spot ms _ e h = refl
+
+items_of_one : (spot : Spot) (ms : Members) (d : Data) → is_items_schema d ≡ true
+    → reading word.Items spot ms d ≡ asserts (λ sub. items_from (items_start spot.setting ms) sub (is_bare spot.setting ms d)) (read keywords d spot.setting (keyword_location spot.location word.Items))
+unfolding asserted
+items_of_one spot ms (object ns) h = refl
+items_of_one spot ms (boolean false) h = refl
+items_of_one spot ms (boolean true) h = cc
+items_of_one spot ms _ h = cc
+
+start_of : (b : Bool) (o : Option Data) → not (b && option_map_or is_array o false) ≡ true → (if b then option_map_or item_count o 0 else 0) ≡ 0
+start_of false o h = refl
+start_of true None h = refl
+start_of true (Some (array ds)) h = cc
+start_of true (Some _) h = refl
+
+-- a bare type check begins at the first item
+module _ (s : Setting) (ms : Members) (d : Data) (bare : is_bare s ms d ≡ true) where
+  both : (a b c : Bool) → (a && b && c) ≡ true → (a ≡ true) × (b ≡ true) × (c ≡ true)
+  both true true true e = (refl, refl, refl)
+  both true true false e = cc
+  both true false c e = cc
+  both false b c e = cc
+
+  parts : (is_only_type d ≡ true) × (stands s word.TypeKeyword ≡ true) × (not (is_2020_12 s.draft && member_passes is_array (name_of word.PrefixItems) ms) ≡ true)
+  parts = both (is_only_type d) (stands s word.TypeKeyword) (not (is_2020_12 s.draft && member_passes is_array (name_of word.PrefixItems) ms)) bare
+
+  pub bare_is_type : is_only_type d ≡ true
+  bare_is_type = parts.0
+
+  pub bare_stands : stands s word.TypeKeyword ≡ true
+  bare_stands = parts.1
+
+  bare_start : items_start s ms ≡ 0
+  bare_start = start_of (is_2020_12 s.draft) (get_member (name_of word.PrefixItems) ms) parts.2
+
+pub items_bare : (spot : Spot) (ms : Members) (d : Data) → is_items_schema d ≡ true → is_bare spot.setting ms d ≡ true
+    → reading word.Items spot ms d ≡ asserts (λ sub. items_from 0 sub true) (read keywords d spot.setting (keyword_location spot.location word.Items))
+items_bare spot ms d h bare =
+    items_of_one spot ms d h
+    ∙ ap (λ n. asserts (λ sub. items_from n sub (is_bare spot.setting ms d)) (read keywords d spot.setting (keyword_location spot.location word.Items))) (bare_start spot.setting ms d bare)
+    ∙ ap (λ b. asserts (λ sub. items_from 0 sub b) (read keywords d spot.setting (keyword_location spot.location word.Items))) bare
+
+pub items_of_schema : (spot : Spot) (ms : Members) (d : Data) → is_items_schema d ≡ true → is_bare spot.setting ms d ≡ false
+    → reading word.Items spot ms d ≡ asserts (λ sub. items_from (items_start spot.setting ms) sub false) (read keywords d spot.setting (keyword_location spot.location word.Items))
+items_of_schema spot ms d h bare =
+    items_of_one spot ms d h
+    ∙ ap (λ b. asserts (λ sub. items_from (items_start spot.setting ms) sub b) (read keywords d spot.setting (keyword_location spot.location word.Items))) bare
+
+-- ---- `prefixItems`
+
+pub prefix_of_array : (spot : Spot) (ms : Members) (d : Data) (ds : Items) → as_array d ≡ Some ds
+    → reading word.PrefixItems spot ms d ≡ asserts prefix_items (read_each keywords ds spot.setting (keyword_location spot.location word.PrefixItems) 0)
+unfolding asserted
+prefix_of_array spot ms (array es) ds e =
+    ap (λ xs. asserts prefix_items (read_each keywords xs spot.setting (keyword_location spot.location word.PrefixItems) 0)) (same_items es ds e)
+prefix_of_array spot ms _ ds e = cc
+
+pub prefix_refused : (spot : Spot) (ms : Members) (d : Data) → as_array d ≡ None
+    → reading word.PrefixItems spot ms d ≡ Some (wrong (of_type Array) (keyword_location spot.location word.PrefixItems) d)
+unfolding asserted
+prefix_refused spot ms (array es) e = cc
+prefix_refused spot ms _ e = refl
+
+-- ---- `additionalItems`
+
+module _ (s : Setting) (q : Pointer) where
+  absent : (o : Option Data) (d : Data) → schema_count o ≡ None → additional_keyword s q o (part keywords d) d ≡ None
+  absent None d e = refl
+  absent (Some (array ds)) d e = cc
+  absent (Some _) d e = refl
+
+  of_true : (o : Option Data) (d : Data) → as_bool d ≡ Some true → additional_keyword s q o (part keywords d) d ≡ None
+  of_true None d e = refl
+  of_true (Some (array ds)) (boolean true) e = refl
+  of_true (Some (array ds)) (boolean false) e = cc
+  of_true (Some (array ds)) _ e = cc
+  of_true (Some _) d e = refl
+
+  same_count : (m n : ℕ) → Some m ≡ Some n → m ≡ n
+  same_count m n e = ap (λ o. option_map_or (λ k. k) o m) e
+
+  of_false : (o : Option Data) (n : ℕ) (d : Data) → schema_count o ≡ Some n → as_bool d ≡ Some false
+      → additional_keyword s q o (part keywords d) d ≡ Some (Ok (assertion q (at_most n)))
+  of_false None n d c e = cc
+  of_false (Some (array ds)) n (boolean false) c e = ap (λ k. Some (Ok (assertion q (at_most k)))) (same_count (items_len ds) n c)
+  of_false (Some (array ds)) n (boolean true) c e = cc
+  of_false (Some (array ds)) n _ c e = cc
+  of_false (Some _) n d c e = cc
+
+  of_schema : (o : Option Data) (n : ℕ) (d : Data) → schema_count o ≡ Some n → as_bool d ≡ None
+      → additional_keyword s q o (part keywords d) d ≡ asserts (additional_items n) (read keywords d s q)
+  of_schema None n d c e = cc
+  of_schema (Some (array ds)) n (boolean b) c e = cc
+  of_schema (Some (array ds)) n d c e = ap (λ k. asserts (additional_items k) (read keywords d s q)) (same_count (items_len ds) n c)
+  of_schema (Some _) n d c e = cc
+
+module _ (spot : Spot) (ms : Members) (d : Data) where
+  pub additional_absent : schema_count (get_member (name_of word.Items) ms) ≡ None → reading word.AdditionalItems spot ms d ≡ None
+  unfolding asserted
+  additional_absent e = absent spot.setting (keyword_location spot.location word.AdditionalItems) (get_member (name_of word.Items) ms) d e
+
+  pub additional_true : as_bool d ≡ Some true → reading word.AdditionalItems spot ms d ≡ None
+  unfolding asserted
+  additional_true e = of_true spot.setting (keyword_location spot.location word.AdditionalItems) (get_member (name_of word.Items) ms) d e
+
+  pub additional_false : (n : ℕ) → schema_count (get_member (name_of word.Items) ms) ≡ Some n → as_bool d ≡ Some false
+      → reading word.AdditionalItems spot ms d ≡ Some (Ok (assertion (keyword_location spot.location word.AdditionalItems) (at_most n)))
+  unfolding asserted
+  additional_false n c e = of_false spot.setting (keyword_location spot.location word.AdditionalItems) (get_member (name_of word.Items) ms) n d c e
+
+  pub additional_of_schema : (n : ℕ) → schema_count (get_member (name_of word.Items) ms) ≡ Some n → as_bool d ≡ None
+      → reading word.AdditionalItems spot ms d ≡ asserts (additional_items n) (read keywords d spot.setting (keyword_location spot.location word.AdditionalItems))
+  unfolding asserted
+  additional_of_schema n c e = of_schema spot.setting (keyword_location spot.location word.AdditionalItems) (get_member (name_of word.Items) ms) n d c e
+
+  -- ---- `contains`
+
+  pub contains_read : reading word.Contains spot ms d
+      ≡ Some (join_ok (λ b sub. contains sub b) (read_bounds spot.setting spot.location ms) (read keywords d spot.setting (keyword_location spot.location word.Contains)))
+  unfolding asserted
+  contains_read = refl
+
+  pub contains_of_schema : (b : Bounds) → read_bounds spot.setting spot.location ms ≡ Ok b
+      → reading word.Contains spot ms d ≡ asserts (λ sub. contains sub b) (read keywords d spot.setting (keyword_location spot.location word.Contains))
+  contains_of_schema b e =
+      contains_read
+      ∙ ap (λ r. Some (join_ok (λ bounds sub. contains sub bounds) r (read keywords d spot.setting (keyword_location spot.location word.Contains)))) e
+
+-- ---- booleans
+
+pub view-Bool : (b : Bool) → view (value.Bool b) ≡ boolean b
+view-Bool b = search (rules, the_lemmas)
+
+pub read_boolean : (b : Bool) (s : Setting) (p : Pointer) → read keywords (boolean b) s p ≡ Ok (boolean_schema p b)
+read_boolean true s p = refl
+read_boolean false s p = refl
+
+-- a keyword with subschemas is one of four
+pub with_subschemas : (w : KeywordName) → is_leaf w ≡ false
+    → (w ≡ word.Items → ⊥) → (w ≡ word.PrefixItems → ⊥) → (w ≡ word.AdditionalItems → ⊥) → (w ≡ word.Contains → ⊥) → ⊥
+with_subschemas word.Items e not_items not_prefix not_additional not_contains = not_items refl
+with_subschemas word.PrefixItems e not_items not_prefix not_additional not_contains = not_prefix refl
+with_subschemas word.AdditionalItems e not_items not_prefix not_additional not_contains = not_additional refl
+with_subschemas word.Contains e not_items not_prefix not_additional not_contains = not_contains refl
+with_subschemas _ e not_items not_prefix not_additional not_contains = absurd (cc)

@@ -1,0 +1,15 @@
+use Rattle.std.proofs.Common.{sym, ◌∙◌, arith}
+use Rattle.jskw_value.specs.Tree.{items}
+use Rattle.jskw_report.specs.Holds.{assertion_holds}
+use Rattle.jskw_leaf.specs.Meaning.{single_type}
+use Rattle.jskw_array.proofs.Bare.{bare_all_hold}
+use Rattle.jskw_array.proofs.Meetings.{all_end}
+use Rattle.jskw_array.proofs.items.item_type.ItemsTypeValidatorValidate.is_valid.Goals as goal
+
+pub returns-clause-answer : goal.returns-clause-answer
+returns-clause-answer g c =
+    let l = c.loop-index in
+    let v = c.args.self.now in
+    let a = single_type g.T.TypeTest.json_type g.T.TypeTest.rule v.validator in
+    let ts = items (g.F.Node.Rooted.tree c.args.instance.now) in
+    sym (bare_all_hold v.location a ts ∙ l.invariant.answer ∙ all_end ts l.index (omega arith) (assertion_holds a.claim))

@@ -1,0 +1,14 @@
+use Rattle.std.proofs.Common.{subst}
+use Rattle.jskw_report.specs.Fail.{fail}
+use Rattle.jskw_report.specs.Observe.{Appends}
+use Rattle.jskw_report.specs.Paths.{path_of}
+use Rattle.jskw_array.proofs.Agreed.{agreed}
+use Rattle.jskw_array.proofs.laws.observers_agree.Goals as goal
+
+pub returns : goal.returns
+returns g c =
+    let tree = g.F.Node.Rooted.tree in
+    let s = c.args.node.now in
+    let t = tree c.args.instance.now in
+    let appended = subst (λ q. Appends tree c.args.errors.now.items c.collect_errors-all.new.errors.items (fail s t (path_of q)) c.collect_errors-all.result) c.validate-first.ensures.location c.collect_errors-all.ensures.appended in
+    agreed tree s t (path_of c.args.location.now) _ _ _ _ _ c.is_valid-is_valid.ensures.answer c.validate-first.ensures.first appended c.requires.empty

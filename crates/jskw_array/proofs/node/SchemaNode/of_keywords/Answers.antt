@@ -1,0 +1,15 @@
+use Rattle.std.proofs.Common.{sym, ap, ◌||◌, ◌∙◌}
+use Rattle.jskw_report.specs.Keyword.{all_hand_on}
+use Rattle.jskw_array.specs.Node.{keywords_of}
+use Rattle.jskw_array.proofs.node.SchemaNode.of_keywords.Goals as goal
+use Rattle.jskw_array.proofs.node.SchemaNode.of_keywords.Goals.{then-hands_on, else-hands_on}
+
+pub invariant_of-result : goal.invariant_of-result
+invariant_of-result g c =
+    let others = all_hand_on (keywords_of c.args.units.items) in
+    elim c.if-hands_on.branch [
+      | then-hands_on w ↦ w.hands_on_any-is ∙ w.if-hands_on.true ∙ sym (ap (λ b. b || others) w.if-hands_on.true)
+      | else-hands_on w ↦
+          w.hands_on_any-is ∙ w.some_unit_hands_on-hands_on_any.ensures ∙ ap (λ us. all_hand_on (keywords_of us)) w.as_slice.ensures.value
+          ∙ sym (ap (λ b. b || others) w.if-hands_on.false)
+    ]

@@ -1,0 +1,50 @@
+-- A node's subschemas are lower than its schema.
+use Rattle.std.specs.Prelude.{ℕ, ◌+◌, ◌≤◌, List, [], ◌∷◌, Bool}
+use Rattle.std.proofs.Common.{arith}
+use denote.Param.Weighed.{most}
+use Rattle.jskw_value.specs.Pointer.{Pointer}
+use Rattle.jskw_value.specs.declared.json.JsonNumber as number
+use Rattle.jskw_value.specs.declared.json.Object as object
+use Rattle.jskw_value.specs.declared.json.Rooted as rooted
+use Rattle.jskw_report.specs.Applications.{height, all_height, keyword_height, each_height}
+use Rattle.jskw_report.specs.Keyword.{Schema}
+use Rattle.jskw_array.specs.Meaning.{schemas_of, validator_keyword}
+use Rattle.jskw_array.specs.Node.{keywords_of, schema_of}
+use Rattle.jskw_array.specs.declared.node.Assertions.{Assertions}
+use Rattle.jskw_array.specs.declared.node.Assertions.TheVariants.{Never, Keywords}
+use Rattle.jskw_array.specs.declared.node.Unit as unit
+use Rattle.jskw_array.specs.declared.node.SchemaNode.TheDeep.{deep-Assertions, deep-Unit, deep-Validator}
+use Rattle.jskw_array.specs.declared.validator.Validator.{Validator}
+use Rattle.jskw_array.specs.declared.validator.Validator.TheVariants as validator
+
+each_falls : (ss : List Schema) → most (λ s. height s + 1) ss ≤ each_height (schemas_of ss) + 1
+each_falls [] = omega arith
+each_falls (s ∷ ss) = omega (arith, each_falls ss)
+
+-- F, N, O and P are the types of a representation, and r, o and j say what they are
+module _ {F N O P : Type 0} (r : rooted.Ghosts N) (o : object.Ghosts N P) (j : number.Ghosts O) where
+  keyword_falls : (v : Validator F N O P) → deep-Validator F N O P r o j v ≤ keyword_height (validator_keyword v) + 1
+  keyword_falls (validator.Leaf v) = omega arith
+  keyword_falls (validator.ItemsArray v) = omega (arith, each_falls v.nodes.items)
+  keyword_falls (validator.ItemsObject v) = omega arith
+  keyword_falls (validator.ItemsObjectSkipPrefix v) = omega arith
+  keyword_falls (validator.ItemsNumber v) = omega arith
+  keyword_falls (validator.ItemsString v) = omega arith
+  keyword_falls (validator.ItemsBoolean v) = omega arith
+  keyword_falls (validator.ItemsInteger v) = omega arith
+  keyword_falls (validator.ItemsIntegerDraft4 v) = omega arith
+  keyword_falls (validator.PrefixItems v) = omega (arith, each_falls v.nodes.items)
+  keyword_falls (validator.AdditionalItemsObject v) = omega arith
+  keyword_falls (validator.AdditionalItemsBoolean v) = omega arith
+  keyword_falls (validator.Contains v) = omega arith
+  keyword_falls (validator.MinContains v) = omega arith
+  keyword_falls (validator.MaxContains v) = omega arith
+  keyword_falls (validator.MinMaxContains v) = omega arith
+
+  all_fall : (us : List (unit.Unit F N O P)) → most (deep-Unit F N O P r o j) us ≤ all_height (keywords_of us) + 1
+  all_fall [] = omega arith
+  all_fall (u ∷ us) = omega (arith, keyword_falls u.validator, all_fall us)
+
+  pub height_falls : (q : Pointer) (hands_on : Bool) (a : Assertions F N O P) → deep-Assertions F N O P r o j a ≤ height (schema_of q hands_on a)
+  height_falls q hands_on Never = omega arith
+  height_falls q hands_on (Keywords us) = omega (arith, all_fall us.items)

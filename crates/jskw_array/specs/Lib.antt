@@ -1,0 +1,6 @@
+pub mod Limits
+pub mod Meaning
+pub mod Node
+pub mod Heights
+pub mod Siblings
+pub mod Agreement

@@ -1,0 +1,232 @@
+//! Compiles schemas, keyword by keyword.
+ghost use Rattle.std.specs.Prelude.{◌≡◌, Err, IfOk, Some};
+ghost use Rattle.serde_json.specs.Find.{get_member};
+ghost use Rattle.serde_json.specs.View.{view, items_view, members_view};
+ghost use Rattle.jskw_value.specs.declared.types.JsonType.TheVariants.{Boolean, Object};
+ghost use Rattle.jskw_report.specs.Compile.{Compiles, Makes};
+ghost use Rattle.jskw_report.specs.Keyword.{Schema};
+ghost use Rattle.jskw_report.specs.KeywordValue.{of_types, wrong};
+ghost use Rattle.jskw_report.specs.Read.{Asserts, keyword_location, part_named};
+ghost use Rattle.jskw_report.specs.Read.{read, read_each, read_word, read_words};
+ghost use Rattle.jskw_report.specs.Setting.{keywords, name_of};
+ghost use Rattle.jskw_report.specs.Sibling.{is_handed_on};
+ghost use Rattle.jskw_leaf.specs.Meaning.{leaf_keyword};
+ghost use Rattle.jskw_array.specs.Meaning.{schemas_of, validator_keyword};
+ghost use Rattle.jskw_array.specs.Node.{keywords_of};
+ghost use Rattle.jskw_array.specs.Siblings.{schema_count};
+
+use crate::node::{SchemaNode, Unit};
+use crate::validator::Validator;
+use crate::{additional_items, contains, items, prefix_items};
+use jskw_leaf::{LeafValidator, is_leaf, required};
+use jskw_report::compiler::member_of;
+use jskw_report::{
+    CompilationResult, CompileFault, Context, KeywordName, Location, LocationSegment,
+    ValidationErrorKind,
+};
+use jskw_value::{Json, JsonType, JsonTypeSet};
+use serde_json::{Map, Value};
+use std::alloc::{AllocError, Global};
+
+/// Compiles a schema, which stands at the keyword location of `ctx`: a boolean, or an object by its
+/// keywords in their order, those of its subschemas among them. The first value that a keyword does
+/// not take, or that is no schema, is the error; else only memory can fail.
+#[cycle(compile)]
+pub fn compile<'a, F: Json>(
+    alloc: Global,
+    ctx: &Context<'_, F>,
+    schema: &'a Value,
+) -> CompilationResult<'a, SchemaNode<F>>
+    ensures { Makes (λ s. s) result
+        (read keywords (view schema.now) ctx.now.setting ctx.now.location) }
+{
+    let location = ctx.location().copy(alloc)?;
+    match schema {
+        Value::Bool(accepts) => Ok(SchemaNode::of_boolean(alloc, location, *accepts)),
+        Value::Object(parent) => {
+            let units = compile_keywords(alloc, ctx, parent)?;
+            Ok(SchemaNode::of_keywords(location, is_handed_on(ctx, parent), units))
+        }
+        _ => Err(no_schema(alloc, &location, schema)),
+    }
+}
+
+// The fault of a value that is neither a boolean nor an object.
+fn no_schema<'a>(alloc: Global, location: &Location, value: &'a Value) -> CompileFault<'a>
+    ensures { Makes (λ (s : Schema). s) (Err result)
+        (wrong (of_types Boolean Object) location.now (view value.now)) }
+{
+    let types = JsonTypeSet::empty()
+        .insert(JsonType::Object)
+        .insert(JsonType::Boolean);
+    CompileFault::wrong(alloc, ValidationErrorKind::of_types(types), location, value)
+}
+
+// Whether the schema leaves its `required` to the keywords of objects.
+#[tactic(auto, using(jskw_leaf::proofs::HandedOn::not_handed_on, jskw_leaf::proofs::HandedOn::absent_not_handed_on))]
+fn is_handed_on<F: Json>(ctx: &Context<'_, F>, parent: &Map<String, Value>) -> bool
+    ensures { result ≡ is_handed_on ctx.now.setting (members_view parent.now.entries) }
+{
+    let Some(schema) = member_of(parent, "required") else {
+        return false;
+    };
+    if !KeywordName::Required.stands(ctx) {
+        return false;
+    }
+    required::is_handed_on(ctx, parent, schema)
+}
+
+// The keywords of an object, in their order.
+#[cycle(compile)]
+fn compile_keywords<'a, F: Json>(
+    alloc: Global,
+    ctx: &Context<'_, F>,
+    parent: &'a Map<String, Value>,
+) -> CompilationResult<'a, Vec<Unit<F>>>
+    ensures { let ms = members_view parent.now.entries in
+        Makes (λ units. keywords_of units.items) result
+        (read_words keywords ctx.now.setting ctx.now.location ms
+        (λ name. part_named keywords name ms)) }
+{
+    let mut units = Vec::new(alloc);
+    for keyword in KeywordName::ALL {
+        match compile_keyword(alloc, ctx, parent, keyword) {
+            None => {}
+            Some(Ok(validator)) => {
+                let location = ctx.keyword_location(alloc, keyword)?;
+                units.push(Unit {
+                    location,
+                    validator,
+                })?;
+            }
+            Some(Err(fault)) => return Err(fault),
+        }
+    }
+    Ok(units)
+}
+
+// One keyword of an object, None where it is absent, does not stand or asserts nothing.
+#[tactic(auto, using(crate::proofs::Readings::with_subschemas))]
+#[cycle(compile)]
+fn compile_keyword<'a, F: Json>(
+    alloc: Global,
+    ctx: &Context<'_, F>,
+    parent: &'a Map<String, Value>,
+    keyword: KeywordName,
+) -> Option<CompilationResult<'a, Validator<F>>>
+    ensures { let ms = members_view parent.now.entries in Compiles validator_keyword result
+        (read_word keyword ctx.now.setting ctx.now.location ms
+        (part_named keywords (name_of keyword) ms)) }
+{
+    let schema = member_of(parent, keyword.as_str())?;
+    if !keyword.stands(ctx) {
+        return None;
+    }
+    if is_leaf(keyword) {
+        return of_leaf(jskw_leaf::compile(alloc, ctx, parent, keyword, schema));
+    }
+    match keyword {
+        KeywordName::Items => items::compile(alloc, ctx, parent, schema),
+        KeywordName::PrefixItems => prefix_items::compile(alloc, ctx, parent, schema),
+        KeywordName::AdditionalItems => additional_items::compile(alloc, ctx, parent, schema),
+        KeywordName::Contains => contains::compile(alloc, ctx, parent, schema),
+        _ => unreachable!(),
+    }
+}
+
+// A validator of a keyword without subschemas as one of any keyword.
+fn of_leaf<'a, F: Json>(
+    compiled: Option<CompilationResult<'a, LeafValidator<F>>>,
+) -> Option<CompilationResult<'a, Validator<F>>>
+    ensures { (read : Asserts) → Compiles leaf_keyword compiled.entry read
+        → Compiles validator_keyword result read }
+{
+    match compiled? {
+        Ok(validator) => Some(Ok(Validator::Leaf(validator))),
+        Err(fault) => Some(Err(fault)),
+    }
+}
+
+// The schema that is the value of a keyword; `ctx` stands at the object of the keyword.
+#[cycle(compile)]
+pub(crate) fn compile_at<'a, F: Json>(
+    alloc: Global,
+    ctx: &Context<'_, F>,
+    keyword: KeywordName,
+    schema: &'a Value,
+) -> CompilationResult<'a, SchemaNode<F>>
+    ensures { Makes (λ s. s) result (read keywords (view schema.now) ctx.now.setting
+        (keyword_location ctx.now.location keyword)) }
+{
+    let below = below(alloc, ctx, keyword)?;
+    compile(alloc, &below, schema)
+}
+
+// The schemas that are the value of a keyword, each at its index; `ctx` stands at the object of the
+// keyword.
+#[cycle(compile)]
+pub(crate) fn compile_each_at<'a, F: Json>(
+    alloc: Global,
+    ctx: &Context<'_, F>,
+    keyword: KeywordName,
+    schemas: &'a [Value],
+) -> CompilationResult<'a, Vec<SchemaNode<F>>>
+    ensures { Makes (λ nodes. schemas_of nodes.items) result
+        (read_each keywords (items_view schemas.now) ctx.now.setting
+        (keyword_location ctx.now.location keyword) 0) }
+{
+    let below = below(alloc, ctx, keyword)?;
+    compile_each(alloc, &below, schemas)
+}
+
+// An array of schemas, each at its index below the keyword location of `ctx`.
+#[cycle(compile)]
+fn compile_each<'a, F: Json>(
+    alloc: Global,
+    ctx: &Context<'_, F>,
+    schemas: &'a [Value],
+) -> CompilationResult<'a, Vec<SchemaNode<F>>>
+    ensures { Makes (λ nodes. schemas_of nodes.items) result
+        (read_each keywords (items_view schemas.now) ctx.now.setting ctx.now.location 0) }
+{
+    let mut nodes = Vec::new(alloc);
+    for index in 0..schemas.len() {
+        let item = ctx.new_at_location(alloc, LocationSegment::Index(index))?;
+        nodes.push(compile(alloc, &item, &schemas[index])?)?;
+    }
+    Ok(nodes)
+}
+
+// The context of the value of a keyword. Only memory can fail.
+fn below<'s, F: Json>(
+    alloc: Global,
+    ctx: &Context<'s, F>,
+    keyword: KeywordName,
+) -> Result<Context<'s, F>, AllocError>
+    ensures { IfOk result (λ c. c ≡ record {
+      setting = ctx.now.setting;
+      location = keyword_location ctx.now.location keyword;
+    }) }
+{
+    ctx.new_at_location(alloc, LocationSegment::Name(keyword.as_str()))
+}
+
+// How many schemas an object has under a name, None where it has no array there.
+pub(crate) fn schema_count(parent: &Map<String, Value>, name: &str) -> Option<usize>
+    ensures { result ≡ schema_count (get_member name.now (members_view parent.now.entries)) }
+{
+    match member_of(parent, name) {
+        Some(value) => item_count(value),
+        None => None,
+    }
+}
+
+// How many items an array has, None for other values.
+fn item_count(value: &Value) -> Option<usize>
+    ensures { result ≡ schema_count (Some (view value.now)) }
+{
+    match value {
+        Value::Array(items) => Some(items.len()),
+        _ => None,
+    }
+}

@@ -1,0 +1,334 @@
+//! `items`: of one schema, for every item that `prefixItems` has none for (Core 10.3.1.2), or of an
+//! array of schemas, each for the item of its index (Draft 7 Validation 6.4.1).
+ghost use Rattle.std.specs.Prelude.{◌≡◌, IsTrue, Result, Some, false, if◌then◌else◌, length};
+ghost use Rattle.std.specs.Prelude.{nat_lt, true};
+ghost use Rattle.serde_json.specs.Data.{string};
+ghost use Rattle.serde_json.specs.View.{view, members_view};
+ghost use Rattle.jskw_value.specs.Tree.{is_array, items};
+ghost use Rattle.jskw_report.specs.Compile.{Compiles, Makes, reading};
+ghost use Rattle.jskw_report.specs.Evaluation.{flag, of_children, valid_unit};
+ghost use Rattle.jskw_report.specs.EvaluationView.{result_of};
+ghost use Rattle.jskw_report.specs.Keyword.{Schemas, items_from, items_list};
+ghost use Rattle.jskw_report.specs.KeywordValue.{Refusal, map_ok};
+ghost use Rattle.jskw_report.specs.Meaning.{one};
+ghost use Rattle.jskw_report.specs.Read.{Reading, items_start, keyword_location, read};
+ghost use Rattle.jskw_report.specs.Setting.{keywords, name_of, is_2020_12, stands};
+ghost use Rattle.jskw_report.specs.Sibling.{is_array as is_list, is_bare, is_inlined_type};
+ghost use Rattle.jskw_report.specs.Sibling.{is_items_schema, is_only_type, member_passes};
+ghost use Rattle.jskw_report.specs.declared.keyword.KeywordName.TheVariants as word;
+ghost use Rattle.jskw_array.specs.Meaning.{items_array, items_object, items_skip_prefix};
+ghost use Rattle.jskw_array.specs.Meaning.{schemas_of, validator_keyword};
+
+mod item_type;
+
+use crate::compiler::{compile_at, compile_each_at, schema_count};
+use crate::meeting::{
+    collect_each, collect_rest, each_is_valid, evaluate_each, evaluate_rest, rest_is_valid,
+    validate_each, validate_rest,
+};
+use crate::node::SchemaNode;
+use crate::validator::Validator;
+use item_type::compile_inline;
+pub use item_type::{
+    BooleanItems, IntegerItems, IntegerItemsDraft4, ItemType, ItemsTypeValidator, NumberItems,
+    StringItems,
+};
+use jskw_report::compiler::member_of;
+use jskw_report::{
+    Annotations, CompilationResult, CompileFault, Context, Draft, EvaluationNode, EvaluationResult,
+    Fault, KeywordName, LazyLocation, Validate, ValidationContext, ValidationError,
+};
+use jskw_value::{Json, Node};
+use serde_json::{Map, Value};
+use std::alloc::{AllocError, Global};
+
+/// The validator of `items` of an array of schemas.
+#[cycle(schema)]
+#[derive(Drop)]
+pub struct ItemsArrayValidator<F: Json> {
+    pub(crate) nodes: Vec<SchemaNode<F>>,
+}
+
+impl<F: Json> Validate<F> for ItemsArrayValidator<F> {
+    ghost meaning = { λ v. one (items_array v) };
+
+    fn is_valid(&self, instance: &F::Node, ctx: &mut ValidationContext) -> bool {
+        each_is_valid(self.nodes.as_slice(), instance, ctx)
+    }
+
+    fn validate<'i>(
+        &'i self,
+        instance: &'i F::Node,
+        location: &mut LazyLocation,
+        ctx: &mut ValidationContext,
+    ) -> Result<(), Fault<'i, F>> {
+        validate_each(self.nodes.as_slice(), instance, location, ctx)
+    }
+
+    fn collect_errors<'i>(
+        &'i self,
+        instance: &'i F::Node,
+        location: &mut LazyLocation,
+        ctx: &mut ValidationContext,
+        errors: &mut Vec<ValidationError<'i, F>>,
+    ) -> Result<(), AllocError> {
+        collect_each(self.nodes.as_slice(), instance, location, ctx, errors)
+    }
+
+    fn evaluate(
+        &self,
+        alloc: Global,
+        instance: &F::Node,
+        location: &mut LazyLocation,
+        ctx: &mut ValidationContext,
+    ) -> Result<EvaluationResult, AllocError> {
+        let nodes = evaluate_each(alloc, self.nodes.as_slice(), instance, location, ctx)?;
+        Ok(EvaluationResult::from_children(alloc, nodes))
+    }
+}
+
+/// The validator of `items` of one schema, for every item.
+#[cycle(schema)]
+#[derive(Drop)]
+pub struct ItemsObjectValidator<F: Json> {
+    pub(crate) node: SchemaNode<F>,
+}
+
+impl<F: Json> Validate<F> for ItemsObjectValidator<F> {
+    ghost meaning = { λ v. one (items_object v) };
+
+    fn is_valid(&self, instance: &F::Node, ctx: &mut ValidationContext) -> bool {
+        rest_is_valid(0, &self.node, instance, ctx)
+    }
+
+    fn validate<'i>(
+        &'i self,
+        instance: &'i F::Node,
+        location: &mut LazyLocation,
+        ctx: &mut ValidationContext,
+    ) -> Result<(), Fault<'i, F>> {
+        validate_rest(0, &self.node, instance, location, ctx)
+    }
+
+    fn collect_errors<'i>(
+        &'i self,
+        instance: &'i F::Node,
+        location: &mut LazyLocation,
+        ctx: &mut ValidationContext,
+        errors: &mut Vec<ValidationError<'i, F>>,
+    ) -> Result<(), AllocError> {
+        collect_rest(0, &self.node, instance, location, ctx, errors)
+    }
+
+    fn evaluate(
+        &self,
+        alloc: Global,
+        instance: &F::Node,
+        location: &mut LazyLocation,
+        ctx: &mut ValidationContext,
+    ) -> Result<EvaluationResult, AllocError> {
+        let nodes = evaluate_rest(alloc, 0, &self.node, instance, location, ctx)?;
+        Ok(items_unit(alloc, 0, nodes, instance))
+    }
+}
+
+/// The validator of `items` of one schema, for the items behind those of `prefixItems`.
+#[cycle(schema)]
+#[derive(Drop)]
+pub struct ItemsObjectSkipPrefixValidator<F: Json> {
+    pub(crate) node: SchemaNode<F>,
+    pub(crate) skip_prefix: usize,
+}
+
+impl<F: Json> Validate<F> for ItemsObjectSkipPrefixValidator<F> {
+    ghost meaning = { λ v. one (items_skip_prefix v) };
+
+    fn is_valid(&self, instance: &F::Node, ctx: &mut ValidationContext) -> bool {
+        rest_is_valid(self.skip_prefix, &self.node, instance, ctx)
+    }
+
+    fn validate<'i>(
+        &'i self,
+        instance: &'i F::Node,
+        location: &mut LazyLocation,
+        ctx: &mut ValidationContext,
+    ) -> Result<(), Fault<'i, F>> {
+        validate_rest(self.skip_prefix, &self.node, instance, location, ctx)
+    }
+
+    fn collect_errors<'i>(
+        &'i self,
+        instance: &'i F::Node,
+        location: &mut LazyLocation,
+        ctx: &mut ValidationContext,
+        errors: &mut Vec<ValidationError<'i, F>>,
+    ) -> Result<(), AllocError> {
+        collect_rest(
+            self.skip_prefix,
+            &self.node,
+            instance,
+            location,
+            ctx,
+            errors,
+        )
+    }
+
+    fn evaluate(
+        &self,
+        alloc: Global,
+        instance: &F::Node,
+        location: &mut LazyLocation,
+        ctx: &mut ValidationContext,
+    ) -> Result<EvaluationResult, AllocError> {
+        let nodes = evaluate_rest(alloc, self.skip_prefix, &self.node, instance, location, ctx)?;
+        Ok(items_unit(alloc, self.skip_prefix, nodes, instance))
+    }
+}
+
+// The unit of `items` of one schema from `start` on, with the nodes of those items below: whether
+// there are any.
+pub(crate) fn items_unit<N: Node>(
+    alloc: Global,
+    start: usize,
+    nodes: Vec<EvaluationNode>,
+    instance: &N,
+) -> EvaluationResult
+    ensures { result_of result ≡ (if is_array (N.tree instance.now)
+        then of_children (Some (flag (nat_lt start (length (items (N.tree instance.now)))))) nodes.items
+        else valid_unit) }
+{
+    if !instance.is_array() {
+        return EvaluationResult::valid_empty(alloc);
+    }
+    let mut unit = EvaluationResult::from_children(alloc, nodes);
+    unit.annotate(Annotations::Bool(start < instance.item_count()));
+    unit
+}
+
+/// Compiles `items`. The value is an array of schemas, each of which stands at its index, or one
+/// schema, an object or `false`; in 2020-12 that is for the items behind the schemas of an array
+/// `prefixItems`. Every other value asserts nothing. A fault is that of one of the schemas, as
+/// [`compile`](crate::compiler::compile) tells; else only memory can fail.
+#[cycle(compile)]
+pub fn compile<'a, F: Json>(
+    alloc: Global,
+    ctx: &Context<'_, F>,
+    parent: &'a Map<String, Value>,
+    schema: &'a Value,
+) -> Option<CompilationResult<'a, Validator<F>>>
+    ensures { Compiles validator_keyword result
+        (reading word.Items ctx.now (members_view parent.now.entries) (view schema.now)) }
+{
+    if let Some(schemas) = schema.as_array() {
+        let keyword = KeywordName::Items;
+        return Some(of_schemas(compile_each_at(alloc, ctx, keyword, schemas.as_slice())));
+    }
+    if !is_items_schema(schema) {
+        return None;
+    }
+    if is_bare(ctx, parent, schema) {
+        return Some(compile_inline(alloc, ctx, schema));
+    }
+    let start = items_start(ctx, parent);
+    Some(of_schema(start, compile_at(alloc, ctx, KeywordName::Items, schema)))
+}
+
+// Whether the value is one schema that asserts something: an object or `false`.
+fn is_items_schema(value: &Value) -> bool
+    ensures { result ≡ is_items_schema (view value.now) }
+{
+    matches!(value, Value::Object(_) | Value::Bool(false))
+}
+
+// Whether the value of `items` is checked in place: it is the `type` of a number, a string or a
+// boolean alone, which is read, and no array of schemas of `prefixItems` comes before it.
+fn is_bare<F: Json>(ctx: &Context<'_, F>, parent: &Map<String, Value>, schema: &Value) -> bool
+    ensures { result
+        ≡ is_bare ctx.now.setting (members_view parent.now.entries) (view schema.now) }
+{
+    is_only_type(schema)
+        && KeywordName::TypeKeyword.stands(ctx)
+        && !(ctx.draft() == Draft::Draft202012 && has_array(parent, "prefixItems"))
+}
+
+// Whether the value is an object of a single member: `type`, with a name that items are checked
+// against in place.
+fn is_only_type(value: &Value) -> bool
+    ensures { result ≡ is_only_type (view value.now) }
+{
+    let Value::Object(members) = value else {
+        return false;
+    };
+    if members.len() != 1 {
+        return false;
+    }
+    match member_of(members, "type") {
+        Some(name) => is_inlined_type(name),
+        None => false,
+    }
+}
+
+// Whether the value is the name of a type that items are checked against in place.
+#[tactic(auto, using(crate::proofs::BareTypes::no_text, crate::proofs::BareTypes::of_text))]
+fn is_inlined_type(value: &Value) -> bool
+    ensures { result ≡ is_inlined_type (view value.now) }
+{
+    match value.as_str() {
+        Some(name) => is_inlined_name(name),
+        None => false,
+    }
+}
+
+// Whether the type of this name is one that items are checked against in place.
+fn is_inlined_name(name: &str) -> bool
+    ensures { result ≡ is_inlined_type (string name.now) }
+{
+    matches!(name, "number" | "string" | "boolean" | "integer")
+}
+
+// Whether `parent` has an array under a name.
+fn has_array(parent: &Map<String, Value>, name: &str) -> bool
+    ensures { result ≡ member_passes is_list name.now (members_view parent.now.entries) }
+{
+    matches!(member_of(parent, name), Some(Value::Array(_)))
+}
+
+// Where `items` of one schema begins: in 2020-12 behind the schemas of `prefixItems`.
+fn items_start<F: Json>(ctx: &Context<'_, F>, parent: &Map<String, Value>) -> usize
+    ensures { result ≡ items_start ctx.now.setting (members_view parent.now.entries) }
+{
+    if ctx.draft() != Draft::Draft202012 {
+        return 0;
+    }
+    schema_count(parent, "prefixItems").unwrap_or(0)
+}
+
+// The validator of the schemas, where they were compiled.
+fn of_schemas<'a, F: Json>(
+    compiled: CompilationResult<'a, Vec<SchemaNode<F>>>,
+) -> CompilationResult<'a, Validator<F>>
+    ensures { (read : Result Schemas Refusal)
+        → Makes (λ nodes. schemas_of nodes.items) compiled.entry read
+        → Makes validator_keyword result (map_ok items_list read) }
+{
+    Ok(Validator::ItemsArray(ItemsArrayValidator { nodes: compiled? }))
+}
+
+// The validator of one schema, from the item `start` on, where it was compiled.
+fn of_schema<'a, F: Json>(
+    start: usize,
+    compiled: CompilationResult<'a, SchemaNode<F>>,
+) -> CompilationResult<'a, Validator<F>>
+    ensures { (read : Reading) → Makes (λ s. s) compiled.entry read
+        → Makes validator_keyword result (map_ok (λ sub. items_from start sub false) read) }
+{
+    let node = compiled?;
+    if start == 0 {
+        return Ok(Validator::ItemsObject(ItemsObjectValidator { node }));
+    }
+    let validator = ItemsObjectSkipPrefixValidator {
+        node,
+        skip_prefix: start,
+    };
+    Ok(Validator::ItemsObjectSkipPrefix(validator))
+}

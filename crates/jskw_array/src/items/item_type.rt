@@ -1,0 +1,263 @@
+//! `items` of a `type` alone (Core 10.3.1.2, Validation 6.1.1): each item is tested in place, which
+//! is no application of a subschema.
+ghost use Rattle.std.specs.Prelude.{◌≡◌, IfOk, IsTrue, Some, true};
+ghost use Rattle.serde_json.specs.Data.{member, no_members, object, string};
+ghost use Rattle.serde_json.specs.View.{view};
+ghost use Rattle.jskw_value.specs.Tree.{is_lawful};
+ghost use Rattle.jskw_value.specs.Types.{type_named};
+ghost use Rattle.jskw_value.specs.declared.types.JsonType.{JsonType};
+ghost use Rattle.jskw_report.specs.Compile.{Makes};
+ghost use Rattle.jskw_report.specs.Evaluation.{tree};
+ghost use Rattle.jskw_report.specs.Keyword.{items_from};
+ghost use Rattle.jskw_report.specs.KeywordValue.{map_ok};
+ghost use Rattle.jskw_report.specs.Meaning.{one, placed};
+ghost use Rattle.jskw_report.specs.Paths.{path_of};
+ghost use Rattle.jskw_report.specs.Read.{integers_of, keyword_location, read};
+ghost use Rattle.jskw_report.specs.Setting.{keywords, name_of, stands};
+ghost use Rattle.jskw_report.specs.Sibling.{is_inlined_type, is_only_type};
+ghost use Rattle.jskw_report.specs.declared.error.TypeKind.TheVariants.{Single};
+ghost use Rattle.jskw_report.specs.declared.keyword.KeywordName.TheVariants as word;
+ghost use Rattle.jskw_leaf.specs.Meaning.{leaf_keyword, single_type, type_at};
+ghost use Rattle.jskw_array.specs.Meaning.{bare_items, bare_schema, items_type};
+ghost use Rattle.jskw_array.specs.Meaning.{validator_keyword};
+
+use crate::items::items_unit;
+use crate::validator::Validator;
+use jskw_leaf::LeafValidator;
+use jskw_leaf::legacy::type_draft_4;
+use jskw_leaf::type_::{
+    BooleanType, BooleanTypeValidator, IntegerType, IntegerTypeValidator, NumberType,
+    NumberTypeValidator, SingleTypeValidator, StringType, StringTypeValidator, TypeTest,
+};
+use jskw_report::{
+    Assertion, CompilationResult, Context, Draft, EvaluationNode, EvaluationResult, Fault,
+    KeywordName, LazyLocation, Location, LocationSegment, Validate, ValidationContext,
+    ValidationError,
+};
+use jskw_value::{Array, Json, Node};
+use serde_json::Value;
+use std::alloc::{AllocError, Global};
+use std::marker::PhantomData;
+
+/// A type that items are tested for in place.
+pub trait ItemType: TypeTest {
+    /// The validator of the type, which fails at the location: that of `type` in a schema.
+    fn compile_type<F: Json>(location: Location) -> LeafValidator<F>
+        ensures { leaf_keyword result ≡ placed (type_at Self.json_type Self.rule location) };
+}
+
+/// Items of the type number.
+pub type NumberItems = NumberType;
+
+impl ItemType for NumberItems {
+    fn compile_type<F: Json>(location: Location) -> LeafValidator<F> {
+        LeafValidator::NumberType(NumberTypeValidator::new(location))
+    }
+}
+
+/// Items of the type string.
+pub type StringItems = StringType;
+
+impl ItemType for StringItems {
+    fn compile_type<F: Json>(location: Location) -> LeafValidator<F> {
+        LeafValidator::StringType(StringTypeValidator::new(location))
+    }
+}
+
+/// Items of the type boolean.
+pub type BooleanItems = BooleanType;
+
+impl ItemType for BooleanItems {
+    fn compile_type<F: Json>(location: Location) -> LeafValidator<F> {
+        LeafValidator::BooleanType(BooleanTypeValidator::new(location))
+    }
+}
+
+/// Items of the type integer, of which a number with a zero fraction is one.
+pub type IntegerItems = IntegerType;
+
+impl ItemType for IntegerItems {
+    fn compile_type<F: Json>(location: Location) -> LeafValidator<F> {
+        LeafValidator::IntegerType(IntegerTypeValidator::new(location))
+    }
+}
+
+/// Items of the type integer of Draft 4, of which a number written without a fraction is one.
+pub type IntegerItemsDraft4 = type_draft_4::IntegerType;
+
+impl ItemType for IntegerItemsDraft4 {
+    fn compile_type<F: Json>(location: Location) -> LeafValidator<F> {
+        LeafValidator::IntegerTypeDraft4(type_draft_4::IntegerTypeValidator::new(location))
+    }
+}
+
+/// The validator of `items` of a `type` alone. Nothing is applied to an item, and the location goes
+/// down to those alone that are not of the type.
+#[derive(Drop)]
+pub struct ItemsTypeValidator<T: ItemType, F: Json> {
+    // that of `items`
+    location: Location,
+    // that of the `type` in it
+    validator: SingleTypeValidator<T>,
+    representation: PhantomData<F>,
+}
+
+impl<T: ItemType, F: Json> ItemsTypeValidator<T, F> {
+    /// The validator of the `items` at a location and of the `type` at another.
+    pub fn new(location: Location, type_location: Location) -> ItemsTypeValidator<T, F>
+        ensures { items_type T.json_type T.rule result
+            ≡ bare_items location (type_at T.json_type T.rule type_location) }
+    {
+        ItemsTypeValidator {
+            location,
+            validator: SingleTypeValidator::new(type_location),
+            representation: PhantomData,
+        }
+    }
+
+    // The evaluation of an item, as of a schema that has `type` alone.
+    fn evaluate_item(
+        &self,
+        alloc: Global,
+        item: &F::Node,
+        location: &mut LazyLocation,
+        ctx: &mut ValidationContext,
+    ) -> Result<EvaluationNode, AllocError>
+        requires { IsTrue (is_lawful (F.Node.tree item.now)) }
+        ensures gives { let check = single_type T.json_type T.rule self.now.validator in
+            IfOk result (λ node. node ≡ tree (bare_schema self.now.location check)
+            (F.Node.tree item.now) (path_of location.old)) }
+        ensures location { location.new ≡ location.old }
+        ensures counted { ctx.new ≡ ctx.old }
+    {
+        let path = location.render()?;
+        let unit = Validate::<F>::evaluate(&self.validator, alloc, item, location, ctx)?;
+        let mut children = Vec::new(alloc);
+        children.push(EvaluationNode::new(alloc, unit, self.validator.location(), &path)?)?;
+        let result = EvaluationResult::from_children(alloc, children);
+        EvaluationNode::new(alloc, result, &self.location, &path)
+    }
+}
+
+impl<T: ItemType, F: Json> Validate<F> for ItemsTypeValidator<T, F> {
+    ghost meaning = { λ v. one (items_type T.json_type T.rule v) };
+
+    fn is_valid(&self, instance: &F::Node, _ctx: &mut ValidationContext) -> bool {
+        for index in 0..instance.item_count() {
+            if !T::matches::<F>(instance.item(index)) {
+                return false;
+            }
+        }
+        true
+    }
+
+    fn validate<'i>(
+        &'i self,
+        instance: &'i F::Node,
+        location: &mut LazyLocation,
+        ctx: &mut ValidationContext,
+    ) -> Result<(), Fault<'i, F>> {
+        for index in 0..instance.item_count() {
+            let item = instance.item(index);
+            if T::matches::<F>(item) {
+                continue;
+            }
+            location.push(index)?;
+            let answer = self.validator.validate(item, location, ctx);
+            location.pop();
+            answer?;
+        }
+        Ok(())
+    }
+
+    fn collect_errors<'i>(
+        &'i self,
+        instance: &'i F::Node,
+        location: &mut LazyLocation,
+        ctx: &mut ValidationContext,
+        errors: &mut Vec<ValidationError<'i, F>>,
+    ) -> Result<(), AllocError> {
+        for index in 0..instance.item_count() {
+            let item = instance.item(index);
+            if T::matches::<F>(item) {
+                continue;
+            }
+            location.push(index)?;
+            let answer = self.validator.collect_errors(item, location, ctx, errors);
+            location.pop();
+            answer?;
+        }
+        Ok(())
+    }
+
+    fn evaluate(
+        &self,
+        alloc: Global,
+        instance: &F::Node,
+        location: &mut LazyLocation,
+        ctx: &mut ValidationContext,
+    ) -> Result<EvaluationResult, AllocError> {
+        let mut children = Vec::new(alloc);
+        for index in 0..instance.item_count() {
+            location.push(index)?;
+            let answer = self.evaluate_item(alloc, instance.item(index), location, ctx);
+            location.pop();
+            children.push(answer?)?;
+        }
+        Ok(items_unit(alloc, 0, children, instance))
+    }
+}
+
+// Compiles `items` of a schema that is a `type` alone, which is read. Only memory can fail.
+pub(crate) fn compile_inline<'a, F: Json>(
+    alloc: Global,
+    ctx: &Context<'_, F>,
+    schema: &'a Value,
+) -> CompilationResult<'a, Validator<F>>
+    requires only_type { IsTrue (is_only_type (view schema.now)) }
+    requires stands { IsTrue (stands ctx.now.setting word.TypeKeyword) }
+    ensures { Makes validator_keyword result (map_ok (λ sub. items_from 0 sub true)
+        (read keywords (view schema.now) ctx.now.setting
+        (keyword_location ctx.now.location word.Items))) }
+{
+    let location = ctx.keyword_location(alloc, KeywordName::Items)?;
+    let name = KeywordName::TypeKeyword.as_str();
+    let type_location = location.join(alloc, LocationSegment::Name(name))?;
+    Ok(typed_items(only_type(schema), ctx.draft(), location, type_location))
+}
+
+// The name that the schema's one member has as its value.
+fn only_type(schema: &Value) -> &str
+    requires { IsTrue (is_only_type (view schema.now)) }
+    ensures { view schema.now
+        ≡ object (member (name_of word.TypeKeyword) (string result.now) no_members) }
+{
+    let Some(value) = schema.get("type") else {
+        return "";
+    };
+    value.as_str().unwrap_or("")
+}
+
+// The validator of items of the type of a name.
+fn typed_items<F: Json>(
+    name: &str,
+    draft: Draft,
+    location: Location,
+    type_location: Location,
+) -> Validator<F>
+    requires { IsTrue (is_inlined_type (string name.now)) }
+    ensures { (j : JsonType) → type_named name.now ≡ Some j → validator_keyword result
+        ≡ bare_items location (type_at j (integers_of draft (Single j)) type_location) }
+{
+    match name {
+        "number" => Validator::ItemsNumber(ItemsTypeValidator::new(location, type_location)),
+        "string" => Validator::ItemsString(ItemsTypeValidator::new(location, type_location)),
+        "boolean" => Validator::ItemsBoolean(ItemsTypeValidator::new(location, type_location)),
+        _ => match draft {
+            Draft::Draft4 => {
+                Validator::ItemsIntegerDraft4(ItemsTypeValidator::new(location, type_location))
+            }
+            _ => Validator::ItemsInteger(ItemsTypeValidator::new(location, type_location)),
+        },
+    }
+}

@@ -1,0 +1,29 @@
+//! What the observers of a node have in common, as the contract of a function.
+ghost use Rattle.std.specs.Prelude.{◌≡◌, [], IsTrue};
+ghost use Rattle.jskw_value.specs.Tree.{is_lawful};
+ghost use Rattle.jskw_array.specs.Agreement.{Agree};
+
+use crate::node::SchemaNode;
+use jskw_report::{Fault, LazyLocation, ValidationContext, ValidationError};
+use jskw_value::Json;
+use std::alloc::AllocError;
+
+/// What `is_valid`, `validate` and `collect_errors` answer of one instance: `validate` is Ok exactly
+/// where `is_valid` is true, and its error is the first that `collect_errors` appends. Want of
+/// memory of either says nothing of the instance.
+pub fn observers_agree<'i, F: Json>(
+    node: &'i SchemaNode<F>,
+    instance: &'i F::Node,
+    location: &mut LazyLocation,
+    ctx: &mut ValidationContext,
+    errors: &mut Vec<ValidationError<'i, F>>,
+) -> (bool, Result<(), Fault<'i, F>>, Result<(), AllocError>)
+    requires lawful { IsTrue (is_lawful (F.Node.tree instance.now)) }
+    requires empty { errors.old.items ≡ [] }
+    ensures { Agree F.Node.tree result.0 result.1 result.2 errors.new.items }
+{
+    let is_valid = node.is_valid(instance, ctx);
+    let first = node.validate(instance, location, ctx);
+    let all = node.collect_errors(instance, location, ctx, errors);
+    (is_valid, first, all)
+}

@@ -1,0 +1,295 @@
+//! A compiled schema: the validators of its keywords, in the order in which a schema is read.
+ghost use Rattle.std.specs.Prelude.{◌≡◌, ◌+◌, ◌≤◌, [], IfOk, IsTrue, min};
+ghost use Rattle.jskw_value.specs.Tree.{is_lawful};
+ghost use Rattle.jskw_report.specs.Applications.{needed, pairs};
+ghost use Rattle.jskw_report.specs.Evaluation.{tree};
+ghost use Rattle.jskw_report.specs.Fail.{fail};
+ghost use Rattle.jskw_report.specs.Holds.{holds};
+ghost use Rattle.jskw_report.specs.Keyword.{all_hand_on, each_hands_on, false_schema};
+ghost use Rattle.jskw_report.specs.Keyword.{hands_on_required, schema_object};
+ghost use Rattle.jskw_report.specs.Observe.{Appends, CountsUpTo, IsFirst};
+ghost use Rattle.jskw_report.specs.Paths.{path_of};
+ghost use Rattle.jskw_array.specs.Meaning.{schemas_of};
+ghost use Rattle.jskw_array.specs.Node.{boolean_schema, keywords_of};
+
+use crate::validator::Validator;
+use jskw_report::validator::{append_first, evaluate_first, fail_unless};
+use jskw_report::{
+    EvaluationNode, EvaluationResult, Fault, LazyLocation, Location, Validate, ValidationContext,
+    ValidationError, ValidationErrorKind,
+};
+use jskw_value::Json;
+use std::alloc::{AllocError, Global};
+use std::marker::Model;
+
+/// A compiled schema over the representation `F`. It has the observers of `Validate`, which here
+/// answer for the whole schema. Contracts see it as the schema that it was compiled from, read
+/// keyword by keyword.
+#[cycle(schema)]
+#[derive(Drop)]
+pub struct SchemaNode<F: Json> {
+    location: Location,
+    // the `required` of this schema is handed on
+    hands_on: bool,
+    // that of this schema or of a subschema is
+    hands_on_any: bool,
+    assertions: Assertions<F>,
+}
+
+// What a schema asserts.
+#[cycle(schema)]
+#[derive(Drop)]
+enum Assertions<F: Json> {
+    // The schema `false`.
+    Never,
+    // The keywords of an object, none for `true`.
+    Keywords(Vec<Unit<F>>),
+}
+
+// A keyword's validator, with its keyword location.
+#[cycle(schema)]
+#[derive(Drop)]
+pub(crate) struct Unit<F: Json> {
+    pub(crate) location: Location,
+    pub(crate) validator: Validator<F>,
+}
+
+impl<F: Json> Model for SchemaNode<F> {
+    ghost use Rattle.jskw_report.specs.Keyword.{Schema, hands_on_required};
+    ghost use Rattle.jskw_report.specs.SchemaCode.{schema_code};
+
+    ghost Value = { Schema };
+
+    ghost coded = { schema_code };
+
+    ghost use Rattle.std.specs.Prelude.{◌≡◌};
+    ghost use Rattle.jskw_report.specs.Applications.{height};
+    ghost use Rattle.jskw_array.specs.Node.{schema_of};
+
+    ghost view = { λ n. schema_of n.location n.hands_on n.assertions };
+
+    ghost invariant = { λ n. n.hands_on_any
+        ≡ hands_on_required (schema_of n.location n.hands_on n.assertions) };
+
+    ghost size = { height };
+
+    ghost use Rattle.std.proofs.Common.{arith};
+    ghost use Rattle.jskw_array.specs.Heights.{height_falls};
+
+    ghost size_decreases = { λ n h. omega (
+      arith,
+      height_falls F.Node.Rooted F.Node.Object
+          F.Node.Number.JsonNumber n.location n.hands_on n.assertions,
+    ) };
+}
+
+impl<F: Json> SchemaNode<F> {
+    // `true`, which has no keywords, or `false`.
+    pub(crate) fn of_boolean(alloc: Global, location: Location, accepts: bool) -> SchemaNode<F>
+        ensures { result ≡ boolean_schema location accepts }
+    {
+        let assertions = if accepts {
+            Assertions::Keywords(Vec::new(alloc))
+        } else {
+            Assertions::Never
+        };
+        SchemaNode {
+            location,
+            hands_on: false,
+            hands_on_any: false,
+            assertions,
+        }
+    }
+
+    // An object with these keywords, whose own `required` is handed on or is not.
+    pub(crate) fn of_keywords(
+        location: Location,
+        hands_on: bool,
+        units: Vec<Unit<F>>,
+    ) -> SchemaNode<F>
+        ensures { result ≡ schema_object location hands_on (keywords_of units.items) }
+    {
+        let hands_on_any = hands_on || some_unit_hands_on(units.as_slice());
+        SchemaNode {
+            location,
+            hands_on,
+            hands_on_any,
+            assertions: Assertions::Keywords(units),
+        }
+    }
+
+    /// Whether the `required` of the schema or of a subschema is handed on: it asserts nothing
+    /// here, and is left to the keywords of objects.
+    pub fn hands_on_required(&self) -> bool
+        ensures { result ≡ hands_on_required self.now }
+    {
+        self.hands_on_any
+    }
+
+    /// Whether the schema holds of the instance. It takes no memory, and looks no further than the
+    /// first failure.
+    #[cycle(is_valid)]
+    pub fn is_valid(&self, instance: &F::Node, ctx: &mut ValidationContext) -> bool
+        requires { IsTrue (is_lawful (F.Node.tree instance.now)) }
+        ensures answer { result ≡ holds self.now (F.Node.tree instance.now) }
+        ensures applied { min (ctx.old + 1) u64.MAX ≤ ctx.new }
+        ensures counted { CountsUpTo ctx.old ctx.new (needed self.now (F.Node.tree instance.now)) }
+    {
+        ctx.count_one();
+        let Assertions::Keywords(units) = &self.assertions else {
+            return false;
+        };
+        for unit in units {
+            if !unit.validator.is_valid(instance, ctx) {
+                return false;
+            }
+        }
+        true
+    }
+
+    /// Ok where the schema holds, and else the first error; want of memory says nothing of the
+    /// instance. `location` is the instance's, and at every return it is as at the call.
+    #[cycle(validate)]
+    pub fn validate<'i>(
+        &'i self,
+        instance: &'i F::Node,
+        location: &mut LazyLocation,
+        ctx: &mut ValidationContext,
+    ) -> Result<(), Fault<'i, F>>
+        requires { IsTrue (is_lawful (F.Node.tree instance.now)) }
+        ensures first { IsFirst F.Node.tree
+            (fail self.now (F.Node.tree instance.now) (path_of location.old)) result }
+        ensures location { location.new ≡ location.old }
+        ensures applied { min (ctx.old + 1) u64.MAX ≤ ctx.new }
+        ensures counted { CountsUpTo ctx.old ctx.new (needed self.now (F.Node.tree instance.now)) }
+    {
+        ctx.count_one();
+        let Assertions::Keywords(units) = &self.assertions else {
+            return refuse(&self.location, instance, location);
+        };
+        for unit in units {
+            unit.validator.validate(instance, location, ctx)?;
+        }
+        Ok(())
+    }
+
+    /// Appends every error, in order. After want of memory the list is as it was, followed by a
+    /// beginning of them. `location` is the instance's, and at every return it is as at the call.
+    #[cycle(collect_errors)]
+    pub fn collect_errors<'i>(
+        &'i self,
+        instance: &'i F::Node,
+        location: &mut LazyLocation,
+        ctx: &mut ValidationContext,
+        errors: &mut Vec<ValidationError<'i, F>>,
+    ) -> Result<(), AllocError>
+        requires { IsTrue (is_lawful (F.Node.tree instance.now)) }
+        ensures appended { Appends F.Node.tree errors.old.items errors.new.items
+            (fail self.now (F.Node.tree instance.now) (path_of location.old)) result }
+        ensures location { location.new ≡ location.old }
+        ensures applied { min (ctx.old + 1) u64.MAX ≤ ctx.new }
+        ensures counted { CountsUpTo ctx.old ctx.new (pairs self.now (F.Node.tree instance.now)) }
+    {
+        ctx.count_one();
+        let Assertions::Keywords(units) = &self.assertions else {
+            return append_first(refuse(&self.location, instance, location), errors);
+        };
+        for unit in units {
+            unit.validator
+                .collect_errors(instance, location, ctx, errors)?;
+        }
+        Ok(())
+    }
+
+    /// The evaluation tree of a whole instance (Core 12.3). Only memory can fail, and then there is
+    /// no tree.
+    pub fn evaluate_instance(
+        &self,
+        alloc: Global,
+        instance: &F::Node,
+        ctx: &mut ValidationContext,
+    ) -> Result<EvaluationNode, AllocError>
+        requires { IsTrue (is_lawful (F.Node.tree instance.now)) }
+        ensures gives { IfOk result (λ node. node ≡ tree self.now (F.Node.tree instance.now) []) }
+        ensures applied { min (ctx.old + 1) u64.MAX ≤ ctx.new }
+        ensures counted { CountsUpTo ctx.old ctx.new (pairs self.now (F.Node.tree instance.now)) }
+    {
+        let mut location = LazyLocation::new(alloc);
+        self.evaluate_instance_below(alloc, instance, &mut location, ctx)
+    }
+
+    /// The evaluation tree of an instance that stands at `location`, which at every return is as at
+    /// the call. Only memory can fail, and then there is no tree.
+    #[cycle(evaluate)]
+    pub fn evaluate_instance_below(
+        &self,
+        alloc: Global,
+        instance: &F::Node,
+        location: &mut LazyLocation,
+        ctx: &mut ValidationContext,
+    ) -> Result<EvaluationNode, AllocError>
+        requires { IsTrue (is_lawful (F.Node.tree instance.now)) }
+        ensures gives { IfOk result (λ node. node
+            ≡ tree self.now (F.Node.tree instance.now) (path_of location.old)) }
+        ensures location { location.new ≡ location.old }
+        ensures applied { min (ctx.old + 1) u64.MAX ≤ ctx.new }
+        ensures counted { CountsUpTo ctx.old ctx.new (pairs self.now (F.Node.tree instance.now)) }
+    {
+        ctx.count_one();
+        let path = location.render()?;
+        let units = match &self.assertions {
+            Assertions::Keywords(units) => units,
+            Assertions::Never => {
+                let refusal = refuse::<F>(&self.location, instance, location);
+                let result = evaluate_first(alloc, refusal)?;
+                return EvaluationNode::new(alloc, result, &self.location, &path);
+            }
+        };
+        let mut children = Vec::new(alloc);
+        for unit in units {
+            let result = unit.validator.evaluate(alloc, instance, location, ctx)?;
+            children.push(EvaluationNode::new(alloc, result, &unit.location, &path)?)?;
+        }
+        let result = EvaluationResult::from_children(alloc, children);
+        EvaluationNode::new(alloc, result, &self.location, &path)
+    }
+}
+
+// The error of `false`.
+fn refuse<'i, F: Json>(
+    schema_path: &'i Location,
+    instance: &'i F::Node,
+    location: &LazyLocation,
+) -> Result<(), Fault<'i, F>>
+    ensures { IsFirst F.Node.tree (fail (false_schema schema_path.now) (F.Node.tree instance.now)
+        (path_of location.now)) result }
+{
+    let kind = ValidationErrorKind::FalseSchema;
+    fail_unless(false, kind, schema_path, instance, location)
+}
+
+// Whether the `required` of some schema, or of a subschema of it, is handed on.
+#[tactic(auto, using(crate::proofs::Units::each_hands_on_at, crate::proofs::Units::each_hands_on_end))]
+pub(crate) fn some_hands_on<F: Json>(nodes: &[SchemaNode<F>]) -> bool
+    ensures { result ≡ each_hands_on (schemas_of nodes.now) }
+{
+    for node in nodes {
+        if node.hands_on_required() {
+            return true;
+        }
+    }
+    false
+}
+
+// Whether that of a subschema of some keyword is.
+#[tactic(auto, using(crate::proofs::Units::hand_on_at, crate::proofs::Units::hand_on_end))]
+fn some_unit_hands_on<F: Json>(units: &[Unit<F>]) -> bool
+    ensures { result ≡ all_hand_on (keywords_of units.now) }
+{
+    for unit in units {
+        if unit.validator.hands_on_required() {
+            return true;
+        }
+    }
+    false
+}

@@ -1,0 +1,222 @@
+// What the observers of a compiled schema say of an instance, over both representations.
+use super::decimals::{decimal_tree, decimals_of};
+use super::rows::{Request, request_of, row};
+use super::written::tree_text;
+use jskw_array::SchemaNode;
+use jskw_array::compiler::compile;
+use jskw_report::{
+    CompileFault, Context, EvaluationNode, Fault, LazyLocation, Settings, ValidationContext,
+    ValidationError,
+};
+use jskw_value::{DecimalJson, Json, Node, SerdeJson};
+use serde_json::Value;
+use std::alloc::{AllocError, Global};
+use std::process::Abort;
+use std::test::Fail;
+
+// What is told: of errors the keyword and both locations, or the message; or the evaluation.
+#[derive(Clone, Copy)]
+pub(super) enum Told {
+    Locations,
+    Message,
+    Evaluation,
+}
+
+// The keyword of an error, the instance location and the keyword location, with a bar between each
+// two; or its message.
+fn line_of<F: Json>(
+    alloc: Global,
+    told: Told,
+    error: &ValidationError<F>,
+) -> Result<String, AllocError> {
+    if let Told::Message = told {
+        return error.message(alloc);
+    }
+    let keyword = error.kind().keyword();
+    let instance = error.instance_path().as_str();
+    let schema = error.schema_path().as_str();
+    format!(in alloc; "{keyword}|{instance}|{schema}")
+}
+
+// The errors, with a semicolon between each two; `valid` where there is none.
+fn lines_of<F: Json>(
+    alloc: Global,
+    told: Told,
+    errors: &Vec<ValidationError<F>>,
+) -> Result<String, AllocError> {
+    let mut text = String::new(alloc);
+    for error in errors {
+        if !text.is_empty() {
+            text.push(';')?;
+        }
+        text.push_str(line_of(alloc, told, error)?.as_str())?;
+    }
+    if errors.is_empty() {
+        text.push_str("valid")?;
+    }
+    Ok(text)
+}
+
+// What the four observers say of an instance; they have to agree.
+pub(super) fn observed<F: Json>(
+    rt: &impl Abort,
+    alloc: Global,
+    told: Told,
+    node: &SchemaNode<F>,
+    instance: &F::Node,
+) -> Result<String, Fail> {
+    assert!(rt; instance.is_lawful());
+    let mut location = LazyLocation::new(alloc);
+    let mut ctx = ValidationContext::new();
+    let mut errors = Vec::new(alloc);
+    node.collect_errors(instance, &mut location, &mut ctx, &mut errors)?;
+    assert_eq!(rt; node.is_valid(instance, &mut ctx), errors.is_empty());
+    match node.validate(instance, &mut location, &mut ctx) {
+        Ok(()) => assert!(rt; errors.is_empty()),
+        Err(Fault::Invalid(first)) => check_first(rt, alloc, &first, &errors)?,
+        Err(Fault::Memory(error)) => return Err(error)?,
+    }
+    let tree = node.evaluate_instance(alloc, instance, &mut ctx)?;
+    assert_eq!(rt; tree.valid(), errors.is_empty());
+    check_descriptions(rt, alloc, &tree, &errors)?;
+    if let Told::Evaluation = told {
+        return Ok(tree_text(alloc, &tree)?);
+    }
+    Ok(lines_of(alloc, told, &errors)?)
+}
+
+// This is the first of the errors.
+fn check_first<F: Json>(
+    rt: &impl Abort,
+    alloc: Global,
+    first: &ValidationError<F>,
+    errors: &Vec<ValidationError<F>>,
+) -> Result<(), Fail> {
+    let head = errors.as_slice().first().ok_or("no error")?;
+    for told in [Told::Locations, Told::Message] {
+        let wanted = line_of(alloc, told, head)?;
+        assert_eq!(rt; line_of(alloc, told, first)?.as_str(), wanted.as_str());
+    }
+    Ok(())
+}
+
+// The descriptions of an evaluation are those of the errors, in their order.
+fn check_descriptions<F: Json>(
+    rt: &impl Abort,
+    alloc: Global,
+    tree: &EvaluationNode,
+    errors: &Vec<ValidationError<F>>,
+) -> Result<(), Fail> {
+    let mut errors = errors.iter();
+    let mut nodes = Vec::new(alloc);
+    nodes.push(tree)?;
+    for _ in 0..u64::MAX {
+        let Some(node) = nodes.pop() else {
+            break;
+        };
+        for description in node.errors() {
+            let error = errors.next().ok_or("a description of no error")?;
+            assert_eq!(rt; description.keyword(), error.kind().keyword());
+            assert_eq!(rt; description.message(), error.message(alloc)?.as_str());
+        }
+        for child in node.children().iter().rev() {
+            nodes.push(child)?;
+        }
+    }
+    assert!(rt; errors.next().is_none());
+    Ok(())
+}
+
+// Why a schema does not compile: the keyword and the keyword location; or the message, the keyword
+// location and the value at fault.
+fn refusal_text(
+    alloc: Global,
+    told: Told,
+    error: &ValidationError<SerdeJson>,
+) -> Result<String, AllocError> {
+    let location = error.schema_path().as_str();
+    if let Told::Message = told {
+        let message = error.message(alloc)?;
+        let value = error.instance().to_string(alloc)?;
+        return format!(in alloc; "refused: {message}|{location}|{value}");
+    }
+    let keyword = error.kind().keyword();
+    format!(in alloc; "refused: schema|{keyword}|{location}")
+}
+
+// What a schema says of an instance, or why it does not compile.
+pub(super) fn said<F: Json>(
+    rt: &impl Abort,
+    alloc: Global,
+    told: Told,
+    settings: &Settings,
+    schema: &Value,
+    instance: &F::Node,
+) -> Result<String, Fail> {
+    let ctx: Context<F> = Context::new(alloc, settings);
+    match compile(alloc, &ctx, schema) {
+        Ok(node) => observed::<F>(rt, alloc, told, &node, instance),
+        Err(CompileFault::Bad(error)) => Ok(refusal_text(alloc, told, &error)?),
+        Err(CompileFault::Memory(error)) => Err(error)?,
+    }
+}
+
+// The compiled schema of a request.
+pub(super) fn compiled<F: Json>(
+    alloc: Global,
+    request: &Request<'_>,
+) -> Result<SchemaNode<F>, Fail> {
+    let ctx: Context<F> = Context::new(alloc, &request.settings);
+    match compile(alloc, &ctx, request.schema) {
+        Ok(node) => Ok(node),
+        Err(_) => Err("not compiled")?,
+    }
+}
+
+// Goes through the requests of a table, over both representations.
+fn check_told(rt: &impl Abort, alloc: Global, told: Told, table: &str) -> Result<(), Fail> {
+    for line in table.lines() {
+        let (text, answer) = row(line)?;
+        let value = Value::from_str(alloc, text)?;
+        let request = request_of(alloc, &value)?;
+        let settings = &request.settings;
+        let schema = request.schema;
+        let found = said::<SerdeJson>(rt, alloc, told, settings, schema, request.instance)?;
+        assert_eq!(rt; found.as_str(), answer, "{line}");
+        let tree = decimal_tree(alloc, request.instance)?;
+        let found = said::<DecimalJson>(rt, alloc, told, settings, schema, &tree)?;
+        assert_eq!(rt; found.as_str(), answer, "{line}, over decimals");
+    }
+    Ok(())
+}
+
+// Goes through the requests of a table: the keywords and the locations of their errors.
+pub(super) fn check_errors(rt: &impl Abort, alloc: Global, table: &str) -> Result<(), Fail> {
+    check_told(rt, alloc, Told::Locations, table)
+}
+
+// Goes through the requests of a table: the messages of their errors.
+pub(super) fn check_messages(rt: &impl Abort, alloc: Global, table: &str) -> Result<(), Fail> {
+    check_told(rt, alloc, Told::Message, table)
+}
+
+// Goes through the requests of a table: their evaluations.
+pub(super) fn check_evaluations(rt: &impl Abort, alloc: Global, table: &str) -> Result<(), Fail> {
+    check_told(rt, alloc, Told::Evaluation, table)
+}
+
+// Goes through the requests of a table, in whose instances each text stands for a number: the
+// keywords and the locations of their errors.
+pub(super) fn check_decimals(rt: &impl Abort, alloc: Global, table: &str) -> Result<(), Fail> {
+    for line in table.lines() {
+        let (text, answer) = row(line)?;
+        let value = Value::from_str(alloc, text)?;
+        let request = request_of(alloc, &value)?;
+        let tree = decimals_of(alloc, request.instance)?;
+        let settings = &request.settings;
+        let schema = request.schema;
+        let found = said::<DecimalJson>(rt, alloc, Told::Locations, settings, schema, &tree)?;
+        assert_eq!(rt; found.as_str(), answer, "{line}");
+    }
+    Ok(())
+}
