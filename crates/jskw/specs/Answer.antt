@@ -8,7 +8,6 @@ use Rattle.jskw_report.specs.Fail.{Failure, fail}
 use Rattle.jskw_report.specs.KeywordValue.{Refusal}
 use Rattle.jskw_report.specs.Kind.{keyword_of}
 use Rattle.jskw_report.specs.Read.{Reading, read}
-use Rattle.jskw_report.specs.Setting.{keywords}
 use Rattle.jskw.specs.Request.{Request, request_in}
 use Rattle.jskw.specs.declared.service.Verdict.{Verdict}
 use Rattle.jskw.specs.declared.service.Verdict.TheVariants.{Valid, Invalid, Refused}
@@ -31,7 +30,7 @@ judged (Ok s) None t = errors (fail s t [])
 -- the schema first, then the floats of the instance, then its errors
 abbrev pub answer : Option Request → Answer
 answer None = no_request
-answer (Some r) = judged (read keywords r.schema r.setting []) (first_float (tree_of r.instance)) (tree_of r.instance)
+answer (Some r) = judged (read r.schema r.setting []) (first_float (tree_of r.instance)) (tree_of r.instance)
 
 abbrev pub verdict_of : Answer → Verdict
 verdict_of (errors []) = Valid

@@ -1,5 +1,5 @@
 -- The observers of one schema agree.
-use Rattle.std.proofs.Common.{◌≡◌, List, [], ◌∷◌, ◌++◌, Bool, Result, Ok, Err, ap, sym, ◌∙◌}
+use Rattle.std.proofs.Common.{◌≡◌, List, ◌++◌, Bool, Result, Ok, Err, ap, ◌∙◌}
 use Rattle.jskw_value.specs.Pointer.{Pointer}
 use Rattle.jskw_value.specs.Tree.{Tree}
 use Rattle.jskw_report.proofs.Fails.{holds_empty}
@@ -14,9 +14,9 @@ use Rattle.jskw_report.specs.declared.error.ValidationError.{ValidationError}
 use Rattle.jskw_array.specs.Agreement.{Agree}
 
 pub agreed : {F N O P E : Type 0} (tree : N → Tree) (s : Schema) (t : Tree) (p : Pointer) (is_valid : Bool) (first : Result Unit (Fault F N O P)) (all : Result Unit E) (old new : List (ValidationError F N O P))
-    → is_valid ≡ holds s t → IsFirst tree (fail s t p) first → Appends tree old new (fail s t p) all → old ≡ [] → Agree tree is_valid first all new
-agreed tree s t p is_valid (Ok u) all old new answer none appended empty = answer ∙ holds_empty s t p ∙ ap is_empty none
-agreed tree s t p is_valid (Err (Invalid e)) (Ok u) old new answer (rest, is) appended empty =
-    (answer ∙ holds_empty s t p ∙ ap is_empty is, rest, appended ∙ ap (λ es. failures_of tree es ++ fail s t p) empty ∙ is)
-agreed tree s t p is_valid (Err (Invalid e)) (Err m) old new answer (rest, is) appended empty = answer ∙ holds_empty s t p ∙ ap is_empty is
-agreed tree s t p is_valid (Err (Memory m)) all old new answer first appended empty = tt
+    → is_valid ≡ holds s t → IsFirst tree (fail s t p) first → Appends tree old new (fail s t p) all → Agree tree is_valid first all old new
+agreed tree s t p is_valid (Ok u) all old new answer none appended = answer ∙ holds_empty s t p ∙ ap is_empty none
+agreed tree s t p is_valid (Err (Invalid e)) (Ok u) old new answer (rest, is) appended =
+    (answer ∙ holds_empty s t p ∙ ap is_empty is, rest, appended ∙ ap (λ fs. failures_of tree old ++ fs) is)
+agreed tree s t p is_valid (Err (Invalid e)) (Err m) old new answer (rest, is) appended = answer ∙ holds_empty s t p ∙ ap is_empty is
+agreed tree s t p is_valid (Err (Memory m)) all old new answer first appended = tt

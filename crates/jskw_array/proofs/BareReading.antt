@@ -12,7 +12,7 @@ use Rattle.jskw_value.specs.declared.types.JsonType.TheVariants.{Boolean, Intege
 use Rattle.jskw_report.specs.Keyword.{Integers, by_value, Keyword, items_from}
 use Rattle.jskw_report.specs.KeywordValue.{map_ok}
 use Rattle.jskw_report.specs.Read.{integers_of, keyword_location, read, read_word, asserted}
-use Rattle.jskw_report.specs.Setting.{Setting, keywords, name_of, stands}
+use Rattle.jskw_report.specs.Setting.{Setting, name_of, stands}
 use Rattle.jskw_report.specs.Sibling.{is_inlined_type, is_only_type, is_handed_on}
 use Rattle.jskw_report.specs.declared.error.TypeKind.TheVariants.{Single}
 use Rattle.jskw_report.specs.declared.keyword.KeywordName.TheVariants.{TypeKeyword}
@@ -42,7 +42,7 @@ unfolding is_handed_on
 not_handed_on st s = and_right _ false refl
 
 pub typed_reads : (st : Setting) (q : Pointer) (s : List ℕ) (j : JsonType) → stands st TypeKeyword ≡ true → type_named s ≡ Some j
-    → read keywords (typed s) st q ≡ Ok (bare_schema q (type_at j (integers_of st.draft (Single j)) (keyword_location q TypeKeyword)))
+    → read (typed s) st q ≡ Ok (bare_schema q (type_at j (integers_of st.draft (Single j)) (keyword_location q TypeKeyword)))
 unfolding read_word asserted
 typed_reads st q s j h e = rw h (rw e (rw (not_handed_on st s) refl))
 
@@ -98,11 +98,11 @@ integer_items s j draft rule q r is named e =
 -- `items` at q of the name's type
 pub inline_reads : (st : Setting) (q : Pointer) (d : Data) (s : List ℕ) (k : Keyword) → is_only_type d ≡ true → stands st TypeKeyword ≡ true → d ≡ typed s
     → ((j : JsonType) → type_named s ≡ Some j → k ≡ bare_items q (type_at j (integers_of st.draft (Single j)) (keyword_location q TypeKeyword)))
-    → map_ok (λ sub. items_from 0 sub true) (read keywords d st q) ≡ Ok k
+    → map_ok (λ sub. items_from 0 sub true) (read d st q) ≡ Ok k
 inline_reads st q d s k only h is made =
     let inlined : is_inlined_type (string s) ≡ true = ap is_only_type (sym is) ∙ only in
     let named = inlined_named s inlined in
-    ap (λ e. map_ok (λ sub. items_from 0 sub true) (read keywords e st q)) is ∙ ap (map_ok (λ sub. items_from 0 sub true)) (typed_reads st q s named.0 h named.1) ∙ ap Ok (sym (made named.0 named.1))
+    ap (λ e. map_ok (λ sub. items_from 0 sub true) (read e st q)) is ∙ ap (map_ok (λ sub. items_from 0 sub true)) (typed_reads st q s named.0 h named.1) ∙ ap Ok (sym (made named.0 named.1))
 
 -- at these places under this draft
 pub placed_items : {k : Keyword} {l m q r : Pointer} {old draft : Draft} (j : JsonType) → k ≡ bare_items l (type_at j (integers_of old (Single j)) m)

@@ -8,7 +8,7 @@ use Rattle.jskw_report.proofs.Gathering.{drop_here}
 use Rattle.jskw_report.specs.Keyword.{Schema, Schemas, no_schemas, schema}
 use Rattle.jskw_report.specs.KeywordValue.{Refusal, map_ok, join_ok}
 use Rattle.jskw_report.specs.Read.{read, read_each}
-use Rattle.jskw_report.specs.Setting.{Setting, keywords}
+use Rattle.jskw_report.specs.Setting.{Setting}
 use Rattle.jskw_array.specs.Meaning.{schemas_of}
 
 -- ---- schemas that are put together
@@ -46,21 +46,21 @@ after_made done s (Err e) = refl
 
 module _ (done : Schemas) (all : Result Schemas Refusal) (s : Setting) (p : Pointer) (vs : List Value) (i : ℕ) where
   -- nothing is left
-  pub each_end : length vs ≤ i → after done (read_each keywords (items_view (drop i vs)) s p i) ≡ all → all ≡ Ok done
-  each_end end e = sym e ∙ ap (λ xs. after done (read_each keywords (items_view xs) s p i)) (drop_all i vs end) ∙ ap Ok (append_none done)
+  pub each_end : length vs ≤ i → after done (read_each (items_view (drop i vs)) s p i) ≡ all → all ≡ Ok done
+  each_end end e = sym e ∙ ap (λ xs. after done (read_each (items_view xs) s p i)) (drop_all i vs end) ∙ ap Ok (append_none done)
 
-  module _ (v : Value) (within : i < length vs) (is : v ≡ get_or vs i v) (e : after done (read_each keywords (items_view (drop i vs)) s p i) ≡ all) where
+  module _ (v : Value) (within : i < length vs) (is : v ≡ get_or vs i v) (e : after done (read_each (items_view (drop i vs)) s p i) ≡ all) where
     abbrev rest : Result Schemas Refusal
-    rest = read_each keywords (items_view (drop (i + 1) vs)) s p (i + 1)
+    rest = read_each (items_view (drop (i + 1) vs)) s p (i + 1)
 
-    step : after done (join_ok schema (read keywords (view v) s (item_location p i)) rest) ≡ all
-    step = ap (λ j. after done (join_ok schema (read keywords (view v) s (item_location p i)) (read_each keywords (items_view (drop (i + 1) vs)) s p j))) (omega arith)
-        ∙ ap (λ xs. after done (read_each keywords (items_view xs) s p i)) (sym (drop_here vs i v within is)) ∙ e
+    step : after done (join_ok schema (read (view v) s (item_location p i)) rest) ≡ all
+    step = ap (λ j. after done (join_ok schema (read (view v) s (item_location p i)) (read_each (items_view (drop (i + 1) vs)) s p j))) (omega arith)
+        ∙ ap (λ xs. after done (read_each (items_view xs) s p i)) (sym (drop_here vs i v within is)) ∙ e
 
-    pub each_made : (n : Schema) → read keywords (view v) s (item_location p i) ≡ Ok n → after (append_schemas done (schema n no_schemas)) rest ≡ all
+    pub each_made : (n : Schema) → read (view v) s (item_location p i) ≡ Ok n → after (append_schemas done (schema n no_schemas)) rest ≡ all
     each_made n r = sym (after_made done n rest) ∙ ap (λ x. after done (join_ok schema x rest)) (sym r) ∙ step
 
-    pub each_refused : (f : Refusal) → read keywords (view v) s (item_location p i) ≡ Err f → all ≡ Err f
+    pub each_refused : (f : Refusal) → read (view v) s (item_location p i) ≡ Err f → all ≡ Err f
     each_refused f r = sym step ∙ ap (λ x. after done (join_ok schema x rest)) r
 
 -- of a whole vector

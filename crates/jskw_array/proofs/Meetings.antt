@@ -1,5 +1,5 @@
 -- What a walk over items has left at an item, and at the end.
-use Rattle.std.proofs.Common.{◌≡◌, ℕ, zero, suc, ◌+◌, ◌<◌, ◌≤◌, min, List, [], ◌∷◌, ◌++◌, length, get_or, drop, sum_by, count_by, Bool, true, false, ◌&&◌, if◌then◌else◌, refl, sym, ap, ap₂, ◌∙◌, arith, cond}
+use Rattle.std.proofs.Common.{◌≡◌, ℕ, zero, suc, ◌+◌, ◌<◌, ◌≤◌, min, List, [], ◌∷◌, ◌++◌, length, get_or, drop, sum_by, Bool, true, false, ◌&&◌, if◌then◌else◌, refl, sym, ap, ap₂, ◌∙◌, arith}
 use Rattle.std.proofs.Math.Seq.{drop-nil}
 use Rattle.std.proofs.lemmas.List.{drop_all}
 use Rattle.std.proofs.lemmas.List.Sums.{sum_by-cons}
@@ -23,14 +23,8 @@ entered {old = old} i pushed same = ap path_of (pushed ∙ ap (λ is. is ++ i �
 -- ---- one schema for all items
 
 module _ (ts : List Tree) (i : ℕ) (t : Tree) (within : i < length ts) (is : t ≡ get_or ts i t) where
-  pub all_at : (p : Tree → Bool) → list_all p (drop i ts) ≡ (p t && list_all p (drop (i + 1) ts))
-  all_at p = ap (list_all p) (drop_here ts i t within is)
-
   pub sum_at : (f : Tree → ℕ) → sum_by f (drop i ts) ≡ f t + sum_by f (drop (i + 1) ts)
   sum_at f = ap (sum_by f) (drop_here ts i t within is) ∙ sum_by-cons f t (drop (i + 1) ts)
-
-  pub count_at : (p : Tree → Bool) → count_by p (drop i ts) ≡ cond (p t) 1 0 + count_by p (drop (i + 1) ts)
-  count_at p = sum_at (λ x. cond (p x) 1 0)
 
   pub until_at : (p : Tree → Bool) (f : Tree → ℕ)
       → sum_to_failure p f (drop i ts) ≡ f t + (if p t then sum_to_failure p f (drop (i + 1) ts) else 0)
@@ -45,22 +39,12 @@ module _ (ts : List Tree) (i : ℕ) (end : length ts ≤ i) where
   pub all_end : (p : Tree → Bool) → list_all p (drop i ts) ≡ true
   all_end p = ap (list_all p) (drop_all i ts end)
 
-  pub count_end : (p : Tree → Bool) → count_by p (drop i ts) ≡ 0
-  count_end p = ap (count_by p) (drop_all i ts end)
-
-  pub fails_end : (f : Tree → Pointer → List Failure) (p : Pointer) → each_item f i (drop i ts) p ≡ []
-  fails_end f p = ap (λ us. each_item f i us p) (drop_all i ts end)
-
 -- ---- a schema for each item
 
 module _ (ss : List Schema) (ts : List Tree) (i : ℕ) (s : Schema) (t : Tree)
     (schema_within : i < length ss) (within : i < length ts) (schema_is : s ≡ get_or ss i s) (is : t ≡ get_or ts i t) where
   at_both : {B : Type 0} (f : List Schema → List Tree → B) → f (drop i ss) (drop i ts) ≡ f (s ∷ drop (i + 1) ss) (t ∷ drop (i + 1) ts)
   at_both f = ap₂ f (drop_here ss i s schema_within schema_is) (drop_here ts i t within is)
-
-  pub each_holds_at : each_holds (schemas_of (drop i ss)) (drop i ts)
-      ≡ (holds s t && each_holds (schemas_of (drop (i + 1) ss)) (drop (i + 1) ts))
-  each_holds_at = at_both (λ rs us. each_holds (schemas_of rs) us)
 
   pub each_needed_at : each_needed (schemas_of (drop i ss)) (drop i ts)
       ≡ needed s t + (if holds s t then each_needed (schemas_of (drop (i + 1) ss)) (drop (i + 1) ts) else 0)
@@ -74,11 +58,6 @@ module _ (ss : List Schema) (ts : List Tree) (i : ℕ) (s : Schema) (t : Tree)
       ≡ fail s t (item_location p i) ++ each_fails (schemas_of (drop (i + 1) ss)) (i + 1) (drop (i + 1) ts) p
   each_fails_at p = at_both (λ rs us. each_fails (schemas_of rs) i us p)
       ∙ ap (λ j. fail s t (item_location p i) ++ each_fails (schemas_of (drop (i + 1) ss)) j (drop (i + 1) ts) p) (omega arith)
-
-  pub each_units_at : (p : Pointer) → evaluate_pairs (schemas_of (drop i ss)) i (drop i ts) p
-      ≡ tree s t (item_location p i) ∷ evaluate_pairs (schemas_of (drop (i + 1) ss)) (i + 1) (drop (i + 1) ts) p
-  each_units_at p = at_both (λ rs us. evaluate_pairs (schemas_of rs) i us p)
-      ∙ ap (λ j. tree s t (item_location p i) ∷ evaluate_pairs (schemas_of (drop (i + 1) ss)) j (drop (i + 1) ts) p) (omega arith)
 
 -- where either list ends
 at_end : {A B C : Type 0} (f : List A → List B → C) (z : C) → ((us : List B) → f [] us ≡ z) → ((ms : List A) → f ms [] ≡ z)

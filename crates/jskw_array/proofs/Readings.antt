@@ -13,7 +13,7 @@ use Rattle.jskw_report.specs.Compile.{reading}
 use Rattle.jskw_report.specs.Keyword.{Bounds, additional_items, assertion, at_most, contains, items_from, items_list, prefix_items}
 use Rattle.jskw_report.specs.KeywordValue.{join_ok, of_type, wrong}
 use Rattle.jskw_report.specs.Read.{additional_keyword, asserted, asserts, items_start, keyword_location, part, read, read_bounds, read_each}
-use Rattle.jskw_report.specs.Setting.{Setting, Spot, is_2020_12, keywords, name_of, stands}
+use Rattle.jskw_report.specs.Setting.{Setting, Spot, is_2020_12, name_of, stands}
 use Rattle.jskw_report.specs.Sibling.{is_array, is_bare, is_items_schema, is_only_type, item_count, member_passes}
 use Rattle.jskw_leaf.specs.Names.{is_leaf}
 use Rattle.jskw_report.specs.declared.keyword.KeywordName.{KeywordName}
@@ -25,10 +25,10 @@ use Rattle.jskw_array.proofs.Depths.{same_items}
 -- ---- `items`
 
 pub items_of_array : (spot : Spot) (ms : Members) (d : Data) (ds : Items) → as_array d ≡ Some ds
-    → reading word.Items spot ms d ≡ asserts items_list (read_each keywords ds spot.setting (keyword_location spot.location word.Items) 0)
+    → reading word.Items spot ms d ≡ asserts items_list (read_each ds spot.setting (keyword_location spot.location word.Items) 0)
 unfolding asserted
 items_of_array spot ms (array es) ds e =
-    ap (λ xs. asserts items_list (read_each keywords xs spot.setting (keyword_location spot.location word.Items) 0)) (same_items es ds e)
+    ap (λ xs. asserts items_list (read_each xs spot.setting (keyword_location spot.location word.Items) 0)) (same_items es ds e)
 items_of_array spot ms _ ds e = cc
 
 pub items_silent : (spot : Spot) (ms : Members) (d : Data) → as_array d ≡ None → is_items_schema d ≡ false → reading word.Items spot ms d ≡ None
@@ -40,7 +40,7 @@ items_silent spot ms (boolean true) e h = refl
 items_silent spot ms _ e h = refl
 
 items_of_one : (spot : Spot) (ms : Members) (d : Data) → is_items_schema d ≡ true
-    → reading word.Items spot ms d ≡ asserts (λ sub. items_from (items_start spot.setting ms) sub (is_bare spot.setting ms d)) (read keywords d spot.setting (keyword_location spot.location word.Items))
+    → reading word.Items spot ms d ≡ asserts (λ sub. items_from (items_start spot.setting ms) sub (is_bare spot.setting ms d)) (read d spot.setting (keyword_location spot.location word.Items))
 unfolding asserted
 items_of_one spot ms (object ns) h = refl
 items_of_one spot ms (boolean false) h = refl
@@ -74,25 +74,25 @@ module _ (s : Setting) (ms : Members) (d : Data) (bare : is_bare s ms d ≡ true
   bare_start = start_of (is_2020_12 s.draft) (get_member (name_of word.PrefixItems) ms) parts.2
 
 pub items_bare : (spot : Spot) (ms : Members) (d : Data) → is_items_schema d ≡ true → is_bare spot.setting ms d ≡ true
-    → reading word.Items spot ms d ≡ asserts (λ sub. items_from 0 sub true) (read keywords d spot.setting (keyword_location spot.location word.Items))
+    → reading word.Items spot ms d ≡ asserts (λ sub. items_from 0 sub true) (read d spot.setting (keyword_location spot.location word.Items))
 items_bare spot ms d h bare =
     items_of_one spot ms d h
-    ∙ ap (λ n. asserts (λ sub. items_from n sub (is_bare spot.setting ms d)) (read keywords d spot.setting (keyword_location spot.location word.Items))) (bare_start spot.setting ms d bare)
-    ∙ ap (λ b. asserts (λ sub. items_from 0 sub b) (read keywords d spot.setting (keyword_location spot.location word.Items))) bare
+    ∙ ap (λ n. asserts (λ sub. items_from n sub (is_bare spot.setting ms d)) (read d spot.setting (keyword_location spot.location word.Items))) (bare_start spot.setting ms d bare)
+    ∙ ap (λ b. asserts (λ sub. items_from 0 sub b) (read d spot.setting (keyword_location spot.location word.Items))) bare
 
 pub items_of_schema : (spot : Spot) (ms : Members) (d : Data) → is_items_schema d ≡ true → is_bare spot.setting ms d ≡ false
-    → reading word.Items spot ms d ≡ asserts (λ sub. items_from (items_start spot.setting ms) sub false) (read keywords d spot.setting (keyword_location spot.location word.Items))
+    → reading word.Items spot ms d ≡ asserts (λ sub. items_from (items_start spot.setting ms) sub false) (read d spot.setting (keyword_location spot.location word.Items))
 items_of_schema spot ms d h bare =
     items_of_one spot ms d h
-    ∙ ap (λ b. asserts (λ sub. items_from (items_start spot.setting ms) sub b) (read keywords d spot.setting (keyword_location spot.location word.Items))) bare
+    ∙ ap (λ b. asserts (λ sub. items_from (items_start spot.setting ms) sub b) (read d spot.setting (keyword_location spot.location word.Items))) bare
 
 -- ---- `prefixItems`
 
 pub prefix_of_array : (spot : Spot) (ms : Members) (d : Data) (ds : Items) → as_array d ≡ Some ds
-    → reading word.PrefixItems spot ms d ≡ asserts prefix_items (read_each keywords ds spot.setting (keyword_location spot.location word.PrefixItems) 0)
+    → reading word.PrefixItems spot ms d ≡ asserts prefix_items (read_each ds spot.setting (keyword_location spot.location word.PrefixItems) 0)
 unfolding asserted
 prefix_of_array spot ms (array es) ds e =
-    ap (λ xs. asserts prefix_items (read_each keywords xs spot.setting (keyword_location spot.location word.PrefixItems) 0)) (same_items es ds e)
+    ap (λ xs. asserts prefix_items (read_each xs spot.setting (keyword_location spot.location word.PrefixItems) 0)) (same_items es ds e)
 prefix_of_array spot ms _ ds e = cc
 
 pub prefix_refused : (spot : Spot) (ms : Members) (d : Data) → as_array d ≡ None
@@ -104,12 +104,12 @@ prefix_refused spot ms _ e = refl
 -- ---- `additionalItems`
 
 module _ (s : Setting) (q : Pointer) where
-  absent : (o : Option Data) (d : Data) → schema_count o ≡ None → additional_keyword s q o (part keywords d) d ≡ None
+  absent : (o : Option Data) (d : Data) → schema_count o ≡ None → additional_keyword s q o (part d) d ≡ None
   absent None d e = refl
   absent (Some (array ds)) d e = cc
   absent (Some _) d e = refl
 
-  of_true : (o : Option Data) (d : Data) → as_bool d ≡ Some true → additional_keyword s q o (part keywords d) d ≡ None
+  of_true : (o : Option Data) (d : Data) → as_bool d ≡ Some true → additional_keyword s q o (part d) d ≡ None
   of_true None d e = refl
   of_true (Some (array ds)) (boolean true) e = refl
   of_true (Some (array ds)) (boolean false) e = cc
@@ -120,7 +120,7 @@ module _ (s : Setting) (q : Pointer) where
   same_count m n e = ap (λ o. option_map_or (λ k. k) o m) e
 
   of_false : (o : Option Data) (n : ℕ) (d : Data) → schema_count o ≡ Some n → as_bool d ≡ Some false
-      → additional_keyword s q o (part keywords d) d ≡ Some (Ok (assertion q (at_most n)))
+      → additional_keyword s q o (part d) d ≡ Some (Ok (assertion q (at_most n)))
   of_false None n d c e = cc
   of_false (Some (array ds)) n (boolean false) c e = ap (λ k. Some (Ok (assertion q (at_most k)))) (same_count (items_len ds) n c)
   of_false (Some (array ds)) n (boolean true) c e = cc
@@ -128,10 +128,10 @@ module _ (s : Setting) (q : Pointer) where
   of_false (Some _) n d c e = cc
 
   of_schema : (o : Option Data) (n : ℕ) (d : Data) → schema_count o ≡ Some n → as_bool d ≡ None
-      → additional_keyword s q o (part keywords d) d ≡ asserts (additional_items n) (read keywords d s q)
+      → additional_keyword s q o (part d) d ≡ asserts (additional_items n) (read d s q)
   of_schema None n d c e = cc
   of_schema (Some (array ds)) n (boolean b) c e = cc
-  of_schema (Some (array ds)) n d c e = ap (λ k. asserts (additional_items k) (read keywords d s q)) (same_count (items_len ds) n c)
+  of_schema (Some (array ds)) n d c e = ap (λ k. asserts (additional_items k) (read d s q)) (same_count (items_len ds) n c)
   of_schema (Some _) n d c e = cc
 
 module _ (spot : Spot) (ms : Members) (d : Data) where
@@ -149,29 +149,29 @@ module _ (spot : Spot) (ms : Members) (d : Data) where
   additional_false n c e = of_false spot.setting (keyword_location spot.location word.AdditionalItems) (get_member (name_of word.Items) ms) n d c e
 
   pub additional_of_schema : (n : ℕ) → schema_count (get_member (name_of word.Items) ms) ≡ Some n → as_bool d ≡ None
-      → reading word.AdditionalItems spot ms d ≡ asserts (additional_items n) (read keywords d spot.setting (keyword_location spot.location word.AdditionalItems))
+      → reading word.AdditionalItems spot ms d ≡ asserts (additional_items n) (read d spot.setting (keyword_location spot.location word.AdditionalItems))
   unfolding asserted
   additional_of_schema n c e = of_schema spot.setting (keyword_location spot.location word.AdditionalItems) (get_member (name_of word.Items) ms) n d c e
 
   -- ---- `contains`
 
   pub contains_read : reading word.Contains spot ms d
-      ≡ Some (join_ok (λ b sub. contains sub b) (read_bounds spot.setting spot.location ms) (read keywords d spot.setting (keyword_location spot.location word.Contains)))
+      ≡ Some (join_ok (λ b sub. contains sub b) (read_bounds spot.setting spot.location ms) (read d spot.setting (keyword_location spot.location word.Contains)))
   unfolding asserted
   contains_read = refl
 
   pub contains_of_schema : (b : Bounds) → read_bounds spot.setting spot.location ms ≡ Ok b
-      → reading word.Contains spot ms d ≡ asserts (λ sub. contains sub b) (read keywords d spot.setting (keyword_location spot.location word.Contains))
+      → reading word.Contains spot ms d ≡ asserts (λ sub. contains sub b) (read d spot.setting (keyword_location spot.location word.Contains))
   contains_of_schema b e =
       contains_read
-      ∙ ap (λ r. Some (join_ok (λ bounds sub. contains sub bounds) r (read keywords d spot.setting (keyword_location spot.location word.Contains)))) e
+      ∙ ap (λ r. Some (join_ok (λ bounds sub. contains sub bounds) r (read d spot.setting (keyword_location spot.location word.Contains)))) e
 
 -- ---- booleans
 
 pub view-Bool : (b : Bool) → view (value.Bool b) ≡ boolean b
 view-Bool b = search (rules, the_lemmas)
 
-pub read_boolean : (b : Bool) (s : Setting) (p : Pointer) → read keywords (boolean b) s p ≡ Ok (boolean_schema p b)
+pub read_boolean : (b : Bool) (s : Setting) (p : Pointer) → read (boolean b) s p ≡ Ok (boolean_schema p b)
 read_boolean true s p = refl
 read_boolean false s p = refl
 

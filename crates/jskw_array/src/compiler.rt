@@ -38,7 +38,7 @@ pub fn compile<'a, F: Json>(
     schema: &'a Value,
 ) -> CompilationResult<'a, SchemaNode<F>>
     ensures { Makes (λ s. s) result
-        (read keywords (view schema.now) ctx.now.setting ctx.now.location) }
+        (read (view schema.now) ctx.now.setting ctx.now.location) }
 {
     let location = ctx.location().copy(alloc)?;
     match schema {
@@ -86,7 +86,7 @@ fn compile_keywords<'a, F: Json>(
     ensures { let ms = members_view parent.now.entries in
         Makes (λ units. keywords_of units.items) result
         (read_words keywords ctx.now.setting ctx.now.location ms
-        (λ name. part_named keywords name ms)) }
+        (λ name. part_named name ms)) }
 {
     let mut units = Vec::new(alloc);
     for keyword in KeywordName::ALL {
@@ -116,7 +116,7 @@ fn compile_keyword<'a, F: Json>(
 ) -> Option<CompilationResult<'a, Validator<F>>>
     ensures { let ms = members_view parent.now.entries in Compiles validator_keyword result
         (read_word keyword ctx.now.setting ctx.now.location ms
-        (part_named keywords (name_of keyword) ms)) }
+        (part_named (name_of keyword) ms)) }
 {
     let schema = member_of(parent, keyword.as_str())?;
     if !keyword.stands(ctx) {
@@ -155,7 +155,7 @@ pub(crate) fn compile_at<'a, F: Json>(
     keyword: KeywordName,
     schema: &'a Value,
 ) -> CompilationResult<'a, SchemaNode<F>>
-    ensures { Makes (λ s. s) result (read keywords (view schema.now) ctx.now.setting
+    ensures { Makes (λ s. s) result (read (view schema.now) ctx.now.setting
         (keyword_location ctx.now.location keyword)) }
 {
     let below = below(alloc, ctx, keyword)?;
@@ -172,7 +172,7 @@ pub(crate) fn compile_each_at<'a, F: Json>(
     schemas: &'a [Value],
 ) -> CompilationResult<'a, Vec<SchemaNode<F>>>
     ensures { Makes (λ nodes. schemas_of nodes.items) result
-        (read_each keywords (items_view schemas.now) ctx.now.setting
+        (read_each (items_view schemas.now) ctx.now.setting
         (keyword_location ctx.now.location keyword) 0) }
 {
     let below = below(alloc, ctx, keyword)?;
@@ -187,7 +187,7 @@ fn compile_each<'a, F: Json>(
     schemas: &'a [Value],
 ) -> CompilationResult<'a, Vec<SchemaNode<F>>>
     ensures { Makes (λ nodes. schemas_of nodes.items) result
-        (read_each keywords (items_view schemas.now) ctx.now.setting ctx.now.location 0) }
+        (read_each (items_view schemas.now) ctx.now.setting ctx.now.location 0) }
 {
     let mut nodes = Vec::new(alloc);
     for index in 0..schemas.len() {

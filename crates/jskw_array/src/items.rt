@@ -12,7 +12,7 @@ ghost use Rattle.jskw_report.specs.Keyword.{Schemas, items_from, items_list};
 ghost use Rattle.jskw_report.specs.KeywordValue.{Refusal, map_ok};
 ghost use Rattle.jskw_report.specs.Meaning.{one};
 ghost use Rattle.jskw_report.specs.Read.{Reading, items_start, keyword_location, read};
-ghost use Rattle.jskw_report.specs.Setting.{keywords, name_of, is_2020_12, stands};
+ghost use Rattle.jskw_report.specs.Setting.{name_of, is_2020_12, stands};
 ghost use Rattle.jskw_report.specs.Sibling.{is_array as is_list, is_bare, is_inlined_type};
 ghost use Rattle.jskw_report.specs.Sibling.{is_items_schema, is_only_type, member_passes};
 ghost use Rattle.jskw_report.specs.declared.keyword.KeywordName.TheVariants as word;

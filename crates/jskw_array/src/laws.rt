@@ -1,5 +1,5 @@
 //! What the observers of a node have in common, as the contract of a function.
-ghost use Rattle.std.specs.Prelude.{◌≡◌, [], IsTrue};
+ghost use Rattle.std.specs.Prelude.{IsTrue};
 ghost use Rattle.jskw_value.specs.Tree.{is_lawful};
 ghost use Rattle.jskw_array.specs.Agreement.{Agree};
 
@@ -18,9 +18,8 @@ pub fn observers_agree<'i, F: Json>(
     ctx: &mut ValidationContext,
     errors: &mut Vec<ValidationError<'i, F>>,
 ) -> (bool, Result<(), Fault<'i, F>>, Result<(), AllocError>)
-    requires lawful { IsTrue (is_lawful (F.Node.tree instance.now)) }
-    requires empty { errors.old.items ≡ [] }
-    ensures { Agree F.Node.tree result.0 result.1 result.2 errors.new.items }
+    requires { IsTrue (is_lawful (F.Node.tree instance.now)) }
+    ensures { Agree F.Node.tree result.0 result.1 result.2 errors.old.items errors.new.items }
 {
     let is_valid = node.is_valid(instance, ctx);
     let first = node.validate(instance, location, ctx);

@@ -6,7 +6,7 @@ ghost use Rattle.jskw_report.specs.Evaluation.{tree};
 ghost use Rattle.jskw_report.specs.Fail.{fail};
 ghost use Rattle.jskw_report.specs.Holds.{holds};
 ghost use Rattle.jskw_report.specs.Keyword.{all_hand_on, each_hands_on, false_schema};
-ghost use Rattle.jskw_report.specs.Keyword.{hands_on_required, schema_object};
+ghost use Rattle.jskw_report.specs.Keyword.{hands_on_required, schema_location, schema_object};
 ghost use Rattle.jskw_report.specs.Observe.{Appends, CountsUpTo, IsFirst};
 ghost use Rattle.jskw_report.specs.Paths.{path_of};
 ghost use Rattle.jskw_array.specs.Meaning.{schemas_of};
@@ -116,6 +116,13 @@ impl<F: Json> SchemaNode<F> {
             hands_on_any,
             assertions: Assertions::Keywords(units),
         }
+    }
+
+    /// The schema's keyword location (Core 12.3.1).
+    pub fn location(&self) -> &Location
+        ensures { result.now ≡ schema_location self.now }
+    {
+        &self.location
     }
 
     /// Whether the `required` of the schema or of a subschema is handed on: it asserts nothing

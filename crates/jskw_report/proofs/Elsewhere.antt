@@ -17,7 +17,7 @@ use Rattle.jskw_report.specs.Holds.{holds, keyword_holds, each_holds}
 use Rattle.jskw_report.specs.Keyword.{Schema, Schemas, no_schemas, schema, Keyword, assertion, contains, items_list, prefix_items, items_from, additional_items, Assertion, size, MinItems, MaxItems, MinProperties, MaxProperties, Relation, Minimum, Maximum, ExclusiveMinimum, ExclusiveMaximum, limit, multiple_of, unique, required, at_most, Bounds}
 use Rattle.jskw_report.specs.Laws.{HoldsElsewhere}
 use Rattle.jskw_report.specs.Read.{Asserts, Part, Reading, part_named, keyword_location, relation_beside, limit_keyword, limit_word, read_bounds, items_keyword, prefix_keyword, additional_keyword, asserted, read_word}
-use Rattle.jskw_report.specs.Setting.{Setting, keywords, name_of, concerns, stands}
+use Rattle.jskw_report.specs.Setting.{Setting, name_of, concerns, stands}
 use Rattle.jskw_report.specs.declared.keyword.KeywordName.{KeywordName}
 use Rattle.jskw_report.specs.declared.keyword.KeywordName.TheVariants as word
 use Rattle.jskw_report.specs.Sibling.{is_true, is_handed_on}
@@ -169,4 +169,4 @@ pub holds_elsewhere : HoldsElsewhere
 holds_elsewhere w j s p ms k t c e h = holds_of_other k t (subst (λ o. IsOther o t) (sym (about_k ∙ c)) h)
   where
     about_k : subject k ≡ concerns w
-    about_k = subst (λ x. IsAbout (concerns w) x) e (about_read w s p ms (part_named keywords (name_of w) ms))
+    about_k = subst (λ x. IsAbout (concerns w) x) e (about_read w s p ms (part_named (name_of w) ms))

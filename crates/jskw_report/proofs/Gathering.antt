@@ -3,8 +3,7 @@ use Rattle.std.proofs.Common.{◌≡◌, ℕ, suc, ◌+◌, ◌<◌, ◌≤◌, 
 use Rattle.std.proofs.lemmas.List.{drop_more, drop_all}
 use Rattle.jskw_value.specs.Pointer.{Pointer, item_location}
 use Rattle.jskw_value.specs.Tree.{Tree}
-use Rattle.jskw_report.specs.Evaluation.{Evaluation, evaluate_each, evaluate_matching, evaluate_pairs, matching_indices, tree}
-use Rattle.jskw_report.specs.Keyword.{Schema, Schemas, no_schemas, schema}
+use Rattle.jskw_report.specs.Evaluation.{Evaluation, evaluate_matching, matching_indices}
 
 -- ---- what is left, and what was gathered before
 
@@ -45,16 +44,6 @@ module _ (ts : List Tree) (i : ℕ) (t : Tree) (within : i < length ts) (is : t 
       let rest = g (i + 1) (drop (i + 1) ts) in
       at g (λ xs. if matches then x ∷ xs else xs) step ∙ ap (λ c. if c then x ∷ rest else rest) e
 
-  -- the nodes of the items
-  module _ (f : Tree → Pointer → Evaluation) (p : Pointer) where
-    pub each_at_item : evaluate_each f i (drop i ts) p
-        ≡ f t (item_location p i) ∷ evaluate_each f (i + 1) (drop (i + 1) ts) p
-    each_at_item = at (λ j us. evaluate_each f j us p) (λ es. f t (item_location p i) ∷ es) (λ us. refl)
-
-    pub each_taken : (done now all : List Evaluation) → now ≡ done ++ f t (item_location p i) ∷ []
-        → done ++ evaluate_each f i (drop i ts) p ≡ all → now ++ evaluate_each f (i + 1) (drop (i + 1) ts) p ≡ all
-    each_taken done now all = appended (f t (item_location p i) ∷ []) _ _ done now all each_at_item
-
   -- the nodes of the items that match
   module _ (m : Tree → Bool) (f : Tree → Pointer → Evaluation) (p : Pointer) where
     at_node : (b : Bool) → m t ≡ b → evaluate_matching m f i (drop i ts) p
@@ -85,32 +74,12 @@ module _ (ts : List Tree) (i : ℕ) (t : Tree) (within : i < length ts) (is : t 
         → done ++ matching_indices m i (drop i ts) ≡ all → now ++ matching_indices m (i + 1) (drop (i + 1) ts) ≡ all
     index_taken e done now all = appended (i ∷ []) _ _ done now all (at_index true e)
 
-  -- the nodes of schemas over the items of their indices: s is that of this item, and ss are those behind it
-  module _ (s : Schema) (ss : Schemas) (p : Pointer) where
-    pub pairs_at_item : evaluate_pairs (schema s ss) i (drop i ts) p
-        ≡ tree s t (item_location p i) ∷ evaluate_pairs ss (i + 1) (drop (i + 1) ts) p
-    pairs_at_item = ap (λ us. evaluate_pairs (schema s ss) i us p) (drop_here ts i t within is)
-        ∙ ap (λ j. tree s t (item_location p i) ∷ evaluate_pairs ss j (drop (i + 1) ts) p) (omega arith)
-
-    pub pairs_taken : (done now all : List Evaluation) → now ≡ done ++ tree s t (item_location p i) ∷ []
-        → done ++ evaluate_pairs (schema s ss) i (drop i ts) p ≡ all
-        → now ++ evaluate_pairs ss (i + 1) (drop (i + 1) ts) p ≡ all
-    pairs_taken done now all = appended (tree s t (item_location p i) ∷ []) _ _ done now all pairs_at_item
-
 -- ---- at the end
 
 module _ (ts : List Tree) (i : ℕ) (end : length ts ≤ i) where
-  pub each_end : (f : Tree → Pointer → Evaluation) (p : Pointer) → evaluate_each f i (drop i ts) p ≡ []
-  each_end f p = ap (λ us. evaluate_each f i us p) (drop_all i ts end)
-
   pub node_end : (m : Tree → Bool) (f : Tree → Pointer → Evaluation) (p : Pointer)
       → evaluate_matching m f i (drop i ts) p ≡ []
   node_end m f p = ap (λ us. evaluate_matching m f i us p) (drop_all i ts end)
 
   pub index_end : (m : Tree → Bool) → matching_indices m i (drop i ts) ≡ []
   index_end m = ap (matching_indices m i) (drop_all i ts end)
-
--- where no item is left, whatever schemas are
-pub pairs_end : (ss : Schemas) (i : ℕ) (p : Pointer) → evaluate_pairs ss i [] p ≡ []
-pairs_end no_schemas i p = refl
-pairs_end (schema s ss) i p = refl

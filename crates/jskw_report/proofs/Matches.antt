@@ -15,7 +15,7 @@ use Rattle.jskw_report.specs.Keyword.{Schema, Keyword, contains, Bounds}
 use Rattle.jskw_report.specs.Laws.{ContainsMatches, IsKeywordOf, has_match}
 use Rattle.jskw_report.specs.Read.{Asserts, Part, Reading, part_named, bounds_of, bound_value, bound_beside, read_bounds, keyword_location, min_contains, max_contains, asserted, read_word}
 use Rattle.jskw_report.proofs.Asserted.{asserted_if_read, same_keyword}
-use Rattle.jskw_report.specs.Setting.{Setting, keywords, name_of}
+use Rattle.jskw_report.specs.Setting.{Setting, name_of}
 use Rattle.jskw_report.specs.declared.keyword.KeywordName.TheVariants as word
 
 -- ---- one match
@@ -59,7 +59,7 @@ of_contains (Err f) r k e = absurd (cc)
 -- a `contains` that is read has the bounds that are read beside it
 with_bounds : (s : Setting) (p : Pointer) (ms : Members) (k : Keyword) → IsKeywordOf word.Contains s p ms k → (b : Bounds) × (sub : Schema) × (read_bounds s p ms ≡ Ok b) × (k ≡ contains sub b)
 unfolding asserted read_word
-with_bounds s p ms k = go (part_named keywords (name_of word.Contains) ms)
+with_bounds s p ms k = go (part_named (name_of word.Contains) ms)
   where
     go : (o : Option Part) → read_word word.Contains s p ms o ≡ Some (Ok k) → (b : Bounds) × (sub : Schema) × (read_bounds s p ms ≡ Ok b) × (k ≡ contains sub b)
     go None e = absurd (cc)

@@ -14,7 +14,7 @@ use Rattle.jskw_report.specs.KeywordValue.{map_ok, unless_float, first_float}
 use Rattle.jskw_report.specs.Keyword.{Keyword, no_keywords, constant, among, assertion}
 use Rattle.jskw_report.specs.Laws.{ConstIsOneOption, IsKeywordOf, reading_accepts}
 use Rattle.jskw_report.specs.Read.{Asserts, asserted, read_word, part, before, whole}
-use Rattle.jskw_report.specs.Setting.{Setting, keywords, name_of}
+use Rattle.jskw_report.specs.Setting.{Setting, name_of}
 use Rattle.jskw_report.specs.declared.keyword.KeywordName.{KeywordName}
 use Rattle.jskw_report.specs.declared.keyword.KeywordName.TheVariants as word
 use Rattle.jskw_report.proofs.Asserted.{asserted_if_read, same_keyword}
@@ -24,9 +24,9 @@ use Rattle.jskw_report.proofs.Reading.{part_named-get}
 
 -- what is read of a keyword is asserted of the value that stands there
 read_of : (w : KeywordName) (s : Setting) (p : Pointer) (ms : Members) (d : Data) (k : Keyword) → get_member (name_of w) ms ≡ Some d
-    → IsKeywordOf w s p ms k → asserted w s p ms (part keywords d) ≡ Some (Ok k)
-read_of w s p ms d k e h = asserted_if_read w s p ms (part keywords d) k
-    (subst (λ o. read_word w s p ms o ≡ Some (Ok k)) (part_named-get keywords (name_of w) ms ∙ ap (option_map (part keywords)) e) h)
+    → IsKeywordOf w s p ms k → asserted w s p ms (part d) ≡ Some (Ok k)
+read_of w s p ms d k e h = asserted_if_read w s p ms (part d) k
+    (subst (λ o. read_word w s p ms o ≡ Some (Ok k)) (part_named-get (name_of w) ms ∙ ap (option_map (part)) e) h)
 
 -- both keywords, once the first float of the value is known
 same_answer : (d : Data) (t : Tree) (o : Option Data) (p q : Pointer) (k j : Keyword)

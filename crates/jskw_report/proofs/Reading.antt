@@ -13,27 +13,27 @@ use Rattle.jskw_report.specs.declared.keyword.KeywordName.{KeywordName}
 use Rattle.jskw_report.specs.Read.{asserted, part, part_named, read_word}
 
 -- a keyword is handed the member of its name
-pub part_named-get : (words : List KeywordName) (name : List ℕ) (ms : Members) → part_named words name ms ≡ option_map (part words) (get_member name ms)
-part_named-get words name no_members = refl
-part_named-get words name (member k d ms) = go (slice_cmp nat_cmp name k) (part_named-get words name ms)
+pub part_named-get : (name : List ℕ) (ms : Members) → part_named name ms ≡ option_map part (get_member name ms)
+part_named-get name no_members = refl
+part_named-get name (member k d ms) = go (slice_cmp nat_cmp name k) (part_named-get name ms)
   where
-    go : (o : Ordering) → part_named words name ms ≡ option_map (part words) (get_member name ms)
-        → match_ordering o (part_named words name ms) (Some (part words d)) (part_named words name ms) ≡ option_map (part words) (match_ordering o (get_member name ms) (Some d) (get_member name ms))
+    go : (o : Ordering) → part_named name ms ≡ option_map part (get_member name ms)
+        → match_ordering o (part_named name ms) (Some (part d)) (part_named name ms) ≡ option_map part (match_ordering o (get_member name ms) (Some d) (get_member name ms))
     go Less e = e
     go Equal e = refl
     go Greater e = e
 
 -- a keyword that is absent asserts nothing
-pub read_absent : (words : List KeywordName) (w : KeywordName) (s : Setting) (p : Pointer) (ms : Members) → get_member (name_of w) ms ≡ None → read_word w s p ms (part_named words (name_of w) ms) ≡ None
+pub read_absent : (w : KeywordName) (s : Setting) (p : Pointer) (ms : Members) → get_member (name_of w) ms ≡ None → read_word w s p ms (part_named (name_of w) ms) ≡ None
 unfolding read_word
-read_absent words w s p ms e = ap (read_word w s p ms) (part_named-get words (name_of w) ms ∙ ap (option_map (part words)) e)
+read_absent w s p ms e = ap (read_word w s p ms) (part_named-get (name_of w) ms ∙ ap (option_map part) e)
 
 -- nor does one that doesn't stand
-pub read_not_standing : (words : List KeywordName) (w : KeywordName) (s : Setting) (p : Pointer) (ms : Members) (d : Data) → get_member (name_of w) ms ≡ Some d → stands s w ≡ false → read_word w s p ms (part_named words (name_of w) ms) ≡ None
+pub read_not_standing : (w : KeywordName) (s : Setting) (p : Pointer) (ms : Members) (d : Data) → get_member (name_of w) ms ≡ Some d → stands s w ≡ false → read_word w s p ms (part_named (name_of w) ms) ≡ None
 unfolding read_word
-read_not_standing words w s p ms d e h = ap (read_word w s p ms) (part_named-get words (name_of w) ms ∙ ap (option_map (part words)) e) ∙ ap (λ b. if b then asserted w s p ms (part words d) else None) h
+read_not_standing w s p ms d e h = ap (read_word w s p ms) (part_named-get (name_of w) ms ∙ ap (option_map part) e) ∙ ap (λ b. if b then asserted w s p ms (part d) else None) h
 
 -- one that stands asserts what is read of its value
-pub read_standing : (words : List KeywordName) (w : KeywordName) (s : Setting) (p : Pointer) (ms : Members) (d : Data) → get_member (name_of w) ms ≡ Some d → stands s w ≡ true → read_word w s p ms (part_named words (name_of w) ms) ≡ asserted w s p ms (part words d)
+pub read_standing : (w : KeywordName) (s : Setting) (p : Pointer) (ms : Members) (d : Data) → get_member (name_of w) ms ≡ Some d → stands s w ≡ true → read_word w s p ms (part_named (name_of w) ms) ≡ asserted w s p ms (part d)
 unfolding read_word
-read_standing words w s p ms d e h = ap (read_word w s p ms) (part_named-get words (name_of w) ms ∙ ap (option_map (part words)) e) ∙ ap (λ b. if b then asserted w s p ms (part words d) else None) h
+read_standing w s p ms d e h = ap (read_word w s p ms) (part_named-get (name_of w) ms ∙ ap (option_map part) e) ∙ ap (λ b. if b then asserted w s p ms (part d) else None) h

@@ -6,7 +6,7 @@ use Rattle.serde_json.specs.declared.value.Value.{Value}
 use Rattle.jskw_report.specs.Errors.{kind_of, schema_path_of}
 use Rattle.jskw_report.specs.KeywordValue.{Refusal}
 use Rattle.jskw_report.specs.Read.{Asserts, asserted, part}
-use Rattle.jskw_report.specs.Setting.{Spot, keywords}
+use Rattle.jskw_report.specs.Setting.{Spot}
 use Rattle.jskw_report.specs.declared.keyword.KeywordName.{KeywordName}
 use Rattle.jskw_report.specs.declared.error.ValidationError.{ValidationError}
 use Rattle.jskw_report.specs.declared.error.CompileFault.{CompileFault}
@@ -18,7 +18,7 @@ refusal_of e = record { kind = kind_of e.kind; location = schema_path_of e.schem
 
 -- what the keyword w asserts: the schema that has it stands at the spot, ms are its members, and d is the keyword's value
 abbrev pub reading : KeywordName → Spot → Members → Data → Asserts
-reading w spot ms d = asserted w spot.setting spot.location ms (part keywords d)
+reading w spot ms d = asserted w spot.setting spot.location ms (part d)
 
 -- the fault is this refusal, or want of memory
 abbrev pub Refuses : CompileFault → Refusal → Type 0

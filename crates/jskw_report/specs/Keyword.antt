@@ -82,6 +82,11 @@ mutual
     no_schemas : Schemas
     schema : Schema → Schemas → Schemas
 
+-- the schema's keyword location
+abbrev pub schema_location : Schema → Pointer
+schema_location (false_schema q) = q
+schema_location (schema_object q hands_on ks) = q
+
 abbrev mutual
   -- the `required` of the schema or of a subschema is handed on to the keywords of objects
   pub hands_on_required : Schema → Bool

@@ -17,7 +17,7 @@ use Rattle.jskw_report.specs.KeywordValue.{first_float}
 use Rattle.jskw_report.specs.Holds.{holds, keyword_holds}
 use Rattle.jskw_report.specs.Keyword.{Schema, Keyword, contains}
 use Rattle.jskw_report.specs.Read.{Reading, read, read_word, part_named, bound_beside, min_contains, max_contains}
-use Rattle.jskw_report.specs.Setting.{Setting, keywords, name_of, concerns, stands}
+use Rattle.jskw_report.specs.Setting.{Setting, name_of, concerns, stands}
 use Rattle.jskw_report.specs.declared.keyword.KeywordName.{KeywordName}
 use Rattle.jskw_report.specs.declared.keyword.KeywordName.TheVariants as word
 
@@ -51,7 +51,7 @@ FailsAlikeBelow = (s : Schema) (t : Tree) (r p : Pointer) → fail s t (r ++ p) 
 
 -- k is what the keyword w of the object schema ms at p asserts under s
 abbrev pub IsKeywordOf : KeywordName → Setting → Pointer → Members → Keyword → Type 0
-IsKeywordOf w s p ms k = read_word w s p ms (part_named keywords (name_of w) ms) ≡ Some (Ok k)
+IsKeywordOf w s p ms k = read_word w s p ms (part_named (name_of w) ms) ≡ Some (Ok k)
 
 -- a keyword that concerns the instances of one type holds of every other (Core 7.6.1)
 abbrev pub HoldsElsewhere : Type 0
@@ -65,7 +65,7 @@ reading_accepts (Err e) t = None
 
 -- whether the schema d holds of the tree, if d is a schema
 abbrev pub accepts : Setting → Data → Tree → Option Bool
-accepts s d t = reading_accepts (read keywords d s []) t
+accepts s d t = reading_accepts (read d s []) t
 
 -- `const` accepts what `enum` of that one value accepts (Validation 6.1.2, 6.1.3)
 pub record ConstIsOneOption : Type 0 where

@@ -14,7 +14,7 @@ use Rattle.jskw_report.specs.declared.settings.Vocabulary.TheVariants.{Validatio
 use Rattle.jskw_report.specs.KeywordValue.{Refusal, wrong, map_ok, join_ok, of_type, of_types, size_value, limit_value, divisor_value, type_value, required_value, const_value, enum_value}
 use Rattle.jskw_report.specs.Keyword.{Schema, false_schema, schema_object, Keywords, no_keywords, keyword, Keyword, assertion, contains, items_list, prefix_items, items_from, additional_items, Schemas, no_schemas, schema, Integers, by_value, as_written, type_is, size, constant, among, limit, multiple_of, unique, required, at_most, Bounds, Size, MinItems, MaxItems, MinProperties, MaxProperties, Relation, Minimum, Maximum, ExclusiveMinimum, ExclusiveMaximum}
 use Rattle.jskw_report.specs.Kind.{TypeKind, types_of}
-use Rattle.jskw_report.specs.Setting.{Setting, has_vocabulary, stands, name_of, is_after_draft_4, is_after_draft_7, is_2020_12}
+use Rattle.jskw_report.specs.Setting.{Setting, has_vocabulary, stands, keywords, name_of, is_after_draft_4, is_after_draft_7, is_2020_12}
 use Rattle.jskw_report.specs.declared.keyword.KeywordName.{KeywordName}
 use Rattle.jskw_report.specs.declared.keyword.KeywordName.TheVariants as word
 use Rattle.jskw_report.specs.Sibling.{is_true, item_count, member_passes, is_bare, is_handed_on}
@@ -206,35 +206,29 @@ read_words (w ∷ ws) s p ms parts = before (keyword_location p w) (read_word w 
 abbrev pub whole : Pointer → Bool → Result Keywords Refusal → Reading
 whole p hands_on r = map_ok (schema_object p hands_on) r
 
--- `required` is handed on, if it is one of the keywords that are read
-abbrev pub hands_on : List KeywordName → Setting → Members → Bool
-hands_on [] s ms = false
-hands_on (word.Required ∷ ws) s ms = is_handed_on s ms
-hands_on (w ∷ ws) s ms = hands_on ws s ms
-
 abbrev mutual
-  -- the schema d at p, a boolean (Core 4.3.2) or an object (Core 4.3.1), of which only the given keywords are read
-  pub read : List KeywordName → Data → Setting → Pointer → Reading
-  read words (boolean true) s p = Ok (schema_object p false no_keywords)
-  read words (boolean false) s p = Ok (false_schema p)
-  read words (object ms) s p = whole p (hands_on words s ms) (read_words words s p ms (λ name. part_named words name ms))
-  read words d s p = wrong (of_types Boolean Object) p d
+  -- the schema d at p, a boolean (Core 4.3.2) or an object (Core 4.3.1)
+  pub read : Data → Setting → Pointer → Reading
+  read (boolean true) s p = Ok (schema_object p false no_keywords)
+  read (boolean false) s p = Ok (false_schema p)
+  read (object ms) s p = whole p (is_handed_on s ms) (read_words keywords s p ms (λ name. part_named name ms))
+  read d s p = wrong (of_types Boolean Object) p d
 
   -- the items of the array d at p, each as a schema
-  pub read_items : List KeywordName → Data → Setting → Pointer → Result Schemas Refusal
-  read_items words (array ds) s p = read_each words ds s p 0
-  read_items words d s p = Ok no_schemas
+  pub read_items : Data → Setting → Pointer → Result Schemas Refusal
+  read_items (array ds) s p = read_each ds s p 0
+  read_items d s p = Ok no_schemas
 
   -- those from index i on
-  pub read_each : List KeywordName → Items → Setting → Pointer → ℕ → Result Schemas Refusal
-  read_each words no_items s p i = Ok no_schemas
-  read_each words (item d ds) s p i = join_ok schema (read words d s (item_location p i)) (read_each words ds s p (suc i))
+  pub read_each : Items → Setting → Pointer → ℕ → Result Schemas Refusal
+  read_each no_items s p i = Ok no_schemas
+  read_each (item d ds) s p i = join_ok schema (read d s (item_location p i)) (read_each ds s p (suc i))
 
   -- the value of the member of that name, as a part
-  pub part_named : List KeywordName → List ℕ → Members → Option Part
-  part_named words name no_members = None
-  part_named words name (member k d ms) = match_ordering (slice_cmp nat_cmp name k) (part_named words name ms) (Some (record { value = d; schema = λ s p. read words d s p; schemas = λ s p. read_items words d s p })) (part_named words name ms)
+  pub part_named : List ℕ → Members → Option Part
+  part_named name no_members = None
+  part_named name (member k d ms) = match_ordering (slice_cmp nat_cmp name k) (part_named name ms) (Some (record { value = d; schema = λ s p. read d s p; schemas = λ s p. read_items d s p })) (part_named name ms)
 
 -- a value as a part
-abbrev pub part : List KeywordName → Data → Part
-part words d = record { value = d; schema = read words d; schemas = read_items words d }
+abbrev pub part : Data → Part
+part d = record { value = d; schema = read d; schemas = read_items d }

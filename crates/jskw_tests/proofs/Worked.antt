@@ -20,7 +20,7 @@ use Rattle.jskw_report.specs.Holds.{holds}
 use Rattle.jskw_report.specs.Keyword.{Schema, hands_on_required}
 use Rattle.jskw_report.specs.Kind.{ErrorKind}
 use Rattle.jskw_report.specs.Read.{Reading, read, Asserts, asserted, part}
-use Rattle.jskw_report.specs.Setting.{Setting, all_vocabularies, keywords, name_of}
+use Rattle.jskw_report.specs.Setting.{Setting, all_vocabularies, name_of}
 use Rattle.jskw_report.specs.declared.keyword.KeywordName.{KeywordName}
 use Rattle.jskw_report.specs.Sibling.{is_fused}
 
@@ -160,7 +160,7 @@ answer_of (Ok s) t = answer (holds s t) (map seen (fail s t []))
 
 -- what the schema d says of the tree
 abbrev pub on_tree : Setting → Data → Tree → Answer
-on_tree s d t = answer_of (read keywords d s []) t
+on_tree s d t = answer_of (read d s []) t
 
 -- what the schema d says of the value
 abbrev pub on : Setting → Data → Data → Answer
@@ -187,30 +187,30 @@ ev ok q p a ds es = node ok (codes q) (codes p) a (map codes ds) (evaluations es
 
 -- the evaluation tree of the schema d over the value
 abbrev pub evaluated : Setting → Data → Data → Option Evaluation
-evaluated s d i = told (λ sub. evaluation.tree sub (tree_of i) []) (read keywords d s [])
+evaluated s d i = told (λ sub. evaluation.tree sub (tree_of i) []) (read d s [])
 
 -- the number of pairs of the schema d over the value
 abbrev pub pairs_on : Setting → Data → Data → Option ℕ
-pairs_on s d i = told (λ sub. pairs sub (tree_of i)) (read keywords d s [])
+pairs_on s d i = told (λ sub. pairs sub (tree_of i)) (read d s [])
 
 -- the numbers of pairs of the schema d over the value that lie at depths 0 to 3
 abbrev pub pairs_by_depth : Setting → Data → Data → Option (List ℕ)
-pairs_by_depth s d i = told (λ sub. map (pairs_at sub (tree_of i)) (0 ∷ 1 ∷ 2 ∷ 3 ∷ [])) (read keywords d s [])
+pairs_by_depth s d i = told (λ sub. map (pairs_at sub (tree_of i)) (0 ∷ 1 ∷ 2 ∷ 3 ∷ [])) (read d s [])
 
 -- the number of pairs of the schema d over the value, up to the first failure
 abbrev pub needed_on : Setting → Data → Data → Option ℕ
-needed_on s d i = told (λ sub. needed sub (tree_of i)) (read keywords d s [])
+needed_on s d i = told (λ sub. needed sub (tree_of i)) (read d s [])
 
 -- whether the schema d hands on a `required`
 abbrev pub hands_on : Setting → Data → Option Bool
-hands_on s d = told hands_on_required (read keywords d s [])
+hands_on s d = told hands_on_required (read d s [])
 
 -- ---- one keyword
 
 -- what the keyword asserts, beside these members
 abbrev asserted_beside : KeywordName → Setting → Members → Option Data → Asserts
 asserted_beside w s ms None = None
-asserted_beside w s ms (Some d) = asserted w s [] ms (part keywords d)
+asserted_beside w s ms (Some d) = asserted w s [] ms (part d)
 
 -- what the keyword of the object d asserts
 abbrev pub asserted_in : KeywordName → Setting → Data → Asserts

@@ -31,7 +31,7 @@ compiler::compile-returns-in-Bool g t c =
     let s = c.args.ctx.now.setting in
     let p = c.args.ctx.now.location in
     let place = c.in_ok-location.ensures ∙ c.location.ensures in
-    ap (λ x. read keywords x s p) (ap view c.in-Bool.is ∙ view-Bool c.in-Bool.accepts) ∙ read_boolean c.in-Bool.accepts s p ∙ ap Ok (sym (c.of_boolean.ensures ∙ ap (λ q. boolean_schema q c.in-Bool.accepts) place))
+    ap (λ x. read x s p) (ap view c.in-Bool.is ∙ view-Bool c.in-Bool.accepts) ∙ read_boolean c.in-Bool.accepts s p ∙ ap Ok (sym (c.of_boolean.ensures ∙ ap (λ q. boolean_schema q c.in-Bool.accepts) place))
 
 pub compiler::compile-returns-in-Object : goal.compiler::compile-returns-in-Object
 compiler::compile-returns-in-Object g t c =
@@ -41,7 +41,7 @@ compiler::compile-returns-in-Object g t c =
     let d = ap view c.in-Object.is ∙ view-Object c.in-Object.parent in
     let place = c.in_ok-location.ensures ∙ c.location.ensures in
     let made = ap (λ r. whole p (is_handed_on s ms) r) c.in_ok-units-in-Object.ensures in
-    ap (λ x. read keywords x s p) d ∙ made ∙ ap Ok (sym (c.of_keywords.ensures ∙ ap (λ q. schema_object q c.is_handed_on.result (keywords_of c.in_ok-units-in-Object.units.items)) place ∙ ap (λ b. schema_object p b (keywords_of c.in_ok-units-in-Object.units.items)) c.is_handed_on.ensures))
+    ap (λ x. read x s p) d ∙ made ∙ ap Ok (sym (c.of_keywords.ensures ∙ ap (λ q. schema_object q c.is_handed_on.result (keywords_of c.in_ok-units-in-Object.units.items)) place ∙ ap (λ b. schema_object p b (keywords_of c.in_ok-units-in-Object.units.items)) c.is_handed_on.ensures))
 
 pub compiler::compile-compile_keywords-requires : goal.compiler::compile-compile_keywords-requires
 compiler::compile-compile_keywords-requires g t c κs within =
@@ -62,7 +62,7 @@ compiler::compile_keywords-loop-keyword-preserved g t c =
     let s = c.args.ctx.now.setting in
     let p = c.args.ctx.now.location in
     let ms = members_view c.args.parent.now.entries in
-    let parts : List ℕ → Option Part = λ name. part_named keywords name ms in
+    let parts : List ℕ → Option Part = λ name. part_named name ms in
     let done = keywords_of l.units.items in
     let all = read_words keywords s p ms parts in
     let index = l.keyword-index in
@@ -79,7 +79,7 @@ compiler::compile_keywords-loop-keyword-preserved g t c =
 pub compiler::compile_keywords-returns : goal.compiler::compile_keywords-returns
 compiler::compile_keywords-returns g t c =
     let ms = members_view c.args.parent.now.entries in
-    turn_end (keywords_of c.loop-keyword.units.items) _ c.args.ctx.now.setting c.args.ctx.now.location ms (λ name. part_named keywords name ms) keywords c.loop-keyword.keyword-index c.loop-keyword-test.false c.loop-keyword.invariant
+    turn_end (keywords_of c.loop-keyword.units.items) _ c.args.ctx.now.setting c.args.ctx.now.location ms (λ name. part_named name ms) keywords c.loop-keyword.keyword-index c.loop-keyword-test.false c.loop-keyword.invariant
 
 pub compiler::compile_keywords-returns-in-Some-Err : goal.compiler::compile_keywords-returns-in-Some-Err
 compiler::compile_keywords-returns-in-Some-Err g t c =
@@ -87,7 +87,7 @@ compiler::compile_keywords-returns-in-Some-Err g t c =
     let s = c.args.ctx.now.setting in
     let p = c.args.ctx.now.location in
     let ms = members_view c.args.parent.now.entries in
-    let parts : List ℕ → Option Part = λ name. part_named keywords name ms in
+    let parts : List ℕ → Option Part = λ name. part_named name ms in
     turn_refused (validator_keyword {F = g.row.F.Denot} {N = g.row.F-Node.Denot} {O = g.row.F-Node-Number.Denot} {P = g.row.F-Node-PreparedKey.Denot}) (keywords_of l.units.items) (read_words keywords s p ms parts) s p ms parts keywords l.keyword-index word.TypeKeyword
     c.loop-keyword-test.true l.invariant (keywords_in {F = g.row.F.Denot} {N = g.row.F-Node.Denot} {O = g.row.F-Node-Number.Denot} {P = g.row.F-Node-PreparedKey.Denot}) _ _ c.in-Some-Err.field-0-is c.in-Some-Err.ensures
 
@@ -109,10 +109,10 @@ compiler::compile_each-loop-index-preserved g t c =
     let vs = c.args.schemas.now in
     let v = c.index-schemas-index.result in
     let n = c.in_ok-compile.field-0 in
-    let all = read_each keywords (items_view vs) s p 0 in
-    let made : read keywords (view v) s (item_location p l.index) ≡ Ok n = subst (λ spot. read keywords (view v) spot.setting spot.location ≡ Ok n) c.in_ok-item.ensures c.in_ok-compile.ensures in
+    let all = read_each (items_view vs) s p 0 in
+    let made : read (view v) s (item_location p l.index) ≡ Ok n = subst (λ spot. read (view v) spot.setting spot.location ≡ Ok n) c.in_ok-item.ensures c.in_ok-compile.ensures in
     let more = ap schemas_of c.in_ok-push.ensures.items ∙ schemas_of_more l.nodes.items n in
-    ap (λ ss. after_schemas ss (read_each keywords (items_view (drop (l.index + 1) vs)) s p (l.index + 1))) more
+    ap (λ ss. after_schemas ss (read_each (items_view (drop (l.index + 1) vs)) s p (l.index + 1))) more
     ∙ each_made (schemas_of l.nodes.items) all s p vs l.index v c.loop-index-test.true c.index-schemas-index.is l.invariant n made
 
 pub compiler::compile_each-returns-in_err-compile : goal.compiler::compile_each-returns-in_err-compile
@@ -123,9 +123,9 @@ compiler::compile_each-returns-in_err-compile g t c =
     let vs = c.args.schemas.now in
     let v = c.index-schemas-index.result in
     let e = c.in_err-compile.field-0.0 in
-    let all = read_each keywords (items_view vs) s p 0 in
-    let here = read keywords (view v) s (item_location p l.index) in
-    let made : Makes (λ (n : Schema). n) (Err e) here = subst (λ spot. Makes (λ (n : Schema). n) (Err e) (read keywords (view v) spot.setting spot.location)) c.in_ok-item.ensures c.in_err-compile.ensures in
+    let all = read_each (items_view vs) s p 0 in
+    let here = read (view v) s (item_location p l.index) in
+    let made : Makes (λ (n : Schema). n) (Err e) here = subst (λ spot. Makes (λ (n : Schema). n) (Err e) (read (view v) spot.setting spot.location)) c.in_ok-item.ensures c.in_err-compile.ensures in
     handed_on (λ (n : Schema). n) schemas_in e _ here all c.from_residual-in_err-compile.ensures.1 made (each_refused (schemas_of l.nodes.items) all s p vs l.index v c.loop-index-test.true c.index-schemas-index.is l.invariant)
 
 pub compiler::compile_each-returns : goal.compiler::compile_each-returns
@@ -137,14 +137,14 @@ compiler::compile_each-returns g t c =
 
 pub compiler::compile_at-returns : goal.compiler::compile_at-returns
 compiler::compile_at-returns g t c =
-    subst (λ spot. Makes (λ (n : Schema). n) c.compile.result (read keywords (view c.args.schema.now) spot.setting spot.location)) c.in_ok-below.ensures c.compile.ensures
+    subst (λ spot. Makes (λ (n : Schema). n) c.compile.result (read (view c.args.schema.now) spot.setting spot.location)) c.in_ok-below.ensures c.compile.ensures
 
 pub compiler::compile_at-compile-requires : goal.compiler::compile_at-compile-requires
 compiler::compile_at-compile-requires g t c κs within = (omega (arith, c.decreases), search rules)
 
 pub compiler::compile_each_at-returns : goal.compiler::compile_each_at-returns
 compiler::compile_each_at-returns g t c =
-    subst (λ spot. Makes schemas_in c.compile_each.result (read_each keywords (items_view c.args.schemas.now) spot.setting spot.location 0)) c.in_ok-below.ensures c.compile_each.ensures
+    subst (λ spot. Makes schemas_in c.compile_each.result (read_each (items_view c.args.schemas.now) spot.setting spot.location 0)) c.in_ok-below.ensures c.compile_each.ensures
 
 pub compiler::compile_each_at-compile_each-requires : goal.compiler::compile_each_at-compile_each-requires
 compiler::compile_each_at-compile_each-requires g t c κs within = (omega (arith, c.decreases), search rules)
@@ -176,7 +176,7 @@ prefix_items::compile-returns g t c =
     let d = view c.args.schema.now in
     let ds = items_view c.in-Some.schemas.now.items in
     let found : as_array d ≡ Some ds = search (rules, c.as_array.ensures, c.in-Some.is) in
-    let made = subst (λ vs. Makes schemas_in c.compile_each_at.result (read_each keywords (items_view vs) s q 0)) c.as_slice.ensures.value c.compile_each_at.ensures in
+    let made = subst (λ vs. Makes schemas_in c.compile_each_at.result (read_each (items_view vs) s q 0)) c.as_slice.ensures.value c.compile_each_at.ensures in
     compiles_as keyword_of (Some c.of_schemas.result) _ _ (prefix_of_array c.args.ctx.now ms d ds found) (c.of_schemas.ensures _ made)
 
 -- ---- one keyword of an object
@@ -186,7 +186,7 @@ compiler::compile_keyword-returns-in_err-schema g t c =
     let keyword_of = validator_keyword {F = g.row.F.Denot} {N = g.row.F-Node.Denot} {O = g.row.F-Node-Number.Denot} {P = g.row.F-Node-PreparedKey.Denot} in
     let ms = members_view c.args.parent.now.entries in
     let lost : get_member (name_of c.args.keyword) ms ≡ None = search (rules, c.as_str.ensures, c.in_err-schema.ensures) in
-    let none = read_absent keywords c.args.keyword c.args.ctx.now.setting c.args.ctx.now.location ms lost in
+    let none = read_absent c.args.keyword c.args.ctx.now.setting c.args.ctx.now.location ms lost in
     let res : c.from_residual.result ≡ None = search (rules, c.from_residual.ensures) in
     compiles_as keyword_of c.from_residual.result _ None none (subst (λ x. Compiles keyword_of x None) (sym res) tt)
 
@@ -196,7 +196,7 @@ compiler::compile_keyword-returns-then-not-stands g t c =
     let ms = members_view c.args.parent.now.entries in
     let found : get_member (name_of c.args.keyword) ms ≡ Some (view c.in_ok-schema.schema.now) = search (rules, c.as_str.ensures, c.in_ok-schema.ensures) in
     let absent : stands c.args.ctx.now.setting c.args.keyword ≡ false = search (rules, c.stands.ensures, c.if-not-stands.true) in
-    compiles_as keyword_of None _ None (read_not_standing keywords c.args.keyword c.args.ctx.now.setting c.args.ctx.now.location ms (view c.in_ok-schema.schema.now) found absent) tt
+    compiles_as keyword_of None _ None (read_not_standing c.args.keyword c.args.ctx.now.setting c.args.ctx.now.location ms (view c.in_ok-schema.schema.now) found absent) tt
 
 pub compiler::compile_keyword-returns-then-is_leaf : goal.compiler::compile_keyword-returns-then-is_leaf
 compiler::compile_keyword-returns-then-is_leaf g t c =
@@ -207,7 +207,7 @@ compiler::compile_keyword-returns-then-is_leaf g t c =
     let d = view c.in_ok-schema.schema.now in
     let found : get_member (name_of c.args.keyword) ms ≡ Some d = search (rules, c.as_str.ensures, c.in_ok-schema.ensures) in
     let there : stands s c.args.keyword ≡ true = search (rules, c.stands.ensures, c.if-not-stands.false) in
-    compiles_as keyword_of c.of_leaf.result _ _ (read_standing keywords c.args.keyword s p ms d found there) (c.of_leaf.ensures _ c.compile.ensures)
+    compiles_as keyword_of c.of_leaf.result _ _ (read_standing c.args.keyword s p ms d found there) (c.of_leaf.ensures _ c.compile.ensures)
 
 -- ---- `items`
 
@@ -220,7 +220,7 @@ items::compile-returns-in-Some g t c =
     let d = view c.args.schema.now in
     let ds = items_view c.in-Some.schemas.now.items in
     let found : as_array d ≡ Some ds = search (rules, c.as_array.ensures, c.in-Some.is) in
-    let made = subst (λ vs. Makes schemas_in c.compile_each_at.result (read_each keywords (items_view vs) s q 0)) c.as_slice.ensures.value c.compile_each_at.ensures in
+    let made = subst (λ vs. Makes schemas_in c.compile_each_at.result (read_each (items_view vs) s q 0)) c.as_slice.ensures.value c.compile_each_at.ensures in
     compiles_as keyword_of (Some c.of_schemas.result) _ _ (items_of_array c.args.ctx.now ms d ds found) (c.of_schemas.ensures _ made)
 
 pub items::compile-compile_each_at-requires : goal.items::compile-compile_each_at-requires
@@ -264,7 +264,7 @@ items::compile-returns g t c =
     let start = c.items_start-start.ensures in
     let made = c.of_schema.ensures _ c.compile_at.ensures in
     compiles_as keyword_of (Some c.of_schema.result) _ _ (items_of_schema c.args.ctx.now ms d (sym c.is_items_schema.ensures ∙ c.if-not-is_items_schema.false) (sym c.is_bare.ensures ∙ c.if-is_bare.false))
-    (subst (λ n. Makes keyword_of c.of_schema.result (map_ok (λ sub. items_from n sub false) (read keywords d c.args.ctx.now.setting (keyword_location c.args.ctx.now.location word.Items)))) start made)
+    (subst (λ n. Makes keyword_of c.of_schema.result (map_ok (λ sub. items_from n sub false) (read d c.args.ctx.now.setting (keyword_location c.args.ctx.now.location word.Items)))) start made)
 
 -- ---- `additionalItems`
 
@@ -316,7 +316,7 @@ contains::compile-returns-in-Err g t c =
     let d = view c.args.schema.now in
     let bounds = read_bounds c.args.ctx.now.setting c.args.ctx.now.location ms in
     let made : Makes any_bounds (Err c.in-Err.fault) bounds = subst (λ r. Makes any_bounds r bounds) c.in-Err.is c.bounds_beside.ensures in
-    let sub = read keywords d c.args.ctx.now.setting (keyword_location c.args.ctx.now.location word.Contains) in
+    let sub = read d c.args.ctx.now.setting (keyword_location c.args.ctx.now.location word.Contains) in
     compiles_as keyword_of (Some (Err c.in-Err.fault)) _ _ (contains_read c.args.ctx.now ms d) (refused_whole any_bounds keyword_of c.in-Err.fault bounds _ made (λ r e. ap (λ b. join_ok (λ b s. contains s b) b sub) e))
 
 -- ---- the calls go down
@@ -354,7 +354,7 @@ compiler::compile_keyword-returns-in-Items g t c =
     let d = view c.in_ok-schema.schema.now in
     let found : get_member (name_of c.args.keyword) ms ≡ Some d = search (rules, c.as_str.ensures, c.in_ok-schema.ensures) in
     let there : stands s c.args.keyword ≡ true = search (rules, c.stands.ensures, c.if-not-stands.false) in
-    compiles_as keyword_of c.compile-in-Items.result _ _ (read_standing keywords c.args.keyword s p ms d found there ∙ ap (λ w. reading w c.args.ctx.now ms d) c.in-Items.is) c.compile-in-Items.ensures
+    compiles_as keyword_of c.compile-in-Items.result _ _ (read_standing c.args.keyword s p ms d found there ∙ ap (λ w. reading w c.args.ctx.now ms d) c.in-Items.is) c.compile-in-Items.ensures
 
 pub compiler::compile_keyword-compile-requires-in-PrefixItems : goal.compiler::compile_keyword-compile-requires-in-PrefixItems
 compiler::compile_keyword-compile-requires-in-PrefixItems g t c κs within =
@@ -371,7 +371,7 @@ compiler::compile_keyword-returns-in-PrefixItems g t c =
     let d = view c.in_ok-schema.schema.now in
     let found : get_member (name_of c.args.keyword) ms ≡ Some d = search (rules, c.as_str.ensures, c.in_ok-schema.ensures) in
     let there : stands s c.args.keyword ≡ true = search (rules, c.stands.ensures, c.if-not-stands.false) in
-    compiles_as keyword_of c.compile-in-PrefixItems.result _ _ (read_standing keywords c.args.keyword s p ms d found there ∙ ap (λ w. reading w c.args.ctx.now ms d) c.in-PrefixItems.is) c.compile-in-PrefixItems.ensures
+    compiles_as keyword_of c.compile-in-PrefixItems.result _ _ (read_standing c.args.keyword s p ms d found there ∙ ap (λ w. reading w c.args.ctx.now ms d) c.in-PrefixItems.is) c.compile-in-PrefixItems.ensures
 
 pub compiler::compile_keyword-compile-requires-in-AdditionalItems : goal.compiler::compile_keyword-compile-requires-in-AdditionalItems
 compiler::compile_keyword-compile-requires-in-AdditionalItems g t c κs within =
@@ -388,7 +388,7 @@ compiler::compile_keyword-returns-in-AdditionalItems g t c =
     let d = view c.in_ok-schema.schema.now in
     let found : get_member (name_of c.args.keyword) ms ≡ Some d = search (rules, c.as_str.ensures, c.in_ok-schema.ensures) in
     let there : stands s c.args.keyword ≡ true = search (rules, c.stands.ensures, c.if-not-stands.false) in
-    compiles_as keyword_of c.compile-in-AdditionalItems.result _ _ (read_standing keywords c.args.keyword s p ms d found there ∙ ap (λ w. reading w c.args.ctx.now ms d) c.in-AdditionalItems.is) c.compile-in-AdditionalItems.ensures
+    compiles_as keyword_of c.compile-in-AdditionalItems.result _ _ (read_standing c.args.keyword s p ms d found there ∙ ap (λ w. reading w c.args.ctx.now ms d) c.in-AdditionalItems.is) c.compile-in-AdditionalItems.ensures
 
 pub compiler::compile_keyword-compile-requires-in-Contains : goal.compiler::compile_keyword-compile-requires-in-Contains
 compiler::compile_keyword-compile-requires-in-Contains g t c κs within =
@@ -405,4 +405,4 @@ compiler::compile_keyword-returns-in-Contains g t c =
     let d = view c.in_ok-schema.schema.now in
     let found : get_member (name_of c.args.keyword) ms ≡ Some d = search (rules, c.as_str.ensures, c.in_ok-schema.ensures) in
     let there : stands s c.args.keyword ≡ true = search (rules, c.stands.ensures, c.if-not-stands.false) in
-    compiles_as keyword_of c.compile-in-Contains.result _ _ (read_standing keywords c.args.keyword s p ms d found there ∙ ap (λ w. reading w c.args.ctx.now ms d) c.in-Contains.is) c.compile-in-Contains.ensures
+    compiles_as keyword_of c.compile-in-Contains.result _ _ (read_standing c.args.keyword s p ms d found there ∙ ap (λ w. reading w c.args.ctx.now ms d) c.in-Contains.is) c.compile-in-Contains.ensures

@@ -43,10 +43,10 @@ decreases-compiler::compile_keywords g l = 5 * members_depth (members_view l.par
 abbrev pub invariant-compiler::compile_keywords-loop-keyword : goal.invariant-compiler::compile_keywords-loop-keyword
 invariant-compiler::compile_keywords-loop-keyword g l =
     let ms = members_view l.parent.entries in
-    after (keywords_of l.units.items) (read_words (drop l.keyword-index l.keyword-items) l.ctx.setting l.ctx.location ms (λ name. part_named keywords name ms))
-    ≡ read_words keywords l.ctx.setting l.ctx.location ms (λ name. part_named keywords name ms)
+    after (keywords_of l.units.items) (read_words (drop l.keyword-index l.keyword-items) l.ctx.setting l.ctx.location ms (λ name. part_named name ms))
+    ≡ read_words keywords l.ctx.setting l.ctx.location ms (λ name. part_named name ms)
 
 abbrev pub invariant-compiler::compile_each-loop-index : goal.invariant-compiler::compile_each-loop-index
 invariant-compiler::compile_each-loop-index g l =
-    after_schemas (schemas_of l.nodes.items) (read_each keywords (items_view (drop l.index l.schemas)) l.ctx.setting l.ctx.location l.index)
-    ≡ read_each keywords (items_view l.schemas) l.ctx.setting l.ctx.location 0
+    after_schemas (schemas_of l.nodes.items) (read_each (items_view (drop l.index l.schemas)) l.ctx.setting l.ctx.location l.index)
+    ≡ read_each (items_view l.schemas) l.ctx.setting l.ctx.location 0

@@ -13,7 +13,7 @@ ghost use Rattle.jskw_report.specs.KeywordValue.{map_ok};
 ghost use Rattle.jskw_report.specs.Meaning.{one, placed};
 ghost use Rattle.jskw_report.specs.Paths.{path_of};
 ghost use Rattle.jskw_report.specs.Read.{integers_of, keyword_location, read};
-ghost use Rattle.jskw_report.specs.Setting.{keywords, name_of, stands};
+ghost use Rattle.jskw_report.specs.Setting.{name_of, stands};
 ghost use Rattle.jskw_report.specs.Sibling.{is_inlined_type, is_only_type};
 ghost use Rattle.jskw_report.specs.declared.error.TypeKind.TheVariants.{Single};
 ghost use Rattle.jskw_report.specs.declared.keyword.KeywordName.TheVariants as word;
@@ -217,7 +217,7 @@ pub(crate) fn compile_inline<'a, F: Json>(
     requires only_type { IsTrue (is_only_type (view schema.now)) }
     requires stands { IsTrue (stands ctx.now.setting word.TypeKeyword) }
     ensures { Makes validator_keyword result (map_ok (λ sub. items_from 0 sub true)
-        (read keywords (view schema.now) ctx.now.setting
+        (read (view schema.now) ctx.now.setting
         (keyword_location ctx.now.location word.Items))) }
 {
     let location = ctx.keyword_location(alloc, KeywordName::Items)?;

@@ -4,6 +4,7 @@ use super::rows::{Request, request_of, row};
 use super::written::tree_text;
 use jskw_array::SchemaNode;
 use jskw_array::compiler::compile;
+use jskw_array::laws::observers_agree;
 use jskw_report::{
     CompileFault, Context, EvaluationNode, Fault, LazyLocation, Settings, ValidationContext,
     ValidationError,
@@ -69,9 +70,16 @@ pub(super) fn observed<F: Json>(
     let mut location = LazyLocation::new(alloc);
     let mut ctx = ValidationContext::new();
     let mut errors = Vec::new(alloc);
-    node.collect_errors(instance, &mut location, &mut ctx, &mut errors)?;
-    assert_eq!(rt; node.is_valid(instance, &mut ctx), errors.is_empty());
-    match node.validate(instance, &mut location, &mut ctx) {
+    let (is_valid, first, all) = observers_agree(
+        node,
+        instance,
+        &mut location,
+        &mut ctx,
+        &mut errors,
+    );
+    all?;
+    assert_eq!(rt; is_valid, errors.is_empty());
+    match first {
         Ok(()) => assert!(rt; errors.is_empty()),
         Err(Fault::Invalid(first)) => check_first(rt, alloc, &first, &errors)?,
         Err(Fault::Memory(error)) => return Err(error)?,

@@ -1,5 +1,10 @@
 // Boolean schemas, types, sizes and `const`, under each setting.
 use super::observed::{check_errors, check_messages};
+use jskw_array::SchemaNode;
+use jskw_array::compiler::compile;
+use jskw_report::{Context, Draft, LocationSegment, Settings, VocabularySet};
+use jskw_value::SerdeJson;
+use serde_json::Value;
 use std::test::Fail;
 
 // Boolean schemas, and `type` with what it takes and what it does not.
@@ -110,4 +115,22 @@ fn under_each_setting(rt: HostRuntime) -> Result<(), Fail> {
 #[test]
 fn several_errors_with_their_limits(rt: HostRuntime) -> Result<(), Fail> {
     check_messages(&rt, rt.alloc(), SEVERAL)
+}
+
+#[test]
+fn a_schema_stands_at_the_location_of_its_context(rt: HostRuntime) -> Result<(), Fail> {
+    let alloc = rt.alloc();
+    let settings = Settings::new(Draft::Draft202012, VocabularySet::all(), Vec::new(alloc));
+    let whole: Context<SerdeJson> = Context::new(alloc, &settings);
+    let below = whole.new_at_location(alloc, LocationSegment::Name("a/b"))?;
+    for text in ["true", "false", r#"{"type":"null"}"#] {
+        let schema = Value::from_str(alloc, text)?;
+        for (ctx, location) in [(&whole, ""), (&below, "/a~1b")] {
+            let node: SchemaNode<SerdeJson> = compile(alloc, ctx, &schema)
+                .ok()
+                .ok_or("not compiled")?;
+            assert_eq!(rt; node.location().as_str(), location, "{text}");
+        }
+    }
+    Ok(())
 }
