@@ -1,125 +1,97 @@
-//! Times single keywords over the values of `serde_json`. A line `check` has the answers of the
-//! cases behind it printed, and a line `time` the nanoseconds of a compile and of a call of
-//! `is_valid` too. Each other line is a case: its name, a schema of one keyword, and an instance,
-//! with a tab between each two.
+//! Times schemas over the values of `serde_json`. A line `check` has the answers of the cases behind
+//! it printed, and a line `time` the nanoseconds of a compile and of a call of `is_valid` too. Each
+//! other line is a case: its name, a schema and an instance, with a tab between each two. The name
+//! of a loop written by hand may follow, which makes the tests of the schema; then it has to answer
+//! as the schema does, and its nanoseconds are printed last.
 #![tactic(auto)]
 
-ghost use Rattle.std.specs.Prelude.{IsTrue};
-ghost use Rattle.jskw_value.specs.Serde.{value_tree};
-ghost use Rattle.jskw_value.specs.Tree.{is_lawful};
+mod by_hand;
+mod timing;
 
-use jskw_leaf::{LeafValidator, compile, is_leaf};
-use jskw_report::compiler::member_of;
-use jskw_report::{
-    Context, Draft, KeywordName, Settings, Validate, ValidationContext, VocabularySet,
-};
-use jskw_value::{Node, SerdeJson};
+use jskw_array::SchemaNode;
+use jskw_array::compiler::compile;
+use jskw_report::{Context, Draft, Settings, ValidationContext, VocabularySet};
+use jskw_value::SerdeJson;
 use serde_json::Value;
-use std::alloc::{AllocError, Global};
+use std::alloc::Global;
 use std::io;
-use std::time::Instant;
+use timing::{Instance, Timing, fastest, instances, time_test};
 
-// for so many milliseconds each call is repeated
-const SPAN: u128 = 50;
+// for so many nanoseconds a call is repeated each time
+const SPAN: u128 = 1_000_000;
 
-// equal instances, so that no two calls in a row are the same
-const COPIES: usize = 4;
-
-#[derive(Drop)]
-struct Instance {
-    value: Value,
-    ghost is_lawful: { IsTrue (is_lawful (value_tree value)) },
-}
-
-impl Instance {
-    fn new(value: Value) -> Option<Instance> {
-        if value.is_lawful() {
-            Some(Instance { value })
-        } else {
-            None
-        }
-    }
-}
-
-// The validator of the schema's one keyword.
-fn compiled(
-    alloc: Global,
-    settings: &Settings,
-    schema: &Value,
-) -> Option<LeafValidator<SerdeJson>> {
+fn compiled(alloc: Global, settings: &Settings, schema: &Value) -> Option<SchemaNode<SerdeJson>> {
     let ctx: Context<SerdeJson> = Context::new(alloc, settings);
-    let parent = schema.as_object()?;
-    for keyword in KeywordName::ALL {
-        if let Some(value) = member_of(parent, keyword.as_str()) {
-            if is_leaf(keyword) && keyword.stands(&ctx) {
-                return compile(alloc, &ctx, parent, keyword, value)?.ok();
-            }
-        }
-    }
-    None
+    compile(alloc, &ctx, schema).ok()
 }
 
-// Equal instances of a text.
-fn instances(alloc: Global, text: &str) -> Result<Option<Vec<Instance>>, AllocError> {
-    let mut instances = Vec::new(alloc);
-    for _ in 0..COPIES {
-        let Ok(value) = Value::from_str(alloc, text) else {
-            return Ok(None);
-        };
-        let Some(instance) = Instance::new(value) else {
-            return Ok(None);
-        };
-        instances.push(instance)?;
-    }
-    Ok(Some(instances))
-}
-
-// The nanoseconds of a compile.
-fn time_compile(rt: &HostRuntime, settings: &Settings, schema: &Value) -> io::Result<u128> {
-    let start = Instant::now(rt)?;
-    let mut calls = 1u64;
-    for _ in 0..u64::MAX {
-        let _validator = compiled(rt.alloc(), settings, schema);
-        if start.elapsed(rt)?.as_millis() >= SPAN {
-            break;
-        }
-        calls = calls.saturating_add(1);
-    }
-    Ok(start.elapsed(rt)?.as_nanos() / u128::from(calls.max(1)))
-}
-
-// How many of the instances the validator accepts.
-fn accepted(validator: &LeafValidator<SerdeJson>, instances: &[Instance]) -> usize {
-    let mut ctx = ValidationContext::new();
+// How many of so many calls compile the schema.
+fn count_compiled(alloc: Global, settings: &Settings, schema: &Value, calls: usize) -> usize {
     let mut count = 0usize;
-    for instance in instances {
-        if validator.is_valid(&instance.value, &mut ctx) {
-            count = count.saturating_add(1);
+    for _ in 0..calls {
+        if compiled(alloc, settings, schema).is_some() {
+            count = count.wrapping_add(1);
         }
     }
     count
 }
 
-// The nanoseconds of a call of `is_valid`.
+// What a compile takes.
+fn time_compile(rt: &HostRuntime, settings: &Settings, schema: &Value) -> io::Result<Timing> {
+    let alloc = rt.alloc();
+    let batch = |calls: usize| count_compiled(alloc, settings, schema, calls);
+    fastest(rt, SPAN, 1, batch)
+}
+
+// What a schema answers of the instances, and what a call of its `is_valid` takes.
 fn time_is_valid(
     rt: &HostRuntime,
-    validator: &LeafValidator<SerdeJson>,
+    span: u128,
     instances: &[Instance],
-) -> io::Result<u128> {
-    let start = Instant::now(rt)?;
-    let mut calls = 1u64;
-    let mut count = 0usize;
-    for _ in 0..u64::MAX {
-        for _ in 0..64u64 {
-            count = count.max(accepted(validator, instances));
-        }
-        calls = calls.saturating_add(64);
-        if start.elapsed(rt)?.as_millis() >= SPAN {
-            break;
-        }
+    node: &SchemaNode<SerdeJson>,
+) -> io::Result<Timing> {
+    time_test(rt, span, instances, |instance| {
+        node.is_valid(&instance.value, &mut ValidationContext::new())
+    })
+}
+
+// The same of the loop of a name, None where no loop has the name.
+fn time_by_hand(
+    rt: &HostRuntime,
+    span: u128,
+    instances: &[Instance],
+    name: &str,
+) -> io::Result<Option<Timing>> {
+    let timing = match name {
+        "integers" => time_test(rt, span, instances, |i| by_hand::integers(&i.value))?,
+        "strings" => time_test(rt, span, instances, |i| by_hand::strings(&i.value))?,
+        "matrix" => time_test(rt, span, instances, |i| by_hand::matrix(&i.value))?,
+        "tuples" => time_test(rt, span, instances, |i| by_hand::tuples(&i.value))?,
+        "objects" => time_test(rt, span, instances, |i| by_hand::objects(&i.value))?,
+        "unique" => time_test(rt, span, instances, |i| by_hand::unique(&i.value))?,
+        "scalar" => time_test(rt, span, instances, |i| by_hand::scalar(&i.value))?,
+        _ => return Ok(None),
+    };
+    Ok(Some(timing))
+}
+
+// The word for the answer of a schema, and of the loop that goes with it.
+fn word(is_valid: &Timing, by_hand: Option<&Timing>) -> &'static str {
+    let answer = is_valid.answer();
+    if by_hand.is_some_and(|timing| timing.answer() != answer) {
+        return "differs";
     }
-    let calls = u128::from(calls.max(1)).saturating_mul(COPIES as u128);
-    Ok(start.elapsed(rt)?.as_nanos() / calls.max(1))
+    match answer {
+        Some(true) => "valid",
+        Some(false) => "invalid",
+        None => "differs",
+    }
+}
+
+// Prints nanoseconds behind a tab.
+fn print_nanoseconds(rt: &HostRuntime, timing: &Timing) -> io::Result<()> {
+    let picoseconds = timing.picoseconds();
+    print!(rt; "\t{}.{:03}", picoseconds / 1000, picoseconds % 1000)
 }
 
 fn run_case(rt: &HostRuntime, settings: &Settings, line: &str, is_timed: bool) -> io::Result<()> {
@@ -128,26 +100,31 @@ fn run_case(rt: &HostRuntime, settings: &Settings, line: &str, is_timed: bool) -
     let name = parts.next().unwrap_or("");
     let schema = parts.next().unwrap_or("");
     let instance = parts.next().unwrap_or("");
+    let loop_name = parts.next();
     let Ok(schema) = Value::from_str(alloc, schema) else {
         return println!(rt; "{name}\tno schema");
     };
-    let Some(validator) = compiled(alloc, settings, &schema) else {
+    let Some(node) = compiled(alloc, settings, &schema) else {
         return println!(rt; "{name}\tnot compiled");
     };
     let Some(instances) = instances(alloc, instance)? else {
         return println!(rt; "{name}\tno instance");
     };
-    let answer = if accepted(&validator, instances.as_slice()) == COPIES {
-        "valid"
-    } else {
-        "invalid"
-    };
-    if !is_timed {
-        return println!(rt; "{name}\t{answer}");
+    let span = if is_timed { SPAN } else { 0 };
+    let is_valid = time_is_valid(rt, span, &instances, &node)?;
+    let by_hand = time_by_hand(rt, span, &instances, loop_name.unwrap_or(""))?;
+    if loop_name.is_some() && by_hand.is_none() {
+        return println!(rt; "{name}\tno loop");
     }
-    let compile = time_compile(rt, settings, &schema)?;
-    let is_valid = time_is_valid(rt, &validator, instances.as_slice())?;
-    println!(rt; "{name}\t{answer}\t{compile}\t{is_valid}")
+    print!(rt; "{name}\t{}", word(&is_valid, by_hand.as_ref()))?;
+    if is_timed {
+        print_nanoseconds(rt, &time_compile(rt, settings, &schema)?)?;
+        print_nanoseconds(rt, &is_valid)?;
+        if let Some(timing) = by_hand {
+            print_nanoseconds(rt, &timing)?;
+        }
+    }
+    println!(rt; "")
 }
 
 fn main(rt: HostRuntime) -> io::Result<()> {

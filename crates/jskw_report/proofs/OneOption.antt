@@ -26,7 +26,7 @@ use Rattle.jskw_report.proofs.Reading.{part_named-get}
 read_of : (w : KeywordName) (s : Setting) (p : Pointer) (ms : Members) (d : Data) (k : Keyword) → get_member (name_of w) ms ≡ Some d
     → IsKeywordOf w s p ms k → asserted w s p ms (part d) ≡ Some (Ok k)
 read_of w s p ms d k e h = asserted_if_read w s p ms (part d) k
-    (subst (λ o. read_word w s p ms o ≡ Some (Ok k)) (part_named-get (name_of w) ms ∙ ap (option_map (part)) e) h)
+    (subst (λ o. read_word w s p ms o ≡ Some (Ok k)) (part_named-get (name_of w) ms ∙ ap (option_map part) e) h)
 
 -- both keywords, once the first float of the value is known
 same_answer : (d : Data) (t : Tree) (o : Option Data) (p q : Pointer) (k j : Keyword)

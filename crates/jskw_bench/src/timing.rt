@@ -1,0 +1,158 @@
+//! Asks for answers over equal instances, and times it.
+ghost use Rattle.std.specs.Prelude.{IsTrue};
+ghost use Rattle.jskw_value.specs.Serde.{value_tree};
+ghost use Rattle.jskw_value.specs.Tree.{is_lawful};
+
+use jskw_value::Node;
+use serde_json::Value;
+use std::alloc::{AllocError, Global};
+use std::io;
+use std::time::Instant;
+
+// equal instances, so that no two calls in a row are the same
+const COPIES: usize = 4;
+
+// so many batches of calls are timed
+const BATCHES: usize = 30;
+
+/// A value without a float.
+#[derive(Drop)]
+pub(crate) struct Instance {
+    pub(crate) value: Value,
+    ghost is_lawful: { IsTrue (is_lawful (value_tree value)) },
+}
+
+impl Instance {
+    fn new(value: Value) -> Option<Instance> {
+        if value.is_lawful() {
+            Some(Instance { value })
+        } else {
+            None
+        }
+    }
+}
+
+/// Equal instances of a text, None where it is no JSON or has a float.
+pub(crate) fn instances(alloc: Global, text: &str) -> Result<Option<Vec<Instance>>, AllocError> {
+    let mut instances = Vec::new(alloc);
+    for _ in 0..COPIES {
+        let Ok(value) = Value::from_str(alloc, text) else {
+            return Ok(None);
+        };
+        let Some(instance) = Instance::new(value) else {
+            return Ok(None);
+        };
+        instances.push(instance)?;
+    }
+    Ok(Some(instances))
+}
+
+/// What a batch of calls answered and took.
+#[derive(Clone, Copy)]
+pub(crate) struct Timing {
+    calls: usize,
+    accepted: usize,
+    nanoseconds: u128,
+}
+
+impl Timing {
+    /// Whether each call accepted; None where some did and some did not.
+    pub(crate) fn answer(&self) -> Option<bool> {
+        if self.accepted == self.calls {
+            Some(true)
+        } else if self.accepted == 0 {
+            Some(false)
+        } else {
+            None
+        }
+    }
+
+    /// The picoseconds of a call.
+    pub(crate) fn picoseconds(&self) -> u128 {
+        self.nanoseconds.saturating_mul(1000) / (self.calls as u128).max(1)
+    }
+}
+
+/// What a test answers of the instances, and what a call of it takes, as [`fastest`] has it.
+pub(crate) fn time_test<F: Fn(&Instance) -> bool>(
+    rt: &HostRuntime,
+    span: u128,
+    instances: &[Instance],
+    accepts: F,
+) -> io::Result<Timing>
+    requires { F.IsAlwaysCallable accepts }
+{
+    fastest(
+        rt,
+        span,
+        COPIES,
+        |rounds| accepted(rounds, instances, &accepts),
+    )
+}
+
+// How many calls accept their instance, of so many rounds over the instances. Where a round begins
+// depends on the answers of those before, so that each call has to be made.
+fn accepted<F: Fn(&Instance) -> bool>(rounds: usize, instances: &[Instance], accepts: &F) -> usize
+    requires { F.IsAlwaysCallable accepts.now }
+{
+    let mut count = 0usize;
+    for _ in 0..rounds {
+        let first = count;
+        for step in 0..COPIES {
+            let place = first.wrapping_add(step) % COPIES;
+            if instances
+                .get(place)
+                .is_some_and(|instance| accepts(instance))
+            {
+                count = count.wrapping_add(1);
+            }
+        }
+    }
+    count
+}
+
+/// The fastest of some equal batches, each of which takes at least about so many nanoseconds.
+/// `batch` makes so many rounds of so many calls, and answers how many of the calls accepted.
+pub(crate) fn fastest<F: Fn(usize) -> usize>(
+    rt: &HostRuntime,
+    span: u128,
+    calls: usize,
+    batch: F,
+) -> io::Result<Timing>
+    requires { F.IsAlwaysCallable batch }
+{
+    let mut rounds = 1usize;
+    let mut best = time_batch(rt, rounds, calls, &batch)?;
+    for _ in 0..40 {
+        if best.nanoseconds >= span {
+            break;
+        }
+        rounds = rounds.saturating_mul(2);
+        best = time_batch(rt, rounds, calls, &batch)?;
+    }
+    for _ in 1..BATCHES {
+        let timing = time_batch(rt, rounds, calls, &batch)?;
+        if timing.nanoseconds < best.nanoseconds {
+            best = timing;
+        }
+    }
+    Ok(best)
+}
+
+fn time_batch<F: Fn(usize) -> usize>(
+    rt: &HostRuntime,
+    rounds: usize,
+    calls: usize,
+    batch: &F,
+) -> io::Result<Timing>
+    requires { F.IsAlwaysCallable batch.now }
+{
+    let start = Instant::now(rt)?;
+    let accepted = batch(rounds);
+    let nanoseconds = start.elapsed(rt)?.as_nanos();
+    Ok(Timing {
+        calls: rounds.saturating_mul(calls),
+        accepted,
+        nanoseconds,
+    })
+}
