@@ -95,8 +95,8 @@ fn compile_keywords<'a, F: Json>(
             Some(Ok(validator)) => {
                 let location = ctx.keyword_location(alloc, keyword)?;
                 units.push(Unit {
-                    location,
                     validator,
+                    location,
                 })?;
             }
             Some(Err(fault)) => return Err(fault),

@@ -50,8 +50,8 @@ enum Assertions<F: Json> {
 #[cycle(schema)]
 #[derive(Drop)]
 pub(crate) struct Unit<F: Json> {
-    pub(crate) location: Location,
     pub(crate) validator: Validator<F>,
+    pub(crate) location: Location,
 }
 
 impl<F: Json> Model for SchemaNode<F> {

@@ -2,7 +2,7 @@
 // is checked in place.
 use super::decimals::decimal_tree;
 use super::observed::compiled;
-use super::rows::{request_of, row};
+use super::rows::{Request, request_of, row};
 use jskw_array::{SchemaNode, additional_items};
 use jskw_report::{Context, Fault, LazyLocation, Validate, ValidationContext};
 use jskw_value::{DecimalJson, Json, Node, SerdeJson};
@@ -110,6 +110,17 @@ fn observers_apply_no_more_than_the_pairs_that_meet(rt: HostRuntime) -> Result<(
     Ok(())
 }
 
+// What is counted of a request.
+fn counted_of(
+    rt: &impl Abort,
+    alloc: Global,
+    times: usize,
+    request: &Request<'_>,
+) -> Result<[u64; 4], Fail> {
+    let node: SchemaNode<SerdeJson> = compiled(alloc, request)?;
+    counted(rt, alloc, times, &node, request.instance)
+}
+
 // What `collect_errors` applies, once and twice with one context.
 const COLLECTED: &str = r#"{"schema":{"items":{"items":{"const":1}}},"instance":[[1,2],[3]]} => 6 12
 {"schema":{"items":{"items":{"type":"integer"}}},"instance":[[1,2],[3]]} => 3 6"#;
@@ -121,10 +132,9 @@ fn collecting_errors_applies_every_pair_once(rt: HostRuntime) -> Result<(), Fail
         let (once, twice) = answer.split_once(' ').ok_or("no second count")?;
         let value = Value::from_str(rt.alloc(), text)?;
         let request = request_of(rt.alloc(), &value)?;
-        let node: SchemaNode<SerdeJson> = compiled(rt.alloc(), &request)?;
-        let [_, _, count, _] = counted(&rt, rt.alloc(), 1, &node, request.instance)?;
+        let [_, _, count, _] = counted_of(&rt, rt.alloc(), 1, &request)?;
         assert_eq!(rt; count, once.parse()?);
-        let [_, _, count, _] = counted(&rt, rt.alloc(), 2, &node, request.instance)?;
+        let [_, _, count, _] = counted_of(&rt, rt.alloc(), 2, &request)?;
         assert_eq!(rt; count, twice.parse()?);
     }
     Ok(())

@@ -6,6 +6,8 @@ use jskw_array::SchemaNode;
 use jskw_report::{LazyLocation, ValidationContext};
 use jskw_value::{Node, SerdeJson};
 use serde_json::Value;
+use std::alloc::Global;
+use std::process::Abort;
 use std::test::Fail;
 
 // A schema has a node for each keyword that asserts something.
@@ -130,12 +132,22 @@ fn an_instance_below_is_evaluated_at_its_location(rt: HostRuntime) -> Result<(),
     let value = Value::from_str(rt.alloc(), r#"{"schema":false,"instance":1}"#)?;
     let request = request_of(rt.alloc(), &value)?;
     let node: SchemaNode<SerdeJson> = compiled(rt.alloc(), &request)?;
-    let mut location = LazyLocation::new(rt.alloc());
+    check_below(&rt, rt.alloc(), &node, request.instance)
+}
+
+// The evaluation of `false` at the item of index 3.
+fn check_below(
+    rt: &impl Abort,
+    alloc: Global,
+    node: &SchemaNode<SerdeJson>,
+    instance: &Value,
+) -> Result<(), Fail> {
+    let mut location = LazyLocation::new(alloc);
     location.push(3)?;
-    assert!(rt; request.instance.is_lawful());
+    assert!(rt; instance.is_lawful());
     let mut ctx = ValidationContext::new();
-    let tree = node.evaluate_instance_below(rt.alloc(), request.instance, &mut location, &mut ctx)?;
-    assert_eq!(rt; tree_text(rt.alloc(), &tree)?.as_str(), "-@/3!falseSchema");
+    let tree = node.evaluate_instance_below(alloc, instance, &mut location, &mut ctx)?;
+    assert_eq!(rt; tree_text(alloc, &tree)?.as_str(), "-@/3!falseSchema");
     assert_eq!(rt; location.render()?.as_str(), "/3");
     Ok(())
 }

@@ -1,6 +1,6 @@
 // Names that are required, and where they are left to the keywords of objects.
 use super::observed::{check_errors, check_messages, compiled};
-use super::rows::{request_of, row};
+use super::rows::{Request, request_of, row};
 use jskw_array::SchemaNode;
 use jskw_value::SerdeJson;
 use serde_json::Value;
@@ -81,14 +81,19 @@ const HANDED_ON_BELOW: &str =
 {"schema":{"items":{"properties":{"a":{}},"required":["a"]}},"instance":null} => false
 {"schema":{"items":{"type":"integer"},"required":["a"]},"instance":null} => false"#;
 
+// Whether the schema of a request hands `required` on.
+fn hands_on(alloc: Global, request: &Request<'_>) -> Result<bool, Fail> {
+    let node: SchemaNode<SerdeJson> = compiled(alloc, request)?;
+    Ok(node.hands_on_required())
+}
+
 // Goes through the requests of a table: whether the schema hands `required` on.
 fn check_handed_on(rt: &impl Abort, alloc: Global, table: &str) -> Result<(), Fail> {
     for line in table.lines() {
         let (text, answer) = row(line)?;
         let value = Value::from_str(alloc, text)?;
         let request = request_of(alloc, &value)?;
-        let node: SchemaNode<SerdeJson> = compiled(alloc, &request)?;
-        assert_eq!(rt; node.hands_on_required(), answer == "true", "{line}");
+        assert_eq!(rt; hands_on(alloc, &request)?, answer == "true", "{line}");
     }
     Ok(())
 }

@@ -2,9 +2,10 @@
 use super::observed::{check_errors, check_messages};
 use jskw_array::SchemaNode;
 use jskw_array::compiler::compile;
-use jskw_report::{Context, Draft, LocationSegment, Settings, VocabularySet};
+use jskw_report::{Context, Draft, Location, LocationSegment, Settings, VocabularySet};
 use jskw_value::SerdeJson;
 use serde_json::Value;
+use std::alloc::Global;
 use std::test::Fail;
 
 // Boolean schemas, and `type` with what it takes and what it does not.
@@ -117,6 +118,16 @@ fn several_errors_with_their_limits(rt: HostRuntime) -> Result<(), Fail> {
     check_messages(&rt, rt.alloc(), SEVERAL)
 }
 
+// Where the compiled schema stands.
+fn location_of(
+    alloc: Global,
+    ctx: &Context<'_, SerdeJson>,
+    schema: &Value,
+) -> Result<Location, Fail> {
+    let node: SchemaNode<SerdeJson> = compile(alloc, ctx, schema).ok().ok_or("not compiled")?;
+    Ok(node.location().copy(alloc)?)
+}
+
 #[test]
 fn a_schema_stands_at_the_location_of_its_context(rt: HostRuntime) -> Result<(), Fail> {
     let alloc = rt.alloc();
@@ -126,10 +137,8 @@ fn a_schema_stands_at_the_location_of_its_context(rt: HostRuntime) -> Result<(),
     for text in ["true", "false", r#"{"type":"null"}"#] {
         let schema = Value::from_str(alloc, text)?;
         for (ctx, location) in [(&whole, ""), (&below, "/a~1b")] {
-            let node: SchemaNode<SerdeJson> = compile(alloc, ctx, &schema)
-                .ok()
-                .ok_or("not compiled")?;
-            assert_eq!(rt; node.location().as_str(), location, "{text}");
+            let found = location_of(alloc, ctx, &schema)?;
+            assert_eq!(rt; found.as_str(), location, "{text}");
         }
     }
     Ok(())
