@@ -23,7 +23,7 @@ distinct_in_array (array ts) h e = items_list ts ∙ e
 distinct_in_array _ h e = cc
 
 -- a name that differs from each is none of them
-not_among : (k : List ℕ) (ks : List (List ℕ)) → AllByRecursion (λ l. bytes_eq k l ≡ false) ks
+pub not_among : (k : List ℕ) (ks : List (List ℕ)) → AllByRecursion (λ l. bytes_eq k l ≡ false) ks
     → is_member bytes_eq ks k ≡ false
 not_among k [] h = refl
 not_among k (l ∷ ks) h = or_from _ _ h.0 (not_among k ks h.1)

@@ -77,13 +77,13 @@ equal_objects _ u h k d e = cc
 -- ---- the members of an object by their names
 
 -- one entry more in front, of another name
-past_first : (x : List ℕ × Tree) (all ms : List (List ℕ × Tree))
+past_first : {V : Type 0} (x : List ℕ × V) (all ms : List (List ℕ × V))
     → AllByRecursion (λ y. bytes_eq x.0 y ≡ false) (keys_of ms) → AreAmong all ms → AreAmong (x ∷ all) ms
 past_first x all [] h e = tt
 past_first x all (m ∷ ms) h e = (rw (nat_list_eq_equiv.symm m.0 x.0, h.0) e.0, past_first x all ms h.1 e.1)
 
 -- entries with distinct names are among themselves
-all_among : (ms : List (List ℕ × Tree)) → IsDistinct bytes_eq (keys_of ms) → AreAmong ms ms
+pub all_among : {V : Type 0} (ms : List (List ℕ × V)) → IsDistinct bytes_eq (keys_of ms) → AreAmong ms ms
 all_among [] d = tt
 all_among (m ∷ ms) d =
     let later = all_among ms (IsDistinct-tail bytes_eq m.0 (keys_of ms) d) in

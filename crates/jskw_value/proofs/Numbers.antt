@@ -36,12 +36,12 @@ mul_cancel : (a b n : ℕ) → a * suc n ≡ b * suc n → a ≡ b
 mul_cancel a b n e = eq_of_mul-eq-mul_right (suc n) (omega arith) a b e
 
 -- no non-negative integer is negative
-pos-ne-neg : (m n : ℕ) → 0 < n → pos m ≢ neg_ℤ (pos n)
+pub pos-ne-neg : (m n : ℕ) → 0 < n → pos m ≢ neg_ℤ (pos n)
 pos-ne-neg m (suc n) h = pos-ne-negsuc m n
 pos-ne-neg m zero h = absurd (omega arith)
 
 -- a product of two numbers above zero is above zero
-product-above : (a n : ℕ) → 0 < suc a * suc n
+pub product-above : (a n : ℕ) → 0 < suc a * suc n
 product-above a n = omega arith
 
 -- a common factor above zero goes away among integers

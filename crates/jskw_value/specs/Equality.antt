@@ -49,7 +49,7 @@ unique [] = true
 unique (t ∷ ts) = not (list_any (equal t) ts) && unique ts
 
 -- each of the pairs is what its name finds among the entries
-abbrev pub AreAmong : List (List ℕ × Tree) → List (List ℕ × Tree) → Type 0
+abbrev pub AreAmong : {V : Type 0} → List (List ℕ × V) → List (List ℕ × V) → Type 0
 AreAmong entries [] = ⊤
 AreAmong entries (m ∷ ms) = (lookup (bytes_eq m.0) entries ≡ Some m.1) × AreAmong entries ms
 

@@ -2,6 +2,7 @@ pub mod formers
 pub mod Decimal
 pub mod DecimalTree
 pub mod Equality
+pub mod Fingerprint
 pub mod FirstFloat
 pub mod InsertFault
 pub mod Laws
@@ -10,7 +11,9 @@ pub mod Number
 pub mod Pointer
 pub mod PropertyName
 pub mod Serde
+pub mod Sketch
 pub mod Text
 pub mod Tree
 pub mod Types
+pub mod Unique
 pub mod Walk

@@ -1,10 +1,10 @@
 //! Equality of nodes, of one representation or two.
-ghost use Rattle.std.specs.Prelude.{◌≡◌, drop, ◌==◌, ◌&&◌, IsTrue, false, length, option_map};
+ghost use Rattle.std.specs.Prelude.{◌≡◌, ◌==◌, ◌&&◌, IsTrue, false, length, option_map};
 ghost use Rattle.std.specs.Cmp.Lexicographic.{pointwise};
-ghost use Rattle.std.specs.List.{list_all, list_any, IsDistinct};
+ghost use Rattle.std.specs.List.{list_all, IsDistinct};
 ghost use Rattle.std.specs.Option.{option_map_or};
 ghost use Rattle.std.specs.Str.{bytes_eq};
-ghost use Rattle.jskw_value.specs.Equality.{equal, has_equal, unique, AreMembers};
+ghost use Rattle.jskw_value.specs.Equality.{equal, has_equal, AreMembers};
 ghost use Rattle.jskw_value.specs.Number.{num_equal};
 ghost use Rattle.jskw_value.specs.Tree.{is_array, is_object, items, members, names, get};
 ghost use Rattle.jskw_value.specs.Walk.{left};
@@ -129,33 +129,4 @@ fn equal_numbers<A: JsonNumber, B: JsonNumber>(left: &A, right: &B) -> bool
     ensures { result ≡ num_equal (A.number left.now) (B.number right.now) }
 {
     left.is_lawful() && right.is_lawful() && left.decimal().equals(&right.decimal())
-}
-
-// Whether no two different indices of the array hold equal items.
-#[tactic(auto, using(crate::proofs::Equal::unique_step, crate::proofs::Equal::unique_end))]
-pub(crate) fn has_unique_items<N: Node>(array: &N) -> bool
-    requires { IsTrue (is_array (N.tree array.now)) }
-    ensures { result ≡ unique (items (N.tree array.now)) }
-{
-    let count = Array::len(array);
-    for i in 0..count {
-        if occurs_from(array, i + 1, array.item(i)) {
-            return false;
-        }
-    }
-    true
-}
-
-// Whether an item at or past an index is equal to the node.
-#[tactic(auto, using(crate::proofs::Equal::any_step, crate::proofs::Equal::any_end))]
-fn occurs_from<N: Node>(array: &N, start: usize, node: &N) -> bool
-    requires { IsTrue (is_array (N.tree array.now)) }
-    ensures { result ≡ list_any (equal (N.tree node.now)) (drop start (items (N.tree array.now))) }
-{
-    for j in start..Array::len(array) {
-        if equal_nodes(node, array.item(j)) {
-            return true;
-        }
-    }
-    false
 }

@@ -17,10 +17,11 @@ ghost use Rattle.jskw_value.specs.Types.{json_type};
 ghost use Rattle.jskw_value.specs.Walk.{left};
 
 use crate::decimal::Decimal;
-use crate::equality::{equal_nodes, has_unique_items};
+use crate::equality::equal_nodes;
 use crate::first_float::location_of_float;
 use crate::json_text::write_node;
 use crate::types::JsonType;
+use crate::unique_items::has_unique_items;
 use crate::walk::Walk;
 use serde_json::Value;
 use std::alloc::{AllocError, Global};

@@ -10,6 +10,7 @@
 pub mod decimal;
 pub mod decimal_tree;
 mod equality;
+mod fingerprint;
 mod first_float;
 pub mod json;
 mod json_text;
@@ -20,7 +21,9 @@ pub mod nullability;
 pub mod pointer;
 pub mod property_name;
 pub mod serde_tree;
+mod sketch;
 pub mod types;
+mod unique_items;
 pub mod walk;
 
 pub use decimal::Decimal;

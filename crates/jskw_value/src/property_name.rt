@@ -33,7 +33,7 @@ impl KeyHead {
 }
 
 // The number of up to eight bytes, the lowest byte first.
-fn number_of(bytes: &[u8]) -> u64
+pub(crate) fn number_of(bytes: &[u8]) -> u64
     requires { length bytes.now ≤ 8 }
     ensures { result ≡ from_le_bytes w64 (padded bytes.now) }
 {

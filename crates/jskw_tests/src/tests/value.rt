@@ -7,4 +7,5 @@ mod names;
 mod nodes;
 mod text;
 mod types;
+mod unique;
 mod walks;

@@ -1,0 +1,288 @@
+-- Fingerprints: equal trees have one, where no object that it looks at has a name twice.
+use Rattle.std.proofs.Common.{◌≡◌, ℕ, zero, suc, ◌+◌, ◌-◌, ◌%◌, ◌^◌, ◌<◌, ◌≤◌, ◌&&◌, ◌||◌, min, nat_le, List, [], ◌∷◌, length, get_or, drop, take, Bool, true, false, not, cond, Option, Some, None, refl, sym, ap, ap₂, subst, ◌∙◌, arith, length-take, if◌then◌else◌}
+use Rattle.std.proofs.Math.Bool.{or-true}
+use Rattle.std.proofs.Math.Nat.{mod-add-mod}
+use Rattle.std.proofs.lemmas.Bool.{and_from, and_parts, false_from_ne_true, le-leb, leb-true, not_from_false, not-true}
+use Rattle.std.proofs.lemmas.Bool.Decides.{Decides-eqb}
+use Rattle.std.proofs.lemmas.List.{at_drop_all, get_or-take}
+use Rattle.std.proofs.lemmas.List.Sums.{sum_by-cons}
+use Rattle.std.proofs.lemmas.Map.Entries.{length-keys_of}
+use Rattle.std.proofs.lemmas.Map.Keys.{IsDistinct-head, IsDistinct-tail, IsDistinct-cons}
+use Rattle.std.proofs.lemmas.Option.{same_Some}
+use Rattle.std.proofs.lemmas.Slice.Eq.{bytes_eq-Decides}
+use Rattle.std.specs.Cmp.{booleans_Decides}
+use Rattle.std.specs.List.{list_all, sum_by, IsDistinct}
+use Rattle.std.specs.Map.{keys_of, values_of, lookup}
+use Rattle.std.specs.Option.{option_map_or}
+use Rattle.std.specs.Set.{is_member}
+use Rattle.std.specs.Str.{bytes_eq}
+use Rattle.jskw_value.specs.Equality.{equal, items_alike, members_alike, AreAmong}
+use Rattle.jskw_value.specs.Fingerprint.{stirred, word_at, text_print, share, print, items_print, members_print, list_print, member_print, own_names_distinct, is_distinct_within, items_distinct_within, members_distinct_within}
+use Rattle.jskw_value.specs.Number.{num_equal}
+use Rattle.jskw_value.specs.Tree.{Tree, null, boolean, number, string, array, object, Items, no_items, item, Members, no_members, member, item_list, member_list, items, members, names, values, get, is_array, is_object, has_name}
+use Rattle.jskw_value.proofs.Alike.{names_found}
+use Rattle.jskw_value.proofs.Depth.{item_depth}
+use Rattle.jskw_value.proofs.DistinctNames.{not_among}
+use Rattle.jskw_value.proofs.Lists.{at_index}
+use Rattle.jskw_value.proofs.NumberPrints.{same_number}
+use Rattle.jskw_value.proofs.SameNames.{apart, same_length}
+use Rattle.jskw_value.proofs.Sums.{Entries, total, same_total}
+
+-- ---- names
+
+-- an object's own names are distinct
+distinct_names : (ms : Members) → own_names_distinct ms ≡ true → IsDistinct bytes_eq (keys_of (member_list ms))
+unfolding IsDistinct
+distinct_names no_members d = tt
+distinct_names (member k t ms) d =
+    IsDistinct-cons bytes_eq k (keys_of (member_list ms)) (apart k (keys_of (member_list ms)) (not-true _ (and_parts _ _ d).0))
+    (distinct_names ms (and_parts _ _ d).1)
+
+-- the other way round
+own_from_distinct : (ms : Members) → IsDistinct bytes_eq (keys_of (member_list ms)) → own_names_distinct ms ≡ true
+own_from_distinct no_members d = refl
+own_from_distinct (member k t ms) d = and_from _ _
+    (not_from_false _ (not_among k _ (IsDistinct-head bytes_eq k (keys_of (member_list ms)) d)))
+    (own_from_distinct ms (IsDistinct-tail bytes_eq k (keys_of (member_list ms)) d))
+
+-- equal objects have as many members
+as_many : (ms ns : Members) → own_names_distinct ms ≡ true → own_names_distinct ns ≡ true
+    → members_alike num_equal ms (object ns) ≡ true → list_all (has_name (object ms)) (names (object ns)) ≡ true
+    → length (member_list ms) ≡ length (member_list ns)
+as_many ms ns d e f h = sym (length-keys_of (member_list ms)) ∙ (Decides-eqb (length (names (object ms))) (length (names (object ns)))).0
+    (sym (same_length (names (object ms)) (names (object ns)) (distinct_names ms d) (distinct_names ns e) (names_found num_equal ms (object ns) f)) ∙ h)
+    ∙ length-keys_of (member_list ns)
+
+-- ---- members
+
+-- the fingerprints of members, by name
+abbrev entries : ℕ → Members → Entries
+entries b no_members = []
+entries b (member k t ms) = (k, stirred 5 (text_print b k) (print b t)) ∷ entries b ms
+
+-- their names
+entry_names : (b : ℕ) (ms : Members) → keys_of (entries b ms) ≡ keys_of (member_list ms)
+entry_names b no_members = refl
+entry_names b (member k t ms) = ap (λ ks. k ∷ ks) (entry_names b ms)
+
+-- their sum
+entry_total : (b : ℕ) (ms : Members) → members_print b ms ≡ total (entries b ms)
+entry_total b no_members = refl
+entry_total b (member k t ms) = ap (λ n. stirred 5 (text_print b k) (print b t) + n) (entry_total b ms)
+    ∙ sym (sum_by-cons (λ n. n) (stirred 5 (text_print b k) (print b t)) (values_of (entries b ms)))
+
+-- the entry of a member that is found
+entry_found : (b : ℕ) (ns : Members) (k : List ℕ) (y : Tree) → get k (object ns) ≡ Some y
+    → lookup (bytes_eq k) (entries b ns) ≡ Some (stirred 5 (text_print b k) (print b y))
+entry_found b no_members k y e = absurd (cc)
+entry_found b (member l z ns) k y e = go (bytes_eq k l) refl e (entry_found b ns k y)
+  where
+    go : (c : Bool) → bytes_eq k l ≡ c → cond c (Some z) (get k (object ns)) ≡ Some y
+        → (get k (object ns) ≡ Some y → lookup (bytes_eq k) (entries b ns) ≡ Some (stirred 5 (text_print b k) (print b y)))
+        → cond c (Some (stirred 5 (text_print b l) (print b z))) (lookup (bytes_eq k) (entries b ns)) ≡ Some (stirred 5 (text_print b k) (print b y))
+    go true d e rest = ap₂ (λ q x. Some (stirred 5 (text_print b q) (print b x))) (sym ((bytes_eq-Decides k l).0 d)) (same_Some z y e)
+    go false d e rest = rest e
+
+-- its names are distinct
+distinct_found : (b : ℕ) (ns : Members) (k : List ℕ) (y : Tree) → members_distinct_within b ns ≡ true
+    → get k (object ns) ≡ Some y → is_distinct_within b y ≡ true
+distinct_found b no_members k y d e = absurd (cc)
+distinct_found b (member l z ns) k y d e = go (bytes_eq k l) e (distinct_found b ns k y (and_parts _ _ d).1)
+  where
+    go : (c : Bool) → cond c (Some z) (get k (object ns)) ≡ Some y
+        → (get k (object ns) ≡ Some y → is_distinct_within b y ≡ true) → is_distinct_within b y ≡ true
+    go true e rest = subst (λ x. is_distinct_within b x ≡ true) (same_Some z y e) (and_parts _ _ d).0
+    go false e rest = rest e
+
+-- members that are found one by one have one sum
+same_sum : (b : ℕ) (ms ns : Members) → own_names_distinct ms ≡ true → own_names_distinct ns ≡ true
+    → AreAmong (entries b ns) (entries b ms) → list_all (has_name (object ms)) (names (object ns)) ≡ true
+    → members_print b ms ≡ members_print b ns
+same_sum b ms ns d e f h = entry_total b ms ∙ same_total (entries b ms) (entries b ns) (distinct ms d) (distinct ns e) f
+    (ap₂ (λ ks ls. list_all (is_member bytes_eq ks) ls) (entry_names b ms) (entry_names b ns) ∙ h) ∙ sym (entry_total b ns)
+  where
+    distinct : (os : Members) → own_names_distinct os ≡ true → IsDistinct bytes_eq (keys_of (entries b os))
+    distinct os g = subst (IsDistinct bytes_eq) (sym (entry_names b os)) (distinct_names os g)
+
+-- ---- trees
+
+-- equal arrays have as many items
+as_long : (ts us : Items) → items_alike num_equal ts (item_list us) ≡ true → length (item_list ts) ≡ length (item_list us)
+as_long no_items no_items h = refl
+as_long (item t ts) (item u us) h = ap suc (as_long ts us (and_parts _ _ h).1)
+as_long _ _ h = cc
+
+-- what the budget reaches of an object's members
+reached : (b n : ℕ) (ns : Members)
+    → (not (nat_le n b) || members_distinct_within (share b n) ns) ≡ true → nat_le n b ≡ true → members_distinct_within (share b n) ns ≡ true
+reached b n ns d h = sym (ap (λ c. not c || members_distinct_within (share b n) ns) h) ∙ d
+
+-- sums that are the same where they count
+same_within : (r : Bool) (m n : ℕ) → (r ≡ true → m ≡ n) → (if r then m % 2 ^ 64 else 0) ≡ (if r then n % 2 ^ 64 else 0)
+same_within true m n f = ap (λ x. x % 2 ^ 64) (f refl)
+same_within false m n f = refl
+
+mutual
+  -- equal trees have one fingerprint
+  pub equal_print : (b : ℕ) (t u : Tree) → is_distinct_within b t ≡ true → is_distinct_within b u ≡ true
+      → equal t u ≡ true → print b t ≡ print b u
+  equal_print b null null d e h = refl
+  equal_print b (boolean x) (boolean y) d e h = ap (λ z. print b (boolean z)) ((booleans_Decides x y).0 h)
+  equal_print b (number m) (number n) d e h = same_number m n h
+  equal_print b (string s) (string r) d e h = ap (text_print b) ((bytes_eq-Decides s r).0 h)
+  equal_print b (array ts) (array us) d e h =
+      ap (λ n. items_print (share b n) b (stirred 4 n 0) ts) (as_long ts us h)
+      ∙ items_same (share b (length (item_list us))) b (stirred 4 (length (item_list us)) 0) ts us
+      (subst (λ n. items_distinct_within (share b n) b ts ≡ true) (as_long ts us h) d) e h
+  equal_print b (object ms) (object ns) d e h =
+      let found = (and_parts _ _ h).0 in
+      let count = length (member_list ns) in
+      let many : length (member_list ms) ≡ count = as_many ms ns (and_parts _ _ d).0 (and_parts _ _ e).0 found (and_parts _ _ h).1 in
+      let within = subst (λ n. (not (nat_le n b) || members_distinct_within (share b n) ms) ≡ true) many (and_parts _ _ d).1 in
+      ap (λ n. stirred 5 n (if nat_le n b then members_print (share b n) ms % 2 ^ 64 else 0)) many
+      ∙ ap (stirred 5 count) (same_within (nat_le count b) (members_print (share b count) ms) (members_print (share b count) ns) (λ r.
+      same_sum (share b count) ms ns (and_parts _ _ d).0 (and_parts _ _ e).0
+      (members_found (share b count) ms ns (reached b count ms within r) (reached b count ns (and_parts _ _ e).1 r) found) (and_parts _ _ h).1))
+  equal_print b _ _ d e h = cc
+
+  -- item by item
+  items_same : (b n h : ℕ) (ts us : Items) → items_distinct_within b n ts ≡ true → items_distinct_within b n us ≡ true
+      → items_alike num_equal ts (item_list us) ≡ true → items_print b n h ts ≡ items_print b n h us
+  items_same b zero a ts us d e h = refl
+  items_same b (suc n) a no_items no_items d e h = refl
+  items_same b (suc n) a (item t ts) (item u us) d e h =
+      ap (λ x. items_print b n (stirred a x 4) ts) (equal_print b t u (and_parts _ _ d).0 (and_parts _ _ e).0 (and_parts _ _ h).0)
+      ∙ items_same b n (stirred a (print b u) 4) ts us (and_parts _ _ d).1 (and_parts _ _ e).1 (and_parts _ _ h).1
+  items_same b (suc n) a _ _ d e h = cc
+
+  -- member by member
+  members_found : (b : ℕ) (ms ns : Members) → members_distinct_within b ms ≡ true → members_distinct_within b ns ≡ true
+      → members_alike num_equal ms (object ns) ≡ true → AreAmong (entries b ns) (entries b ms)
+  members_found b no_members ns d e h = tt
+  members_found b (member k t ms) ns d e h =
+      (go (get k (object ns)) refl (and_parts _ _ h).0 (λ y w. equal_print b t y (and_parts _ _ d).0 w), members_found b ms ns (and_parts _ _ d).1 e (and_parts _ _ h).1)
+    where
+      go : (o : Option Tree) → get k (object ns) ≡ o → option_map_or (equal t) o false ≡ true
+          → ((y : Tree) → is_distinct_within b y ≡ true → equal t y ≡ true → print b t ≡ print b y)
+          → lookup (bytes_eq k) (entries b ns) ≡ Some (stirred 5 (text_print b k) (print b t))
+      go None q w r = absurd (cc)
+      go (Some y) q w r = entry_found b ns k y q ∙ ap (λ x. Some (stirred 5 (text_print b k) x)) (sym (r y (distinct_found b ns k y e q) w))
+
+-- ---- for the code, level by level
+
+-- the items as a list
+items_list : (b n h : ℕ) (ts : Items) → items_print b n h ts ≡ list_print b h (take n (item_list ts))
+items_list b zero h ts = refl
+items_list b (suc n) h no_items = refl
+items_list b (suc n) h (item t ts) = items_list b n (stirred h (print b t) 4) ts
+
+-- of an array
+pub print_of_array : (b : ℕ) (t : Tree) → is_array t ≡ true
+    → print b t ≡ list_print (share b (length (items t))) (stirred 4 (length (items t)) 0) (take b (items t))
+print_of_array b (array ts) h = items_list (share b (length (item_list ts))) b (stirred 4 (length (item_list ts)) 0) ts
+print_of_array b _ h = cc
+
+-- its names as those of a list
+distinct_list : (b n : ℕ) (ts : Items) → items_distinct_within b n ts ≡ list_all (is_distinct_within b) (take n (item_list ts))
+distinct_list b zero ts = refl
+distinct_list b (suc n) no_items = refl
+distinct_list b (suc n) (item t ts) = ap (λ c. is_distinct_within b t && c) (distinct_list b n ts)
+
+-- an array's names are distinct where its items' are
+pub distinct_in_array : (b : ℕ) (t : Tree) → is_array t ≡ true
+    → list_all (is_distinct_within (share b (length (items t)))) (take b (items t)) ≡ true → is_distinct_within b t ≡ true
+distinct_in_array b (array ts) h e = distinct_list (share b (length (item_list ts))) b ts ∙ e
+distinct_in_array b _ h e = cc
+
+-- the members as a list
+members_list : (b : ℕ) (ms : Members) → members_print b ms ≡ sum_by (member_print b) (member_list ms)
+members_list b no_members = refl
+members_list b (member k t ms) = ap (λ n. stirred 5 (text_print b k) (print b t) + n) (members_list b ms) ∙ sym (sum_by-cons (member_print b) (k, t) (member_list ms))
+
+-- a test that fails
+beyond : (n b : ℕ) → b < n → nat_le n b ≡ false
+beyond n b l = false_from_ne_true (nat_le n b) (λ h. let k = leb-true n b h in absurd (omega (arith, l, k)))
+
+-- of an object with no more members than the budget's units
+pub print_of_members : (b : ℕ) (t : Tree) → is_object t ≡ true → length (members t) ≤ b
+    → print b t ≡ stirred 5 (length (members t)) (sum_by (member_print (share b (length (members t)))) (members t) % 2 ^ 64)
+print_of_members b (object ms) h l =
+    ap (λ c. stirred 5 (length (member_list ms)) (if c then members_print (share b (length (member_list ms))) ms % 2 ^ 64 else 0)) (le-leb (length (member_list ms)) b l)
+    ∙ ap (λ n. stirred 5 (length (member_list ms)) (n % 2 ^ 64)) (members_list (share b (length (member_list ms))) ms)
+print_of_members b _ h l = cc
+
+-- of an object with more
+pub print_of_count : (b : ℕ) (t : Tree) → is_object t ≡ true → b < length (members t)
+    → print b t ≡ stirred 5 (length (members t)) 0
+print_of_count b (object ms) h l = ap (λ c. stirred 5 (length (member_list ms)) (if c then members_print (share b (length (member_list ms))) ms % 2 ^ 64 else 0)) (beyond (length (member_list ms)) b l)
+print_of_count b _ h l = cc
+
+-- the names of the members, as those of a list
+members_distinct_list : (b : ℕ) (ms : Members) → members_distinct_within b ms ≡ list_all (is_distinct_within b) (values_of (member_list ms))
+members_distinct_list b no_members = refl
+members_distinct_list b (member k t ms) = ap (λ c. is_distinct_within b t && c) (members_distinct_list b ms)
+
+-- an object's names are distinct where its own and its members' are
+pub distinct_in_members : (b : ℕ) (t : Tree) → is_object t ≡ true → IsDistinct bytes_eq (names t)
+    → list_all (is_distinct_within (share b (length (members t)))) (values t) ≡ true → is_distinct_within b t ≡ true
+distinct_in_members b (object ms) h d e = and_from _ _ (own_from_distinct ms d)
+    (ap (λ c. not (nat_le (length (member_list ms)) b) || c) (members_distinct_list (share b (length (member_list ms))) ms ∙ e) ∙ or-true (not (nat_le (length (member_list ms)) b)))
+distinct_in_members b _ h d e = cc
+
+-- its own do where the budget reaches no member
+pub distinct_in_count : (b : ℕ) (t : Tree) → is_object t ≡ true → IsDistinct bytes_eq (names t) → b < length (members t)
+    → is_distinct_within b t ≡ true
+distinct_in_count b (object ms) h d l = and_from _ _ (own_from_distinct ms d)
+    (ap (λ c. not c || members_distinct_within (share b (length (member_list ms))) ms) (beyond (length (member_list ms)) b l))
+distinct_in_count b _ h d l = cc
+
+-- what is neither an array nor an object has no name twice
+pub distinct_elsewhere : (b : ℕ) (t : Tree) → is_array t ≡ false → is_object t ≡ false → is_distinct_within b t ≡ true
+distinct_elsewhere b (array ts) h k = cc
+distinct_elsewhere b (object ms) h k = cc
+distinct_elsewhere b _ h k = refl
+
+pub ruleset by_level = (print_of_array, distinct_in_array, print_of_members, print_of_count, distinct_in_members, distinct_in_count, distinct_elsewhere)
+
+-- ---- for the code, one item or member on
+
+-- a function of what is left of the first n, one index on
+taken_step : {B : Type 0} (f : List Tree → B) (n : ℕ) (ts : List Tree) (i : ℕ) (t : Tree) → i < length ts → i < n → t ≡ get_or ts i t
+    → f (drop i (take n ts)) ≡ f (t ∷ drop (i + 1) (take n ts))
+taken_step f n ts i t l k e = at_index f (take n ts) i t (omega (arith, l, k, length-take n ts)) (e ∙ sym (get_or-take n ts i t k))
+
+-- the fingerprint of the rest, one index on
+pub list_step : (b h n : ℕ) (ts : List Tree) (i : ℕ) (t : Tree) → i < length ts → i < n → t ≡ get_or ts i t
+    → list_print b h (drop i (take n ts)) ≡ list_print b (stirred h (print b t) 4) (drop (i + 1) (take n ts))
+list_step b h n ts i t l k e = taken_step (list_print b h) n ts i t l k e
+
+-- behind the last
+pub list_end : (b h n : ℕ) (ts : List Tree) (i : ℕ) → min (length ts) n ≤ i → list_print b h (drop i (take n ts)) ≡ h
+list_end b h n ts i l = at_drop_all (list_print b h) (take n ts) i (omega (arith, l, length-take n ts))
+
+-- a test of the rest, one index on
+pub all_step : (p : Tree → Bool) (n : ℕ) (ts : List Tree) (i : ℕ) (t : Tree) → i < length ts → i < n → t ≡ get_or ts i t
+    → list_all p (drop i (take n ts)) ≡ (p t && list_all p (drop (i + 1) (take n ts)))
+all_step p n ts i t l k e = taken_step (list_all p) n ts i t l k e
+
+-- a test of all holds of no rest
+pub all_end : (p : Tree → Bool) (n : ℕ) (ts : List Tree) (i : ℕ) → min (length ts) n ≤ i → list_all p (drop i (take n ts)) ≡ true
+all_end p n ts i l = at_drop_all (list_all p) (take n ts) i (omega (arith, l, length-take n ts))
+
+pub ruleset by_index = (list_end, all_end, item_depth)
+
+-- one member on
+pub sum_step : (s x rest all : ℕ) → (s + (x + rest)) % 2 ^ 64 ≡ all % 2 ^ 64 → ((s + x) % 2 ^ 64 + rest) % 2 ^ 64 ≡ all % 2 ^ 64
+sum_step s x rest all h = mod-add-mod (s + x) (2 ^ 64) rest ∙ ap (λ n. n % 2 ^ 64) regroup ∙ h
+  where
+    regroup : s + x + rest ≡ s + (x + rest)
+    regroup = omega arith
+
+-- ---- for the code, texts
+
+-- up to eight bytes are one word
+pub one_word : (s : List ℕ) → length s ≤ 8 → word_at s (length s - 16) ≡ word_at s (length s - 8)
+one_word s h = ap (word_at s) same
+  where
+    same : length s - 16 ≡ length s - 8
+    same = omega (arith, h)

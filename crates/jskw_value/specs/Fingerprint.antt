@@ -1,0 +1,119 @@
+-- Numbers that equal trees share: of each tree what a budget reaches, its beginning.
+use Rattle.std.specs.Prelude.{ℕ, zero, suc, ◌+◌, ◌-◌, ◌*◌, ◌/◌, ◌%◌, ◌^◌, ◌&&◌, ◌||◌, min, max, nat_le, ℤ, pos, negsuc, List, [], ◌∷◌, length, take, drop, Bool, true, not, unsigned_abs, if◌then◌else◌}
+use Rattle.std.specs.Int.{w64, from_le_bytes}
+use Rattle.std.specs.Int.Bits.{bit_or, bit_xor}
+use Rattle.jskw_value.specs.Number.{Num, exact, float}
+use Rattle.jskw_value.specs.PropertyName.{padded}
+use Rattle.jskw_value.specs.Tree.{Tree, null, boolean, number, string, array, object, Items, no_items, item, Members, no_members, member, item_list, member_list, has_name}
+
+-- ---- mixing
+
+-- the halves of a product of two words, one folded onto the other
+unfoldable pub folded : ℕ → ℕ
+folded p = bit_xor (p % 2 ^ 64) (p / 2 ^ 64)
+
+-- two words mixed into a hash
+unfoldable pub stirred : ℕ → ℕ → ℕ → ℕ
+stirred h x y =
+    ((h * 17069020487931167987 % 2 ^ 64
+    + folded (bit_xor (bit_xor h x) 11562461410679940143 * bit_or (bit_xor y 16646288086500911323) 1)) % 2 ^ 64
+    + folded (bit_xor (bit_xor h y) 10285213230658275043 * bit_or (bit_xor x 6384245875588680899) 1)) % 2 ^ 64
+
+-- ---- texts and numbers
+
+-- up to eight bytes from an index on, as a number
+unfoldable pub word_at : List ℕ → ℕ → ℕ
+word_at s i = from_le_bytes w64 (padded (take 8 (drop i s)))
+
+-- so many pairs of words from the front, mixed in
+abbrev pub pairs_stirred : ℕ → ℕ → List ℕ → ℕ
+pairs_stirred zero h s = h
+pairs_stirred (suc n) h s = stirred (pairs_stirred n h s) (word_at s (16 * n)) (word_at s (16 * n + 8))
+
+-- of a text: its length, its first pairs of words, no more than the budget, and its last pair
+unfoldable pub text_print : ℕ → List ℕ → ℕ
+text_print budget s =
+    stirred (pairs_stirred (min budget ((length s - 1) / 16)) (bit_xor 9600629759793949339 (length s)) s)
+    (word_at s (length s - 16)) (word_at s (length s - 8))
+
+-- of a sign
+abbrev pub sign_print : ℤ → ℕ
+sign_print (pos n) = 6
+sign_print (negsuc n) = 7
+
+-- of n / 10^k: the whole part, and the rest in parts of 10^18
+unfoldable pub parts_print : ℕ → ℕ → ℕ → ℕ
+parts_print sign n k = stirred sign (n / 10 ^ k) (n % 10 ^ k * 10 ^ 18 / 10 ^ k)
+
+-- of a number by its mathematical value; floats have one fingerprint
+abbrev pub number_print : Num → ℕ
+number_print (exact c k) = parts_print (sign_print c) (unsigned_abs c) k
+number_print float = 8
+
+-- ---- trees
+
+-- what each of so many items or members gets of a budget
+abbrev pub share : ℕ → ℕ → ℕ
+share budget count = budget / max count 2
+
+-- items in their order, the first so many of them; members in any order, all of them or none
+abbrev mutual
+  pub print : ℕ → Tree → ℕ
+  print budget null = 1
+  print budget (boolean b) = if b then 3 else 2
+  print budget (number n) = number_print n
+  print budget (string s) = text_print budget s
+  print budget (array ts) =
+      items_print (share budget (length (item_list ts))) budget (stirred 4 (length (item_list ts)) 0) ts
+  print budget (object ms) = stirred 5 (length (member_list ms))
+      (if nat_le (length (member_list ms)) budget then members_print (share budget (length (member_list ms))) ms % 2 ^ 64 else 0)
+
+  -- the first n items, mixed into a hash
+  pub items_print : ℕ → ℕ → ℕ → Items → ℕ
+  items_print budget zero h ts = h
+  items_print budget (suc n) h no_items = h
+  items_print budget (suc n) h (item t ts) = items_print budget n (stirred h (print budget t) 4) ts
+
+  -- the sum over the members
+  pub members_print : ℕ → Members → ℕ
+  members_print budget no_members = 0
+  members_print budget (member k t ms) =
+      stirred 5 (text_print budget k) (print budget t) + members_print budget ms
+
+-- the same of a list of items
+abbrev pub list_print : ℕ → ℕ → List Tree → ℕ
+list_print budget h [] = h
+list_print budget h (t ∷ ts) = list_print budget (stirred h (print budget t) 4) ts
+
+-- the same of a member
+abbrev pub member_print : ℕ → List ℕ × Tree → ℕ
+member_print budget m = stirred 5 (text_print budget m.0) (print budget m.1)
+
+-- ---- names
+
+-- no two of the members have one name
+abbrev pub own_names_distinct : Members → Bool
+own_names_distinct no_members = true
+own_names_distinct (member k t ms) = not (has_name (object ms) k) && own_names_distinct ms
+
+-- no object that the budget reaches has a name twice
+abbrev mutual
+  pub is_distinct_within : ℕ → Tree → Bool
+  is_distinct_within budget (array ts) =
+      items_distinct_within (share budget (length (item_list ts))) budget ts
+  is_distinct_within budget (object ms) = own_names_distinct ms
+      && (not (nat_le (length (member_list ms)) budget) || members_distinct_within (share budget (length (member_list ms))) ms)
+  is_distinct_within budget _ = true
+
+  -- no such object in the first n items
+  pub items_distinct_within : ℕ → ℕ → Items → Bool
+  items_distinct_within budget zero ts = true
+  items_distinct_within budget (suc n) no_items = true
+  items_distinct_within budget (suc n) (item t ts) =
+      is_distinct_within budget t && items_distinct_within budget n ts
+
+  -- no such object in the members
+  pub members_distinct_within : ℕ → Members → Bool
+  members_distinct_within budget no_members = true
+  members_distinct_within budget (member k t ms) =
+      is_distinct_within budget t && members_distinct_within budget ms

@@ -1,0 +1,213 @@
+//! Fingerprints of nodes: equal nodes have one fingerprint, and most others differ. A fingerprint
+//! looks no further into a node than a budget reaches.
+ghost use Rattle.std.specs.Prelude.{◌≡◌, ◌≤◌, ◌<◌, ◌*◌, ◌/◌, ◌%◌, ◌^◌, length, take, false, IsTrue};
+ghost use Rattle.std.specs.List.{sum_by, IsDistinct, list_all};
+ghost use Rattle.std.specs.Str.{bytes_eq};
+ghost use Rattle.jskw_value.specs.Decimal.{value};
+ghost use Rattle.jskw_value.specs.Fingerprint.{folded, stirred, word_at, text_print, sign_print};
+ghost use Rattle.jskw_value.specs.Fingerprint.{number_print, share, print, list_print};
+ghost use Rattle.jskw_value.specs.Fingerprint.{member_print, is_distinct_within};
+ghost use Rattle.jskw_value.specs.Tree.{is_array, is_object, items, members, names, values};
+
+use crate::decimal::{Decimal, ten_to};
+use crate::json::{Array, JsonNumber, Node, Object};
+use crate::property_name::number_of;
+
+// The fingerprint of a node. It takes no memory, and some steps for each unit of the budget.
+#[cycle(print)]
+#[tactic(auto, using(crate::proofs::Fingerprints::by_level))]
+pub(crate) fn fingerprint<N: Node>(node: &N, budget: usize) -> u64
+    ensures value { result ≡ print budget (N.tree node.now) }
+    ensures distinct { IsTrue (is_distinct_within budget (N.tree node.now)) }
+{
+    if node.is_array() {
+        of_array(node, budget)
+    } else if node.is_object() {
+        of_object(node, budget)
+    } else {
+        of_leaf(node, budget)
+    }
+}
+
+// Of an array: the number of its items, and as many of them as the budget has units.
+#[cycle(print)]
+#[tactic(auto, using(crate::proofs::Fingerprints::by_index))]
+fn of_array<N: Node>(node: &N, budget: usize) -> u64
+    requires { IsTrue (is_array (N.tree node.now)) }
+    ensures value { let all = items (N.tree node.now) in
+        result ≡ list_print (share budget (length all)) (stirred 4 (length all) 0) (take budget all) }
+    ensures distinct { let all = items (N.tree node.now) in
+        IsTrue (list_all (is_distinct_within (share budget (length all))) (take budget all)) }
+{
+    let count = Array::len(node);
+    let each = share(budget, count);
+    let mut hash = stir(4, count as u64, 0);
+    for i in 0..count.min(budget) {
+        hash = stir(hash, fingerprint(node.item(i), each), 4);
+    }
+    hash
+}
+
+// Of an object: the number of its members, and all of them, where they are no more than the
+// budget's units.
+#[cycle(print)]
+#[tactic(auto, using(crate::proofs::Fingerprints::by_level))]
+fn of_object<N: Node>(node: &N, budget: usize) -> u64
+    requires { IsTrue (is_object (N.tree node.now)) }
+    ensures value { result ≡ print budget (N.tree node.now) }
+    ensures distinct { IsTrue (is_distinct_within budget (N.tree node.now)) }
+{
+    let count = Object::len(node);
+    if budget < count {
+        return stir(5, count as u64, 0);
+    }
+    stir(5, count as u64, of_members(node, share(budget, count)))
+}
+
+// The sum over the members, which is the same in any order.
+#[cycle(print)]
+#[tactic(auto, using(crate::proofs::Depth::height_below, crate::proofs::Fingerprints::sum_step))]
+fn of_members<N: Node>(node: &N, budget: usize) -> u64
+    requires { IsTrue (is_object (N.tree node.now)) }
+    ensures value { result ≡ sum_by (member_print budget) (members (N.tree node.now)) % 2 ^ 64 }
+    ensures own { IsDistinct bytes_eq (names (N.tree node.now)) }
+    ensures below { IsTrue (list_all (is_distinct_within budget) (values (N.tree node.now))) }
+{
+    let mut sum = 0u64;
+    for (name, member) in node.walk() {
+        let print = stir(5, of_text(name, budget), fingerprint(member, budget));
+        sum = sum.wrapping_add(print);
+    }
+    sum
+}
+
+// What each of so many items or members gets of a budget.
+fn share(budget: usize, count: usize) -> usize
+    ensures { result ≡ share budget count }
+{
+    budget / count.max(2)
+}
+
+// Of a node that is neither an array nor an object.
+fn of_leaf<N: Node>(node: &N, budget: usize) -> u64
+    requires array { is_array (N.tree node.now) ≡ false }
+    requires object { is_object (N.tree node.now) ≡ false }
+    ensures { result ≡ print budget (N.tree node.now) }
+{
+    if let Some(number) = node.as_number() {
+        return of_number(number);
+    }
+    if let Some(text) = node.as_string() {
+        return of_text(text, budget);
+    }
+    match node.as_boolean() {
+        Some(true) => 3,
+        Some(false) => 2,
+        None => 1,
+    }
+}
+
+// Of a number by its value; floats have one fingerprint.
+fn of_number<A: JsonNumber>(number: &A) -> u64
+    ensures { result ≡ number_print (A.number number.now) }
+{
+    if number.is_lawful() {
+        of_decimal(&number.decimal())
+    } else {
+        8
+    }
+}
+
+// Of a decimal: the sign, the whole part, and the rest in parts of 10^18.
+#[tactic(auto, unfolding(crate::specs::Fingerprint::parts_print))]
+fn of_decimal(decimal: &Decimal) -> u64
+    ensures { result ≡ number_print (value decimal.now) }
+{
+    let coefficient = decimal.coefficient();
+    let (whole, rest) = parts(coefficient.unsigned_abs() as u64, decimal.scale());
+    stir(of_sign(coefficient), whole, rest)
+}
+
+fn of_sign(coefficient: i128) -> u64
+    ensures { result ≡ sign_print coefficient }
+{
+    if coefficient < 0 { 7 } else { 6 }
+}
+
+// The whole part of a magnitude over ten to a scale, and the rest in parts of 10^18.
+#[tactic(auto, using(crate::proofs::NumberPrints::parts))]
+fn parts(magnitude: u64, scale: u8) -> (u64, u64)
+    requires { scale ≤ 18 }
+    ensures whole { result.0 ≡ magnitude / 10 ^ scale }
+    ensures rest { result.1 ≡ magnitude % 10 ^ scale * 10 ^ 18 / 10 ^ scale }
+{
+    if scale == 0 {
+        return (magnitude, 0);
+    }
+    let unit = ten_to(scale);
+    (magnitude / unit, magnitude % unit * ten_to(18 - scale))
+}
+
+fn of_text(text: &str, budget: usize) -> u64
+    ensures { result ≡ text_print budget text.now }
+{
+    of_bytes(text.as_bytes(), budget)
+}
+
+// Of a text: its length, as many pairs of words from its front as the budget has units, and its
+// last pair, which may overlap them. A text of up to eight bytes is one word, which stands twice.
+#[tactic(auto, using(crate::proofs::Fingerprints::one_word), unfolding(crate::specs::Fingerprint::text_print))]
+fn of_bytes(bytes: &[u8], budget: usize) -> u64
+    ensures { result ≡ text_print budget bytes.now }
+{
+    let count = bytes.len();
+    let mut hash = 9600629759793949339 ^ count as u64;
+    for i in 0..budget.min(count.saturating_sub(1) / 16) {
+        hash = stir(hash, word_at(bytes, 16 * i), word_at(bytes, 16 * i + 8));
+    }
+    let last = word_at(bytes, count.saturating_sub(8));
+    if count <= 8 {
+        return stir(hash, last, last);
+    }
+    stir(hash, word_at(bytes, count.saturating_sub(16)), last)
+}
+
+// Up to eight bytes from an index on, as a number.
+fn word_at(bytes: &[u8], start: usize) -> u64
+    requires { start ≤ length bytes.now }
+    ensures { result ≡ word_at bytes.now start }
+{
+    let rest = &bytes[start..];
+    if rest.len() < 8 {
+        number_of(rest)
+    } else {
+        number_of(&rest[..8])
+    }
+}
+
+// Two words mixed into a hash.
+#[tactic(auto, unfolding(crate::specs::Fingerprint::stirred))]
+fn stir(hash: u64, first: u64, second: u64) -> u64
+    ensures { result ≡ stirred hash first second }
+{
+    let one = fold(
+        hash ^ first ^ 11562461410679940143,
+        (second ^ 16646288086500911323) | 1,
+    );
+    let other = fold(
+        hash ^ second ^ 10285213230658275043,
+        (first ^ 6384245875588680899) | 1,
+    );
+    hash.wrapping_mul(17069020487931167987)
+        .wrapping_add(one)
+        .wrapping_add(other)
+}
+
+// The halves of a product, one folded onto the other.
+#[tactic(auto, using(crate::proofs::NumberPrints::wide_product), unfolding(crate::specs::Fingerprint::folded))]
+fn fold(left: u64, right: u64) -> u64
+    ensures { result ≡ folded (left * right) }
+{
+    let product = u128::from(left) * u128::from(right);
+    (product % (1 << 64)) as u64 ^ (product >> 64) as u64
+}

@@ -1,0 +1,176 @@
+//! Whether the items of an array differ. It takes no memory but its frame: a sketch on the stack
+//! tells of most items that no earlier one is equal.
+ghost use Rattle.std.specs.Prelude.{◌≡◌, ◌≤◌, ◌<◌, ◌+◌, ◌^◌, drop, length, true, false, IsTrue};
+ghost use Rattle.std.specs.List.{list_any};
+ghost use Rattle.jskw_value.specs.Equality.{equal, unique};
+ghost use Rattle.jskw_value.specs.Tree.{is_array, items};
+ghost use Rattle.jskw_value.specs.Unique.{IsNewAt, IsToldOf, IsUniqueIn};
+
+use crate::equality::equal_nodes;
+use crate::fingerprint::fingerprint;
+use crate::json::{Array, Node};
+use crate::sketch::{is_marked, mark};
+
+// Up to so many items are compared pair by pair.
+const FEW: usize = 8;
+
+// The words of the sketches. Each serves twice as many items at a time.
+const SMALL: usize = 64;
+
+const MEDIUM: usize = 512;
+
+const LARGE: usize = 8192;
+
+const HUGE: usize = 131072;
+
+// Whether no two different indices of the array hold equal items. The first item is compared with
+// all others before any sketch is begun: what pairs find at once is found at once.
+#[tactic(auto, using(crate::proofs::Blocks::first_again, crate::proofs::Blocks::first_new))]
+pub(crate) fn has_unique_items<N: Node>(array: &N) -> bool
+    requires { IsTrue (is_array (N.tree array.now)) }
+    ensures { result ≡ unique (items (N.tree array.now)) }
+{
+    let count = Array::len(array);
+    if count <= FEW {
+        return are_few_unique(array);
+    }
+    if occurs_from(array, 1, array.item(0)) {
+        return false;
+    }
+    if count <= 2 * SMALL {
+        are_unique_by_sketch::<SMALL, N>(array)
+    } else if count <= 2 * MEDIUM {
+        are_unique_by_sketch::<MEDIUM, N>(array)
+    } else if count <= 16 * LARGE {
+        are_unique_by_sketch::<LARGE, N>(array)
+    } else {
+        are_unique_by_sketch::<HUGE, N>(array)
+    }
+}
+
+// Each pair is compared.
+#[tactic(auto, using(crate::proofs::Equal::unique_step, crate::proofs::Equal::unique_end))]
+fn are_few_unique<N: Node>(array: &N) -> bool
+    requires { IsTrue (is_array (N.tree array.now)) }
+    ensures { result ≡ unique (items (N.tree array.now)) }
+{
+    let count = Array::len(array);
+    for i in 0..count {
+        if occurs_from(array, i + 1, array.item(i)) {
+            return false;
+        }
+    }
+    true
+}
+
+// Whether an item at or past an index is equal to the node.
+#[tactic(auto, using(crate::proofs::Equal::any_step, crate::proofs::Equal::any_end))]
+fn occurs_from<N: Node>(array: &N, start: usize, node: &N) -> bool
+    requires { IsTrue (is_array (N.tree array.now)) }
+    ensures { result ≡ list_any (equal (N.tree node.now)) (drop start (items (N.tree array.now))) }
+{
+    for j in start..Array::len(array) {
+        if equal_nodes(node, array.item(j)) {
+            return true;
+        }
+    }
+    false
+}
+
+// By a sketch of so many words, block by block, where the first item differs from all others: the
+// items of each block beside all that come later. It is never inlined, so that a caller's frame has
+// no sketch in it.
+#[inline(never)]
+#[tactic(auto, using(crate::proofs::Blocks::next_block, crate::proofs::Blocks::last_block))]
+fn are_unique_by_sketch<const WORDS: usize, N: Node>(array: &N) -> bool
+    requires array { IsTrue (is_array (N.tree array.now)) }
+    requires first { IsUniqueIn 0 1 (items (N.tree array.now)) }
+    requires filled { 0 < WORDS }
+    requires short { WORDS ≤ 2 ^ 32 }
+    ensures { result ≡ unique (items (N.tree array.now)) }
+{
+    let mut sketch = [0u64; WORDS];
+    let count = Array::len(array);
+    let size = 2 * WORDS;
+    let blocks = count.saturating_sub(1) / size;
+    for block in 0..blocks {
+        let start = block * size + 1;
+        if !is_block_unique(array, &mut sketch, start, start + size) {
+            return false;
+        }
+        sketch.fill(0);
+    }
+    is_block_unique(array, &mut sketch, blocks * size + 1, count)
+}
+
+// Whether no item from one index up to another is equal to a later one. A fingerprint looks no
+// further into an item than the array is long, so that all of them take less than all pairs would.
+#[tactic(auto, using(crate::proofs::Blocks::told_start, crate::proofs::Blocks::told_end))]
+fn is_block_unique<N: Node>(array: &N, sketch: &mut [u64], start: usize, end: usize) -> bool
+    requires array { IsTrue (is_array (N.tree array.now)) }
+    requires filled { 0 < length sketch.old }
+    requires short { length sketch.old ≤ 2 ^ 32 }
+    ensures length { length sketch.new ≡ length sketch.old }
+    ensures unique { result ≡ true → IsUniqueIn start end (items (N.tree array.now)) }
+    ensures twice { result ≡ false → unique (items (N.tree array.now)) ≡ false }
+{
+    let count = Array::len(array);
+    let budget = count / 4;
+    for i in start..count {
+        if !is_new(array, i, sketch, start, end, budget) {
+            return false;
+        }
+    }
+    true
+}
+
+// Whether no earlier item of the block is equal to the one at an index: where its fingerprint isn't
+// marked, none is. Marks it, where it is of the block.
+#[tactic(auto, using(crate::proofs::Blocks::told_later, crate::proofs::Blocks::told_again, crate::proofs::Blocks::told_new))]
+fn is_new<N: Node>(
+    array: &N,
+    index: usize,
+    sketch: &mut [u64],
+    start: usize,
+    end: usize,
+    budget: usize,
+) -> bool
+    requires array { IsTrue (is_array (N.tree array.now)) }
+    requires start { start ≤ index }
+    requires index { index < length (items (N.tree array.now)) }
+    requires filled { 0 < length sketch.old }
+    requires short { length sketch.old ≤ 2 ^ 32 }
+    requires told { IsToldOf start end budget index sketch.old (items (N.tree array.now)) }
+    ensures length { length sketch.new ≡ length sketch.old }
+    ensures told { result ≡ true
+        → IsToldOf start end budget (index + 1) sketch.new (items (N.tree array.now)) }
+    ensures twice { result ≡ false → unique (items (N.tree array.now)) ≡ false }
+{
+    let print = fingerprint(array.item(index), budget);
+    if is_marked(sketch, print) {
+        return !occurs_between(array, start, end.min(index), index);
+    }
+    if end <= index {
+        return true;
+    }
+    mark(sketch, print);
+    true
+}
+
+// Whether an item from one index up to another is equal to a later one.
+#[tactic(auto, using(crate::proofs::Blocks::new_start, crate::proofs::Blocks::new_step, crate::proofs::Blocks::is_twice))]
+fn occurs_between<N: Node>(array: &N, start: usize, end: usize, index: usize) -> bool
+    requires array { IsTrue (is_array (N.tree array.now)) }
+    requires end { end ≤ index }
+    requires index { index < length (items (N.tree array.now)) }
+    ensures new { result ≡ false → IsNewAt start end index (items (N.tree array.now)) }
+    ensures twice { result ≡ true → unique (items (N.tree array.now)) ≡ false }
+{
+    let item = array.item(index);
+    for j in start..end {
+        if equal_nodes(array.item(j), item) {
+            return true;
+        }
+    }
+    false
+}
