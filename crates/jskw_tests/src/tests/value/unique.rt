@@ -93,8 +93,8 @@ fn decimals_by_value(rt: HostRuntime) -> Result<(), Fail> {
         (-1, 18, true),
     ] {
         let mut items = Vec::new(alloc);
-        for i in 0..20i128 {
-            items.push(number(i * 1000 + 100, 2)?)?;
+        for i in 0..20u8 {
+            items.push(number(i128::from(i) * 1000 + 100, 2)?)?;
         }
         items.push(number(coefficient, scale)?)?;
         let tree = DecimalTree::Array(items);
@@ -109,9 +109,9 @@ fn objects_in_any_order(rt: HostRuntime) -> Result<(), Fail> {
     let alloc = rt.alloc();
     for (last, are_unique) in [(100, true), (3, false), (99, false)] {
         let mut items = Vec::new(alloc);
-        for id in 0..100i128 {
+        for id in 0..100u8 {
             let mut members = Members::new(alloc);
-            insert(alloc, &mut members, "id", number(id, 0)?)?;
+            insert(alloc, &mut members, "id", number(i128::from(id), 0)?)?;
             insert(alloc, &mut members, "both", objects_in_two_orders(alloc)?)?;
             items.push(DecimalTree::Object(members))?;
         }
@@ -134,7 +134,10 @@ fn nested_and_long_items(rt: HostRuntime) -> Result<(), Fail> {
     for (front, back) in [
         ("[[1,[2,{\"a\":[", "]}]]]"),
         ("[1,2,3,4,5,6,7,8,9,10,11,12,13,14,15,16,17,18,19,20,", "]"),
-        ("{\"a\":1,\"b\":2,\"c\":3,\"d\":4,\"e\":5,\"f\":6,\"g\":7,\"h\":", "}"),
+        (
+            "{\"a\":1,\"b\":2,\"c\":3,\"d\":4,\"e\":5,\"f\":6,\"g\":7,\"h\":",
+            "}",
+        ),
         ("\"", "\""),
         ("\"01234567", "\""),
         ("\"0123456789abcdef", "0123456789abcdef\""),
