@@ -14,13 +14,14 @@ use crate::sketch::{is_marked, mark};
 // Up to so many items are compared pair by pair.
 const FEW: usize = 8;
 
-// The words of the sketches. Each serves twice as many items at a time.
+// The words of the sketches. A sketch serves twice as many items at a time.
 const SMALL: usize = 64;
 
 const MEDIUM: usize = 512;
 
-const LARGE: usize = 8192;
+const LARGE: usize = 6144;
 
+// For arrays of more items than it has words.
 const HUGE: usize = 131072;
 
 // Whether no two different indices of the array hold equal items. The first item is compared with
@@ -41,7 +42,7 @@ pub(crate) fn has_unique_items<N: Node>(array: &N) -> bool
         are_unique_by_sketch::<SMALL, N>(array)
     } else if count <= 2 * MEDIUM {
         are_unique_by_sketch::<MEDIUM, N>(array)
-    } else if count <= 16 * LARGE {
+    } else if count <= HUGE {
         are_unique_by_sketch::<LARGE, N>(array)
     } else {
         are_unique_by_sketch::<HUGE, N>(array)
