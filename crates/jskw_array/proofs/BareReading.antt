@@ -1,21 +1,22 @@
 -- How a schema is read that is a bare type check.
-use Rattle.std.proofs.Common.{◌≡◌, ℕ, List, Option, Some, None, option_map, unwrap_or, Ok, Bool, true, false, ◌||◌, bytes_eq, refl, sym, ap, ◌∙◌}
+use Rattle.std.proofs.Common.{◌≡◌, ℕ, List, Option, Some, None, option_map, unwrap_or, Ok, Bool, true, false, ◌&&◌, ◌||◌, bytes_eq, refl, sym, ap, ◌∙◌}
 use Rattle.std.proofs.lemmas.Bool.{and_parts, and_right, false≢true}
 use Rattle.std.proofs.lemmas.Slice.Eq.{bytes_eq-Decides}
+use Rattle.std.specs.List.{list_all}
 use Rattle.std.specs.Option.{option_map_or}
 use Rattle.serde_json.specs.Data.{Data, string, object, no_members, member}
 use Rattle.serde_json.specs.Find.{as_str, get}
 use Rattle.jskw_value.specs.Pointer.{Pointer}
 use Rattle.jskw_value.specs.Types.{type_name, type_named}
 use Rattle.jskw_value.specs.declared.types.JsonType.{JsonType}
-use Rattle.jskw_value.specs.declared.types.JsonType.TheVariants.{Boolean, Integer, Number, String}
+use Rattle.jskw_value.specs.declared.types.JsonType.TheVariants.{Array, Boolean, Integer, Number, String}
 use Rattle.jskw_report.specs.Keyword.{Integers, by_value, Keyword, items_from}
 use Rattle.jskw_report.specs.KeywordValue.{map_ok}
 use Rattle.jskw_report.specs.Read.{integers_of, keyword_location, read, read_word, asserted}
 use Rattle.jskw_report.specs.Setting.{Setting, name_of, stands}
-use Rattle.jskw_report.specs.Sibling.{is_inlined_type, is_only_type, is_handed_on}
+use Rattle.jskw_report.specs.Sibling.{has_keyword, is_absent, is_fused, is_handed_on, is_inlined_type, is_items_schema, is_only_type, is_string, takes_size, unfused_names}
 use Rattle.jskw_report.specs.declared.error.TypeKind.TheVariants.{Single}
-use Rattle.jskw_report.specs.declared.keyword.KeywordName.TheVariants.{TypeKeyword}
+use Rattle.jskw_report.specs.declared.keyword.KeywordName.TheVariants.{Items, MaxItems, MinItems, TypeKeyword}
 use Rattle.jskw_report.specs.declared.settings.Draft.{Draft}
 use Rattle.jskw_report.specs.declared.settings.Draft.TheVariants.{Draft4}
 use Rattle.jskw_leaf.specs.Meaning.{type_at}
@@ -41,10 +42,18 @@ not_handed_on : (st : Setting) (s : List ℕ) → is_handed_on st (member (name_
 unfolding is_handed_on
 not_handed_on st s = and_right _ false refl
 
+-- nor is `items`
+not_fused : (st : Setting) (s : List ℕ) → is_fused st (member (name_of TypeKeyword) (string s) no_members) ≡ false
+unfolding is_fused
+not_fused st s =
+    let ms = member (name_of TypeKeyword) (string s) no_members in
+    ap (λ b. b && takes_size st ms MinItems && takes_size st ms MaxItems && list_all (λ name. is_absent name ms) unfused_names)
+    (and_right (has_keyword st ms TypeKeyword (is_string (type_name Array))) (has_keyword st ms Items is_items_schema) refl)
+
 pub typed_reads : (st : Setting) (q : Pointer) (s : List ℕ) (j : JsonType) → stands st TypeKeyword ≡ true → type_named s ≡ Some j
     → read (typed s) st q ≡ Ok (bare_schema q (type_at j (integers_of st.draft (Single j)) (keyword_location q TypeKeyword)))
 unfolding read_word asserted
-typed_reads st q s j h e = rw h (rw e (rw (not_handed_on st s) refl))
+typed_reads st q s j h e = rw h (rw e (rw (not_handed_on st s) (rw (not_fused st s) refl)))
 
 -- ---- the name
 

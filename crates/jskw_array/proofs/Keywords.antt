@@ -1,19 +1,23 @@
 -- What a walk over a node's keywords has left at a keyword, and at the end.
-use Rattle.std.proofs.Common.{◌≡◌, ℕ, zero, suc, ◌+◌, ◌<◌, ◌≤◌, Vec, Global, List, [], ◌∷◌, ◌++◌, length, get_or, drop, Bool, ◌&&◌, None, refl, sym, if◌then◌else◌, ap, ◌∙◌, append_assoc, arith}
+use Rattle.std.proofs.Common.{◌≡◌, ℕ, zero, suc, ◌+◌, ◌<◌, ◌≤◌, Box, Vec, Global, List, [], ◌∷◌, ◌++◌, length, get_or, drop, Bool, ◌&&◌, Option, None, refl, sym, if◌then◌else◌, ap, ◌∙◌, append_assoc, arith}
 use Rattle.std.proofs.lemmas.List.{drop_all}
 use Rattle.jskw_value.specs.Pointer.{Pointer}
 use Rattle.jskw_value.specs.Tree.{Tree}
+use Rattle.jskw_report.proofs.Appended.{fail_appended, height_appended, hold_appended, needed_appended, pairs_appended, units_appended}
 use Rattle.jskw_report.proofs.Gathering.{drop_here}
 use Rattle.jskw_report.specs.Applications.{needed, pairs, all_needed, all_pairs, keyword_needed, keyword_pairs, height, all_height, keyword_height}
 use Rattle.jskw_report.specs.Evaluation.{Evaluation, node_at, of_children, of_errors, tree, unit, units}
 use Rattle.jskw_report.specs.Fail.{all_fail, fail, keyword_fail}
 use Rattle.jskw_report.specs.Holds.{holds, all_hold, keyword_holds}
-use Rattle.jskw_report.specs.Keyword.{Schema, false_schema, schema_object, keyword, no_keywords}
+use Rattle.jskw_report.specs.Keyword.{Schema, Keywords, false_schema, schema_object, append_keywords, keyword, no_keywords}
+use Rattle.jskw_array.specs.Fused.{absorbed_keywords, shape_keywords}
 use Rattle.jskw_array.specs.Meaning.{validator_keyword}
-use Rattle.jskw_array.specs.Node.{keywords_of, schema_of}
+use Rattle.jskw_array.specs.Node.{fused_keywords, marked, schema_of}
+use Rattle.jskw_array.specs.Units.{keywords_of}
+use Rattle.jskw_array.specs.declared.items.array_shape.ArrayShapeValidator.{ArrayShapeValidator}
 use Rattle.jskw_array.specs.declared.node.Assertions.{Assertions}
-use Rattle.jskw_array.specs.declared.node.Assertions.TheVariants.{Keywords}
-use Rattle.jskw_array.specs.declared.node.Unit as declared
+use Rattle.jskw_array.specs.declared.node.Assertions.TheVariants.{Keywords as TheKeywords}
+use Rattle.jskw_array.specs.declared.unit.Unit as declared
 
 -- the keyword u stands at the index i; F, N, O and P are the types of a representation
 module _ {F N O P : Type 0} (us : List (declared.Unit F N O P)) (i : ℕ) (u : declared.Unit F N O P) (within : i < length us) (is : u ≡ get_or us i u) where
@@ -52,39 +56,60 @@ pub keywords_end : {F N O P : Type 0} (us : List (declared.Unit F N O P)) (i : �
 keywords_end us i end = ap keywords_of (drop_all i us end)
 
 -- none of the keywords is higher than all
-height_at : {F N O P : Type 0} (us : List (declared.Unit F N O P)) (i : ℕ) (u : declared.Unit F N O P) → i < length us → u ≡ get_or us i u
+pub unit_height : {F N O P : Type 0} (us : List (declared.Unit F N O P)) (i : ℕ) (u : declared.Unit F N O P) → i < length us → u ≡ get_or us i u
     → keyword_height (validator_keyword u.validator) ≤ all_height (keywords_of us)
-height_at [] i u within is = absurd (omega arith)
-height_at (r ∷ us) zero u within is = let e = ap (λ v. keyword_height (validator_keyword v.validator)) is in omega arith
-height_at (r ∷ us) (suc i) u within is = let below = height_at us i u (omega arith) is in omega arith
+unit_height [] i u within is = absurd (omega arith)
+unit_height (r ∷ us) zero u within is = let e = ap (λ v. keyword_height (validator_keyword v.validator)) is in omega arith
+unit_height (r ∷ us) (suc i) u within is = let below = unit_height us i u (omega arith) is in omega arith
 
--- the schema s is that of a node with these keywords
-module _ {F N O P : Type 0} (s : Schema) (q : Pointer) (hands_on : Bool) (a : Assertions F N O P) (v : Vec (declared.Unit F N O P) Global) (us : List (declared.Unit F N O P))
-    (view_is : s ≡ schema_of q hands_on a) (is : a ≡ Keywords v) (are : us ≡ v.items) where
-  schema_is : s ≡ schema_object q hands_on (keywords_of us)
-  schema_is = view_is ∙ ap (schema_of q hands_on) is ∙ ap (λ xs. schema_object q hands_on (keywords_of xs)) (sym are)
+-- `items` of a fused shape
+abbrev pub items_keywords : {F N O P : Type 0} → ArrayShapeValidator F N O P → Keywords
+items_keywords v = keyword v.items.location (validator_keyword v.items.validator) no_keywords
 
-  pub schema_holds : (t : Tree) → holds s t ≡ all_hold (keywords_of us) t
-  schema_holds t = ap (λ r. holds r t) schema_is
+-- it is no higher than all the shape's keywords
+pub items_height : {F N O P : Type 0} (v : ArrayShapeValidator F N O P) → keyword_height (validator_keyword v.items.validator) ≤ all_height (shape_keywords v)
+items_height v =
+    let parts = height_appended (absorbed_keywords v.absorbed) (items_keywords v) in
+    omega (arith, parts)
 
-  pub schema_needs : (t : Tree) → needed s t ≡ 1 + all_needed (keywords_of us) t
-  schema_needs t = ap (λ r. needed r t) schema_is
+-- the schema s is that of a node whose shape has the keywords ks, and which has these behind them
+module _ {F N O P : Type 0} (s : Schema) (q : Pointer) (hands_on : Bool) (a : Assertions F N O P) (shape : Option (Box (ArrayShapeValidator F N O P) Global)) (v : Vec (declared.Unit F N O P) Global)
+    (us : List (declared.Unit F N O P)) (ks : Keywords)
+    (view_is : s ≡ schema_of q hands_on a) (is : a ≡ TheKeywords shape v) (are : us ≡ v.items) (fused : fused_keywords shape ≡ ks) where
+  abbrev others : Keywords
+  others = keywords_of us
 
-  -- each keyword is lower than the schema
-  pub lower : (i : ℕ) (u : declared.Unit F N O P) → i < length us → u ≡ get_or us i u → keyword_height (validator_keyword u.validator) < height s
-  lower i u within at =
-      let e : height s ≡ 1 + all_height (keywords_of us) = ap height schema_is in
-      let below = height_at us i u within at in
-      omega arith
+  schema_is : s ≡ schema_object q (marked hands_on shape) (append_keywords ks others)
+  schema_is = view_is ∙ ap (schema_of q hands_on) is ∙ ap (λ xs. schema_object q (marked hands_on shape) (append_keywords (fused_keywords shape) (keywords_of xs))) (sym are)
+      ∙ ap (λ js. schema_object q (marked hands_on shape) (append_keywords js others)) fused
 
-  pub schema_fails : (t : Tree) (p : Pointer) → fail s t p ≡ all_fail (keywords_of us) t p
-  schema_fails t p = ap (λ r. fail r t p) schema_is
+  pub schema_holds : (t : Tree) → holds s t ≡ (all_hold ks t && all_hold others t)
+  schema_holds t = ap (λ r. holds r t) schema_is ∙ hold_appended t ks others
 
-  pub schema_pairs : (t : Tree) → pairs s t ≡ 1 + all_pairs (keywords_of us) t
-  schema_pairs t = ap (λ r. pairs r t) schema_is
+  pub schema_needs : (t : Tree) → needed s t ≡ 1 + (all_needed ks t + (if all_hold ks t then all_needed others t else 0))
+  schema_needs t = ap (λ r. needed r t) schema_is ∙ ap (λ n. 1 + n) (needed_appended t ks others)
 
-  pub schema_tree : (t : Tree) (p : Pointer) → tree s t p ≡ node_at q p (of_children None (units (keywords_of us) t p))
-  schema_tree t p = ap (λ r. tree r t p) schema_is
+  -- each part is lower than the schema
+  pub lower_shape : all_height ks < height s
+  lower_shape =
+      let e : height s ≡ 1 + all_height (append_keywords ks others) = ap height schema_is in
+      let parts = height_appended ks others in
+      omega (arith, e, parts)
+
+  pub lower_units : all_height others < height s
+  lower_units =
+      let e : height s ≡ 1 + all_height (append_keywords ks others) = ap height schema_is in
+      let parts = height_appended ks others in
+      omega (arith, e, parts)
+
+  pub schema_fails : (t : Tree) (p : Pointer) → fail s t p ≡ all_fail ks t p ++ all_fail others t p
+  schema_fails t p = ap (λ r. fail r t p) schema_is ∙ fail_appended t p ks others
+
+  pub schema_pairs : (t : Tree) → pairs s t ≡ 1 + (all_pairs ks t + all_pairs others t)
+  schema_pairs t = ap (λ r. pairs r t) schema_is ∙ ap (λ n. 1 + n) (pairs_appended t ks others)
+
+  pub schema_tree : (t : Tree) (p : Pointer) → tree s t p ≡ node_at q p (of_children None (units ks t p ++ units others t p))
+  schema_tree t p = ap (λ r. tree r t p) schema_is ∙ ap (λ es. node_at q p (of_children None es)) (units_appended t p ks others)
 
 -- ---- any schema
 

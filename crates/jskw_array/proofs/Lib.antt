@@ -5,6 +5,8 @@ pub mod BareTypes
 pub mod Depths
 pub mod EachSchema
 pub mod Faults
+pub mod Fused
+pub mod FusedReading
 pub mod Keywords
 pub mod Matching
 pub mod Meetings

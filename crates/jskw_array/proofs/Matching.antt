@@ -1,5 +1,5 @@
 -- The error of `contains`, and how often its schema is applied.
-use Rattle.std.proofs.Common.{◌≡◌, ◌≤◌, ◌+◌, ◌∙◌, ℕ, suc, List, [], ◌∷◌, length, map, sum_by, count_by, nat_le, Bool, true, false, not, ◌&&◌, ◌||◌, cond, Some, None, refl, sym, ap, arith, zero-add, if◌then◌else◌}
+use Rattle.std.proofs.Common.{◌≡◌, ◌≤◌, ◌+◌, ◌∙◌, ℕ, suc, List, [], ◌∷◌, length, map, sum_by, count_by, nat_le, Bool, true, false, not, ◌||◌, cond, Some, None, refl, sym, ap, arith, zero-add, if◌then◌else◌}
 use Rattle.std.proofs.Math.Bool.{and-true}
 use Rattle.std.proofs.lemmas.Bool.{le-leb}
 use Rattle.std.proofs.lemmas.List.Sums.{sum_by-cons, sum_by-le-sum_by}

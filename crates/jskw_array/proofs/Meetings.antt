@@ -1,5 +1,5 @@
 -- What a walk over items has left at an item, and at the end.
-use Rattle.std.proofs.Common.{◌≡◌, ℕ, zero, suc, ◌+◌, ◌<◌, ◌≤◌, min, List, [], ◌∷◌, ◌++◌, length, get_or, drop, sum_by, Bool, true, false, ◌&&◌, if◌then◌else◌, refl, sym, ap, ap₂, ◌∙◌, arith}
+use Rattle.std.proofs.Common.{◌≡◌, ℕ, zero, suc, ◌+◌, ◌<◌, ◌≤◌, min, List, [], ◌∷◌, ◌++◌, length, get_or, drop, sum_by, Bool, true, if◌then◌else◌, refl, sym, ap, ap₂, ◌∙◌, arith}
 use Rattle.std.proofs.Math.Seq.{drop-nil}
 use Rattle.std.proofs.lemmas.List.{drop_all}
 use Rattle.std.proofs.lemmas.List.Sums.{sum_by-cons}
@@ -9,7 +9,7 @@ use Rattle.jskw_value.specs.Tree.{Tree, items}
 use Rattle.jskw_report.proofs.Gathering.{drop_here}
 use Rattle.jskw_report.proofs.Pointers.{path_of_push}
 use Rattle.jskw_report.specs.Applications.{needed, pairs, each_needed, each_pairs, sum_to_failure, height, each_height}
-use Rattle.jskw_report.specs.Evaluation.{Result, evaluate_pairs, of_children, prefix_annotation, schema_count, tree, unit}
+use Rattle.jskw_report.specs.Evaluation.{Result, evaluate_pairs, of_children, prefix_annotation, schema_count, unit}
 use Rattle.jskw_report.specs.Fail.{Failure, fail, each_fails, each_item}
 use Rattle.jskw_report.specs.Holds.{holds, each_holds}
 use Rattle.jskw_report.specs.Keyword.{Schema, Schemas, no_schemas, schema, prefix_items}

@@ -39,7 +39,7 @@ items_silent spot ms (boolean false) e h = cc
 items_silent spot ms (boolean true) e h = refl
 items_silent spot ms _ e h = refl
 
-items_of_one : (spot : Spot) (ms : Members) (d : Data) → is_items_schema d ≡ true
+pub items_of_one : (spot : Spot) (ms : Members) (d : Data) → is_items_schema d ≡ true
     → reading word.Items spot ms d ≡ asserts (λ sub. items_from (items_start spot.setting ms) sub (is_bare spot.setting ms d)) (read d spot.setting (keyword_location spot.location word.Items))
 unfolding asserted
 items_of_one spot ms (object ns) h = refl

@@ -3,9 +3,10 @@ use Rattle.std.proofs.Common.{◌≡◌, ℕ, ◌+◌, ◌<◌, ◌≤◌, List,
 use Rattle.std.proofs.lemmas.List.{at_drop_more, drop_all}
 use Rattle.serde_json.specs.Data.{Members}
 use Rattle.jskw_value.specs.Pointer.{Pointer, member_location}
+use Rattle.jskw_report.proofs.Appended.{append_append, append_none}
 use Rattle.jskw_report.specs.Compile.{Makes, Compiles}
 use Rattle.jskw_report.specs.KeywordValue.{Refusal, map_ok}
-use Rattle.jskw_report.specs.Keyword.{Keyword, Keywords, no_keywords, keyword}
+use Rattle.jskw_report.specs.Keyword.{Keyword, Keywords, no_keywords, keyword, append_keywords}
 use Rattle.jskw_report.specs.Read.{Asserts, Part, before, read_word, read_words}
 use Rattle.jskw_report.specs.Setting.{Setting, name_of}
 use Rattle.jskw_report.specs.declared.error.CompileFault.{CompileFault}
@@ -14,21 +15,9 @@ use Rattle.jskw_report.specs.declared.keyword.KeywordName.{KeywordName}
 
 -- ---- keywords that are put together
 
-abbrev pub append_keywords : Keywords → Keywords → Keywords
-append_keywords no_keywords ks = ks
-append_keywords (keyword q k js) ks = keyword q k (append_keywords js ks)
-
 -- those that were read after others
 abbrev pub after : Keywords → Result Keywords Refusal → Result Keywords Refusal
 after done r = map_ok (append_keywords done) r
-
-append_one : (js : Keywords) (q : Pointer) (k : Keyword) (ks : Keywords) → append_keywords js (keyword q k ks) ≡ append_keywords (append_keywords js (keyword q k no_keywords)) ks
-append_one no_keywords q k ks = refl
-append_one (keyword r j js) q k ks = ap (keyword r j) (append_one js q k ks)
-
-append_none : (ks : Keywords) → append_keywords ks no_keywords ≡ ks
-append_none no_keywords = refl
-append_none (keyword q k ks) = ap (keyword q k) (append_none ks)
 
 pub after_none : (r : Result Keywords Refusal) → after no_keywords r ≡ r
 after_none (Ok ks) = refl
@@ -39,7 +28,7 @@ pub turn_end : (done : Keywords) (all : Result Keywords Refusal) (s : Setting) (
 turn_end done all s p ms parts ws i past e = sym e ∙ ap (λ xs. after done (read_words xs s p ms parts)) (drop_all i ws past) ∙ ap Ok (append_none done)
 
 after_made : (done : Keywords) (q : Pointer) (k : Keyword) (r : Result Keywords Refusal) → after done (before q (Some (Ok k)) r) ≡ after (append_keywords done (keyword q k no_keywords)) r
-after_made done q k (Ok ks) = ap Ok (append_one done q k ks)
+after_made done q k (Ok ks) = ap Ok (append_append done (keyword q k no_keywords) ks)
 after_made done q k (Err e) = refl
 
 -- ---- the turn at the keyword of index i

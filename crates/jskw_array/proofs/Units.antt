@@ -1,12 +1,12 @@
 -- The keywords of units that are put together.
-use Rattle.std.proofs.Common.{◌≡◌, ℕ, ◌+◌, ◌<◌, ◌≤◌, List, [], ◌∷◌, ◌++◌, length, get_or, drop, Vec, Global, false, ◌||◌, refl, ap}
+use Rattle.std.proofs.Common.{◌≡◌, ℕ, ◌+◌, ◌<◌, ◌≤◌, List, [], ◌∷◌, ◌++◌, length, get_or, drop, Vec, Global, Bool, true, false, ◌||◌, refl, ap}
 use Rattle.std.proofs.lemmas.List.{drop_all}
+use Rattle.jskw_report.proofs.Appended.{hand_on_appended}
 use Rattle.jskw_report.proofs.Gathering.{drop_here}
-use Rattle.jskw_report.specs.Keyword.{Schema, Keywords, keyword, no_keywords, all_hand_on, each_hands_on, hands_on_required, keyword_hands_on}
-use Rattle.jskw_array.proofs.Turns.{append_keywords}
+use Rattle.jskw_report.specs.Keyword.{Schema, Keywords, append_keywords, keyword, no_keywords, all_hand_on, each_hands_on, hands_on_required, keyword_hands_on}
 use Rattle.jskw_array.specs.Meaning.{schemas_of, validator_keyword}
-use Rattle.jskw_array.specs.Node.{keywords_of}
-use Rattle.jskw_array.specs.declared.node.Unit as declared
+use Rattle.jskw_array.specs.Units.{keywords_of}
+use Rattle.jskw_array.specs.declared.unit.Unit as declared
 
 -- one unit more
 pub keywords_of_more : {F N O P : Type 0} (us : List (declared.Unit F N O P)) (u : declared.Unit F N O P)
@@ -19,6 +19,11 @@ abbrev pub keywords_in : {F N O P : Type 0} → Vec (declared.Unit F N O P) Glob
 keywords_in units = keywords_of units.items
 
 -- ---- which of them hand a `required` on
+
+-- the schema's own, or that of a subschema of either part
+pub hand_on_parts : (b : Bool) (js ks : Keywords) → (b || all_hand_on (append_keywords js ks)) ≡ ((b || all_hand_on js) || all_hand_on ks)
+hand_on_parts true js ks = refl
+hand_on_parts false js ks = hand_on_appended js ks
 
 module _ {F N O P : Type 0} (us : List (declared.Unit F N O P)) (i : ℕ) where
   pub hand_on_at : (u : declared.Unit F N O P) → i < length us → u ≡ get_or us i u

@@ -1,5 +1,5 @@
 -- A node's subschemas are lower than its schema.
-use Rattle.std.specs.Prelude.{ℕ, ◌+◌, ◌≤◌, List, [], ◌∷◌, Bool}
+use Rattle.std.specs.Prelude.{◌+◌, ◌≤◌, List, [], ◌∷◌, Bool, Some, None}
 use Rattle.std.proofs.Common.{arith}
 use denote.Param.Weighed.{most}
 use Rattle.jskw_value.specs.Pointer.{Pointer}
@@ -7,13 +7,17 @@ use Rattle.jskw_value.specs.declared.json.JsonNumber as number
 use Rattle.jskw_value.specs.declared.json.Object as object
 use Rattle.jskw_value.specs.declared.json.Rooted as rooted
 use Rattle.jskw_report.specs.Applications.{height, all_height, keyword_height, each_height}
-use Rattle.jskw_report.specs.Keyword.{Schema}
+use Rattle.jskw_report.proofs.Appended.{height_appended}
+use Rattle.jskw_report.specs.Keyword.{Schema, keyword, no_keywords}
+use Rattle.jskw_array.specs.Fused.{absorbed_keywords, shape_keywords}
 use Rattle.jskw_array.specs.Meaning.{schemas_of, validator_keyword}
-use Rattle.jskw_array.specs.Node.{keywords_of, schema_of}
+use Rattle.jskw_array.specs.Node.{schema_of}
+use Rattle.jskw_array.specs.Units.{keywords_of}
+use Rattle.jskw_array.specs.declared.items.array_shape.ArrayShapeValidator.{ArrayShapeValidator}
 use Rattle.jskw_array.specs.declared.node.Assertions.{Assertions}
 use Rattle.jskw_array.specs.declared.node.Assertions.TheVariants.{Never, Keywords}
-use Rattle.jskw_array.specs.declared.node.Unit as unit
-use Rattle.jskw_array.specs.declared.node.SchemaNode.TheDeep.{deep-Assertions, deep-Unit, deep-Validator}
+use Rattle.jskw_array.specs.declared.unit.Unit as unit
+use Rattle.jskw_array.specs.declared.node.SchemaNode.TheDeep.{deep-ArrayShapeValidator, deep-Assertions, deep-Unit, deep-Validator}
 use Rattle.jskw_array.specs.declared.validator.Validator.{Validator}
 use Rattle.jskw_array.specs.declared.validator.Validator.TheVariants as validator
 
@@ -45,6 +49,14 @@ module _ {F N O P : Type 0} (r : rooted.Ghosts N) (o : object.Ghosts N P) (j : n
   all_fall [] = omega arith
   all_fall (u ∷ us) = omega (arith, keyword_falls u.validator, all_fall us)
 
+  shape_falls : (v : ArrayShapeValidator F N O P) → deep-ArrayShapeValidator F N O P r o j v ≤ all_height (shape_keywords v) + 1
+  shape_falls v =
+      let parts = height_appended (absorbed_keywords v.absorbed) (keyword v.items.location (validator_keyword v.items.validator) no_keywords) in
+      omega (arith, parts, keyword_falls v.items.validator)
+
   pub height_falls : (q : Pointer) (hands_on : Bool) (a : Assertions F N O P) → deep-Assertions F N O P r o j a ≤ height (schema_of q hands_on a)
   height_falls q hands_on Never = omega arith
-  height_falls q hands_on (Keywords us) = omega (arith, all_fall us.items)
+  height_falls q hands_on (Keywords None us) = omega (arith, all_fall us.items)
+  height_falls q hands_on (Keywords (Some v) us) =
+      let parts = height_appended (shape_keywords v.value) (keywords_of us.items) in
+      omega (arith, parts, shape_falls v.value, all_fall us.items)

@@ -1,9 +1,9 @@
 -- What each validator stands for. A node is seen as the schema that it stands for.
-use Rattle.std.specs.Prelude.{ℕ, List, [], ◌∷◌, true, false, Some, None}
+use Rattle.std.specs.Prelude.{List, [], ◌∷◌, true, false, Some, None}
 use Rattle.jskw_value.specs.Pointer.{Pointer}
 use Rattle.jskw_value.specs.declared.types.JsonType.{JsonType}
 use Rattle.jskw_value.specs.declared.types.JsonType.TheVariants.{Boolean, Integer, Number, String}
-use Rattle.jskw_report.specs.Keyword.{Schema, schema_object, no_keywords, Keyword, at_most as at_most_items, items_list, items_from, Schemas, no_schemas, schema, Bounds, Integers, by_value, as_written}
+use Rattle.jskw_report.specs.Keyword.{Schema, schema_object, no_marks, no_keywords, Keyword, at_most as at_most_items, items_list, items_from, Schemas, no_schemas, schema, Bounds, Integers, by_value, as_written}
 use Rattle.jskw_report.specs.Keyword as keyword
 use Rattle.jskw_report.specs.Meaning.{Placed, placed}
 use Rattle.jskw_leaf.specs.Meaning.{leaf_keyword, single_type}
@@ -57,7 +57,7 @@ contains bounds v = keyword.contains v.node (bounds v.bounds)
 
 -- the schema at q that has the assertion alone
 abbrev pub bare_schema : Pointer → Placed → Schema
-bare_schema q a = schema_object q false (keyword.keyword a.location (placed a) no_keywords)
+bare_schema q a = schema_object q no_marks (keyword.keyword a.location (placed a) no_keywords)
 
 -- `items` at q of that schema, checked in place
 abbrev pub bare_items : Pointer → Placed → Keyword

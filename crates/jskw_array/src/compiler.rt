@@ -1,5 +1,6 @@
 //! Compiles schemas, keyword by keyword.
-ghost use Rattle.std.specs.Prelude.{◌≡◌, Err, IfOk, Some};
+ghost use Rattle.std.specs.Prelude.{◌≡◌, Err, IfOk, IsTrue, Some, true};
+ghost use Rattle.serde_json.specs.Data.{object};
 ghost use Rattle.serde_json.specs.Find.{get_member};
 ghost use Rattle.serde_json.specs.View.{view, items_view, members_view};
 ghost use Rattle.jskw_value.specs.declared.types.JsonType.TheVariants.{Boolean, Object};
@@ -7,15 +8,17 @@ ghost use Rattle.jskw_report.specs.Compile.{Compiles, Makes};
 ghost use Rattle.jskw_report.specs.Keyword.{Schema};
 ghost use Rattle.jskw_report.specs.KeywordValue.{of_types, wrong};
 ghost use Rattle.jskw_report.specs.Read.{Asserts, keyword_location, part_named};
-ghost use Rattle.jskw_report.specs.Read.{read, read_each, read_word, read_words};
+ghost use Rattle.jskw_report.specs.Read.{read, read_each, read_word, read_words, whole};
 ghost use Rattle.jskw_report.specs.Setting.{keywords, name_of};
-ghost use Rattle.jskw_report.specs.Sibling.{is_handed_on};
+ghost use Rattle.jskw_report.specs.Sibling.{is_fused, is_handed_on};
 ghost use Rattle.jskw_leaf.specs.Meaning.{leaf_keyword};
 ghost use Rattle.jskw_array.specs.Meaning.{schemas_of, validator_keyword};
-ghost use Rattle.jskw_array.specs.Node.{keywords_of};
+ghost use Rattle.jskw_array.specs.Units.{keywords_of};
 ghost use Rattle.jskw_array.specs.Siblings.{schema_count};
 
-use crate::node::{SchemaNode, Unit};
+use crate::items::{ArrayShapeValidator, array_shape_fusion};
+use crate::node::SchemaNode;
+use crate::unit::Unit;
 use crate::validator::Validator;
 use crate::{additional_items, contains, items, prefix_items};
 use jskw_leaf::{LeafValidator, is_leaf, required};
@@ -43,13 +46,57 @@ pub fn compile<'a, F: Json>(
     let location = ctx.location().copy(alloc)?;
     match schema {
         Value::Bool(accepts) => Ok(SchemaNode::of_boolean(alloc, location, *accepts)),
-        Value::Object(parent) => {
-            let units = compile_keywords(alloc, ctx, parent)?;
-            Ok(SchemaNode::of_keywords(location, is_handed_on(ctx, parent), units))
-        }
+        Value::Object(parent) => compile_object(alloc, ctx, location, parent),
         _ => Err(no_schema(alloc, &location, schema)),
     }
 }
+
+// An object, by the fused shape that it may have and its other keywords.
+#[cycle(compile)]
+fn compile_object<'a, F: Json>(
+    alloc: Global,
+    ctx: &Context<'_, F>,
+    location: Location,
+    parent: &'a Map<String, Value>,
+) -> CompilationResult<'a, SchemaNode<F>>
+    requires { location ≡ ctx.now.location }
+    ensures { let ms = members_view parent.now.entries in Makes (λ s. s) result
+        (read (object ms) ctx.now.setting ctx.now.location) }
+{
+    let hands_on = is_handed_on(ctx, parent);
+    if array_shape_fusion(ctx, parent) {
+        return compile_fused(alloc, ctx, location, hands_on, parent);
+    }
+    let units = compile_keywords(alloc, ctx, parent, &KeywordName::ALL)?;
+    Ok(SchemaNode::of_keywords(location, hands_on, None, units))
+}
+
+// An object that has the fused shape, by that and by the keywords behind.
+#[cycle(compile)]
+fn compile_fused<'a, F: Json>(
+    alloc: Global,
+    ctx: &Context<'_, F>,
+    location: Location,
+    hands_on: bool,
+    parent: &'a Map<String, Value>,
+) -> CompilationResult<'a, SchemaNode<F>>
+    requires location { location ≡ ctx.now.location }
+    requires fused { IsTrue (is_fused ctx.now.setting (members_view parent.now.entries)) }
+    ensures { let ms = members_view parent.now.entries in Makes (λ s. s) result
+        (whole ctx.now.location (record { hands_on = hands_on; fused = true })
+        (read_words keywords ctx.now.setting ctx.now.location ms (λ name. part_named name ms))) }
+{
+    let Some(items) = member_of(parent, KeywordName::Items.as_str()) else {
+        unreachable!();
+    };
+    let shape = ArrayShapeValidator::compile(alloc, ctx, parent, items)?;
+    let units = compile_keywords(alloc, ctx, parent, &KeywordName::ALL[FUSED..])?;
+    let shape = Box::new(alloc, shape)?;
+    Ok(SchemaNode::of_keywords(location, hands_on, Some(shape), units))
+}
+
+// The keywords of the fused shape are the first so many.
+const FUSED: usize = 4;
 
 // The fault of a value that is neither a boolean nor an object.
 fn no_schema<'a>(alloc: Global, location: &Location, value: &'a Value) -> CompileFault<'a>
@@ -76,20 +123,21 @@ fn is_handed_on<F: Json>(ctx: &Context<'_, F>, parent: &Map<String, Value>) -> b
     required::is_handed_on(ctx, parent, schema)
 }
 
-// The keywords of an object, in their order.
+// Some keywords of an object, in their order.
 #[cycle(compile)]
 fn compile_keywords<'a, F: Json>(
     alloc: Global,
     ctx: &Context<'_, F>,
     parent: &'a Map<String, Value>,
+    keywords: &[KeywordName],
 ) -> CompilationResult<'a, Vec<Unit<F>>>
     ensures { let ms = members_view parent.now.entries in
         Makes (λ units. keywords_of units.items) result
-        (read_words keywords ctx.now.setting ctx.now.location ms
+        (read_words keywords.now ctx.now.setting ctx.now.location ms
         (λ name. part_named name ms)) }
 {
     let mut units = Vec::new(alloc);
-    for keyword in KeywordName::ALL {
+    for &keyword in keywords {
         match compile_keyword(alloc, ctx, parent, keyword) {
             None => {}
             Some(Ok(validator)) => {

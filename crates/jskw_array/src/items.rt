@@ -19,6 +19,7 @@ ghost use Rattle.jskw_report.specs.declared.keyword.KeywordName.TheVariants as w
 ghost use Rattle.jskw_array.specs.Meaning.{items_array, items_object, items_skip_prefix};
 ghost use Rattle.jskw_array.specs.Meaning.{schemas_of, validator_keyword};
 
+pub(crate) mod array_shape;
 mod item_type;
 
 use crate::compiler::{compile_at, compile_each_at, schema_count};
@@ -28,6 +29,7 @@ use crate::meeting::{
 };
 use crate::node::SchemaNode;
 use crate::validator::Validator;
+pub use array_shape::{AbsorbedKeywords, ArrayShapeValidator, array_shape_fusion};
 use item_type::compile_inline;
 pub use item_type::{
     BooleanItems, IntegerItems, IntegerItemsDraft4, ItemType, ItemsTypeValidator, NumberItems,
@@ -234,7 +236,7 @@ pub fn compile<'a, F: Json>(
 }
 
 // Whether the value is one schema that asserts something: an object or `false`.
-fn is_items_schema(value: &Value) -> bool
+pub(crate) fn is_items_schema(value: &Value) -> bool
     ensures { result ≡ is_items_schema (view value.now) }
 {
     matches!(value, Value::Object(_) | Value::Bool(false))

@@ -16,6 +16,7 @@ pub mod laws;
 mod meeting;
 pub mod node;
 pub mod prefix_items;
+mod unit;
 pub mod validator;
 
 pub use node::SchemaNode;

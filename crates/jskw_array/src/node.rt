@@ -1,18 +1,26 @@
 //! A compiled schema: the validators of its keywords, in the order in which a schema is read.
-ghost use Rattle.std.specs.Prelude.{◌≡◌, ◌+◌, ◌≤◌, [], IfOk, IsTrue, min};
+ghost use Rattle.std.specs.Prelude.{◌≡◌, ◌+◌, ◌≤◌, [], IfOk, IfSome, IsTrue};
+ghost use Rattle.std.specs.Prelude.{is_some, min};
 ghost use Rattle.jskw_value.specs.Tree.{is_lawful};
 ghost use Rattle.jskw_report.specs.Applications.{needed, pairs};
 ghost use Rattle.jskw_report.specs.Evaluation.{tree};
 ghost use Rattle.jskw_report.specs.Fail.{fail};
 ghost use Rattle.jskw_report.specs.Holds.{holds};
-ghost use Rattle.jskw_report.specs.Keyword.{all_hand_on, each_hands_on, false_schema};
+ghost use Rattle.jskw_report.specs.Keyword.{all_hand_on, append_keywords, each_hands_on};
+ghost use Rattle.jskw_report.specs.Keyword.{false_schema, is_fused_schema, keywords_in};
 ghost use Rattle.jskw_report.specs.Keyword.{hands_on_required, schema_location, schema_object};
 ghost use Rattle.jskw_report.specs.Observe.{Appends, CountsUpTo, IsFirst};
 ghost use Rattle.jskw_report.specs.Paths.{path_of};
+ghost use Rattle.jskw_array.specs.Fused.{Begins, shape_keywords};
 ghost use Rattle.jskw_array.specs.Meaning.{schemas_of};
-ghost use Rattle.jskw_array.specs.Node.{boolean_schema, keywords_of};
+ghost use Rattle.jskw_array.specs.Node.{boolean_schema, fused_keywords, marked};
+ghost use Rattle.jskw_array.specs.Units.{keywords_of};
 
-use crate::validator::Validator;
+use crate::items::ArrayShapeValidator;
+use crate::items::array_shape::evaluate_shape;
+use crate::unit::{
+    Unit, collect_units, evaluate_units, some_unit_hands_on, units_are_valid, validate_units,
+};
 use jskw_report::validator::{append_first, evaluate_first, fail_unless};
 use jskw_report::{
     EvaluationNode, EvaluationResult, Fault, LazyLocation, Location, Validate, ValidationContext,
@@ -43,15 +51,11 @@ enum Assertions<F: Json> {
     // The schema `false`.
     Never,
     // The keywords of an object, none for `true`.
-    Keywords(Vec<Unit<F>>),
-}
-
-// A keyword's validator, with its keyword location.
-#[cycle(schema)]
-#[derive(Drop)]
-pub(crate) struct Unit<F: Json> {
-    pub(crate) validator: Validator<F>,
-    pub(crate) location: Location,
+    Keywords {
+        // `type`, `minItems`, `maxItems` and `items`, where they are checked together
+        shape: Option<Box<ArrayShapeValidator<F>>>,
+        units: Vec<Unit<F>>,
+    },
 }
 
 impl<F: Json> Model for SchemaNode<F> {
@@ -89,7 +93,10 @@ impl<F: Json> SchemaNode<F> {
         ensures { result ≡ boolean_schema location accepts }
     {
         let assertions = if accepts {
-            Assertions::Keywords(Vec::new(alloc))
+            Assertions::Keywords {
+                shape: None,
+                units: Vec::new(alloc),
+            }
         } else {
             Assertions::Never
         };
@@ -101,20 +108,25 @@ impl<F: Json> SchemaNode<F> {
         }
     }
 
-    // An object with these keywords, whose own `required` is handed on or is not.
+    // An object with these keywords, whose own `required` is handed on or is not: those of a fused
+    // shape, if it has one, and others behind them.
     pub(crate) fn of_keywords(
         location: Location,
         hands_on: bool,
+        shape: Option<Box<ArrayShapeValidator<F>>>,
         units: Vec<Unit<F>>,
     ) -> SchemaNode<F>
-        ensures { result ≡ schema_object location hands_on (keywords_of units.items) }
+        ensures { result ≡ schema_object location (marked hands_on shape)
+            (append_keywords (fused_keywords shape) (keywords_of units.items)) }
     {
-        let hands_on_any = hands_on || some_unit_hands_on(units.as_slice());
+        let hands_on_any = hands_on
+            || shape_hands_on(&shape)
+            || some_unit_hands_on(units.as_slice());
         SchemaNode {
             location,
             hands_on,
             hands_on_any,
-            assertions: Assertions::Keywords(units),
+            assertions: Assertions::Keywords { shape, units },
         }
     }
 
@@ -133,6 +145,23 @@ impl<F: Json> SchemaNode<F> {
         self.hands_on_any
     }
 
+    /// The validator of `type`, `minItems`, `maxItems` and `items`, Some exactly where they are
+    /// checked together, as [`array_shape_fusion`](crate::items::array_shape_fusion) tells of the
+    /// schema.
+    pub fn array_shape(&self) -> Option<&ArrayShapeValidator<F>>
+        ensures fused { is_some result ≡ is_fused_schema self.now }
+        ensures keywords { IfSome result (λ v. Begins (shape_keywords v.now)
+            (keywords_in self.now)) }
+    {
+        match &self.assertions {
+            Assertions::Keywords {
+                shape: Some(shape),
+                ..
+            } => Some(shape),
+            _ => None,
+        }
+    }
+
     /// Whether the schema holds of the instance. It takes no memory, and looks no further than the
     /// first failure.
     #[cycle(is_valid)]
@@ -143,15 +172,16 @@ impl<F: Json> SchemaNode<F> {
         ensures counted { CountsUpTo ctx.old ctx.new (needed self.now (F.Node.tree instance.now)) }
     {
         ctx.count_one();
-        let Assertions::Keywords(units) = &self.assertions else {
+        let Assertions::Keywords { shape, units } = &self.assertions else {
             return false;
         };
-        for unit in units {
-            if !unit.validator.is_valid(instance, ctx) {
-                return false;
+        let units = units.as_slice();
+        match shape {
+            None => units_are_valid(units, instance, ctx),
+            Some(shape) => {
+                shape.is_valid(instance, ctx) && units_are_valid(units, instance, ctx)
             }
         }
-        true
     }
 
     /// Ok where the schema holds, and else the first error; want of memory says nothing of the
@@ -171,13 +201,17 @@ impl<F: Json> SchemaNode<F> {
         ensures counted { CountsUpTo ctx.old ctx.new (needed self.now (F.Node.tree instance.now)) }
     {
         ctx.count_one();
-        let Assertions::Keywords(units) = &self.assertions else {
+        let Assertions::Keywords { shape, units } = &self.assertions else {
             return refuse(&self.location, instance, location);
         };
-        for unit in units {
-            unit.validator.validate(instance, location, ctx)?;
+        let units = units.as_slice();
+        match shape {
+            None => validate_units(units, instance, location, ctx),
+            Some(shape) => {
+                shape.validate(instance, location, ctx)?;
+                validate_units(units, instance, location, ctx)
+            }
         }
-        Ok(())
     }
 
     /// Appends every error, in order. After want of memory the list is as it was, followed by a
@@ -198,14 +232,17 @@ impl<F: Json> SchemaNode<F> {
         ensures counted { CountsUpTo ctx.old ctx.new (pairs self.now (F.Node.tree instance.now)) }
     {
         ctx.count_one();
-        let Assertions::Keywords(units) = &self.assertions else {
+        let Assertions::Keywords { shape, units } = &self.assertions else {
             return append_first(refuse(&self.location, instance, location), errors);
         };
-        for unit in units {
-            unit.validator
-                .collect_errors(instance, location, ctx, errors)?;
+        let units = units.as_slice();
+        match shape {
+            None => collect_units(units, instance, location, ctx, errors),
+            Some(shape) => {
+                shape.collect_errors(instance, location, ctx, errors)?;
+                collect_units(units, instance, location, ctx, errors)
+            }
         }
-        Ok(())
     }
 
     /// The evaluation tree of a whole instance (Core 12.3). Only memory can fail, and then there is
@@ -244,21 +281,21 @@ impl<F: Json> SchemaNode<F> {
     {
         ctx.count_one();
         let path = location.render()?;
-        let units = match &self.assertions {
-            Assertions::Keywords(units) => units,
+        match &self.assertions {
             Assertions::Never => {
                 let refusal = refuse::<F>(&self.location, instance, location);
                 let result = evaluate_first(alloc, refusal)?;
-                return EvaluationNode::new(alloc, result, &self.location, &path);
+                EvaluationNode::new(alloc, result, &self.location, &path)
             }
-        };
-        let mut children = Vec::new(alloc);
-        for unit in units {
-            let result = unit.validator.evaluate(alloc, instance, location, ctx)?;
-            children.push(EvaluationNode::new(alloc, result, &unit.location, &path)?)?;
+            Assertions::Keywords { shape, units } => {
+                let units = units.as_slice();
+                let mut children = Vec::new(alloc);
+                evaluate_shape(alloc, shape, instance, location, &path, ctx, &mut children)?;
+                evaluate_units(alloc, units, instance, location, &path, ctx, &mut children)?;
+                let result = EvaluationResult::from_children(alloc, children);
+                EvaluationNode::new(alloc, result, &self.location, &path)
+            }
         }
-        let result = EvaluationResult::from_children(alloc, children);
-        EvaluationNode::new(alloc, result, &self.location, &path)
     }
 }
 
@@ -288,15 +325,12 @@ pub(crate) fn some_hands_on<F: Json>(nodes: &[SchemaNode<F>]) -> bool
     false
 }
 
-// Whether that of a subschema of some keyword is.
-#[tactic(auto, using(crate::proofs::Units::hand_on_at, crate::proofs::Units::hand_on_end))]
-fn some_unit_hands_on<F: Json>(units: &[Unit<F>]) -> bool
-    ensures { result ≡ all_hand_on (keywords_of units.now) }
+// Whether that of a subschema of the fused shape is, where there is one.
+fn shape_hands_on<F: Json>(shape: &Option<Box<ArrayShapeValidator<F>>>) -> bool
+    ensures { result ≡ all_hand_on (fused_keywords shape.now) }
 {
-    for unit in units {
-        if unit.validator.hands_on_required() {
-            return true;
-        }
+    match shape {
+        Some(shape) => shape.items.validator.hands_on_required(),
+        None => false,
     }
-    false
 }

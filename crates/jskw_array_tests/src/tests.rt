@@ -12,6 +12,7 @@ mod schemas;
 
 // Keywords with subschemas.
 mod contains;
+mod fused;
 mod items;
 mod refusals;
 

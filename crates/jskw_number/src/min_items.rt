@@ -1,8 +1,13 @@
 //! `minItems` (Validation 6.4.2): an array has at least as many items as the bound.
-ghost use Rattle.std.specs.Prelude.{refl};
+ghost use Rattle.std.specs.Prelude.{◌≡◌, IsTrue, length, refl};
 ghost use Rattle.serde_json.specs.View.{view, members_view};
-ghost use Rattle.jskw_report.specs.Compile.{Compiles, reading};
+ghost use Rattle.jskw_value.specs.Tree.{Tree, is_array, items};
+ghost use Rattle.jskw_report.specs.Compile.{Compiles, Makes, reading};
+ghost use Rattle.jskw_report.specs.Holds.{assertion_holds};
+ghost use Rattle.jskw_report.specs.Keyword as size;
 ghost use Rattle.jskw_report.specs.Kind as kind;
+ghost use Rattle.jskw_report.specs.Meaning.{placed};
+ghost use Rattle.jskw_report.specs.Read.{keyword_location, size_keyword};
 ghost use Rattle.jskw_report.specs.declared.keyword.KeywordName.TheVariants as word;
 ghost use Rattle.jskw_number.specs.Meaning.{min_items, number_keyword};
 
@@ -23,6 +28,30 @@ pub struct MinItemsValidator {
     location: Location,
 }
 
+impl MinItemsValidator {
+    /// Compiles the value of `minItems`, which is a bound on a size or the error; else only memory
+    /// can fail.
+    pub fn compile<'a, F: Json>(
+        alloc: Global,
+        ctx: &Context<'_, F>,
+        schema: &'a Value,
+    ) -> CompilationResult<'a, MinItemsValidator>
+        ensures { Makes (λ v. placed (min_items v)) result (size_keyword size.MinItems
+            (keyword_location ctx.now.location word.MinItems) (view schema.now)) }
+    {
+        let (limit, location) = bound_at(alloc, ctx, KeywordName::MinItems, schema)?;
+        Ok(MinItemsValidator { limit, location })
+    }
+
+    /// Whether an array of so many items is within the bound.
+    pub fn accepts(&self, count: u64) -> bool
+        ensures { (t : Tree) → IsTrue (is_array t) → length (items t) ≡ count
+            → result ≡ assertion_holds (min_items self.now).claim t }
+    {
+        count >= self.limit
+    }
+}
+
 impl Assertion for MinItemsValidator {
     ghost asserts = { min_items };
 
@@ -31,7 +60,7 @@ impl Assertion for MinItemsValidator {
     ghost fails_once = { λ v t. refl };
 
     fn holds<F: Json>(&self, instance: &F::Node) -> bool {
-        !instance.is_array() || Array::len(instance) as u64 >= self.limit
+        !instance.is_array() || self.accepts(Array::len(instance) as u64)
     }
 
     fn kind(&self) -> ValidationErrorKind<'_> {
@@ -55,10 +84,8 @@ pub fn compile<'a, F: Json>(
         (reading word.MinItems ctx.now (members_view parent.now.entries) (view schema.now)) }
 {
     let _ = parent;
-    match bound_at(alloc, ctx, KeywordName::MinItems, schema) {
-        Ok((limit, location)) => {
-            Some(Ok(NumberValidator::MinItems(MinItemsValidator { limit, location })))
-        }
+    match MinItemsValidator::compile(alloc, ctx, schema) {
+        Ok(validator) => Some(Ok(NumberValidator::MinItems(validator))),
         Err(fault) => Some(Err(fault)),
     }
 }

@@ -57,3 +57,26 @@ pub appends_begun : {F N O P E : Type 0} (tree : N → Tree) (old new : List (Va
     → IsErrAnd r (λ y. y ≡ x) → AppendsBeginning (failures_of tree old) (failures_of tree new) all → Appends tree old new all r
 appends_begun tree old new all (Ok u) x is begun = absurd is
 appends_begun tree old new all (Err e) x is begun = begun
+
+-- ---- one part behind another
+
+-- the first part is appended whole, and then the second
+pub appends_behind : {F N O P E : Type 0} (tree : N → Tree) (old now new : List (ValidationError F N O P)) (first second : List Failure) (r : Result Unit E)
+    → failures_of tree now ≡ failures_of tree old ++ first → Appends tree now new second r → Appends tree old new (first ++ second) r
+appends_behind tree old now new first second (Ok u) is appends = appends ∙ ap (λ fs. fs ++ second) is ∙ append_assoc (failures_of tree old) first second
+appends_behind tree old now new first second (Err e) is begun =
+    let c = begun.collects in
+    record {
+      rest = begun.rest;
+      collects = record {
+        so_far = first ++ c.so_far;
+        is_now = c.is_now ∙ ap (λ fs. fs ++ c.so_far) is ∙ append_assoc (failures_of tree old) first c.so_far;
+        is_all = append_assoc first c.so_far begun.rest ∙ ap (λ fs. first ++ fs) c.is_all;
+      };
+    }
+
+-- the first part was begun
+pub appends_before : {F N O P E : Type 0} (tree : N → Tree) (old new : List (ValidationError F N O P)) (first second : List Failure) (r : Result Unit E) (x : E)
+    → IsErrAnd r (λ y. y ≡ x) → AppendsBeginning (failures_of tree old) (failures_of tree new) first → Appends tree old new (first ++ second) r
+appends_before tree old new first second r x is begun =
+    appends_begun tree old new (first ++ second) r x is (collects_part first second (collects_nothing (failures_of tree old) (first ++ second)) begun)

@@ -46,7 +46,7 @@ mutual
   -- the failures of a schema
   pub fail_below : (s : Schema) (t : Tree) → AlikeBelow (fail s t)
   fail_below (false_schema q) t r p = refl
-  fail_below (schema_object q hands_on ks) t r p = all_below ks t r p
+  fail_below (schema_object q marks ks) t r p = all_below ks t r p
 
   -- the failures of keywords
   all_below : (ks : Keywords) (t : Tree) → AlikeBelow (all_fail ks t)

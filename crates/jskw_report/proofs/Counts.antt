@@ -29,7 +29,7 @@ mutual
   -- of the pairs of a schema
   pub needed-le : (s : Schema) (t : Tree) → needed s t ≤ pairs s t
   needed-le (false_schema q) t = le_refl 1
-  needed-le (schema_object q hands_on ks) t = sums-le (le_refl 1) (all_needed-le ks t)
+  needed-le (schema_object q marks ks) t = sums-le (le_refl 1) (all_needed-le ks t)
 
   -- of the pairs of keywords
   all_needed-le : (ks : Keywords) (t : Tree) → all_needed ks t ≤ all_pairs ks t
@@ -103,8 +103,8 @@ mutual
   pub pairs_at-le : (s : Schema) (t : Tree) (d : ℕ) → pairs_at s t d ≤ schemas_at s d * trees_at t d
   pairs_at-le (false_schema q) t zero = le_refl 1
   pairs_at-le (false_schema q) t (suc d) = omega arith
-  pairs_at-le (schema_object q hands_on ks) t zero = le_refl 1
-  pairs_at-le (schema_object q hands_on ks) t (suc d) = all_pairs_at-le ks t d
+  pairs_at-le (schema_object q marks ks) t zero = le_refl 1
+  pairs_at-le (schema_object q marks ks) t (suc d) = all_pairs_at-le ks t d
 
   -- of the pairs d deep of keywords, and the trees one deeper
   all_pairs_at-le : (ks : Keywords) (t : Tree) (d : ℕ) → all_pairs_at ks t d ≤ all_schemas_at ks d * trees_at t (suc d)
@@ -162,8 +162,8 @@ mutual
   pub pairs-sum : (s : Schema) (t : Tree) (n : ℕ) → height s ≤ n → sum_below n (pairs_at s t) ≡ pairs s t
   pairs-sum (false_schema q) t zero h = absurd (omega arith)
   pairs-sum (false_schema q) t (suc n) h = ap (λ m. 1 + m) (sum_below-zero n)
-  pairs-sum (schema_object q hands_on ks) t zero h = absurd (omega arith)
-  pairs-sum (schema_object q hands_on ks) t (suc n) h = ap (λ m. 1 + m) (all_pairs-sum ks t n (omega arith))
+  pairs-sum (schema_object q marks ks) t zero h = absurd (omega arith)
+  pairs-sum (schema_object q marks ks) t (suc n) h = ap (λ m. 1 + m) (all_pairs-sum ks t n (omega arith))
 
   -- the pairs of keywords, over the depths of their subschemas and any that lie deeper
   all_pairs-sum : (ks : Keywords) (t : Tree) (n : ℕ) → all_height ks ≤ n → sum_below n (all_pairs_at ks t) ≡ all_pairs ks t

@@ -112,7 +112,7 @@ mutual
   -- a schema holds where it has no errors
   pub holds_empty : (s : Schema) (t : Tree) (p : Pointer) → holds s t ≡ is_empty (fail s t p)
   holds_empty (false_schema q) t p = refl
-  holds_empty (schema_object q hands_on ks) t p = all_empty ks t p
+  holds_empty (schema_object q marks ks) t p = all_empty ks t p
 
   -- keywords hold where they have no errors
   pub all_empty : (ks : Keywords) (t : Tree) (p : Pointer) → all_hold ks t ≡ is_empty (all_fail ks t p)

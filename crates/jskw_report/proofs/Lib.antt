@@ -1,3 +1,4 @@
+pub mod Appended
 pub mod Appending
 pub mod Asserted
 pub mod Below

@@ -1,5 +1,5 @@
 -- `const` accepts what `enum` of that one value accepts.
-use Rattle.std.specs.Prelude.{◌≡◌, [], Bool, Option, Some, None, option_map, Ok, ◌&&◌, true}
+use Rattle.std.specs.Prelude.{◌≡◌, [], Option, Some, None, option_map, Ok, ◌&&◌, true}
 use Rattle.std.specs.Option.{option_or}
 use Rattle.std.proofs.Common.{refl, sym, ◌∙◌, ap, subst}
 use Rattle.std.proofs.Math.Bool.{or-false}
@@ -11,7 +11,7 @@ use Rattle.jskw_value.specs.Serde.{tree_of}
 use Rattle.jskw_value.specs.Tree.{Tree}
 use Rattle.jskw_report.specs.Holds.{keyword_holds}
 use Rattle.jskw_report.specs.KeywordValue.{map_ok, unless_float, first_float}
-use Rattle.jskw_report.specs.Keyword.{Keyword, no_keywords, constant, among, assertion}
+use Rattle.jskw_report.specs.Keyword.{Marks, Keyword, no_keywords, constant, among, assertion}
 use Rattle.jskw_report.specs.Laws.{ConstIsOneOption, IsKeywordOf, reading_accepts}
 use Rattle.jskw_report.specs.Read.{Asserts, asserted, read_word, part, before, whole}
 use Rattle.jskw_report.specs.Setting.{Setting, name_of}
@@ -39,7 +39,7 @@ same_answer d t (Some x) p q k j e f = absurd (cc)
 -- ---- the schemas
 
 -- both schemas, once the first float of the value is known
-alike : (d : Data) (t : Tree) (o : Option Data) (q r : Pointer) (h g : Bool)
+alike : (d : Data) (t : Tree) (o : Option Data) (q r : Pointer) (h g : Marks)
     → reading_accepts (whole [] h (before q (Some (map_ok (λ d. assertion q (constant d)) (unless_float q o d))) (Ok no_keywords))) t
     ≡ reading_accepts (whole [] g (before r (Some (map_ok (λ ds. assertion r (among ds)) (unless_float r (option_or o None) (item d no_items)))) (Ok no_keywords))) t
 alike d t None q r h g = ap (λ b. Some (b && true)) (sym (or-false (equal (tree_of d) t)))

@@ -223,7 +223,7 @@ mutual
   -- whether a schema holds
   pub holds_same : (s : Schema) → Shared (holds s)
   holds_same (false_schema q) t u w = refl
-  holds_same (schema_object q hands_on ks) t u w = all_hold_same ks t u w
+  holds_same (schema_object q marks ks) t u w = all_hold_same ks t u w
 
   -- whether keywords hold
   all_hold_same : (ks : Keywords) → Shared (all_hold ks)
@@ -290,7 +290,7 @@ mutual
   -- the failures of a schema
   pub fail_same : (s : Schema) → FailsAlike (fail s)
   fail_same (false_schema q) t u w p = (record { kind = refl; instance_location = refl; keyword_location = refl; tree = w.alike }, tt)
-  fail_same (schema_object q hands_on ks) t u w p = all_fail_same ks t u w p
+  fail_same (schema_object q marks ks) t u w p = all_fail_same ks t u w p
 
   -- the failures of keywords
   all_fail_same : (ks : Keywords) → FailsAlike (all_fail ks)
@@ -358,7 +358,7 @@ mutual
   -- the node of a schema
   pub tree_same : (s : Schema) → EvaluatesAlike (tree s)
   tree_same (false_schema q) t u w p = refl
-  tree_same (schema_object q hands_on ks) t u w p = ap (λ es. node_at q p (of_children None es)) (units_same ks t u w p)
+  tree_same (schema_object q marks ks) t u w p = ap (λ es. node_at q p (of_children None es)) (units_same ks t u w p)
 
   -- the nodes of keywords
   units_same : (ks : Keywords) (t u : Tree) → Twin t u → (p : Pointer) → units ks t p ≡ units ks u p
@@ -393,7 +393,7 @@ mutual
   -- the pairs of a schema
   pub pairs_same : (s : Schema) → Shared (pairs s)
   pairs_same (false_schema q) t u w = refl
-  pairs_same (schema_object q hands_on ks) t u w = ap (λ n. 1 + n) (all_pairs_same ks t u w)
+  pairs_same (schema_object q marks ks) t u w = ap (λ n. 1 + n) (all_pairs_same ks t u w)
 
   -- the pairs of keywords
   all_pairs_same : (ks : Keywords) → Shared (all_pairs ks)
@@ -420,7 +420,7 @@ mutual
   -- the pairs that a schema needs
   pub needed_same : (s : Schema) → Shared (needed s)
   needed_same (false_schema q) t u w = refl
-  needed_same (schema_object q hands_on ks) t u w = ap (λ n. 1 + n) (all_needed_same ks t u w)
+  needed_same (schema_object q marks ks) t u w = ap (λ n. 1 + n) (all_needed_same ks t u w)
 
   -- the pairs that keywords need
   all_needed_same : (ks : Keywords) → Shared (all_needed ks)

@@ -38,7 +38,7 @@ mutual
   -- the node of a schema
   pub tree_valid : (s : Schema) (t : Tree) (p : Pointer) → is_valid (tree s t p) ≡ holds s t
   tree_valid (false_schema q) t p = refl
-  tree_valid (schema_object q hands_on ks) t p = units_valid ks t p
+  tree_valid (schema_object q marks ks) t p = units_valid ks t p
 
   -- the nodes of keywords
   pub units_valid : (ks : Keywords) (t : Tree) (p : Pointer) → list_all is_valid (units ks t p) ≡ all_hold ks t

@@ -11,7 +11,7 @@ abbrev mutual
   -- the pair of the schema and the tree, and those that its keywords make meet
   pub pairs : Schema → Tree → ℕ
   pairs (false_schema q) t = 1
-  pairs (schema_object q hands_on ks) t = 1 + all_pairs ks t
+  pairs (schema_object q marks ks) t = 1 + all_pairs ks t
 
   -- the pairs that the keywords make meet
   pub all_pairs : Keywords → Tree → ℕ
@@ -45,7 +45,7 @@ abbrev mutual
   -- the pairs of the schema and the tree that are left where nothing is applied behind the first failure
   pub needed : Schema → Tree → ℕ
   needed (false_schema q) t = 1
-  needed (schema_object q hands_on ks) t = 1 + all_needed ks t
+  needed (schema_object q marks ks) t = 1 + all_needed ks t
 
   -- the pairs that are needed of the keywords up to the first that fails, that one included
   pub all_needed : Keywords → Tree → ℕ
@@ -76,8 +76,8 @@ abbrev mutual
   pub pairs_at : Schema → Tree → ℕ → ℕ
   pairs_at (false_schema q) t zero = 1
   pairs_at (false_schema q) t (suc d) = 0
-  pairs_at (schema_object q hands_on ks) t zero = 1
-  pairs_at (schema_object q hands_on ks) t (suc d) = all_pairs_at ks t d
+  pairs_at (schema_object q marks ks) t zero = 1
+  pairs_at (schema_object q marks ks) t (suc d) = all_pairs_at ks t d
 
   -- the pairs that the keywords make meet, d deep below the items
   pub all_pairs_at : Keywords → Tree → ℕ → ℕ
@@ -105,8 +105,8 @@ abbrev mutual
   pub schemas_at : Schema → ℕ → ℕ
   schemas_at (false_schema q) zero = 1
   schemas_at (false_schema q) (suc d) = 0
-  schemas_at (schema_object q hands_on ks) zero = 1
-  schemas_at (schema_object q hands_on ks) (suc d) = all_schemas_at ks d
+  schemas_at (schema_object q marks ks) zero = 1
+  schemas_at (schema_object q marks ks) (suc d) = all_schemas_at ks d
 
   -- the number of schemas that lie d deep in the subschemas of the keywords
   pub all_schemas_at : Keywords → ℕ → ℕ
@@ -143,7 +143,7 @@ abbrev mutual
   -- the depth below which no subschema lies
   pub height : Schema → ℕ
   height (false_schema q) = 1
-  height (schema_object q hands_on ks) = 1 + all_height ks
+  height (schema_object q marks ks) = 1 + all_height ks
 
   -- the depth in the subschemas of the keywords below which none lies
   pub all_height : Keywords → ℕ

@@ -117,7 +117,7 @@ abbrev mutual
   -- the node of the schema over the tree t at p
   pub tree : Schema → Tree → Pointer → Evaluation
   tree (false_schema q) t p = node false q p None (keyword_of FalseSchema ∷ []) no_evaluations
-  tree (schema_object q hands_on ks) t p = node_at q p (of_children None (units ks t p))
+  tree (schema_object q marks ks) t p = node_at q p (of_children None (units ks t p))
 
   -- the nodes of the keywords
   pub units : Keywords → Tree → Pointer → List Evaluation

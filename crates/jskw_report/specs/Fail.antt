@@ -80,7 +80,7 @@ abbrev mutual
   -- the errors of the schema over the tree t at p: those of its keywords, or the one of `false`
   pub fail : Schema → Tree → Pointer → List Failure
   fail (false_schema q) t p = record { kind = kind.FalseSchema; instance_location = p; keyword_location = q; tree = t } ∷ []
-  fail (schema_object q hands_on ks) t p = all_fail ks t p
+  fail (schema_object q marks ks) t p = all_fail ks t p
 
   -- the errors of the keywords in turn
   pub all_fail : Keywords → Tree → Pointer → List Failure

@@ -89,7 +89,7 @@ abbrev mutual
   -- the tree is valid against the schema: every keyword holds of it, and `false` never does (Core 4.3.1, 4.3.2)
   pub holds : Schema → Tree → Bool
   holds (false_schema q) t = false
-  holds (schema_object q hands_on ks) t = all_hold ks t
+  holds (schema_object q marks ks) t = all_hold ks t
 
   -- every keyword holds of the tree
   pub all_hold : Keywords → Tree → Bool

@@ -47,14 +47,23 @@ pub record Bounds : Type 0 where
   pub many : Pointer
   pub bounded : Bool
 
+-- what is marked of an object: its `required` is handed on to the keywords of objects; and its `type`, `minItems`,
+-- `maxItems` and `items` are checked together. What the schema asserts is its keywords alone
+pub record Marks : Type 0 where
+  pub hands_on : Bool
+  pub fused : Bool
+
+-- nothing is marked
+abbrev pub no_marks : Marks
+no_marks = record { hands_on = false; fused = false }
+
 mutual
   -- a boolean or an object (Core 4.3); a boolean in Draft 4 too, by this project's own rule
   pub data Schema : Type 0 where
     -- `false`, with its keyword location (Core 4.3.2)
     false_schema : Pointer → Schema
-    -- an object, or `true`, which has no keywords: its keyword location, whether its `required` is handed on, and its
-    -- keywords
-    schema_object : Pointer → Bool → Keywords → Schema
+    -- an object, or `true`, which has no keywords: its keyword location, its marks and its keywords
+    schema_object : Pointer → Marks → Keywords → Schema
 
   -- keywords, each with its keyword location
   pub data Keywords : Type 0 where
@@ -85,13 +94,28 @@ mutual
 -- the schema's keyword location
 abbrev pub schema_location : Schema → Pointer
 schema_location (false_schema q) = q
-schema_location (schema_object q hands_on ks) = q
+schema_location (schema_object q marks ks) = q
+
+-- the schema's `type`, `minItems`, `maxItems` and `items` are checked together
+abbrev pub is_fused_schema : Schema → Bool
+is_fused_schema (false_schema q) = false
+is_fused_schema (schema_object q marks ks) = marks.fused
+
+-- the keywords of an object; `false` has none
+abbrev pub keywords_in : Schema → Keywords
+keywords_in (false_schema q) = no_keywords
+keywords_in (schema_object q marks ks) = ks
+
+-- keywords, and others behind them
+abbrev pub append_keywords : Keywords → Keywords → Keywords
+append_keywords no_keywords ks = ks
+append_keywords (keyword q k js) ks = keyword q k (append_keywords js ks)
 
 abbrev mutual
   -- the `required` of the schema or of a subschema is handed on to the keywords of objects
   pub hands_on_required : Schema → Bool
   hands_on_required (false_schema q) = false
-  hands_on_required (schema_object q hands_on ks) = hands_on || all_hand_on ks
+  hands_on_required (schema_object q marks ks) = marks.hands_on || all_hand_on ks
 
   -- the `required` of a subschema of some keyword is handed on
   pub all_hand_on : Keywords → Bool

@@ -1,5 +1,5 @@
 -- What a schema says, read from its `serde_json` value: its keywords one by one, or the first refusal.
-use Rattle.std.specs.Prelude.{ℕ, suc, List, [], ◌∷◌, Bool, true, false, not, ◌&&◌, codes, Option, Some, None, Result, Ok, if◌then◌else◌}
+use Rattle.std.specs.Prelude.{ℕ, suc, List, [], ◌∷◌, true, false, not, ◌&&◌, codes, Option, Some, None, Result, Ok, if◌then◌else◌}
 use Rattle.std.specs.Cmp.Lexicographic.{slice_cmp}
 use Rattle.std.specs.Option.{option_map_or}
 use Rattle.std.specs.Ordering.{nat_cmp, match_ordering}
@@ -12,12 +12,12 @@ use Rattle.jskw_value.specs.declared.types.JsonType.TheVariants.{Array, Boolean,
 use Rattle.jskw_report.specs.declared.settings.Draft.{Draft}
 use Rattle.jskw_report.specs.declared.settings.Vocabulary.TheVariants.{Validation}
 use Rattle.jskw_report.specs.KeywordValue.{Refusal, wrong, map_ok, join_ok, of_type, of_types, size_value, limit_value, divisor_value, type_value, required_value, const_value, enum_value}
-use Rattle.jskw_report.specs.Keyword.{Schema, false_schema, schema_object, Keywords, no_keywords, keyword, Keyword, assertion, contains, items_list, prefix_items, items_from, additional_items, Schemas, no_schemas, schema, Integers, by_value, as_written, type_is, size, constant, among, limit, multiple_of, unique, required, at_most, Bounds, Size, MinItems, MaxItems, MinProperties, MaxProperties, Relation, Minimum, Maximum, ExclusiveMinimum, ExclusiveMaximum}
+use Rattle.jskw_report.specs.Keyword.{Marks, no_marks, Schema, false_schema, schema_object, Keywords, no_keywords, keyword, Keyword, assertion, contains, items_list, prefix_items, items_from, additional_items, Schemas, no_schemas, schema, Integers, by_value, as_written, type_is, size, constant, among, limit, multiple_of, unique, required, at_most, Bounds, Size, MinItems, MaxItems, MinProperties, MaxProperties, Relation, Minimum, Maximum, ExclusiveMinimum, ExclusiveMaximum}
 use Rattle.jskw_report.specs.Kind.{TypeKind, types_of}
 use Rattle.jskw_report.specs.Setting.{Setting, has_vocabulary, stands, keywords, name_of, is_after_draft_4, is_after_draft_7, is_2020_12}
 use Rattle.jskw_report.specs.declared.keyword.KeywordName.{KeywordName}
 use Rattle.jskw_report.specs.declared.keyword.KeywordName.TheVariants as word
-use Rattle.jskw_report.specs.Sibling.{is_true, item_count, member_passes, is_bare, is_handed_on}
+use Rattle.jskw_report.specs.Sibling.{is_true, item_count, member_passes, is_bare, is_fused, is_handed_on}
 
 -- a schema, or its first refusal
 abbrev pub Reading : Type 0
@@ -202,16 +202,20 @@ abbrev pub read_words : List KeywordName → Setting → Pointer → Members →
 read_words [] s p ms parts = Ok no_keywords
 read_words (w ∷ ws) s p ms parts = before (keyword_location p w) (read_word w s p ms (parts (name_of w))) (read_words ws s p ms parts)
 
+-- what is marked of the schema of these members
+abbrev pub marks_of : Setting → Members → Marks
+marks_of s ms = record { hands_on = is_handed_on s ms; fused = is_fused s ms }
+
 -- the schema at p of these keywords
-abbrev pub whole : Pointer → Bool → Result Keywords Refusal → Reading
-whole p hands_on r = map_ok (schema_object p hands_on) r
+abbrev pub whole : Pointer → Marks → Result Keywords Refusal → Reading
+whole p marks r = map_ok (schema_object p marks) r
 
 abbrev mutual
   -- the schema d at p, a boolean (Core 4.3.2) or an object (Core 4.3.1)
   pub read : Data → Setting → Pointer → Reading
-  read (boolean true) s p = Ok (schema_object p false no_keywords)
+  read (boolean true) s p = Ok (schema_object p no_marks no_keywords)
   read (boolean false) s p = Ok (false_schema p)
-  read (object ms) s p = whole p (is_handed_on s ms) (read_words keywords s p ms (λ name. part_named name ms))
+  read (object ms) s p = whole p (marks_of s ms) (read_words keywords s p ms (λ name. part_named name ms))
   read d s p = wrong (of_types Boolean Object) p d
 
   -- the items of the array d at p, each as a schema

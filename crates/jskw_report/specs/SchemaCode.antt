@@ -6,7 +6,7 @@ use mathlib.Core.Logic.{inl, inr}
 use Rattle.serde_json.specs.Data.{Data, Items}
 use Rattle.jskw_value.specs.Pointer.{Pointer}
 use Rattle.jskw_report.specs.DataCode.{data_code, items_code}
-use Rattle.jskw_report.specs.Keyword.{by_value, as_written, MinItems, MaxItems, MinProperties, MaxProperties, Minimum, Maximum, ExclusiveMinimum, ExclusiveMaximum, Assertion, never, type_is, size, constant, among, limit, multiple_of, unique, required, at_most, Bounds, Schema, false_schema, schema_object, Keywords, no_keywords, keyword, Keyword, assertion, contains, items_list, prefix_items, items_from, additional_items, Schemas, no_schemas, schema}
+use Rattle.jskw_report.specs.Keyword.{by_value, as_written, MinItems, MaxItems, MinProperties, MaxProperties, Minimum, Maximum, ExclusiveMinimum, ExclusiveMaximum, Assertion, never, type_is, size, constant, among, limit, multiple_of, unique, required, at_most, Bounds, Marks, Schema, false_schema, schema_object, Keywords, no_keywords, keyword, Keyword, assertion, contains, items_list, prefix_items, items_from, additional_items, Schemas, no_schemas, schema}
 use Rattle.jskw_report.specs.declared.error.TypeKind.{TypeKind}
 use Rattle.jskw_report.specs.LabelTree.{LabelTree, leaf, fork, label_tree_code}
 use Rattle.jskw_report.specs.contracts.error.TypeKind as type_kind
@@ -66,23 +66,27 @@ bounds_code =
     (λ b. ((b.lower, b.upper), ((b.few, b.many), b.bounded)))
     (λ p. record { lower = p.0.0; upper = p.0.1; few = p.1.0.0; many = p.1.0.1; bounded = p.1.1 }) (λ _. refl)
 
--- what stands at a fork: a location, alone or with a boolean or an assertion; bounds; a boolean; or an index, with a
+-- the code of marks
+abbrev marks_code : Coded Marks
+marks_code = code_by _ (coded× coded_bool coded_bool) (λ m. (m.hands_on, m.fused)) (λ p. record { hands_on = p.0; fused = p.1 }) (λ _. refl)
+
+-- what stands at a fork: a location, alone or with marks or an assertion; bounds; a boolean; or an index, with a
 -- boolean or alone
 abbrev Label : Type 0
-Label = (Pointer ⊎ ((Pointer × Bool) ⊎ (Pointer × Assertion))) ⊎ ((Bounds ⊎ Bool) ⊎ ((ℕ × Bool) ⊎ ℕ))
+Label = (Pointer ⊎ ((Pointer × Marks) ⊎ (Pointer × Assertion))) ⊎ ((Bounds ⊎ Bool) ⊎ ((ℕ × Bool) ⊎ ℕ))
 
 -- its code
 abbrev label_code : Coded Label
 label_code =
     coded⊎ (coded⊎ (coded_list coded_ℕ)
-    (coded⊎ (coded× (coded_list coded_ℕ) coded_bool) (coded× (coded_list coded_ℕ) assertion_code)))
+    (coded⊎ (coded× (coded_list coded_ℕ) marks_code) (coded× (coded_list coded_ℕ) assertion_code)))
     (coded⊎ (coded⊎ bounds_code coded_bool) (coded⊎ (coded× coded_ℕ coded_bool) coded_ℕ))
 
 abbrev mutual
   -- the tree of the schema
   schema_tree : Schema → LabelTree Label
   schema_tree (false_schema q) = fork (inl (inl q)) leaf leaf
-  schema_tree (schema_object q hands_on ks) = fork (inl (inr (inl (q, hands_on)))) (keywords_tree ks) leaf
+  schema_tree (schema_object q marks ks) = fork (inl (inr (inl (q, marks)))) (keywords_tree ks) leaf
 
   -- the tree of the keywords, under their locations
   keywords_tree : Keywords → LabelTree Label
@@ -134,7 +138,7 @@ abbrev mutual
 mutual
   pub schema_back : (s : Schema) → schema_of (schema_tree s) ≡ s
   schema_back (false_schema q) = refl
-  schema_back (schema_object q hands_on ks) = ap (schema_object q hands_on) (keywords_back ks)
+  schema_back (schema_object q marks ks) = ap (schema_object q marks) (keywords_back ks)
 
   keywords_back : (ks : Keywords) → keywords_of (keywords_tree ks) ≡ ks
   keywords_back no_keywords = refl

@@ -87,6 +87,10 @@ is_size d = is_ok (size_value [] d)
 abbrev pub has_keyword : Setting → Members → KeywordName → (Data → Bool) → Bool
 has_keyword s ms w test = member_passes test (name_of w) ms && stands s w
 
+-- the keyword is absent, or stands and is a bound on a number of items
+abbrev pub takes_size : Setting → Members → KeywordName → Bool
+takes_size s ms w = is_absent (name_of w) ms || has_keyword s ms w is_size
+
 -- the other keywords of items, none of which may be there in any draft
 abbrev pub unfused_names : List (List ℕ)
 unfused_names = name_of word.PrefixItems ∷ name_of word.AdditionalItems ∷ name_of word.Contains ∷ codes "unevaluatedItems" ∷ name_of word.UniqueItems ∷ []
@@ -95,7 +99,7 @@ unfused_names = name_of word.PrefixItems ∷ name_of word.AdditionalItems ∷ na
 -- is no other keyword of items
 unfoldable pub is_fused : Setting → Members → Bool
 is_fused s ms = has_keyword s ms word.TypeKeyword (is_string (type_name Array)) && has_keyword s ms word.Items is_items_schema
-    && list_all (λ w. is_absent (name_of w) ms || has_keyword s ms w is_size) (word.MinItems ∷ word.MaxItems ∷ [])
+    && takes_size s ms word.MinItems && takes_size s ms word.MaxItems
     && list_all (λ name. is_absent name ms) unfused_names
 
 -- ---- what is handed on

@@ -1,23 +1,25 @@
-use Rattle.std.proofs.Common.{rules, ◌≡◌, List, ℕ, Option, Some, None, Ok, Err, true, false, drop, sym, ap, subst, suc, ◌+◌, ◌∙◌, arith}
-use Rattle.serde_json.proofs.Views.{view-Object}
-use Rattle.serde_json.specs.Data.{depth, items_depth, members_depth}
+use Rattle.std.proofs.Common.{rules, ◌≡◌, List, [], ◌∷◌, ℕ, Option, Some, None, Ok, Err, true, false, drop, sym, ap, subst, ◌+◌, ◌∙◌, arith}
+use Rattle.serde_json.specs.Data.{items_depth}
 use Rattle.serde_json.specs.Find.{get_member, as_array}
 use Rattle.serde_json.specs.View.{view, items_view, members_view}
 use Rattle.jskw_value.specs.Pointer.{item_location}
 use Rattle.jskw_report.proofs.Reading.{read_absent, read_not_standing, read_standing}
 use Rattle.jskw_report.specs.Compile.{Compiles, Makes, reading}
-use Rattle.jskw_report.specs.Keyword.{Schema, contains, items_from, schema_object}
+use Rattle.jskw_report.specs.Keyword.{Marks, Schema, append_keywords, contains, items_from, keyword, no_keywords, schema_object}
 use Rattle.jskw_report.specs.KeywordValue.{join_ok, map_ok}
 use Rattle.jskw_report.specs.Read.{Part, keyword_location, part_named, read, read_bounds, read_each, read_words, whole}
 use Rattle.jskw_report.specs.Setting.{keywords, name_of, stands}
-use Rattle.jskw_report.specs.Sibling.{is_handed_on}
+use Rattle.jskw_report.specs.Sibling.{is_items_schema}
 use Rattle.jskw_report.specs.declared.keyword.KeywordName.TheVariants as word
+use Rattle.jskw_array.specs.Fused.{absorbed_keywords, fused_words, shape_keywords}
 use Rattle.jskw_array.specs.Meaning.{any_bounds, schemas_of, validator_keyword}
-use Rattle.jskw_array.specs.Node.{boolean_schema, keywords_of}
+use Rattle.jskw_array.specs.Node.{boolean_schema}
+use Rattle.jskw_array.specs.Units.{keywords_of}
 use Rattle.jskw_array.specs.Siblings.{schema_count}
 use Rattle.jskw_array.proofs.Depths.{depth_array, item_depth, member_depth}
 use Rattle.jskw_array.proofs.EachSchema.{after as after_schemas, after_none as after_no_schemas, each_end, each_made, each_refused, schemas_in, schemas_of_more}
 use Rattle.jskw_array.proofs.Faults.{compiles_as, handed_on, refused_whole}
+use Rattle.jskw_array.proofs.FusedReading.{fused_items, fused_read, fused_refused_next, is_there, items_alone, items_reads, items_value}
 use Rattle.jskw_array.proofs.Readings.{additional_absent, additional_false, additional_of_schema, additional_true, bare_is_type, bare_stands, contains_of_schema, contains_read, items_bare, items_of_array, items_of_schema, items_silent, prefix_of_array, prefix_refused, read_boolean, view-Bool}
 use Rattle.jskw_array.proofs.Turns.{after_none, turn_end, turn_made, turn_refused, turn_silent}
 use Rattle.jskw_array.proofs.Units.{keywords_in, keywords_of_more}
@@ -33,20 +35,71 @@ compiler::compile-returns-in-Bool g t c =
     let place = c.in_ok-location.ensures ∙ c.location.ensures in
     ap (λ x. read x s p) (ap view c.in-Bool.is ∙ view-Bool c.in-Bool.accepts) ∙ read_boolean c.in-Bool.accepts s p ∙ ap Ok (sym (c.of_boolean.ensures ∙ ap (λ q. boolean_schema q c.in-Bool.accepts) place))
 
-pub compiler::compile-returns-in-Object : goal.compiler::compile-returns-in-Object
-compiler::compile-returns-in-Object g t c =
-    let s = c.args.ctx.now.setting in
-    let p = c.args.ctx.now.location in
-    let ms = members_view c.in-Object.parent.entries in
-    let d = ap view c.in-Object.is ∙ view-Object c.in-Object.parent in
-    let place = c.in_ok-location.ensures ∙ c.location.ensures in
-    let made = ap (λ r. whole p (is_handed_on s ms) r) c.in_ok-units-in-Object.ensures in
-    ap (λ x. read x s p) d ∙ made ∙ ap Ok (sym (c.of_keywords.ensures ∙ ap (λ q. schema_object q c.is_handed_on.result (keywords_of c.in_ok-units-in-Object.units.items)) place ∙ ap (λ b. schema_object p b (keywords_of c.in_ok-units-in-Object.units.items)) c.is_handed_on.ensures))
+-- ---- an object that has the fused shape
 
-pub compiler::compile-compile_keywords-requires : goal.compiler::compile-compile_keywords-requires
-compiler::compile-compile_keywords-requires g t c κs within =
-    let e : depth (view c.args.schema.now) ≡ suc (members_depth (members_view c.in-Object.parent.entries)) = ap (λ x. depth (view x)) c.in-Object.is ∙ ap depth (view-Object c.in-Object.parent) in
-    (omega (arith, e, c.decreases), search rules)
+pub compiler::compile_fused-unreachable-requires : goal.compiler::compile_fused-unreachable-requires
+compiler::compile_fused-unreachable-requires g t c =
+    let s = c.args.ctx.now.setting in
+    let ms = members_view c.args.parent.now.entries in
+    let lost : get_member (name_of word.Items) ms ≡ None = search (rules, c.as_str.ensures, c.in_default.ensures) in
+    is_there s ms word.Items is_items_schema (fused_items s ms c.requires.fused) lost
+
+pub compiler::compile_fused-compile-requires : goal.compiler::compile_fused-compile-requires
+compiler::compile_fused-compile-requires g t c κs within =
+    let ms = members_view c.args.parent.now.entries in
+    let found : get_member (name_of word.Items) ms ≡ Some (view c.in-Some.items.now) = search (rules, c.as_str.ensures, c.in-Some.ensures) in
+    let below = member_depth (name_of word.Items) ms (view c.in-Some.items.now) found in
+    (omega (arith, below, c.decreases), search (rules, found, c.requires.fused))
+
+pub compiler::compile_fused-returns : goal.compiler::compile_fused-returns
+compiler::compile_fused-returns g t c =
+    let p = c.args.ctx.now.location in
+    let ms = members_view c.args.parent.now.entries in
+    let us = keywords_of c.in_ok-units.units.items in
+    let marks : Marks = record { hands_on = c.args.hands_on; fused = true } in
+    let all = fused_read fused_words (drop 4 keywords) c.args.ctx.now.setting p ms (shape_keywords c.in_ok-shape.shape) us c.in_ok-shape.ensures c.in_ok-units.ensures in
+    ap (whole p marks) all
+    ∙ ap (λ v. Ok (schema_object p marks (append_keywords (shape_keywords v) us))) (sym c.in_ok-shape-2.ensures.ok)
+    ∙ ap (λ q. Ok (schema_object q marks (append_keywords (shape_keywords c.in_ok-shape-2.shape.value) us))) (sym c.requires.location)
+    ∙ ap Ok (sym c.of_keywords.ensures)
+
+pub items::array_shape::ArrayShapeValidator::compile-unreachable-requires : goal.items::array_shape::ArrayShapeValidator::compile-unreachable-requires
+items::array_shape::ArrayShapeValidator::compile-unreachable-requires g t c =
+    let keyword_of = validator_keyword {F = g.row.F.Denot} {N = g.row.F-Node.Denot} {O = g.row.F-Node-Number.Denot} {P = g.row.F-Node-PreparedKey.Denot} in
+    let spot = c.args.ctx.now in
+    let ms = members_view c.args.parent.now.entries in
+    let d = view c.args.items.now in
+    let none = subst (λ x. Compiles keyword_of x (reading word.Items spot ms d)) c.in_default.is c.compile-2.ensures in
+    subst (Compiles keyword_of None) (items_reads spot ms d c.requires.fused c.requires.items) none
+
+pub items::array_shape::ArrayShapeValidator::compile-returns-in_err-validator : goal.items::array_shape::ArrayShapeValidator::compile-returns-in_err-validator
+items::array_shape::ArrayShapeValidator::compile-returns-in_err-validator g t c =
+    let keyword_of = validator_keyword {F = g.row.F.Denot} {N = g.row.F-Node.Denot} {O = g.row.F-Node-Number.Denot} {P = g.row.F-Node-PreparedKey.Denot} in
+    let spot = c.args.ctx.now in
+    let ms = members_view c.args.parent.now.entries in
+    let d = view c.args.items.now in
+    let value = items_value spot.setting spot.location ms d in
+    let x = c.in_err-validator.field-0.0 in
+    let compiled = subst (Compiles keyword_of (Some c.in-Some.compiled)) (items_reads spot ms d c.requires.fused c.requires.items) c.in-Some.ensures in
+    let made = subst (λ r. Makes keyword_of r value) c.in_err-validator.was compiled in
+    handed_on keyword_of shape_keywords x _ value _ c.from_residual-in_err-validator.ensures.1 made
+    (λ e refused. fused_refused_next (word.TypeKeyword ∷ word.MinItems ∷ word.MaxItems ∷ []) (word.Items ∷ []) spot.setting spot.location ms (absorbed_keywords c.in_ok-absorbed.absorbed) e c.in_ok-absorbed.ensures
+    (items_alone spot ms d c.requires.fused c.requires.items ∙ ap (map_ok (λ k. keyword (keyword_location spot.location word.Items) k no_keywords)) refused))
+
+pub items::array_shape::ArrayShapeValidator::compile-returns : goal.items::array_shape::ArrayShapeValidator::compile-returns
+items::array_shape::ArrayShapeValidator::compile-returns g t c =
+    let keyword_of = validator_keyword {F = g.row.F.Denot} {N = g.row.F-Node.Denot} {O = g.row.F-Node-Number.Denot} {P = g.row.F-Node-PreparedKey.Denot} in
+    let spot = c.args.ctx.now in
+    let ms = members_view c.args.parent.now.entries in
+    let d = view c.args.items.now in
+    let value = items_value spot.setting spot.location ms d in
+    let absorbed = absorbed_keywords c.in_ok-absorbed.absorbed in
+    let k = keyword_of c.in_ok-validator.validator in
+    let compiled = subst (Compiles keyword_of (Some c.in-Some.compiled)) (items_reads spot ms d c.requires.fused c.requires.items) c.in-Some.ensures in
+    let made = subst (λ r. Makes keyword_of r value) c.in_ok-validator.was compiled in
+    fused_read (word.TypeKeyword ∷ word.MinItems ∷ word.MaxItems ∷ []) (word.Items ∷ []) spot.setting spot.location ms absorbed (keyword (keyword_location spot.location word.Items) k no_keywords) c.in_ok-absorbed.ensures
+    (items_alone spot ms d c.requires.fused c.requires.items ∙ ap (map_ok (λ k. keyword (keyword_location spot.location word.Items) k no_keywords)) made)
+    ∙ ap (λ q. Ok (append_keywords absorbed (keyword q k no_keywords))) (sym c.in_ok-location.ensures)
 
 -- ---- the keywords of an object
 
@@ -59,19 +112,20 @@ compiler::compile_keywords-loop-keyword-init g t c = rw c.new-units.ensures.item
 pub compiler::compile_keywords-loop-keyword-preserved : goal.compiler::compile_keywords-loop-keyword-preserved
 compiler::compile_keywords-loop-keyword-preserved g t c =
     let l = c.loop-keyword in
+    let ws = c.args.keywords.now in
     let s = c.args.ctx.now.setting in
     let p = c.args.ctx.now.location in
     let ms = members_view c.args.parent.now.entries in
     let parts : List ℕ → Option Part = λ name. part_named name ms in
     let done = keywords_of l.units.items in
-    let all = read_words keywords s p ms parts in
+    let all = read_words ws s p ms parts in
     let index = l.keyword-index in
     let keyword_of = validator_keyword {F = g.row.F.Denot} {N = g.row.F-Node.Denot} {O = g.row.F-Node-Number.Denot} {P = g.row.F-Node-PreparedKey.Denot} in
     elim c.match-compile_keyword.branch [
       | compiler::compile_keywords-in-None w ↦
-          rw w.units-is (turn_silent keyword_of done all s p ms parts keywords index word.TypeKeyword c.loop-keyword-test.true l.invariant w.in-None.ensures)
+          rw w.units-is (turn_silent keyword_of done all s p ms parts ws index word.TypeKeyword c.loop-keyword-test.true l.invariant w.in-None.ensures)
       | compiler::compile_keywords-in-Some-Ok+in_ok-location-in-Some-Ok+in_ok-push-in-Some-Ok w ↦
-          let turn = turn_made keyword_of done all s p ms parts keywords index word.TypeKeyword c.loop-keyword-test.true l.invariant _ _ w.in-Some-Ok.field-0-is w.in-Some-Ok.ensures in
+          let turn = turn_made keyword_of done all s p ms parts ws index word.TypeKeyword c.loop-keyword-test.true l.invariant _ _ w.in-Some-Ok.field-0-is w.in-Some-Ok.ensures in
           let location = w.in_ok-location-in-Some-Ok.ensures in
           rw (w.units-is, w.in_ok-push-in-Some-Ok.ensures.items, keywords_of_more, location) turn
     ]
@@ -79,16 +133,17 @@ compiler::compile_keywords-loop-keyword-preserved g t c =
 pub compiler::compile_keywords-returns : goal.compiler::compile_keywords-returns
 compiler::compile_keywords-returns g t c =
     let ms = members_view c.args.parent.now.entries in
-    turn_end (keywords_of c.loop-keyword.units.items) _ c.args.ctx.now.setting c.args.ctx.now.location ms (λ name. part_named name ms) keywords c.loop-keyword.keyword-index c.loop-keyword-test.false c.loop-keyword.invariant
+    turn_end (keywords_of c.loop-keyword.units.items) _ c.args.ctx.now.setting c.args.ctx.now.location ms (λ name. part_named name ms) c.args.keywords.now c.loop-keyword.keyword-index c.loop-keyword-test.false c.loop-keyword.invariant
 
 pub compiler::compile_keywords-returns-in-Some-Err : goal.compiler::compile_keywords-returns-in-Some-Err
 compiler::compile_keywords-returns-in-Some-Err g t c =
     let l = c.loop-keyword in
+    let ws = c.args.keywords.now in
     let s = c.args.ctx.now.setting in
     let p = c.args.ctx.now.location in
     let ms = members_view c.args.parent.now.entries in
     let parts : List ℕ → Option Part = λ name. part_named name ms in
-    turn_refused (validator_keyword {F = g.row.F.Denot} {N = g.row.F-Node.Denot} {O = g.row.F-Node-Number.Denot} {P = g.row.F-Node-PreparedKey.Denot}) (keywords_of l.units.items) (read_words keywords s p ms parts) s p ms parts keywords l.keyword-index word.TypeKeyword
+    turn_refused (validator_keyword {F = g.row.F.Denot} {N = g.row.F-Node.Denot} {O = g.row.F-Node-Number.Denot} {P = g.row.F-Node-PreparedKey.Denot}) (keywords_of l.units.items) (read_words ws s p ms parts) s p ms parts ws l.keyword-index word.TypeKeyword
     c.loop-keyword-test.true l.invariant (keywords_in {F = g.row.F.Denot} {N = g.row.F-Node.Denot} {O = g.row.F-Node-Number.Denot} {P = g.row.F-Node-PreparedKey.Denot}) _ _ c.in-Some-Err.field-0-is c.in-Some-Err.ensures
 
 -- ---- an array of schemas

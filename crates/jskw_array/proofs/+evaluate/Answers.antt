@@ -1,20 +1,24 @@
-use Rattle.std.proofs.Common.{rules, ◌≡◌, ◌∙◌, ◌+◌, ◌++◌, [], ◌∷◌, true, false, None, length, drop, ap, ap₂, sym, subst, IfOk, arith}
+use Rattle.std.proofs.Common.{rules, ◌≡◌, ◌∙◌, ◌++◌, [], ◌∷◌, true, false, None, ap, ap₂, sym, subst, refl, append_assoc, IfOk, arith}
 use Rattle.std.proofs.Math.Nat.{le_trans}
 use Rattle.std.proofs.lemmas.Grind.{common_steps}
 use Rattle.jskw_value.specs.Tree.{is_array, items}
+use Rattle.jskw_report.proofs.Appended.{units_appended}
 use Rattle.jskw_report.proofs.Gathering.{gathered_all, index_end, index_passed, index_taken, node_end, node_passed, node_taken}
 use Rattle.jskw_report.proofs.Valid.{tree_valid}
-use Rattle.jskw_report.specs.Applications.{pairs}
+use Rattle.jskw_report.specs.Applications.{all_pairs, pairs}
 use Rattle.jskw_report.specs.Evaluation.{is_valid, node_at, of_children, tree, unit, units}
 use Rattle.jskw_report.specs.EvaluationView.{result_of}
 use Rattle.jskw_report.specs.Fail.{fail}
 use Rattle.jskw_report.specs.Holds.{holds}
 use Rattle.jskw_report.specs.Keyword.{false_schema}
+use Rattle.jskw_report.specs.Observe.{CountsUpTo}
 use Rattle.jskw_report.specs.Paths.{path_of}
+use Rattle.jskw_array.specs.Fused.{absorbed_keywords, shape_keywords}
 use Rattle.jskw_array.specs.Limits.{matching_result}
 use Rattle.jskw_array.specs.Meaning.{validator_keyword}
-use Rattle.jskw_array.specs.Node.{schema_of}
-use Rattle.jskw_array.proofs.Keywords.{keywords_end, lower, one_pair, pairs_at, refused_tree, schema_pairs, schema_tree, unit_taken}
+use Rattle.jskw_array.specs.Node.{fused_keywords, schema_of}
+use Rattle.jskw_array.specs.Units.{keywords_of}
+use Rattle.jskw_array.proofs.Keywords.{items_keywords, keywords_end, lower_shape, lower_units, one_pair, pairs_at, refused_tree, schema_pairs, schema_tree, unit_height, unit_taken}
 use Rattle.jskw_array.proofs.Matching.{matching_is_unit}
 use Rattle.jskw_array.proofs.Meetings.{each_units_end, entered, height_at, prefix_is_unit, sum_at}
 use Rattle.jskw_array.proofs.+evaluate.Goals as goal
@@ -87,7 +91,173 @@ meeting::evaluate_matches-returns-clause-gives g t c =
     let is = ap₂ (λ is es. matching_result (is_array instance) is es) indices nodes ∙ matching_is_unit s c.args.schema_path.now instance p in
     subst (λ x. IfOk c.matching_unit.result (λ r. result_of r ≡ x)) is c.matching_unit.ensures
 
--- ---- the keywords of a node
+-- ---- the keywords
+
+pub unit::evaluate_units-evaluate-requires : goal.unit::evaluate_units-evaluate-requires
+unit::evaluate_units-evaluate-requires g t c κs within =
+    let below = unit_height c.args.units.now c.loop-unit.unit-index c.unit-item.result c.loop-unit-test.true c.unit-item.is in
+    (omega (arith, below, c.decreases), search rules)
+
+pub unit::evaluate_units-loop-unit-init : goal.unit::evaluate_units-loop-unit-init
+unit::evaluate_units-loop-unit-init g t c =
+    record {
+      gathered = refl;
+      location = refl;
+      counted_from = omega arith;
+      counted_to = omega arith;
+    }
+
+pub unit::evaluate_units-returns-in_err-result-clause-counted : goal.unit::evaluate_units-returns-in_err-result-clause-counted
+unit::evaluate_units-returns-in_err-result-clause-counted g t c =
+    let l = c.loop-unit in
+    let here = pairs_at c.args.units.now l.unit-index c.unit-item.result c.loop-unit-test.true c.unit-item.is (g.F.Node.Rooted.tree c.args.instance.now) in
+    let next = c.in_err-result.ensures.counted in
+    record { from = omega (arith, l.invariant.counted_from, next.from); to = omega (arith, here, l.invariant.counted_to, next.to) }
+
+pub unit::evaluate_units-returns-in_err-new-clause-counted : goal.unit::evaluate_units-returns-in_err-new-clause-counted
+unit::evaluate_units-returns-in_err-new-clause-counted g t c =
+    let l = c.loop-unit in
+    let here = pairs_at c.args.units.now l.unit-index c.unit-item.result c.loop-unit-test.true c.unit-item.is (g.F.Node.Rooted.tree c.args.instance.now) in
+    let next = c.in_ok-result.ensures.counted in
+    record { from = omega (arith, l.invariant.counted_from, next.from); to = omega (arith, here, l.invariant.counted_to, next.to) }
+
+pub unit::evaluate_units-returns-in_err-push-clause-location : goal.unit::evaluate_units-returns-in_err-push-clause-location
+unit::evaluate_units-returns-in_err-push-clause-location g t c =
+    c.in_ok-result.ensures.location ∙ c.loop-unit.invariant.location
+
+pub unit::evaluate_units-returns-in_err-push-clause-counted : goal.unit::evaluate_units-returns-in_err-push-clause-counted
+unit::evaluate_units-returns-in_err-push-clause-counted g t c =
+    let l = c.loop-unit in
+    let here = pairs_at c.args.units.now l.unit-index c.unit-item.result c.loop-unit-test.true c.unit-item.is (g.F.Node.Rooted.tree c.args.instance.now) in
+    let next = c.in_ok-result.ensures.counted in
+    record { from = omega (arith, l.invariant.counted_from, next.from); to = omega (arith, here, l.invariant.counted_to, next.to) }
+
+pub unit::evaluate_units-loop-unit-preserved : goal.unit::evaluate_units-loop-unit-preserved
+unit::evaluate_units-loop-unit-preserved g t c =
+    let l = c.loop-unit in
+    let instance = g.F.Node.Rooted.tree c.args.instance.now in
+    let p = path_of c.args.location.now in
+    let us = c.args.units.now in
+    let u = c.unit-item.result in
+    let k = validator_keyword u.validator in
+    let result = c.in_ok-result.ensures.gives ∙ ap (λ q. unit k instance (path_of q)) l.invariant.location in
+    let made = c.in_ok-new.ensures ∙ ap₂ (node_at u.location) c.requires.path result in
+    let more = c.in_ok-push.ensures.items ∙ ap (λ e. l.children.items ++ e ∷ []) made in
+    let cost = pairs_at us l.unit-index u c.loop-unit-test.true c.unit-item.is instance in
+    let next = c.in_ok-result.ensures.counted in
+    record {
+      gathered = unit_taken us l.unit-index u c.loop-unit-test.true c.unit-item.is instance p _ _ _ more l.invariant.gathered;
+      location = c.in_ok-result.ensures.location ∙ l.invariant.location;
+      counted_from = omega (arith, l.invariant.counted_from, next.from);
+      counted_to = omega (arith, cost, l.invariant.counted_to, next.to);
+    }
+
+pub unit::evaluate_units-returns-clause-gives : goal.unit::evaluate_units-returns-clause-gives
+unit::evaluate_units-returns-clause-gives g t c =
+    let l = c.loop-unit in
+    let instance = g.F.Node.Rooted.tree c.args.instance.now in
+    let p = path_of c.args.location.now in
+    gathered_all _ _ _ (ap (λ ks. units ks instance p) (keywords_end c.args.units.now l.unit-index c.loop-unit-test.false)) l.invariant.gathered
+
+-- ---- the fused shape
+
+pub items::array_shape::evaluate_shape-returns-in_err-push-clause-counted : goal.items::array_shape::evaluate_shape-returns-in_err-push-clause-counted
+items::array_shape::evaluate_shape-returns-in_err-push-clause-counted g t c =
+    let is = ap fused_keywords c.in-Some.is ∙ ap shape_keywords (sym c.deref-2.ensures) in
+    subst (λ ks. CountsUpTo c.args.ctx.now c.evaluate-2.new.ctx (all_pairs ks (g.F.Node.Rooted.tree c.args.instance.now))) (sym is) c.in_ok-result.ensures.counted
+
+pub items::array_shape::evaluate_shape-returns-clause-counted : goal.items::array_shape::evaluate_shape-returns-clause-counted
+items::array_shape::evaluate_shape-returns-clause-counted g t c =
+    let is = ap fused_keywords c.in-Some.is ∙ ap shape_keywords (sym c.deref-2.ensures) in
+    subst (λ ks. CountsUpTo c.args.ctx.now c.evaluate-2.new.ctx (all_pairs ks (g.F.Node.Rooted.tree c.args.instance.now))) (sym is) c.in_ok-result.ensures.counted
+
+pub items::array_shape::evaluate_shape-returns-clause-gives : goal.items::array_shape::evaluate_shape-returns-clause-gives
+items::array_shape::evaluate_shape-returns-clause-gives g t c =
+    let instance = g.F.Node.Rooted.tree c.args.instance.now in
+    let p = path_of c.args.location.now in
+    let v = c.in-Some.shape.value in
+    let old = c.args.children.now.items in
+    let others = units (absorbed_keywords v.absorbed) instance p in
+    let node = node_at v.items.location p (unit (validator_keyword v.items.validator) instance p) in
+    let before = c.in_ok-evaluate.ensures ∙ ap₂ (λ w q. old ++ units (absorbed_keywords w.absorbed) instance q) c.deref.ensures c.requires.path in
+    let result = c.in_ok-result.ensures.gives ∙ ap (λ w. unit (validator_keyword w.items.validator) instance p) c.deref-2.ensures in
+    let made = c.in_ok-new.ensures ∙ ap (λ w. node_at w.items.location c.args.path.now (result_of c.in_ok-result.result)) c.deref-3.ensures ∙ ap₂ (node_at v.items.location) c.requires.path result in
+    c.in_ok-push.ensures.items ∙ ap₂ (λ es e. es ++ e ∷ []) before made ∙ append_assoc old others (node ∷ [])
+    ∙ ap (λ es. old ++ es) (sym (units_appended instance p (absorbed_keywords v.absorbed) (items_keywords v)))
+    ∙ ap (λ ks. old ++ units ks instance p) (sym (ap fused_keywords c.in-Some.is))
+
+-- ---- a node
+
+pub node::SchemaNode::evaluate_instance_below-evaluate_shape-requires : goal.node::SchemaNode::evaluate_instance_below-evaluate_shape-requires
+node::SchemaNode::evaluate_instance_below-evaluate_shape-requires g t c κs within =
+    let n = c.self.inside in
+    let us = c.as_slice-units.result.now in
+    let below = lower_shape c.args.self.now n.location n.hands_on n.assertions c.in-Keywords.shape c.in-Keywords.units us (fused_keywords c.in-Keywords.shape) (sym c.self.view_is) c.in-Keywords.is c.as_slice-units.ensures.value refl in
+    (omega (arith, below, c.decreases), search (rules, c.in_ok-path.ensures))
+
+pub node::SchemaNode::evaluate_instance_below-evaluate_units-requires : goal.node::SchemaNode::evaluate_instance_below-evaluate_units-requires
+node::SchemaNode::evaluate_instance_below-evaluate_units-requires g t c κs within =
+    let n = c.self.inside in
+    let us = c.as_slice-units.result.now in
+    let below = lower_units c.args.self.now n.location n.hands_on n.assertions c.in-Keywords.shape c.in-Keywords.units us (fused_keywords c.in-Keywords.shape) (sym c.self.view_is) c.in-Keywords.is c.as_slice-units.ensures.value refl in
+    (omega (arith, below, c.decreases), search (rules, c.in_ok-path.ensures, c.in_ok-evaluate_shape-in-Keywords.ensures.location))
+
+pub node::SchemaNode::evaluate_instance_below-returns-in_err-evaluate_shape-in-Keywords-clause-applied : goal.node::SchemaNode::evaluate_instance_below-returns-in_err-evaluate_shape-in-Keywords-clause-applied
+node::SchemaNode::evaluate_instance_below-returns-in_err-evaluate_shape-in-Keywords-clause-applied g t c =
+    le_trans c.count_one.ensures.applied c.in_err-evaluate_shape-in-Keywords.ensures.counted.from
+
+pub node::SchemaNode::evaluate_instance_below-returns-in_err-evaluate_shape-in-Keywords-clause-counted : goal.node::SchemaNode::evaluate_instance_below-returns-in_err-evaluate_shape-in-Keywords-clause-counted
+node::SchemaNode::evaluate_instance_below-returns-in_err-evaluate_shape-in-Keywords-clause-counted g t c =
+    let instance = g.F.Node.Rooted.tree c.args.instance.now in
+    let n = c.self.inside in
+    let us = c.as_slice-units.result.now in
+    let whole = schema_pairs c.args.self.now n.location n.hands_on n.assertions c.in-Keywords.shape c.in-Keywords.units us (fused_keywords c.in-Keywords.shape) (sym c.self.view_is) c.in-Keywords.is c.as_slice-units.ensures.value refl instance in
+    let first = c.count_one.ensures.counted in
+    let next = c.in_err-evaluate_shape-in-Keywords.ensures.counted in
+    record { from = omega (arith, first.from, next.from); to = omega (arith, whole, first.to, next.to) }
+
+pub node::SchemaNode::evaluate_instance_below-returns-in_err-evaluate_units-in-Keywords-clause-applied : goal.node::SchemaNode::evaluate_instance_below-returns-in_err-evaluate_units-in-Keywords-clause-applied
+node::SchemaNode::evaluate_instance_below-returns-in_err-evaluate_units-in-Keywords-clause-applied g t c =
+    le_trans c.count_one.ensures.applied (le_trans c.in_ok-evaluate_shape-in-Keywords.ensures.counted.from c.in_err-evaluate_units-in-Keywords.ensures.counted.from)
+
+pub node::SchemaNode::evaluate_instance_below-returns-in_err-evaluate_units-in-Keywords-clause-counted : goal.node::SchemaNode::evaluate_instance_below-returns-in_err-evaluate_units-in-Keywords-clause-counted
+node::SchemaNode::evaluate_instance_below-returns-in_err-evaluate_units-in-Keywords-clause-counted g t c =
+    let instance = g.F.Node.Rooted.tree c.args.instance.now in
+    let n = c.self.inside in
+    let us = c.as_slice-units.result.now in
+    let whole = schema_pairs c.args.self.now n.location n.hands_on n.assertions c.in-Keywords.shape c.in-Keywords.units us (fused_keywords c.in-Keywords.shape) (sym c.self.view_is) c.in-Keywords.is c.as_slice-units.ensures.value refl instance in
+    let first = c.count_one.ensures.counted in
+    let next = c.in_ok-evaluate_shape-in-Keywords.ensures.counted in
+    let rest = c.in_err-evaluate_units-in-Keywords.ensures.counted in
+    record { from = omega (arith, first.from, next.from, rest.from); to = omega (arith, whole, first.to, next.to, rest.to) }
+
+pub node::SchemaNode::evaluate_instance_below-returns-clause-applied : goal.node::SchemaNode::evaluate_instance_below-returns-clause-applied
+node::SchemaNode::evaluate_instance_below-returns-clause-applied g t c =
+    le_trans c.count_one.ensures.applied (le_trans c.in_ok-evaluate_shape-in-Keywords.ensures.counted.from c.in_ok-evaluate_units-in-Keywords.ensures.counted.from)
+
+pub node::SchemaNode::evaluate_instance_below-returns-clause-counted : goal.node::SchemaNode::evaluate_instance_below-returns-clause-counted
+node::SchemaNode::evaluate_instance_below-returns-clause-counted g t c =
+    let instance = g.F.Node.Rooted.tree c.args.instance.now in
+    let n = c.self.inside in
+    let us = c.as_slice-units.result.now in
+    let whole = schema_pairs c.args.self.now n.location n.hands_on n.assertions c.in-Keywords.shape c.in-Keywords.units us (fused_keywords c.in-Keywords.shape) (sym c.self.view_is) c.in-Keywords.is c.as_slice-units.ensures.value refl instance in
+    let first = c.count_one.ensures.counted in
+    let next = c.in_ok-evaluate_shape-in-Keywords.ensures.counted in
+    let rest = c.in_ok-evaluate_units-in-Keywords.ensures.counted in
+    record { from = omega (arith, first.from, next.from, rest.from); to = omega (arith, whole, first.to, next.to, rest.to) }
+
+pub node::SchemaNode::evaluate_instance_below-returns-clause-gives : goal.node::SchemaNode::evaluate_instance_below-returns-clause-gives
+node::SchemaNode::evaluate_instance_below-returns-clause-gives g t c =
+    let instance = g.F.Node.Rooted.tree c.args.instance.now in
+    let p = path_of c.args.location.now in
+    let n = c.self.inside in
+    let us = c.as_slice-units.result.now in
+    let ks = fused_keywords c.in-Keywords.shape in
+    let whole = schema_tree c.args.self.now n.location n.hands_on n.assertions c.in-Keywords.shape c.in-Keywords.units us (fused_keywords c.in-Keywords.shape) (sym c.self.view_is) c.in-Keywords.is c.as_slice-units.ensures.value refl instance p in
+    let first = c.in_ok-evaluate_shape-in-Keywords.ensures.gives ∙ ap (λ es. es ++ units ks instance p) c.new-children.ensures.items in
+    let children = c.in_ok-evaluate_units-in-Keywords.ensures.gives ∙ ap₂ (λ es q. es ++ units (keywords_of us) instance (path_of q)) first c.in_ok-evaluate_shape-in-Keywords.ensures.location in
+    let result = c.from_children-result.ensures ∙ ap (of_children None) children in
+    subst (λ x. IfOk c.new-in-Keywords.result (λ node. node ≡ x)) (ap₂ (node_at n.location) c.in_ok-path.ensures result ∙ sym whole) c.new-in-Keywords.ensures
 
 pub node::SchemaNode::evaluate_instance_below-returns-in_err-path-clause-counted : goal.node::SchemaNode::evaluate_instance_below-returns-in_err-path-clause-counted
 node::SchemaNode::evaluate_instance_below-returns-in_err-path-clause-counted g t c =
@@ -105,123 +275,6 @@ node::SchemaNode::evaluate_instance_below-returns-in-Never-clause-gives g t c =
     let is = ap (λ q. node_at n.location q (result_of c.in_ok-result-in-Never.result)) c.in_ok-path.ensures ∙ ap (node_at n.location p) result
     ∙ refused_tree n.location instance p ∙ ap (λ s. tree s instance p) (sym schema) in
     subst (λ x. IfOk c.new.result (λ node. node ≡ x)) is c.new.ensures
-
-pub node::SchemaNode::evaluate_instance_below-evaluate-requires : goal.node::SchemaNode::evaluate_instance_below-evaluate-requires
-node::SchemaNode::evaluate_instance_below-evaluate-requires g t c κs within =
-    let n = c.self.inside in
-    let below = lower c.args.self.now n.location n.hands_on n.assertions c.in-Keywords.units c.deref-unit-items.result.now (sym c.self.view_is) c.in-Keywords.is c.deref-unit-items.ensures.value c.loop-unit.unit-index c.unit-item.result c.loop-unit-test.true c.unit-item.is in
-    (omega (arith, below, c.decreases), search rules)
-
-pub node::SchemaNode::evaluate_instance_below-returns-in_err-result-clause-applied : goal.node::SchemaNode::evaluate_instance_below-returns-in_err-result-clause-applied
-node::SchemaNode::evaluate_instance_below-returns-in_err-result-clause-applied g t c =
-    le_trans c.count_one.ensures.applied (le_trans c.loop-unit.invariant.counted_from c.in_err-result.ensures.counted.from)
-
-pub node::SchemaNode::evaluate_instance_below-returns-in_err-result-clause-counted : goal.node::SchemaNode::evaluate_instance_below-returns-in_err-result-clause-counted
-node::SchemaNode::evaluate_instance_below-returns-in_err-result-clause-counted g t c =
-    let l = c.loop-unit in
-    let n = c.self.inside in
-    let instance = g.F.Node.Rooted.tree c.args.instance.now in
-    let us = c.deref-unit-items.result.now in
-    let whole = schema_pairs c.args.self.now n.location n.hands_on n.assertions c.in-Keywords.units us (sym c.self.view_is) c.in-Keywords.is c.deref-unit-items.ensures.value instance in
-    let here = pairs_at us l.unit-index c.unit-item.result c.loop-unit-test.true c.unit-item.is instance in
-    let first = c.count_one.ensures.counted in
-    let next = c.in_err-result.ensures.counted in
-    record {
-      from = omega (arith, first.from, l.invariant.counted_from, next.from);
-      to = omega (arith, whole, here, first.to, l.invariant.counted_to, next.to);
-    }
-
-pub node::SchemaNode::evaluate_instance_below-returns-in_err-new-clause-applied : goal.node::SchemaNode::evaluate_instance_below-returns-in_err-new-clause-applied
-node::SchemaNode::evaluate_instance_below-returns-in_err-new-clause-applied g t c =
-    le_trans c.count_one.ensures.applied (le_trans c.loop-unit.invariant.counted_from c.in_ok-result.ensures.counted.from)
-
-pub node::SchemaNode::evaluate_instance_below-returns-in_err-new-clause-counted : goal.node::SchemaNode::evaluate_instance_below-returns-in_err-new-clause-counted
-node::SchemaNode::evaluate_instance_below-returns-in_err-new-clause-counted g t c =
-    let l = c.loop-unit in
-    let n = c.self.inside in
-    let instance = g.F.Node.Rooted.tree c.args.instance.now in
-    let us = c.deref-unit-items.result.now in
-    let whole = schema_pairs c.args.self.now n.location n.hands_on n.assertions c.in-Keywords.units us (sym c.self.view_is) c.in-Keywords.is c.deref-unit-items.ensures.value instance in
-    let here = pairs_at us l.unit-index c.unit-item.result c.loop-unit-test.true c.unit-item.is instance in
-    let first = c.count_one.ensures.counted in
-    let next = c.in_ok-result.ensures.counted in
-    record {
-      from = omega (arith, first.from, l.invariant.counted_from, next.from);
-      to = omega (arith, whole, here, first.to, l.invariant.counted_to, next.to);
-    }
-
-pub node::SchemaNode::evaluate_instance_below-returns-in_err-push-clause-location : goal.node::SchemaNode::evaluate_instance_below-returns-in_err-push-clause-location
-node::SchemaNode::evaluate_instance_below-returns-in_err-push-clause-location g t c =
-    c.in_ok-result.ensures.location ∙ c.loop-unit.invariant.location
-
-pub node::SchemaNode::evaluate_instance_below-returns-in_err-push-clause-applied : goal.node::SchemaNode::evaluate_instance_below-returns-in_err-push-clause-applied
-node::SchemaNode::evaluate_instance_below-returns-in_err-push-clause-applied g t c =
-    le_trans c.count_one.ensures.applied (le_trans c.loop-unit.invariant.counted_from c.in_ok-result.ensures.counted.from)
-
-pub node::SchemaNode::evaluate_instance_below-returns-in_err-push-clause-counted : goal.node::SchemaNode::evaluate_instance_below-returns-in_err-push-clause-counted
-node::SchemaNode::evaluate_instance_below-returns-in_err-push-clause-counted g t c =
-    let l = c.loop-unit in
-    let n = c.self.inside in
-    let instance = g.F.Node.Rooted.tree c.args.instance.now in
-    let us = c.deref-unit-items.result.now in
-    let whole = schema_pairs c.args.self.now n.location n.hands_on n.assertions c.in-Keywords.units us (sym c.self.view_is) c.in-Keywords.is c.deref-unit-items.ensures.value instance in
-    let here = pairs_at us l.unit-index c.unit-item.result c.loop-unit-test.true c.unit-item.is instance in
-    let first = c.count_one.ensures.counted in
-    let next = c.in_ok-result.ensures.counted in
-    record {
-      from = omega (arith, first.from, l.invariant.counted_from, next.from);
-      to = omega (arith, whole, here, first.to, l.invariant.counted_to, next.to);
-    }
-
-pub node::SchemaNode::evaluate_instance_below-loop-unit-preserved : goal.node::SchemaNode::evaluate_instance_below-loop-unit-preserved
-node::SchemaNode::evaluate_instance_below-loop-unit-preserved g t c =
-    let l = c.loop-unit in
-    let instance = g.F.Node.Rooted.tree c.args.instance.now in
-    let p = path_of c.args.location.now in
-    let us = c.deref-unit-items.result.now in
-    let u = c.unit-item.result in
-    let k = validator_keyword u.validator in
-    let result = c.in_ok-result.ensures.gives ∙ ap (λ q. unit k instance (path_of q)) l.invariant.location in
-    let made = c.in_ok-new.ensures ∙ ap₂ (node_at u.location) c.in_ok-path.ensures result in
-    let more = c.in_ok-push.ensures.items ∙ ap (λ e. l.children.items ++ e ∷ []) made in
-    let cost = pairs_at us l.unit-index u c.loop-unit-test.true c.unit-item.is instance in
-    let next = c.in_ok-result.ensures.counted in
-    record {
-      gathered = unit_taken us l.unit-index u c.loop-unit-test.true c.unit-item.is instance p _ _ _ more l.invariant.gathered;
-      location = c.in_ok-result.ensures.location ∙ l.invariant.location;
-      counted_from = omega (arith, l.invariant.counted_from, next.from);
-      counted_to = omega (arith, cost, l.invariant.counted_to, next.to);
-    }
-
-pub node::SchemaNode::evaluate_instance_below-returns-clause-gives : goal.node::SchemaNode::evaluate_instance_below-returns-clause-gives
-node::SchemaNode::evaluate_instance_below-returns-clause-gives g t c =
-    let l = c.loop-unit in
-    let n = c.self.inside in
-    let instance = g.F.Node.Rooted.tree c.args.instance.now in
-    let p = path_of c.args.location.now in
-    let us = c.deref-unit-items.result.now in
-    let whole = schema_tree c.args.self.now n.location n.hands_on n.assertions c.in-Keywords.units us (sym c.self.view_is) c.in-Keywords.is c.deref-unit-items.ensures.value instance p in
-    let children = gathered_all _ _ _ (ap (λ ks. units ks instance p) (keywords_end us l.unit-index c.loop-unit-test.false)) l.invariant.gathered in
-    let result = c.from_children-result.ensures ∙ ap (of_children None) children in
-    let is = ap₂ (node_at n.location) c.in_ok-path.ensures result ∙ sym whole in
-    subst (λ x. IfOk c.new-2.result (λ node. node ≡ x)) is c.new-2.ensures
-
-pub node::SchemaNode::evaluate_instance_below-returns-clause-applied : goal.node::SchemaNode::evaluate_instance_below-returns-clause-applied
-node::SchemaNode::evaluate_instance_below-returns-clause-applied g t c =
-    le_trans c.count_one.ensures.applied c.loop-unit.invariant.counted_from
-
-pub node::SchemaNode::evaluate_instance_below-returns-clause-counted : goal.node::SchemaNode::evaluate_instance_below-returns-clause-counted
-node::SchemaNode::evaluate_instance_below-returns-clause-counted g t c =
-    let l = c.loop-unit in
-    let n = c.self.inside in
-    let instance = g.F.Node.Rooted.tree c.args.instance.now in
-    let us = c.deref-unit-items.result.now in
-    let whole = schema_pairs c.args.self.now n.location n.hands_on n.assertions c.in-Keywords.units us (sym c.self.view_is) c.in-Keywords.is c.deref-unit-items.ensures.value instance in
-    let first = c.count_one.ensures.counted in
-    record {
-      from = omega (arith, first.from, l.invariant.counted_from);
-      to = omega (arith, whole, first.to, l.invariant.counted_to);
-    }
 
 -- ---- `prefixItems`
 

@@ -1,27 +1,37 @@
 use Rattle.std.proofs.Common.{◌≡◌, ◌+◌, ◌*◌, ◌≤◌, ◌++◌, min, length, drop, sum_by}
 use Rattle.jskw_value.specs.Tree.{items}
-use Rattle.jskw_report.specs.Applications.{pairs, each_pairs, all_pairs, height, each_height, keyword_height}
+use Rattle.jskw_report.specs.Applications.{pairs, each_pairs, all_pairs, height, all_height, each_height, keyword_height}
 use Rattle.jskw_report.specs.Evaluation.{evaluate_each, evaluate_matching, evaluate_pairs, matching_indices, tree, units}
 use Rattle.jskw_report.specs.Holds.{holds}
 use Rattle.jskw_report.specs.Paths.{path_of}
 use Rattle.jskw_array.specs.Meaning.{schemas_of, validator_keyword}
-use Rattle.jskw_array.specs.Node.{keywords_of}
+use Rattle.jskw_array.specs.Node.{fused_keywords}
+use Rattle.jskw_array.specs.Units.{keywords_of}
 use Rattle.jskw_array.proofs.+evaluate.Given as goal
 
 abbrev pub decreases-node::SchemaNode::evaluate_instance_below : goal.decreases-node::SchemaNode::evaluate_instance_below
-decreases-node::SchemaNode::evaluate_instance_below g l = 3 * height l.self.now
+decreases-node::SchemaNode::evaluate_instance_below g l = 5 * height l.self.now
+
+abbrev pub decreases-unit::evaluate_units : goal.decreases-unit::evaluate_units
+decreases-unit::evaluate_units g l = 5 * all_height (keywords_of l.units.now) + 3
+
+abbrev pub decreases-items::array_shape::ArrayShapeValidatorValidate::evaluate : goal.decreases-items::array_shape::ArrayShapeValidatorValidate::evaluate
+decreases-items::array_shape::ArrayShapeValidatorValidate::evaluate g l = 5 * keyword_height (validator_keyword l.self.now.items.validator) + 3
+
+abbrev pub decreases-items::array_shape::evaluate_shape : goal.decreases-items::array_shape::evaluate_shape
+decreases-items::array_shape::evaluate_shape g l = 5 * all_height (fused_keywords l.shape.now) + 4
 
 abbrev pub decreases-validator::ValidatorValidate::evaluate : goal.decreases-validator::ValidatorValidate::evaluate
-decreases-validator::ValidatorValidate::evaluate g l = 3 * keyword_height (validator_keyword l.self.now) + 2
+decreases-validator::ValidatorValidate::evaluate g l = 5 * keyword_height (validator_keyword l.self.now) + 2
 
 abbrev pub decreases-meeting::evaluate_each : goal.decreases-meeting::evaluate_each
-decreases-meeting::evaluate_each g l = 3 * each_height (schemas_of l.nodes.now) + 1
+decreases-meeting::evaluate_each g l = 5 * each_height (schemas_of l.nodes.now) + 1
 
 abbrev pub decreases-meeting::evaluate_rest : goal.decreases-meeting::evaluate_rest
-decreases-meeting::evaluate_rest g l = 3 * height l.node.now + 1
+decreases-meeting::evaluate_rest g l = 5 * height l.node.now + 1
 
 abbrev pub decreases-meeting::evaluate_matches : goal.decreases-meeting::evaluate_matches
-decreases-meeting::evaluate_matches g l = 3 * height l.node.now + 1
+decreases-meeting::evaluate_matches g l = 5 * height l.node.now + 1
 
 abbrev pub invariant-meeting::evaluate_each-loop-index : goal.invariant-meeting::evaluate_each-loop-index
 invariant-meeting::evaluate_each-loop-index g l =
@@ -60,13 +70,13 @@ invariant-meeting::evaluate_matches-loop-index g l =
       counted_to : l.ctx + sum_by (pairs l.node) (drop l.index ts) ≤ l.initial.ctx + sum_by (pairs l.node) ts;
     }
 
-abbrev pub invariant-node::SchemaNode::evaluate_instance_below-loop-unit : goal.invariant-node::SchemaNode::evaluate_instance_below-loop-unit
-invariant-node::SchemaNode::evaluate_instance_below-loop-unit g l =
+abbrev pub invariant-unit::evaluate_units-loop-unit : goal.invariant-unit::evaluate_units-loop-unit
+invariant-unit::evaluate_units-loop-unit g l =
     let t = g.F.Node.Rooted.tree l.instance in
     let p = path_of l.initial.location in
     record {
-      gathered : l.children.items ++ units (keywords_of (drop l.unit-index l.unit-items)) t p ≡ units (keywords_of l.unit-items) t p;
+      gathered : l.children.items ++ units (keywords_of (drop l.unit-index l.units)) t p ≡ l.initial.children.items ++ units (keywords_of l.units) t p;
       location : l.location ≡ l.initial.location;
       counted_from : l.initial.ctx ≤ l.ctx;
-      counted_to : l.ctx + all_pairs (keywords_of (drop l.unit-index l.unit-items)) t ≤ l.initial.ctx + all_pairs (keywords_of l.unit-items) t;
+      counted_to : l.ctx + all_pairs (keywords_of (drop l.unit-index l.units)) t ≤ l.initial.ctx + all_pairs (keywords_of l.units) t;
     }

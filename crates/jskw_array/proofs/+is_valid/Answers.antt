@@ -1,10 +1,13 @@
-use Rattle.std.proofs.Common.{rules, ◌≡◌, ◌∙◌, ◌+◌, true, ◌&&◌, if◌then◌else◌, drop, sym, ap, arith}
+use Rattle.std.proofs.Common.{rules, ◌≡◌, ◌∙◌, ◌+◌, true, false, refl, ◌&&◌, if◌then◌else◌, drop, sym, ap, arith}
 use Rattle.jskw_value.specs.Tree.{items}
-use Rattle.jskw_report.specs.Applications.{all_needed, keyword_needed}
+use Rattle.jskw_report.specs.Applications.{all_needed, keyword_needed, needed}
 use Rattle.jskw_report.specs.Holds.{all_hold, keyword_holds}
+use Rattle.jskw_report.specs.Keyword.{no_keywords}
+use Rattle.jskw_array.specs.Fused.{shape_keywords}
 use Rattle.jskw_array.specs.Meaning.{validator_keyword}
-use Rattle.jskw_array.specs.Node.{keywords_of}
-use Rattle.jskw_array.proofs.Keywords.{hold_at, keywords_end, lower, needed_at, schema_holds, schema_needs}
+use Rattle.jskw_array.specs.Node.{fused_keywords}
+use Rattle.jskw_array.specs.Units.{keywords_of}
+use Rattle.jskw_array.proofs.Keywords.{hold_at, items_height, lower_shape, lower_units, needed_at, schema_holds, schema_needs, unit_height}
 use Rattle.jskw_array.proofs.Meetings.{each_holds_end, height_at}
 use Rattle.jskw_array.proofs.+is_valid.Goals as goal
 
@@ -20,32 +23,18 @@ meeting::each_is_valid-returns-clause-answer g t c =
     let left = l.invariant.answer in
     cc
 
-pub node::SchemaNode::is_valid-is_valid-requires : goal.node::SchemaNode::is_valid-is_valid-requires
-node::SchemaNode::is_valid-is_valid-requires g t c κs within =
-    let n = c.self.inside in
-    let below = lower c.args.self.now n.location n.hands_on n.assertions c.in-Keywords.units c.deref-unit-items.result.now (sym c.self.view_is) c.in-Keywords.is c.deref-unit-items.ensures.value c.loop-unit.unit-index c.unit-item.result c.loop-unit-test.true c.unit-item.is in
+-- ---- the keywords
+
+pub unit::units_are_valid-is_valid-requires : goal.unit::units_are_valid-is_valid-requires
+unit::units_are_valid-is_valid-requires g t c κs within =
+    let below = unit_height c.args.units.now c.loop-unit.unit-index c.unit-item.result c.loop-unit-test.true c.unit-item.is in
     (omega (arith, below, c.decreases), search rules)
 
-pub node::SchemaNode::is_valid-returns-then-not-is_valid-clause-counted : goal.node::SchemaNode::is_valid-returns-then-not-is_valid-clause-counted
-node::SchemaNode::is_valid-returns-then-not-is_valid-clause-counted g t c =
-    let l = c.loop-unit in
-    let n = c.self.inside in
-    let instance = g.F.Node.Rooted.tree c.args.instance.now in
-    let us = c.deref-unit-items.result.now in
-    let whole = schema_needs c.args.self.now n.location n.hands_on n.assertions c.in-Keywords.units us (sym c.self.view_is) c.in-Keywords.is c.deref-unit-items.ensures.value instance in
-    let here = needed_at us l.unit-index c.unit-item.result c.loop-unit-test.true c.unit-item.is instance in
-    let first = c.count_one.ensures.counted in
-    let next = c.is_valid.ensures.counted in
-    record {
-      from = omega (arith, first.from, l.invariant.counted_from, next.from);
-      to = omega (arith, whole, here, first.to, l.invariant.counted_to, next.to);
-    }
-
-pub node::SchemaNode::is_valid-loop-unit-preserved : goal.node::SchemaNode::is_valid-loop-unit-preserved
-node::SchemaNode::is_valid-loop-unit-preserved g t c =
+pub unit::units_are_valid-loop-unit-preserved : goal.unit::units_are_valid-loop-unit-preserved
+unit::units_are_valid-loop-unit-preserved g t c =
     let l = c.loop-unit in
     let instance = g.F.Node.Rooted.tree c.args.instance.now in
-    let us = c.deref-unit-items.result.now in
+    let us = c.args.units.now in
     let u = c.unit-item.result in
     let k = validator_keyword u.validator in
     let answered = c.is_valid.ensures.answer in
@@ -61,24 +50,75 @@ node::SchemaNode::is_valid-loop-unit-preserved g t c =
       counted_to = omega (arith, left, l.invariant.counted_to, next.to);
     }
 
-pub node::SchemaNode::is_valid-returns-clause-answer : goal.node::SchemaNode::is_valid-returns-clause-answer
-node::SchemaNode::is_valid-returns-clause-answer g t c =
-    let l = c.loop-unit in
-    let n = c.self.inside in
-    let instance = g.F.Node.Rooted.tree c.args.instance.now in
-    let us = c.deref-unit-items.result.now in
-    let whole = schema_holds c.args.self.now n.location n.hands_on n.assertions c.in-Keywords.units us (sym c.self.view_is) c.in-Keywords.is c.deref-unit-items.ensures.value instance in
-    sym (whole ∙ l.invariant.answer ∙ ap (λ ks. all_hold ks instance) (keywords_end us l.unit-index (omega arith)))
+-- ---- a node
 
-pub node::SchemaNode::is_valid-returns-clause-counted : goal.node::SchemaNode::is_valid-returns-clause-counted
-node::SchemaNode::is_valid-returns-clause-counted g t c =
-    let l = c.loop-unit in
+pub node::SchemaNode::is_valid-is_valid-requires : goal.node::SchemaNode::is_valid-is_valid-requires
+node::SchemaNode::is_valid-is_valid-requires g t c κs within =
+    let n = c.self.inside in
+    let us = c.as_slice-units.result.now in
+    let v = c.deref.result.now in
+    let below = lower_shape c.args.self.now n.location n.hands_on n.assertions c.in-Keywords.shape c.in-Keywords.units us (shape_keywords v) (sym c.self.view_is) c.in-Keywords.is c.as_slice-units.ensures.value (ap fused_keywords c.in-Some.is ∙ ap shape_keywords (sym c.deref.ensures)) in
+    (omega (arith, below, items_height v, c.decreases), search rules)
+
+pub node::SchemaNode::is_valid-units_are_valid-requires-then-is_valid : goal.node::SchemaNode::is_valid-units_are_valid-requires-then-is_valid
+node::SchemaNode::is_valid-units_are_valid-requires-then-is_valid g t c κs within =
+    let n = c.self.inside in
+    let us = c.as_slice-units.result.now in
+    let below = lower_units c.args.self.now n.location n.hands_on n.assertions c.in-Keywords.shape c.in-Keywords.units us _ (sym c.self.view_is) c.in-Keywords.is c.as_slice-units.ensures.value refl in
+    (omega (arith, below, c.decreases), search rules)
+
+pub node::SchemaNode::is_valid-returns-in-None-clause-counted : goal.node::SchemaNode::is_valid-returns-in-None-clause-counted
+node::SchemaNode::is_valid-returns-in-None-clause-counted g t c =
     let n = c.self.inside in
     let instance = g.F.Node.Rooted.tree c.args.instance.now in
-    let us = c.deref-unit-items.result.now in
-    let whole = schema_needs c.args.self.now n.location n.hands_on n.assertions c.in-Keywords.units us (sym c.self.view_is) c.in-Keywords.is c.deref-unit-items.ensures.value instance in
+    let us = c.as_slice-units.result.now in
+    let whole = schema_needs c.args.self.now n.location n.hands_on n.assertions c.in-Keywords.shape c.in-Keywords.units us no_keywords (sym c.self.view_is) c.in-Keywords.is c.as_slice-units.ensures.value (ap fused_keywords c.in-None.is) instance in
     let first = c.count_one.ensures.counted in
-    record {
-      from = omega (arith, first.from, l.invariant.counted_from);
-      to = omega (arith, whole, first.to, l.invariant.counted_to);
-    }
+    let rest = c.units_are_valid.ensures.counted in
+    record { from = omega (arith, first.from, rest.from); to = omega (arith, whole, first.to, rest.to) }
+
+pub node::SchemaNode::is_valid-returns-then-is_valid-clause-answer : goal.node::SchemaNode::is_valid-returns-then-is_valid-clause-answer
+node::SchemaNode::is_valid-returns-then-is_valid-clause-answer g t c =
+    let n = c.self.inside in
+    let instance = g.F.Node.Rooted.tree c.args.instance.now in
+    let us = c.as_slice-units.result.now in
+    let v = c.deref.result.now in
+    let whole = schema_holds c.args.self.now n.location n.hands_on n.assertions c.in-Keywords.shape c.in-Keywords.units us (shape_keywords v) (sym c.self.view_is) c.in-Keywords.is c.as_slice-units.ensures.value (ap fused_keywords c.in-Some.is ∙ ap shape_keywords (sym c.deref.ensures)) instance in
+    let shape_holds : all_hold (shape_keywords v) instance ≡ true = sym c.is_valid.ensures.answer ∙ c.if-is_valid.true in
+    c.units_are_valid-then-is_valid.ensures.answer ∙ sym (whole ∙ ap (λ b. b && all_hold (keywords_of us) instance) shape_holds)
+
+pub node::SchemaNode::is_valid-returns-then-is_valid-clause-counted : goal.node::SchemaNode::is_valid-returns-then-is_valid-clause-counted
+node::SchemaNode::is_valid-returns-then-is_valid-clause-counted g t c =
+    let n = c.self.inside in
+    let instance = g.F.Node.Rooted.tree c.args.instance.now in
+    let us = c.as_slice-units.result.now in
+    let v = c.deref.result.now in
+    let shape_holds : all_hold (shape_keywords v) instance ≡ true = sym c.is_valid.ensures.answer ∙ c.if-is_valid.true in
+    let whole = schema_needs c.args.self.now n.location n.hands_on n.assertions c.in-Keywords.shape c.in-Keywords.units us (shape_keywords v) (sym c.self.view_is) c.in-Keywords.is c.as_slice-units.ensures.value (ap fused_keywords c.in-Some.is ∙ ap shape_keywords (sym c.deref.ensures)) instance in
+    let cost : needed c.args.self.now instance ≡ 1 + (all_needed (shape_keywords v) instance + all_needed (keywords_of us) instance) =
+    whole ∙ ap (λ b. 1 + (all_needed (shape_keywords v) instance + (if b then all_needed (keywords_of us) instance else 0))) shape_holds in
+    let first = c.count_one.ensures.counted in
+    let next = c.is_valid.ensures.counted in
+    let rest = c.units_are_valid-then-is_valid.ensures.counted in
+    record { from = omega (arith, first.from, next.from, rest.from); to = omega (arith, cost, first.to, next.to, rest.to) }
+
+pub node::SchemaNode::is_valid-returns-else-is_valid-clause-answer : goal.node::SchemaNode::is_valid-returns-else-is_valid-clause-answer
+node::SchemaNode::is_valid-returns-else-is_valid-clause-answer g t c =
+    let n = c.self.inside in
+    let instance = g.F.Node.Rooted.tree c.args.instance.now in
+    let us = c.as_slice-units.result.now in
+    let v = c.deref.result.now in
+    let whole = schema_holds c.args.self.now n.location n.hands_on n.assertions c.in-Keywords.shape c.in-Keywords.units us (shape_keywords v) (sym c.self.view_is) c.in-Keywords.is c.as_slice-units.ensures.value (ap fused_keywords c.in-Some.is ∙ ap shape_keywords (sym c.deref.ensures)) instance in
+    let fails : all_hold (shape_keywords v) instance ≡ false = sym c.is_valid.ensures.answer ∙ c.if-is_valid.false in
+    c.if-is_valid.false ∙ sym (whole ∙ ap (λ b. b && all_hold (keywords_of us) instance) fails)
+
+pub node::SchemaNode::is_valid-returns-else-is_valid-clause-counted : goal.node::SchemaNode::is_valid-returns-else-is_valid-clause-counted
+node::SchemaNode::is_valid-returns-else-is_valid-clause-counted g t c =
+    let n = c.self.inside in
+    let instance = g.F.Node.Rooted.tree c.args.instance.now in
+    let us = c.as_slice-units.result.now in
+    let v = c.deref.result.now in
+    let whole = schema_needs c.args.self.now n.location n.hands_on n.assertions c.in-Keywords.shape c.in-Keywords.units us (shape_keywords v) (sym c.self.view_is) c.in-Keywords.is c.as_slice-units.ensures.value (ap fused_keywords c.in-Some.is ∙ ap shape_keywords (sym c.deref.ensures)) instance in
+    let first = c.count_one.ensures.counted in
+    let next = c.is_valid.ensures.counted in
+    record { from = omega (arith, first.from, next.from); to = omega (arith, whole, first.to, next.to) }

@@ -1,4 +1,4 @@
-use Rattle.std.proofs.Common.{◌≡◌, ◌∙◌, false, ap, sym, subst, rules, IfOk}
+use Rattle.std.proofs.Common.{◌≡◌, ◌∙◌, ap, sym, subst, IfOk}
 use Rattle.jskw_report.specs.Evaluation.{unit}
 use Rattle.jskw_report.specs.EvaluationView.{result_of}
 use Rattle.jskw_report.specs.Keyword.{contains}

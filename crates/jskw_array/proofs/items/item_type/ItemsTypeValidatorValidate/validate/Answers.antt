@@ -1,4 +1,4 @@
-use Rattle.std.proofs.Common.{◌≡◌, ◌∙◌, ◌+◌, ◌++◌, Err, drop, sym, subst, arith}
+use Rattle.std.proofs.Common.{◌≡◌, ◌+◌, Err, drop, sym, subst, arith}
 use Rattle.jskw_value.specs.Pointer.{item_location}
 use Rattle.jskw_value.specs.Tree.{items}
 use Rattle.jskw_report.proofs.Appending.{first_before}
