@@ -1,5 +1,6 @@
 -- What a walk over a node's keywords has left at a keyword, and at the end.
-use Rattle.std.proofs.Common.{◌≡◌, ℕ, zero, suc, ◌+◌, ◌<◌, ◌≤◌, Box, Vec, Global, List, [], ◌∷◌, ◌++◌, length, get_or, drop, Bool, ◌&&◌, Option, None, refl, sym, if◌then◌else◌, ap, ◌∙◌, append_assoc, arith}
+use Rattle.std.proofs.Common.{◌≡◌, ℕ, zero, suc, ◌+◌, ◌<◌, ◌≤◌, Box, Vec, Global, List, [], ◌∷◌, ◌++◌, length, get_or, drop, max, Bool, true, false, ◌&&◌, Option, None, refl, sym, if◌then◌else◌, ap, ◌∙◌, append_assoc, arith}
+use Rattle.std.proofs.Math.Bool.{and-true}
 use Rattle.std.proofs.lemmas.List.{drop_all}
 use Rattle.jskw_value.specs.Pointer.{Pointer}
 use Rattle.jskw_value.specs.Tree.{Tree}
@@ -9,10 +10,10 @@ use Rattle.jskw_report.specs.Applications.{needed, pairs, all_needed, all_pairs,
 use Rattle.jskw_report.specs.Evaluation.{Evaluation, node_at, of_children, of_errors, tree, unit, units}
 use Rattle.jskw_report.specs.Fail.{all_fail, fail, keyword_fail}
 use Rattle.jskw_report.specs.Holds.{holds, all_hold, keyword_holds}
-use Rattle.jskw_report.specs.Keyword.{Schema, Keywords, false_schema, schema_object, append_keywords, keyword, no_keywords}
+use Rattle.jskw_report.specs.Keyword.{Schema, Keyword, Keywords, false_schema, schema_object, append_keywords, keyword, no_keywords}
 use Rattle.jskw_array.specs.Fused.{absorbed_keywords, shape_keywords}
 use Rattle.jskw_array.specs.Meaning.{validator_keyword}
-use Rattle.jskw_array.specs.Node.{fused_keywords, marked, schema_of}
+use Rattle.jskw_array.specs.Node.{OfOnly, fused_keywords, marked, schema_of}
 use Rattle.jskw_array.specs.Units.{keywords_of}
 use Rattle.jskw_array.specs.declared.items.array_shape.ArrayShapeValidator.{ArrayShapeValidator}
 use Rattle.jskw_array.specs.declared.node.Assertions.{Assertions}
@@ -79,7 +80,7 @@ module _ {F N O P : Type 0} (s : Schema) (q : Pointer) (hands_on : Bool) (a : As
   abbrev others : Keywords
   others = keywords_of us
 
-  schema_is : s ≡ schema_object q (marked hands_on shape) (append_keywords ks others)
+  pub schema_is : s ≡ schema_object q (marked hands_on shape) (append_keywords ks others)
   schema_is = view_is ∙ ap (schema_of q hands_on) is ∙ ap (λ xs. schema_object q (marked hands_on shape) (append_keywords (fused_keywords shape) (keywords_of xs))) (sym are)
       ∙ ap (λ js. schema_object q (marked hands_on shape) (append_keywords js others)) fused
 
@@ -122,3 +123,27 @@ one_pair (schema_object q hands_on ks) t = omega arith
 pub refused_tree : (q : Pointer) (t : Tree) (p : Pointer) → node_at q p (of_errors (fail (false_schema q) t p)) ≡ tree (false_schema q) t p
 unfolding of_errors
 refused_tree q t p = refl
+
+-- ---- a schema of one keyword
+
+-- a node has it where it has one unit
+pub only_unit : {F N O P : Type 0} (us : List (declared.Unit F N O P)) (u : declared.Unit F N O P) → 1 ≤ length us → length us < 2 → u ≡ get_or us 0 u
+    → keywords_of us ≡ keyword u.location (validator_keyword u.validator) no_keywords
+only_unit [] u one few is = absurd (omega arith)
+only_unit (v ∷ []) u one few is = ap (λ r. keyword r.location (validator_keyword r.validator) no_keywords) (sym is)
+only_unit (v ∷ w ∷ us) u one few is = absurd (omega arith)
+
+-- it asks that and nothing else
+pub only_holds : (k : Keyword) (s : Schema) → OfOnly k s → (t : Tree) → holds s t ≡ keyword_holds k t
+only_holds k s (q, marks, at, is) t = ap (λ r. holds r t) is ∙ and-true (keyword_holds k t)
+
+pub only_needs : (k : Keyword) (s : Schema) → OfOnly k s → (t : Tree) → needed s t ≡ 1 + keyword_needed k t
+only_needs k s (q, marks, at, is) t = ap (λ r. needed r t) is ∙ ap (λ n. 1 + n) (nothing_behind (keyword_holds k t))
+  where
+    nothing_behind : (b : Bool) → keyword_needed k t + (if b then 0 else 0) ≡ keyword_needed k t
+    nothing_behind true = omega arith
+    nothing_behind false = omega arith
+
+-- the keyword is lower
+pub only_lower : (k : Keyword) (s : Schema) → OfOnly k s → keyword_height k < height s
+only_lower k s (q, marks, at, is) = let e : height s ≡ 1 + max (keyword_height k) 0 = ap height is in omega (arith, e)

@@ -1,8 +1,8 @@
 -- The schema that a node stands for.
-use Rattle.std.specs.Prelude.{Option, Some, None, Bool, true, false, is_some, Box}
+use Rattle.std.specs.Prelude.{◌≡◌, Option, Some, None, Bool, true, false, is_some, Box}
 use Rattle.std.specs.Global.{Global}
 use Rattle.jskw_value.specs.Pointer.{Pointer}
-use Rattle.jskw_report.specs.Keyword.{Schema, false_schema, schema_object, Marks, no_marks, Keywords, no_keywords, append_keywords}
+use Rattle.jskw_report.specs.Keyword.{Schema, false_schema, schema_object, Marks, no_marks, Keyword, Keywords, no_keywords, keyword, append_keywords}
 use Rattle.jskw_array.specs.Fused.{shape_keywords}
 use Rattle.jskw_array.specs.Units.{keywords_of}
 use Rattle.jskw_array.specs.declared.items.array_shape.ArrayShapeValidator.{ArrayShapeValidator}
@@ -29,3 +29,7 @@ schema_of q hands_on (TheKeywords shape us) = schema_object q (marked hands_on s
 abbrev pub boolean_schema : Pointer → Bool → Schema
 boolean_schema q true = schema_object q no_marks no_keywords
 boolean_schema q false = false_schema q
+
+-- a schema of this keyword alone
+abbrev pub OfOnly : Keyword → Schema → Type 0
+OfOnly k s = (q : Pointer) × (marks : Marks) × (at : Pointer) × (s ≡ schema_object q marks (keyword at k no_keywords))

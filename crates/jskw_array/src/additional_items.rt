@@ -38,7 +38,8 @@ impl<F: Json> Validate<F> for AdditionalItemsObjectValidator<F> {
     ghost meaning = { λ v. one (additional_items v) };
 
     fn is_valid(&self, instance: &F::Node, ctx: &mut ValidationContext) -> bool {
-        rest_is_valid(self.items_count, &self.node, instance, ctx)
+        let count = instance.item_count();
+        rest_is_valid(self.items_count, count, &self.node, instance, ctx)
     }
 
     fn validate<'i>(

@@ -150,6 +150,8 @@ fn compile_keywords<'a, F: Json>(
             Some(Err(fault)) => return Err(fault),
         }
     }
+    // a validator takes some hundred bytes, and a vector grows by more than one
+    units.shrink_to_fit();
     Ok(units)
 }
 
@@ -237,7 +239,7 @@ fn compile_each<'a, F: Json>(
     ensures { Makes (λ nodes. schemas_of nodes.items) result
         (read_each (items_view schemas.now) ctx.now.setting ctx.now.location 0) }
 {
-    let mut nodes = Vec::new(alloc);
+    let mut nodes = Vec::with_capacity(alloc, schemas.len())?;
     for index in 0..schemas.len() {
         let item = ctx.new_at_location(alloc, LocationSegment::Index(index))?;
         nodes.push(compile(alloc, &item, &schemas[index])?)?;

@@ -100,7 +100,7 @@ impl<F: Json> Validate<F> for ItemsObjectValidator<F> {
     ghost meaning = { λ v. one (items_object v) };
 
     fn is_valid(&self, instance: &F::Node, ctx: &mut ValidationContext) -> bool {
-        rest_is_valid(0, &self.node, instance, ctx)
+        rest_is_valid(0, instance.item_count(), &self.node, instance, ctx)
     }
 
     fn validate<'i>(
@@ -146,7 +146,8 @@ impl<F: Json> Validate<F> for ItemsObjectSkipPrefixValidator<F> {
     ghost meaning = { λ v. one (items_skip_prefix v) };
 
     fn is_valid(&self, instance: &F::Node, ctx: &mut ValidationContext) -> bool {
-        rest_is_valid(self.skip_prefix, &self.node, instance, ctx)
+        let count = instance.item_count();
+        rest_is_valid(self.skip_prefix, count, &self.node, instance, ctx)
     }
 
     fn validate<'i>(

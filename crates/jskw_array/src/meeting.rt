@@ -1,6 +1,6 @@
 //! How subschemas meet the items of an instance: the one place that goes down into items. What is
 //! no array has none.
-ghost use Rattle.std.specs.Prelude.{◌≡◌, IfOk, IsTrue, drop, sum_by};
+ghost use Rattle.std.specs.Prelude.{◌≡◌, IfOk, IsTrue, drop, length, sum_by};
 ghost use Rattle.std.specs.List.{list_all};
 ghost use Rattle.jskw_value.specs.Tree.{is_array, is_lawful, items};
 ghost use Rattle.jskw_report.specs.Applications.{each_needed, each_pairs, needed, pairs};
@@ -127,21 +127,23 @@ pub(crate) fn evaluate_each<F: Json>(
 
 // ---- one schema for the items from an index on
 
-// Whether the schema holds of every item from `start` on.
+// Whether the schema holds of every item from `start` on, where there are so many in all.
 #[cycle(is_valid)]
 pub(crate) fn rest_is_valid<F: Json>(
     start: usize,
+    count: usize,
     node: &SchemaNode<F>,
     instance: &F::Node,
     ctx: &mut ValidationContext,
 ) -> bool
-    requires { IsTrue (is_lawful (F.Node.tree instance.now)) }
+    requires lawful { IsTrue (is_lawful (F.Node.tree instance.now)) }
+    requires count { count ≡ length (items (F.Node.tree instance.now)) }
     ensures answer { result
         ≡ list_all (holds node.now) (drop start (items (F.Node.tree instance.now))) }
     ensures counted { CountsUpTo ctx.old ctx.new (sum_to_failure (holds node.now) (needed node.now)
         (drop start (items (F.Node.tree instance.now)))) }
 {
-    for index in start..instance.item_count() {
+    for index in start..count {
         if !node.is_valid(instance.item(index), ctx) {
             return false;
         }

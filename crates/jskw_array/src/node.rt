@@ -12,8 +12,8 @@ ghost use Rattle.jskw_report.specs.Keyword.{hands_on_required, schema_location, 
 ghost use Rattle.jskw_report.specs.Observe.{Appends, CountsUpTo, IsFirst};
 ghost use Rattle.jskw_report.specs.Paths.{path_of};
 ghost use Rattle.jskw_array.specs.Fused.{Begins, shape_keywords};
-ghost use Rattle.jskw_array.specs.Meaning.{schemas_of};
-ghost use Rattle.jskw_array.specs.Node.{boolean_schema, fused_keywords, marked};
+ghost use Rattle.jskw_array.specs.Meaning.{schemas_of, validator_keyword};
+ghost use Rattle.jskw_array.specs.Node.{OfOnly, boolean_schema, fused_keywords, marked};
 ghost use Rattle.jskw_array.specs.Units.{keywords_of};
 
 use crate::items::ArrayShapeValidator;
@@ -21,6 +21,7 @@ use crate::items::array_shape::evaluate_shape;
 use crate::unit::{
     Unit, collect_units, evaluate_units, some_unit_hands_on, units_are_valid, validate_units,
 };
+use crate::validator::Validator;
 use jskw_report::validator::{append_first, evaluate_first, fail_unless};
 use jskw_report::{
     EvaluationNode, EvaluationResult, Fault, LazyLocation, Location, Validate, ValidationContext,
@@ -162,6 +163,20 @@ impl<F: Json> SchemaNode<F> {
         }
     }
 
+    // The validator of a schema's only keyword, None where there are others. Who asks it has
+    // applied this node, and counts that.
+    fn single_validator(&self) -> Option<&Validator<F>>
+        ensures { IfSome result (λ v. OfOnly (validator_keyword v.now) self.now) }
+    {
+        let Assertions::Keywords { shape, units } = &self.assertions else {
+            return None;
+        };
+        match (shape, units.as_slice()) {
+            (None, [unit]) => Some(&unit.validator),
+            _ => None,
+        }
+    }
+
     /// Whether the schema holds of the instance. It takes no memory, and looks no further than the
     /// first failure.
     #[cycle(is_valid)]
@@ -172,6 +187,9 @@ impl<F: Json> SchemaNode<F> {
         ensures counted { CountsUpTo ctx.old ctx.new (needed self.now (F.Node.tree instance.now)) }
     {
         ctx.count_one();
+        if let Some(validator) = self.single_validator() {
+            return validator.is_valid(instance, ctx);
+        }
         let Assertions::Keywords { shape, units } = &self.assertions else {
             return false;
         };

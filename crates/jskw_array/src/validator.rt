@@ -1,7 +1,11 @@
 //! The validators of all keywords, as one type.
-ghost use Rattle.std.specs.Prelude.{◌≡◌};
+ghost use Rattle.std.specs.Prelude.{◌≡◌, IsTrue, length};
+ghost use Rattle.jskw_value.specs.Tree.{is_lawful, items};
+ghost use Rattle.jskw_report.specs.Applications.{keyword_needed};
+ghost use Rattle.jskw_report.specs.Holds.{keyword_holds};
 ghost use Rattle.jskw_report.specs.Keyword.{keyword_hands_on};
 ghost use Rattle.jskw_report.specs.Meaning.{one};
+ghost use Rattle.jskw_report.specs.Observe.{CountsUpTo};
 ghost use Rattle.jskw_array.specs.Meaning.{validator_keyword};
 
 use crate::additional_items::{AdditionalItemsBooleanValidator, AdditionalItemsObjectValidator};
@@ -25,7 +29,7 @@ use jskw_leaf::LeafValidator;
 use jskw_report::{
     EvaluationResult, Fault, LazyLocation, Validate, ValidationContext, ValidationError,
 };
-use jskw_value::Json;
+use jskw_value::{Json, Node};
 use std::alloc::{AllocError, Global};
 
 /// A validator of one keyword, over the representation `F`.
@@ -115,7 +119,7 @@ impl<F: Json> Validate<F> for Validator<F> {
         by_meeting!(self;
             leaf => Validate::<F>::is_valid(leaf, instance, ctx);
             nodes => each_is_valid(nodes, instance, ctx);
-            start, node => rest_is_valid(start, node, instance, ctx);
+            start, node => rest_is_valid(start, instance.item_count(), node, instance, ctx);
             limits, node => contains_fault(node, limits, instance, ctx).is_none()
         )
     }
@@ -211,6 +215,32 @@ impl<F: Json> Validate<F> for Validator<F> {
 }
 
 impl<F: Json> Validator<F> {
+    // What `is_valid` answers of an array of so many items. `items` does not count them again.
+    #[cycle(is_valid)]
+    pub(crate) fn holds_of(
+        &self,
+        count: usize,
+        instance: &F::Node,
+        ctx: &mut ValidationContext,
+    ) -> bool
+        requires lawful { IsTrue (is_lawful (F.Node.tree instance.now)) }
+        requires count { count ≡ length (items (F.Node.tree instance.now)) }
+        ensures answer { result
+            ≡ keyword_holds (validator_keyword self.now) (F.Node.tree instance.now) }
+        ensures counted { CountsUpTo ctx.old ctx.new
+            (keyword_needed (validator_keyword self.now) (F.Node.tree instance.now)) }
+    {
+        match self {
+            Validator::ItemsNumber(v) => v.holds_of(count, instance),
+            Validator::ItemsString(v) => v.holds_of(count, instance),
+            Validator::ItemsBoolean(v) => v.holds_of(count, instance),
+            Validator::ItemsInteger(v) => v.holds_of(count, instance),
+            Validator::ItemsIntegerDraft4(v) => v.holds_of(count, instance),
+            Validator::ItemsObject(v) => rest_is_valid(0, count, &v.node, instance, ctx),
+            _ => self.is_valid(instance, ctx),
+        }
+    }
+
     // Whether the `required` of a subschema is handed on.
     pub(crate) fn hands_on_required(&self) -> bool
         ensures { result ≡ keyword_hands_on (validator_keyword self.now) }

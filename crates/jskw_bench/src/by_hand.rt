@@ -42,6 +42,61 @@ pub(crate) fn matrix(value: &Value) -> bool {
     true
 }
 
+/// Whether a value is an array of arrays of arrays of integers.
+pub(crate) fn cube(value: &Value) -> bool {
+    let Value::Array(layers) = value else {
+        return false;
+    };
+    for layer in layers {
+        if !matrix(layer) {
+            return false;
+        }
+    }
+    true
+}
+
+// so many items an array has in the schemas with bounds
+const FEWEST: usize = 1;
+
+const MOST: usize = 10_000;
+
+// Whether an array has neither too few items nor too many.
+fn is_bounded(items: &[Value]) -> bool {
+    FEWEST <= items.len() && items.len() <= MOST
+}
+
+/// Whether a value is an array of integers, neither too few nor too many.
+pub(crate) fn bounded_integers(value: &Value) -> bool {
+    match value {
+        Value::Array(items) => is_bounded(items) && integers(value),
+        _ => false,
+    }
+}
+
+/// Whether a value is an array of strings, neither too few nor too many.
+pub(crate) fn bounded_strings(value: &Value) -> bool {
+    match value {
+        Value::Array(items) => is_bounded(items) && strings(value),
+        _ => false,
+    }
+}
+
+/// Whether a value is an array of arrays of integers, of all of them neither too few nor too many.
+pub(crate) fn bounded_matrix(value: &Value) -> bool {
+    let Value::Array(rows) = value else {
+        return false;
+    };
+    if !is_bounded(rows) {
+        return false;
+    }
+    for row in rows {
+        if !bounded_integers(row) {
+            return false;
+        }
+    }
+    true
+}
+
 /// Whether a value is an array of tuples.
 pub(crate) fn tuples(value: &Value) -> bool {
     let Value::Array(items) = value else {

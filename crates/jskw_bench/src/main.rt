@@ -1,20 +1,22 @@
 //! Times schemas over the values of `serde_json`. A line `check` has the answers of the cases behind
-//! it printed, and a line `time` the nanoseconds of a compile and of a call of `is_valid` too. Each
-//! other line is a case: its name, a schema and an instance, with a tab between each two. The name
-//! of a loop written by hand may follow, which makes the tests of the schema; then it has to answer
-//! as the schema does, and its nanoseconds are printed last.
+//! it printed, and a line `time` the nanoseconds of a compile and of a call of `is_valid` too. At a
+//! line `sizes` it prints how many bytes values take. Each other line is a case: its name, a schema
+//! and an instance, with a tab between each two. The name of a loop written by hand may follow,
+//! which makes the tests of the schema; then it has to answer as the schema does, and its
+//! nanoseconds are printed last.
 #![tactic(auto)]
 
 mod by_hand;
 mod timing;
 
-use jskw_array::SchemaNode;
 use jskw_array::compiler::compile;
-use jskw_report::{Context, Draft, Settings, ValidationContext, VocabularySet};
+use jskw_array::{SchemaNode, Validator};
+use jskw_report::{Context, Draft, Location, Settings, ValidationContext, VocabularySet};
 use jskw_value::SerdeJson;
 use serde_json::Value;
 use std::alloc::Global;
 use std::io;
+use std::mem::size_of;
 use timing::{Instance, Timing, fastest, instances, time_test};
 
 // for so many nanoseconds a call is repeated each time
@@ -66,6 +68,17 @@ fn time_by_hand(
         "integers" => time_test(rt, span, instances, |i| by_hand::integers(&i.value))?,
         "strings" => time_test(rt, span, instances, |i| by_hand::strings(&i.value))?,
         "matrix" => time_test(rt, span, instances, |i| by_hand::matrix(&i.value))?,
+        "cube" => time_test(rt, span, instances, |i| by_hand::cube(&i.value))?,
+        "bounded integers" => {
+            time_test(rt, span, instances, |i| by_hand::bounded_integers(&i.value))?
+        }
+        "bounded strings" => time_test(
+            rt,
+            span,
+            instances,
+            |i| by_hand::bounded_strings(&i.value),
+        )?,
+        "bounded matrix" => time_test(rt, span, instances, |i| by_hand::bounded_matrix(&i.value))?,
         "tuples" => time_test(rt, span, instances, |i| by_hand::tuples(&i.value))?,
         "objects" => time_test(rt, span, instances, |i| by_hand::objects(&i.value))?,
         "unique" => time_test(rt, span, instances, |i| by_hand::unique(&i.value))?,
@@ -92,6 +105,15 @@ fn word(is_valid: &Timing, by_hand: Option<&Timing>) -> &'static str {
 fn print_nanoseconds(rt: &HostRuntime, timing: &Timing) -> io::Result<()> {
     let picoseconds = timing.picoseconds();
     print!(rt; "\t{}.{:03}", picoseconds / 1000, picoseconds % 1000)
+}
+
+// Prints how many bytes a schema node, a keyword's validator and a location take, what they own not
+// counted.
+fn print_sizes(rt: &HostRuntime) -> io::Result<()> {
+    let node = size_of::<SchemaNode<SerdeJson>>();
+    let validator = size_of::<Validator<SerdeJson>>();
+    let location = size_of::<Location>();
+    println!(rt; "sizes\t{node}\t{validator}\t{location}")
 }
 
 fn run_case(rt: &HostRuntime, settings: &Settings, line: &str, is_timed: bool) -> io::Result<()> {
@@ -136,6 +158,7 @@ fn main(rt: HostRuntime) -> io::Result<()> {
         match line.as_str() {
             "check" => is_timed = false,
             "time" => is_timed = true,
+            "sizes" => print_sizes(&rt)?,
             case => run_case(&rt, &settings, case, is_timed)?,
         }
     }

@@ -133,7 +133,8 @@ compiler::compile_keywords-loop-keyword-preserved g t c =
 pub compiler::compile_keywords-returns : goal.compiler::compile_keywords-returns
 compiler::compile_keywords-returns g t c =
     let ms = members_view c.args.parent.now.entries in
-    turn_end (keywords_of c.loop-keyword.units.items) _ c.args.ctx.now.setting c.args.ctx.now.location ms (λ name. part_named name ms) c.args.keywords.now c.loop-keyword.keyword-index c.loop-keyword-test.false c.loop-keyword.invariant
+    rw c.shrink_to_fit.ensures.items
+    (turn_end (keywords_of c.loop-keyword.units.items) _ c.args.ctx.now.setting c.args.ctx.now.location ms (λ name. part_named name ms) c.args.keywords.now c.loop-keyword.keyword-index c.loop-keyword-test.false c.loop-keyword.invariant)
 
 pub compiler::compile_keywords-returns-in-Some-Err : goal.compiler::compile_keywords-returns-in-Some-Err
 compiler::compile_keywords-returns-in-Some-Err g t c =
@@ -149,7 +150,7 @@ compiler::compile_keywords-returns-in-Some-Err g t c =
 -- ---- an array of schemas
 
 pub compiler::compile_each-loop-index-init : goal.compiler::compile_each-loop-index-init
-compiler::compile_each-loop-index-init g t c = rw c.new-nodes.ensures.items (after_no_schemas _)
+compiler::compile_each-loop-index-init g t c = rw c.in_ok-nodes.ensures.items (after_no_schemas _)
 
 pub compiler::compile_each-compile-requires : goal.compiler::compile_each-compile-requires
 compiler::compile_each-compile-requires g t c κs within =

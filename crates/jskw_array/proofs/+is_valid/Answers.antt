@@ -1,13 +1,13 @@
-use Rattle.std.proofs.Common.{rules, ◌≡◌, ◌∙◌, ◌+◌, true, false, refl, ◌&&◌, if◌then◌else◌, drop, sym, ap, arith}
+use Rattle.std.proofs.Common.{rules, ◌≡◌, ◌∙◌, ◌+◌, true, false, refl, ◌&&◌, if◌then◌else◌, drop, IfSome, subst, sym, ap, arith}
 use Rattle.jskw_value.specs.Tree.{items}
 use Rattle.jskw_report.specs.Applications.{all_needed, keyword_needed, needed}
 use Rattle.jskw_report.specs.Holds.{all_hold, keyword_holds}
 use Rattle.jskw_report.specs.Keyword.{no_keywords}
 use Rattle.jskw_array.specs.Fused.{shape_keywords}
 use Rattle.jskw_array.specs.Meaning.{validator_keyword}
-use Rattle.jskw_array.specs.Node.{fused_keywords}
+use Rattle.jskw_array.specs.Node.{OfOnly, fused_keywords}
 use Rattle.jskw_array.specs.Units.{keywords_of}
-use Rattle.jskw_array.proofs.Keywords.{hold_at, items_height, lower_shape, lower_units, needed_at, schema_holds, schema_needs, unit_height}
+use Rattle.jskw_array.proofs.Keywords.{hold_at, items_height, lower_shape, lower_units, needed_at, only_holds, only_lower, only_needs, schema_holds, schema_needs, unit_height}
 use Rattle.jskw_array.proofs.Meetings.{each_holds_end, height_at}
 use Rattle.jskw_array.proofs.+is_valid.Goals as goal
 
@@ -54,10 +54,32 @@ unit::units_are_valid-loop-unit-preserved g t c =
 
 pub node::SchemaNode::is_valid-is_valid-requires : goal.node::SchemaNode::is_valid-is_valid-requires
 node::SchemaNode::is_valid-is_valid-requires g t c κs within =
+    let s = c.args.self.now in
+    let only = subst (λ r. IfSome r (λ v. OfOnly (validator_keyword v.now) s)) c.in-Some.is c.single_validator.ensures in
+    let below = only_lower (validator_keyword c.in-Some.validator.now) s only in
+    (omega (arith, below, c.decreases), search rules)
+
+pub node::SchemaNode::is_valid-returns-in-Some-clause-answer : goal.node::SchemaNode::is_valid-returns-in-Some-clause-answer
+node::SchemaNode::is_valid-returns-in-Some-clause-answer g t c =
+    let s = c.args.self.now in
+    let only = subst (λ r. IfSome r (λ v. OfOnly (validator_keyword v.now) s)) c.in-Some.is c.single_validator.ensures in
+    c.is_valid.ensures.answer ∙ sym (only_holds (validator_keyword c.in-Some.validator.now) s only (g.F.Node.Rooted.tree c.args.instance.now))
+
+pub node::SchemaNode::is_valid-returns-in-Some-clause-counted : goal.node::SchemaNode::is_valid-returns-in-Some-clause-counted
+node::SchemaNode::is_valid-returns-in-Some-clause-counted g t c =
+    let s = c.args.self.now in
+    let only = subst (λ r. IfSome r (λ v. OfOnly (validator_keyword v.now) s)) c.in-Some.is c.single_validator.ensures in
+    let whole = only_needs (validator_keyword c.in-Some.validator.now) s only (g.F.Node.Rooted.tree c.args.instance.now) in
+    let first = c.count_one.ensures.counted in
+    let rest = c.is_valid.ensures.counted in
+    record { from = omega (arith, first.from, rest.from); to = omega (arith, whole, first.to, rest.to) }
+
+pub node::SchemaNode::is_valid-is_valid-requires-in-Some-shape : goal.node::SchemaNode::is_valid-is_valid-requires-in-Some-shape
+node::SchemaNode::is_valid-is_valid-requires-in-Some-shape g t c κs within =
     let n = c.self.inside in
     let us = c.as_slice-units.result.now in
     let v = c.deref.result.now in
-    let below = lower_shape c.args.self.now n.location n.hands_on n.assertions c.in-Keywords.shape c.in-Keywords.units us (shape_keywords v) (sym c.self.view_is) c.in-Keywords.is c.as_slice-units.ensures.value (ap fused_keywords c.in-Some.is ∙ ap shape_keywords (sym c.deref.ensures)) in
+    let below = lower_shape c.args.self.now n.location n.hands_on n.assertions c.in-Keywords.shape c.in-Keywords.units us (shape_keywords v) (sym c.self.view_is) c.in-Keywords.is c.as_slice-units.ensures.value (ap fused_keywords c.in-Some-shape.is ∙ ap shape_keywords (sym c.deref.ensures)) in
     (omega (arith, below, items_height v, c.decreases), search rules)
 
 pub node::SchemaNode::is_valid-units_are_valid-requires-then-is_valid : goal.node::SchemaNode::is_valid-units_are_valid-requires-then-is_valid
@@ -83,8 +105,8 @@ node::SchemaNode::is_valid-returns-then-is_valid-clause-answer g t c =
     let instance = g.F.Node.Rooted.tree c.args.instance.now in
     let us = c.as_slice-units.result.now in
     let v = c.deref.result.now in
-    let whole = schema_holds c.args.self.now n.location n.hands_on n.assertions c.in-Keywords.shape c.in-Keywords.units us (shape_keywords v) (sym c.self.view_is) c.in-Keywords.is c.as_slice-units.ensures.value (ap fused_keywords c.in-Some.is ∙ ap shape_keywords (sym c.deref.ensures)) instance in
-    let shape_holds : all_hold (shape_keywords v) instance ≡ true = sym c.is_valid.ensures.answer ∙ c.if-is_valid.true in
+    let whole = schema_holds c.args.self.now n.location n.hands_on n.assertions c.in-Keywords.shape c.in-Keywords.units us (shape_keywords v) (sym c.self.view_is) c.in-Keywords.is c.as_slice-units.ensures.value (ap fused_keywords c.in-Some-shape.is ∙ ap shape_keywords (sym c.deref.ensures)) instance in
+    let shape_holds : all_hold (shape_keywords v) instance ≡ true = sym c.is_valid-in-Some-shape.ensures.answer ∙ c.if-is_valid.true in
     c.units_are_valid-then-is_valid.ensures.answer ∙ sym (whole ∙ ap (λ b. b && all_hold (keywords_of us) instance) shape_holds)
 
 pub node::SchemaNode::is_valid-returns-then-is_valid-clause-counted : goal.node::SchemaNode::is_valid-returns-then-is_valid-clause-counted
@@ -93,12 +115,12 @@ node::SchemaNode::is_valid-returns-then-is_valid-clause-counted g t c =
     let instance = g.F.Node.Rooted.tree c.args.instance.now in
     let us = c.as_slice-units.result.now in
     let v = c.deref.result.now in
-    let shape_holds : all_hold (shape_keywords v) instance ≡ true = sym c.is_valid.ensures.answer ∙ c.if-is_valid.true in
-    let whole = schema_needs c.args.self.now n.location n.hands_on n.assertions c.in-Keywords.shape c.in-Keywords.units us (shape_keywords v) (sym c.self.view_is) c.in-Keywords.is c.as_slice-units.ensures.value (ap fused_keywords c.in-Some.is ∙ ap shape_keywords (sym c.deref.ensures)) instance in
+    let shape_holds : all_hold (shape_keywords v) instance ≡ true = sym c.is_valid-in-Some-shape.ensures.answer ∙ c.if-is_valid.true in
+    let whole = schema_needs c.args.self.now n.location n.hands_on n.assertions c.in-Keywords.shape c.in-Keywords.units us (shape_keywords v) (sym c.self.view_is) c.in-Keywords.is c.as_slice-units.ensures.value (ap fused_keywords c.in-Some-shape.is ∙ ap shape_keywords (sym c.deref.ensures)) instance in
     let cost : needed c.args.self.now instance ≡ 1 + (all_needed (shape_keywords v) instance + all_needed (keywords_of us) instance) =
     whole ∙ ap (λ b. 1 + (all_needed (shape_keywords v) instance + (if b then all_needed (keywords_of us) instance else 0))) shape_holds in
     let first = c.count_one.ensures.counted in
-    let next = c.is_valid.ensures.counted in
+    let next = c.is_valid-in-Some-shape.ensures.counted in
     let rest = c.units_are_valid-then-is_valid.ensures.counted in
     record { from = omega (arith, first.from, next.from, rest.from); to = omega (arith, cost, first.to, next.to, rest.to) }
 
@@ -108,8 +130,8 @@ node::SchemaNode::is_valid-returns-else-is_valid-clause-answer g t c =
     let instance = g.F.Node.Rooted.tree c.args.instance.now in
     let us = c.as_slice-units.result.now in
     let v = c.deref.result.now in
-    let whole = schema_holds c.args.self.now n.location n.hands_on n.assertions c.in-Keywords.shape c.in-Keywords.units us (shape_keywords v) (sym c.self.view_is) c.in-Keywords.is c.as_slice-units.ensures.value (ap fused_keywords c.in-Some.is ∙ ap shape_keywords (sym c.deref.ensures)) instance in
-    let fails : all_hold (shape_keywords v) instance ≡ false = sym c.is_valid.ensures.answer ∙ c.if-is_valid.false in
+    let whole = schema_holds c.args.self.now n.location n.hands_on n.assertions c.in-Keywords.shape c.in-Keywords.units us (shape_keywords v) (sym c.self.view_is) c.in-Keywords.is c.as_slice-units.ensures.value (ap fused_keywords c.in-Some-shape.is ∙ ap shape_keywords (sym c.deref.ensures)) instance in
+    let fails : all_hold (shape_keywords v) instance ≡ false = sym c.is_valid-in-Some-shape.ensures.answer ∙ c.if-is_valid.false in
     c.if-is_valid.false ∙ sym (whole ∙ ap (λ b. b && all_hold (keywords_of us) instance) fails)
 
 pub node::SchemaNode::is_valid-returns-else-is_valid-clause-counted : goal.node::SchemaNode::is_valid-returns-else-is_valid-clause-counted
@@ -118,7 +140,7 @@ node::SchemaNode::is_valid-returns-else-is_valid-clause-counted g t c =
     let instance = g.F.Node.Rooted.tree c.args.instance.now in
     let us = c.as_slice-units.result.now in
     let v = c.deref.result.now in
-    let whole = schema_needs c.args.self.now n.location n.hands_on n.assertions c.in-Keywords.shape c.in-Keywords.units us (shape_keywords v) (sym c.self.view_is) c.in-Keywords.is c.as_slice-units.ensures.value (ap fused_keywords c.in-Some.is ∙ ap shape_keywords (sym c.deref.ensures)) instance in
+    let whole = schema_needs c.args.self.now n.location n.hands_on n.assertions c.in-Keywords.shape c.in-Keywords.units us (shape_keywords v) (sym c.self.view_is) c.in-Keywords.is c.as_slice-units.ensures.value (ap fused_keywords c.in-Some-shape.is ∙ ap shape_keywords (sym c.deref.ensures)) instance in
     let first = c.count_one.ensures.counted in
-    let next = c.is_valid.ensures.counted in
+    let next = c.is_valid-in-Some-shape.ensures.counted in
     record { from = omega (arith, first.from, next.from); to = omega (arith, whole, first.to, next.to) }

@@ -8,25 +8,28 @@ use Rattle.jskw_array.specs.Units.{keywords_of}
 use Rattle.jskw_array.proofs.+is_valid.Given as goal
 
 abbrev pub decreases-node::SchemaNode::is_valid : goal.decreases-node::SchemaNode::is_valid
-decreases-node::SchemaNode::is_valid g l = 4 * height l.self.now
+decreases-node::SchemaNode::is_valid g l = 5 * height l.self.now
 
 abbrev pub decreases-unit::units_are_valid : goal.decreases-unit::units_are_valid
-decreases-unit::units_are_valid g l = 4 * all_height (keywords_of l.units.now) + 3
+decreases-unit::units_are_valid g l = 5 * all_height (keywords_of l.units.now) + 4
 
 abbrev pub decreases-items::array_shape::ArrayShapeValidatorValidate::is_valid : goal.decreases-items::array_shape::ArrayShapeValidatorValidate::is_valid
-decreases-items::array_shape::ArrayShapeValidatorValidate::is_valid g l = 4 * keyword_height (validator_keyword l.self.now.items.validator) + 3
+decreases-items::array_shape::ArrayShapeValidatorValidate::is_valid g l = 5 * keyword_height (validator_keyword l.self.now.items.validator) + 4
+
+abbrev pub decreases-validator::Validator::holds_of : goal.decreases-validator::Validator::holds_of
+decreases-validator::Validator::holds_of g l = 5 * keyword_height (validator_keyword l.self.now) + 3
 
 abbrev pub decreases-validator::ValidatorValidate::is_valid : goal.decreases-validator::ValidatorValidate::is_valid
-decreases-validator::ValidatorValidate::is_valid g l = 4 * keyword_height (validator_keyword l.self.now) + 2
+decreases-validator::ValidatorValidate::is_valid g l = 5 * keyword_height (validator_keyword l.self.now) + 2
 
 abbrev pub decreases-meeting::each_is_valid : goal.decreases-meeting::each_is_valid
-decreases-meeting::each_is_valid g l = 4 * each_height (schemas_of l.nodes.now) + 1
+decreases-meeting::each_is_valid g l = 5 * each_height (schemas_of l.nodes.now) + 1
 
 abbrev pub decreases-meeting::rest_is_valid : goal.decreases-meeting::rest_is_valid
-decreases-meeting::rest_is_valid g l = 4 * height l.node.now + 1
+decreases-meeting::rest_is_valid g l = 5 * height l.node.now + 1
 
 abbrev pub decreases-meeting::contains_fault : goal.decreases-meeting::contains_fault
-decreases-meeting::contains_fault g l = 4 * height l.node.now + 1
+decreases-meeting::contains_fault g l = 5 * height l.node.now + 1
 
 abbrev pub invariant-meeting::each_is_valid-loop-index : goal.invariant-meeting::each_is_valid-loop-index
 invariant-meeting::each_is_valid-loop-index g l =
@@ -42,7 +45,6 @@ abbrev pub invariant-meeting::rest_is_valid-loop-index : goal.invariant-meeting:
 invariant-meeting::rest_is_valid-loop-index g l =
     let ts = items (g.F.Node.Rooted.tree l.instance) in
     record {
-      last : l.index-end ≡ length ts;
       answer : list_all (holds l.node) (drop l.start ts) ≡ list_all (holds l.node) (drop l.index ts);
       counted_from : l.initial.ctx ≤ l.ctx;
       counted_to : l.ctx + sum_to_failure (holds l.node) (needed l.node) (drop l.index ts) ≤ l.initial.ctx + sum_to_failure (holds l.node) (needed l.node) (drop l.start ts);

@@ -2,10 +2,11 @@
 //! (Validation 6.1.1, 6.4.1, 6.4.2, Core 10.3.1.2), with no other keyword of items beside them. The
 //! type and the length are looked at once, and then the items.
 ghost use Rattle.std.specs.List.{list_all};
-ghost use Rattle.std.specs.Prelude.{◌≡◌, [], ◌∷◌, ◌++◌, IfOk, IsTrue, Some};
+ghost use Rattle.std.specs.Prelude.{◌≡◌, [], ◌∷◌, ◌++◌, IfOk, IfSome, IsTrue, Some, is_some};
+ghost use Rattle.std.specs.Prelude.{length};
 ghost use Rattle.serde_json.specs.Find.{get_member};
 ghost use Rattle.serde_json.specs.View.{view, members_view};
-ghost use Rattle.jskw_value.specs.Tree.{Tree, is_array as is_list, is_lawful};
+ghost use Rattle.jskw_value.specs.Tree.{Tree, is_array as is_list, is_lawful, items};
 ghost use Rattle.jskw_value.specs.Types.{type_name};
 ghost use Rattle.jskw_value.specs.declared.types.JsonType.TheVariants.{Array};
 ghost use Rattle.jskw_report.specs.Applications.{all_pairs};
@@ -107,7 +108,10 @@ impl<F: Json> Validate<F> for ArrayShapeValidator<F> {
 
     #[cycle(is_valid)]
     fn is_valid(&self, instance: &F::Node, ctx: &mut ValidationContext) -> bool {
-        self.absorbed.hold(instance) && self.items.validator.is_valid(instance, ctx)
+        match self.absorbed.valid_count(instance) {
+            Some(count) => self.items.validator.holds_of(count, instance, ctx),
+            None => false,
+        }
     }
 
     #[cycle(validate)]
@@ -202,15 +206,21 @@ impl AbsorbedKeywords {
         })
     }
 
-    // Whether they hold of the instance.
-    fn hold<N: Node>(&self, instance: &N) -> bool
-        ensures { result ≡ all_hold (absorbed_keywords self.now) (N.tree instance.now) }
+    // How many items an array has of which they hold, None of an instance of which they do not.
+    fn valid_count<N: Node>(&self, instance: &N) -> Option<usize>
+        ensures holds { is_some result ≡ all_hold (absorbed_keywords self.now) (N.tree instance.now) }
+        ensures count { IfSome result (λ n. n ≡ length (items (N.tree instance.now))) }
     {
         if !instance.is_array() {
-            return false;
+            return None;
         }
-        let count = Some(Array::len(instance) as u64);
-        self.min_items_hold(count) && self.max_items_hold(count)
+        let length = Array::len(instance);
+        let count = Some(length as u64);
+        if self.min_items_hold(count) && self.max_items_hold(count) {
+            Some(length)
+        } else {
+            None
+        }
     }
 
     // Whether `minItems` holds of an array of so many items, or of what is no array.

@@ -1,13 +1,14 @@
 //! `items` of a `type` alone (Core 10.3.1.2, Validation 6.1.1): each item is tested in place, which
 //! is no application of a subschema.
-ghost use Rattle.std.specs.Prelude.{◌≡◌, IfOk, IsTrue, Some, true};
+ghost use Rattle.std.specs.Prelude.{◌≡◌, IfOk, IsTrue, Some, length, true};
 ghost use Rattle.serde_json.specs.Data.{member, no_members, object, string};
 ghost use Rattle.serde_json.specs.View.{view};
-ghost use Rattle.jskw_value.specs.Tree.{is_lawful};
+ghost use Rattle.jskw_value.specs.Tree.{is_lawful, items};
 ghost use Rattle.jskw_value.specs.Types.{type_named};
 ghost use Rattle.jskw_value.specs.declared.types.JsonType.{JsonType};
 ghost use Rattle.jskw_report.specs.Compile.{Makes};
 ghost use Rattle.jskw_report.specs.Evaluation.{tree};
+ghost use Rattle.jskw_report.specs.Holds.{keyword_holds};
 ghost use Rattle.jskw_report.specs.Keyword.{items_from};
 ghost use Rattle.jskw_report.specs.KeywordValue.{map_ok};
 ghost use Rattle.jskw_report.specs.Meaning.{one, placed};
@@ -115,6 +116,21 @@ impl<T: ItemType, F: Json> ItemsTypeValidator<T, F> {
         }
     }
 
+    // Whether each of the items is of the type, of which there are so many.
+    pub(crate) fn holds_of(&self, count: usize, instance: &F::Node) -> bool
+        requires lawful { IsTrue (is_lawful (F.Node.tree instance.now)) }
+        requires count { count ≡ length (items (F.Node.tree instance.now)) }
+        ensures { result
+            ≡ keyword_holds (items_type T.json_type T.rule self.now) (F.Node.tree instance.now) }
+    {
+        for index in 0..count {
+            if !T::matches::<F>(instance.item(index)) {
+                return false;
+            }
+        }
+        true
+    }
+
     // The evaluation of an item, as of a schema that has `type` alone.
     fn evaluate_item(
         &self,
@@ -143,12 +159,7 @@ impl<T: ItemType, F: Json> Validate<F> for ItemsTypeValidator<T, F> {
     ghost meaning = { λ v. one (items_type T.json_type T.rule v) };
 
     fn is_valid(&self, instance: &F::Node, _ctx: &mut ValidationContext) -> bool {
-        for index in 0..instance.item_count() {
-            if !T::matches::<F>(instance.item(index)) {
-                return false;
-            }
-        }
-        true
+        self.holds_of(instance.item_count(), instance)
     }
 
     fn validate<'i>(

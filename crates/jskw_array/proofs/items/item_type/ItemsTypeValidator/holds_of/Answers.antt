@@ -4,10 +4,10 @@ use Rattle.jskw_report.specs.Holds.{assertion_holds}
 use Rattle.jskw_leaf.specs.Meaning.{single_type}
 use Rattle.jskw_array.proofs.Bare.{bare_all_hold}
 use Rattle.jskw_array.proofs.Meetings.{all_end}
-use Rattle.jskw_array.proofs.items.item_type.ItemsTypeValidatorValidate.is_valid.Goals as goal
+use Rattle.jskw_array.proofs.items.item_type.ItemsTypeValidator.holds_of.Goals as goal
 
-pub returns-clause-answer : goal.returns-clause-answer
-returns-clause-answer g c =
+pub returns : goal.returns
+returns g c =
     let l = c.loop-index in
     let v = c.args.self.now in
     let a = single_type g.T.TypeTest.json_type g.T.TypeTest.rule v.validator in

@@ -1,16 +1,15 @@
-use Rattle.std.proofs.Common.{◌≡◌, length, drop}
+use Rattle.std.proofs.Common.{◌≡◌, drop}
 use Rattle.std.specs.List.{list_all}
 use Rattle.jskw_value.specs.Tree.{items}
 use Rattle.jskw_report.specs.Holds.{assertion_holds}
 use Rattle.jskw_report.specs.Keyword.{type_is}
 use Rattle.jskw_report.specs.declared.error.TypeKind.TheVariants.{Single}
-use Rattle.jskw_array.proofs.items.item_type.ItemsTypeValidatorValidate.is_valid.Given as goal
+use Rattle.jskw_array.proofs.items.item_type.ItemsTypeValidator.holds_of.Given as goal
 
 abbrev pub invariant-loop-index : goal.invariant-loop-index
 invariant-loop-index g l =
     let ts = items (g.F.Node.Rooted.tree l.instance) in
     let matches = assertion_holds (type_is (Single g.T.TypeTest.json_type) g.T.TypeTest.rule) in
     record {
-      last : l.index-end ≡ length ts;
       answer : list_all matches ts ≡ list_all matches (drop l.index ts);
     }
