@@ -1,0 +1,27 @@
+//! Makes the call that each line of standard input names, and prints what came of it: the lines of
+//! the answer, and behind them `all`, or `memory` where memory was wanted. So where requests for
+//! memory are refused, a beginning of the answer is printed, with `memory` behind it, or all of it.
+//!
+//! A line is the name of a call, a draft, a schema and an instance, with a tab between each two; the
+//! line `insert` is whole as it is.
+#![tactic(auto)]
+
+mod calls;
+mod printed;
+
+use std::io;
+
+fn main(rt: HostRuntime) -> io::Result<()> {
+    for line in rt.lines(rt.alloc()) {
+        let made = match line {
+            Ok(line) => calls::make(&rt, line.as_str()),
+            Err(error) => Err(error),
+        };
+        match made {
+            Ok(()) => println!(rt; "all")?,
+            Err(error) if error.kind() == io::ErrorKind::OutOfMemory => println!(rt; "memory")?,
+            Err(error) => return Err(error),
+        }
+    }
+    Ok(())
+}
