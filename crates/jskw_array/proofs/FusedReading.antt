@@ -219,11 +219,6 @@ pub fused_read : (ws vs : List KeywordName) (s : Setting) (p : Pointer) (ms : Me
     → read_words (ws ++ vs) s p ms (λ name. part_named name ms) ≡ Ok (append_keywords js ks)
 fused_read ws vs s p ms js ks first second = read_appended ws vs s p ms (λ name. part_named name ms) ∙ ap₂ (join_ok append_keywords) first second
 
-pub fused_refused : (ws vs : List KeywordName) (s : Setting) (p : Pointer) (ms : Members) (e : Refusal)
-    → read_words ws s p ms (λ name. part_named name ms) ≡ Err e → read_words (ws ++ vs) s p ms (λ name. part_named name ms) ≡ Err e
-fused_refused ws vs s p ms e first =
-    read_appended ws vs s p ms (λ name. part_named name ms) ∙ ap (λ r. join_ok append_keywords r (read_words vs s p ms (λ name. part_named name ms))) first
-
 pub fused_refused_next : (ws vs : List KeywordName) (s : Setting) (p : Pointer) (ms : Members) (js : Keywords) (e : Refusal)
     → read_words ws s p ms (λ name. part_named name ms) ≡ Ok js → read_words vs s p ms (λ name. part_named name ms) ≡ Err e
     → read_words (ws ++ vs) s p ms (λ name. part_named name ms) ≡ Err e

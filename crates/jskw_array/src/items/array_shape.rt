@@ -37,11 +37,10 @@ use jskw_number::helpers::size_limit;
 use jskw_number::max_items::MaxItemsValidator;
 use jskw_number::min_items::MinItemsValidator;
 use jskw_report::compiler::member_of;
-use jskw_report::validator::{append_first, fail_unless};
+use jskw_report::validator::{append_first, evaluate_first, fail_unless};
 use jskw_report::{
-    Assertion, CompilationResult, Context, ErrorDescription, EvaluationNode, EvaluationResult,
-    Fault, KeywordName, LazyLocation, Location, Validate, ValidationContext, ValidationError,
-    ValidationErrorKind,
+    Assertion, CompilationResult, Context, EvaluationNode, EvaluationResult, Fault, KeywordName,
+    LazyLocation, Location, Validate, ValidationContext, ValidationError, ValidationErrorKind,
 };
 use jskw_value::{Array, Json, Node};
 use serde_json::{Map, Value};
@@ -552,10 +551,8 @@ fn evaluate_unless<'i, F: Json>(
         return Ok(EvaluationResult::valid_empty(alloc));
     }
     let path = instance_location.copy(alloc)?;
-    let error: ValidationError<F> = ValidationError::new(kind, path, schema_path, instance);
-    let mut errors = Vec::new(alloc);
-    errors.push(ErrorDescription::from_validation_error(alloc, &error)?)?;
-    Ok(EvaluationResult::invalid_empty(alloc, errors))
+    let error = ValidationError::new(kind, path, schema_path, instance);
+    evaluate_first::<F>(alloc, Err(Fault::Invalid(error)))
 }
 
 // Appends the node of a bound that holds or does not, where there is one.
