@@ -56,7 +56,7 @@ fn value_of(alloc: Global, text: &str) -> io::Result<Value> {
     }
 }
 
-// Asks the observer of a name of a schema; with no such name it was the compile that was asked for.
+// Asks the observer of a name of a schema; for `compile` it is enough that there is one.
 fn observe(
     rt: &HostRuntime,
     node: &SchemaNode<SerdeJson>,
@@ -70,7 +70,8 @@ fn observe(
         "validate" => validate(rt, node, instance),
         "collect_errors" => collect_errors(rt, node, instance),
         "evaluate_instance" => evaluate_instance(rt, node, instance),
-        _ => println!(rt; "compiled"),
+        "compile" => println!(rt; "compiled"),
+        _ => Err(io::ErrorKind::InvalidInput)?,
     }
 }
 
