@@ -3,14 +3,17 @@ use Rattle.std.proofs.Common.{◌≡◌, ◌≢◌, ℕ, ◌+◌, ◌-◌, ◌<�
 use Rattle.std.proofs.lemmas.Bool.{both_ways, cases_eq, cases_order, false_from_ne_true}
 use Rattle.std.proofs.lemmas.Cmp.{nat_list_eq_equiv}
 use Rattle.std.proofs.lemmas.List.{at_drop_all, drop_more}
+use Rattle.std.proofs.lemmas.List.Sorted.{list_any-IsPermutation}
 use Rattle.std.proofs.lemmas.Map.Keys.{any_passes_from_place, apart_from_distinct}
 use Rattle.std.proofs.lemmas.Nat.Bits.{bit_at_or, bit_at-zero, bit_at-pow_same, bit_at-pow_other, bit_at_ones}
 use Rattle.std.proofs.lemmas.Option.{get_or_from_slice_get, slice_get-get_or, slice_get_within}
 use Rattle.std.proofs.lemmas.Slice.Eq.{bytes_eq-Decides}
 use Rattle.std.specs.Int.{bit_at}
 use Rattle.std.specs.List.{IsDistinct}
+use Rattle.std.specs.List.Sorted.{IsPermutation}
 use Rattle.std.specs.Str.{bytes_eq}
 use Rattle.jskw_value.specs.Tree.{Tree, has_name, names}
+use Rattle.jskw_leaf.specs.Options.{some_text}
 use Rattle.jskw_leaf.specs.Required.{is_among, Marks}
 
 -- ---- the place of a name
@@ -29,6 +32,14 @@ place_miss ws k i w h e m = place_step ws k i w h e ∙ ap (λ b. b || is_among 
 
 pub place_found : (ws : List (List ℕ)) (i : ℕ) (w k : List ℕ) → i < length ws → w ≡ get_or ws i w → bytes_eq w k ≡ true → slice_get ws i ≡ Some k
 place_found ws i w k h e m = slice_get-get_or ws i w h ∙ ap Some (sym e ∙ (bytes_eq-Decides w k).0 m)
+
+-- a table of the names tells
+pub table_tells : (ws ts : List (List ℕ)) (k : List ℕ) → IsPermutation ws ts → some_text ts k ≡ is_among ws k
+table_tells ws ts k h = sym (list_any-IsPermutation (λ w. bytes_eq w k) ws ts h) ∙ turned ws
+  where
+    turned : (ws : List (List ℕ)) → some_text ws k ≡ is_among ws k
+    turned [] = refl
+    turned (w ∷ ws) = rw (nat_list_eq_equiv.symm w k, turned ws) refl
 
 -- ---- the bits
 

@@ -26,6 +26,7 @@ mod keywords;
 pub mod leaf;
 pub mod legacy;
 pub mod required;
+mod text_table;
 pub mod type_;
 pub mod unique_items;
 

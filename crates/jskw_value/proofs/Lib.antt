@@ -11,6 +11,7 @@ pub mod Lawful
 pub mod Lists
 pub mod Lookups
 pub mod MembersByPlace
+pub mod MembersInOrder
 pub mod NumberPrints
 pub mod Numbers
 pub mod Places

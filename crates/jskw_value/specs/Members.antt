@@ -1,14 +1,23 @@
--- The members of an object as a list of pairs with distinct names, and the code by which a proof tells such lists apart.
-use Rattle.std.specs.Prelude.{ℕ, List, map, String, string_bytes, refl, Bool, Option}
+-- The members of an object as a list of pairs sorted by their names, and the code by which a proof tells such lists apart.
+use Rattle.std.specs.Prelude.{◌≡◌, ℕ, ◌<◌, ◌≤◌, List, [], ◌∷◌, length, map, cond, String, string_bytes, slice_index_or, refl, Bool, Option}
 use Rattle.std.specs.Coded.{Coded, code_by, coded_list, coded×}
+use Rattle.std.specs.Cmp.Lexicographic.{slice_cmp}
+use Rattle.std.specs.List.Sorted.{IsStrictlySortedBy}
 use Rattle.std.specs.Map.{keys_of, lookup}
+use Rattle.std.specs.Ordering.{nat_cmp, is_gt}
 use Rattle.std.specs.Set.{is_member}
 use Rattle.std.specs.Str.{bytes_eq}
 use Rattle.std.specs.contracts.alloc.Global as heap
 use Rattle.std.specs.contracts.string.String as text
 use Rattle.std.specs.contracts.impls.GlobalAllocator.TheImpl.{ghosts}
 use Rattle.std.specs.declared.alloc.Global.{Global}
+use Rattle.std.specs.declared.cmp.Ordering.{Ordering}
+use Rattle.std.specs.declared.cmp.Ordering.TheVariants.{Less, Equal, Greater}
 use Rattle.jskw_value.specs.declared.members.Member.{Member}
+
+-- names that rise by their bytes, so that none comes twice
+abbrev pub AreSorted : List (List ℕ) → Type 0
+AreSorted ns = IsStrictlySortedBy (slice_cmp nat_cmp) ns
 
 module _ {V : Type 0} where
   -- each name beside its value
@@ -26,6 +35,26 @@ module _ {V : Type 0} where
   -- whether a member has the name
   abbrev pub has_name : List ℕ → List (Member V) → Bool
   has_name k ms = is_member bytes_eq (names ms) k
+
+  -- how a member's name stands to k, by their bytes
+  abbrev pub against : List ℕ → Member V → Ordering
+  against k m = slice_cmp nat_cmp (string_bytes m.name) k
+
+  -- with one member more, in front of the first whose name is greater
+  abbrev pub inserted : Member V → List (Member V) → List (Member V)
+  inserted m [] = m ∷ []
+  inserted m (x ∷ xs) = cond (is_gt (against (string_bytes m.name) x)) (m ∷ x ∷ xs) (x ∷ inserted m xs)
+
+  -- the member at index i has the name
+  pub record IsAt (k : List ℕ) (ms : List (Member V)) (i : ℕ) : Type 0 where
+    pub within : i < length ms
+    pub named : (d : Member V) → against k (slice_index_or ms i d) ≡ Equal
+
+  -- the name would go to index i: the names before are less, and those from there on greater
+  pub record IsGap (k : List ℕ) (ms : List (Member V)) (i : ℕ) : Type 0 where
+    pub within : i ≤ length ms
+    pub less : (j : ℕ) (d : Member V) → j < i → against k (slice_index_or ms j d) ≡ Less
+    pub greater : (j : ℕ) (d : Member V) → i ≤ j → j < length ms → against k (slice_index_or ms j d) ≡ Greater
 
 -- the code of a name
 abbrev pub text_code : Coded (String Global)

@@ -1,6 +1,8 @@
 //! JSON values whose numbers are exact decimals.
-ghost use Rattle.std.specs.Prelude.{string_bytes};
+ghost use Rattle.std.specs.Prelude.{◌≡◌, ◌<◌, length, slice_index_or, string_bytes};
 ghost use Rattle.jskw_value.specs.DecimalTree.{decimal_tree};
+ghost use Rattle.jskw_value.specs.Members.{AreSorted};
+ghost use Rattle.jskw_value.specs.Tree.{members, names};
 
 use crate::decimal::Decimal;
 use crate::json::{Array, Json, Node, Object, Rooted};
@@ -26,8 +28,7 @@ pub enum DecimalTree {
     Object(Members),
 }
 
-/// The members of an object, in the order of their insertion: [`MemberList::new`] and
-/// [`MemberList::insert`].
+/// The members of an object, sorted by their names: [`MemberList::new`] and [`MemberList::insert`].
 pub type Members = MemberList<DecimalTree>;
 
 /// The representation whose nodes are trees of decimals.
@@ -67,7 +68,13 @@ impl Object for DecimalTree {
         }
     }
 
-    fn name_at(&self, place: usize) -> &str {
+    /// The names rise by their bytes from place to place.
+    fn name_at(&self, place: usize) -> &str
+        requires { place < length (members (decimal_tree self.now)) }
+        ensures name { result.now
+            ≡ slice_index_or (names (decimal_tree self.now)) place result.now }
+        ensures sorted { AreSorted (names (decimal_tree self.now)) }
+    {
         match self {
             DecimalTree::Object(members) => members.name_at(place),
             _ => unreachable!(),

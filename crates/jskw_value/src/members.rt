@@ -1,14 +1,15 @@
-//! The members of an object as a list of pairs with distinct names, in the order of their
-//! insertion.
-ghost use Rattle.std.specs.Prelude.{◌≡◌, ◌==◌, length, [], ◌∷◌, ◌++◌, ◌<◌, string_bytes};
-ghost use Rattle.std.specs.Prelude.{slice_index_or, OnOk, OnErr, IfErr, option_map, false};
+//! The members of an object as a list of pairs with distinct names, sorted by these.
+ghost use Rattle.std.specs.Prelude.{◌≡◌, ◌==◌, length, [], ◌<◌, ◌≤◌, string_bytes};
+ghost use Rattle.std.specs.Prelude.{slice_index_or, OnOk, OnErr, IfOk, IfErr, option_map, false};
 ghost use Rattle.std.specs.List.{IsDistinct};
 ghost use Rattle.std.specs.Map.{values_of};
 ghost use Rattle.std.specs.Str.{bytes_eq};
 ghost use Rattle.jskw_value.specs.InsertFault.{HandsBack, is_repeated};
-ghost use Rattle.jskw_value.specs.Members.{entries, names, get, has_name};
+ghost use Rattle.jskw_value.specs.Members.{entries, names, get, has_name, against, inserted};
+ghost use Rattle.jskw_value.specs.Members.{AreSorted, IsAt, IsGap};
 
 use std::alloc::Global;
+use std::cmp::Ordering;
 use std::marker::Model;
 
 /// A value beside its name.
@@ -20,7 +21,17 @@ pub struct Member<V> {
     pub value: V,
 }
 
-/// Members with distinct names. Contracts see them as a list, each once.
+impl<V> Member<V> {
+    // How the name stands to another.
+    fn against(&self, name: &str) -> Ordering
+        ensures { result ≡ against name.now self.now }
+    {
+        self.name.as_str().cmp(name)
+    }
+}
+
+/// Members with distinct names, in the rising order of the bytes of these. Contracts see them as a
+/// list.
 #[derive(Drop)]
 pub struct MemberList<V> {
     list: Vec<Member<V>>,
@@ -37,10 +48,8 @@ pub enum InsertFault<V> {
 
 impl<V> Model for MemberList<V> {
     ghost use Rattle.std.specs.Prelude.{List};
-    ghost use Rattle.std.specs.List.{IsDistinct};
-    ghost use Rattle.std.specs.Str.{bytes_eq};
     ghost use Rattle.jskw_value.specs.declared.members.Member.{Member};
-    ghost use Rattle.jskw_value.specs.Members.{names, members_code};
+    ghost use Rattle.jskw_value.specs.Members.{names, members_code, AreSorted};
 
     ghost Value = { List (Member V) };
 
@@ -48,10 +57,10 @@ impl<V> Model for MemberList<V> {
 
     ghost view = { λ a. a.list.items };
 
-    ghost invariant = { λ a. IsDistinct bytes_eq (names a.list.items) };
+    ghost invariant = { λ a. AreSorted (names a.list.items) };
 }
 
-#[tactic(auto, using(crate::proofs::MembersByPlace::lemmas))]
+#[tactic(auto, using(crate::proofs::MembersByPlace::lemmas, crate::proofs::MembersInOrder::lemmas))]
 impl<V> MemberList<V> {
     /// No members. It takes no memory; the list grows by the allocator.
     pub fn new(alloc: Global) -> MemberList<V>
@@ -62,10 +71,11 @@ impl<V> MemberList<V> {
         }
     }
 
-    /// The number of members. Their names are distinct.
+    /// The number of members. Their names are distinct, and rise.
     pub fn len(&self) -> usize
         ensures value { result ≡ length self.now }
         ensures distinct { IsDistinct bytes_eq (names self.now) }
+        ensures sorted { AreSorted (names self.now) }
     {
         self.list.len()
     }
@@ -77,51 +87,52 @@ impl<V> MemberList<V> {
         self.list.is_empty()
     }
 
-    /// The value of a name, None where no member has it. It takes a step for each member in front.
+    /// The value of a name, None where no member has it. It is looked for by halves.
     pub fn get(&self, name: &str) -> Option<&V>
         ensures { option_map (λ x. x.now) result ≡ get name.now self.now }
     {
-        for member in &self.list {
-            if name == member.name.as_str() {
-                return Some(&member.value);
-            }
+        match self.search(name) {
+            Ok(place) => Some(&self.list[place].value),
+            Err(_) => None,
         }
-        None
     }
 
-    /// Adds a member behind the others. `Repeated` comes exactly where the name is there, and
-    /// `Memory` where there is no memory for one more; both hand name and value back, and the
-    /// members are as they were.
+    /// Adds a member at its place in the order, for which those behind move up. `Repeated` comes
+    /// exactly where the name is there, and `Memory` where there is no memory for one more; both
+    /// hand name and value back, and the members are as they were.
     pub fn insert(&mut self, name: String, value: V) -> Result<(), InsertFault<V>>
         ensures added { OnOk result
-            (self.new ≡ self.old ++ record { name = name; value = value } ∷ []) }
+            (self.new ≡ inserted (record { name = name; value = value }) self.old) }
         ensures absent { OnOk result (has_name (string_bytes name) self.old ≡ false) }
         ensures unchanged { OnErr result (self.new ≡ self.old) }
         ensures handed_back { IfErr result (HandsBack name value) }
         ensures repeated { IfErr result
             (λ e. is_repeated e ≡ has_name (string_bytes name) self.old) }
     {
-        if self.has_name(name.as_str()) {
-            return Err(InsertFault::Repeated(name, value));
-        }
-        if let Err(refused) = self.list.push(Member { name, value }) {
+        let place = match self.search(name.as_str()) {
+            Ok(_) => return Err(InsertFault::Repeated(name, value)),
+            Err(place) => place,
+        };
+        if let Err(refused) = self.list.insert(place, Member { name, value }) {
             let Member { name, value } = refused.value;
             return Err(InsertFault::Memory(name, value));
         }
         Ok(())
     }
 
-    // Whether a member has the name.
-    fn has_name(&self, name: &str) -> bool
-        ensures { result ≡ has_name name.now self.now }
+    // The place of a name, or the one where it would go.
+    fn search(&self, name: &str) -> Result<usize, usize>
+        ensures found { IfOk result (IsAt name.now self.now) }
+        ensures absent { IfErr result (IsGap name.now self.now) }
     {
-        self.get(name).is_some()
+        self.list.binary_search_by(|member| member.against(name))
     }
 
     // The name at a place.
     pub(crate) fn name_at(&self, place: usize) -> &str
         requires { place < length self.now }
-        ensures { result.now ≡ slice_index_or (names self.now) place result.now }
+        ensures name { result.now ≡ slice_index_or (names self.now) place result.now }
+        ensures sorted { AreSorted (names self.now) }
     {
         self.list[place].name.as_str()
     }

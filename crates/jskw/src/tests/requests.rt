@@ -209,8 +209,12 @@ fn refuses_each_beginning_of_a_request(rt: HostRuntime) -> Result<(), Fail> {
 
 #[test]
 fn refuses_what_is_no_text(rt: HostRuntime) -> Result<(), Fail> {
-    let request = b"{\"schema\":true,\"instance\":\"\xff\"}";
-    assert!(rt; answers(rt.alloc(), request, "refused: request")?);
-    assert!(rt; answers(rt.alloc(), b" \n\t ", "refused: request")?);
+    for request in [
+        b"{\"schema\":true\xff,\"instance\":null}".as_slice(),
+        b"{\"schema\":true,\"instance\":\"\xff\"}",
+        b" \n\t ",
+    ] {
+        assert!(rt; answers(rt.alloc(), request, "refused: request")?);
+    }
     Ok(())
 }

@@ -1,19 +1,18 @@
 //! Options that are strings, and perhaps null.
-ghost use Rattle.std.specs.Prelude.{◌≡◌, IsSome, IfOk, true, map, refl, string_bytes, string_cmp};
-ghost use Rattle.std.specs.List.Sorted.{IsSorted, IsPermutation};
+ghost use Rattle.std.specs.Prelude.{◌≡◌, IsSome, IfOk, true, map, refl, string_bytes};
 ghost use Rattle.serde_json.specs.Data.{array};
 ghost use Rattle.serde_json.specs.Find.{as_array, as_str};
 ghost use Rattle.serde_json.specs.View.{view, items_view};
 ghost use Rattle.jskw_value.specs.Tree.{as_string};
 ghost use Rattle.jskw_leaf.specs.Options.{not_among, options_of, AreOptions, some_text};
-ghost use Rattle.jskw_leaf.specs.Options.{text_against, picked, only, has_null};
+ghost use Rattle.jskw_leaf.specs.Options.{picked, only, has_null};
 
 use super::{NullOption, not_among};
+use crate::text_table::TextTable;
 use jskw_report::{Assertion, Location, ValidationErrorKind};
 use jskw_value::{Json, KeyHead, Node, Nullability, PropertyName};
 use serde_json::Value;
 use std::alloc::{AllocError, Global};
-use std::cmp::Ordering;
 
 /// The validator of a few strings, and of null where the type says so. A string is compared with
 /// each, by its head first.
@@ -78,18 +77,16 @@ impl<N: Nullability> Assertion for SmallStringEnumValidator<N> {
     }
 }
 
-/// The validator of many strings, and of null where the type says so. The strings are sorted, and
-/// one is looked up by halves.
+/// The validator of many strings, and of null where the type says so. A string is looked up in a
+/// sorted table.
 #[derive(Drop)]
 pub struct BigStringEnumValidator<N: Nullability> {
     options: Value,
-    items: Vec<String>,
+    items: TextTable,
     null: NullOption<N>,
     location: Location,
     ghost array: { IsSome (as_array (view options)) },
-    ghost sorted: { IsSorted string_cmp items.items },
-    ghost listed: { AreOptions as_string (some_text (map string_bytes items.items)) null
-        (options_of (view options)) },
+    ghost listed: { AreOptions as_string (some_text items) null (options_of (view options)) },
 }
 
 impl<N: Nullability> BigStringEnumValidator<N> {
@@ -110,7 +107,7 @@ impl<N: Nullability> BigStringEnumValidator<N> {
     {
         Ok(BigStringEnumValidator {
             options: options.clone()?,
-            items: sorted_texts_of(alloc, items)?,
+            items: TextTable::new(texts_of(alloc, items)?),
             null: NullOption::new(),
             location,
         })
@@ -128,7 +125,7 @@ impl<N: Nullability> Assertion for BigStringEnumValidator<N> {
 
     fn holds<F: Json>(&self, instance: &F::Node) -> bool {
         match instance.as_string() {
-            Some(text) => is_in_table(&self.items, text),
+            Some(text) => self.items.contains(text),
             None => self.null.accepts::<F>(instance),
         }
     }
@@ -155,20 +152,6 @@ fn is_one_of(names: &[PropertyName], text: &str) -> bool
     false
 }
 
-// Whether the text is one of the sorted ones.
-fn is_in_table(table: &[String], text: &str) -> bool
-    requires { IsSorted string_cmp table.now }
-    ensures { result ≡ some_text (map string_bytes table.now) text.now }
-{
-    table.binary_search_by(|entry| compare(entry, text)).is_ok()
-}
-
-fn compare(entry: &String, text: &str) -> Ordering
-    ensures { result ≡ text_against text.now entry.now }
-{
-    entry.as_str().cmp(text)
-}
-
 // The strings among the items, as names.
 fn names_of(alloc: Global, items: &[Value]) -> Result<Vec<PropertyName>, AllocError>
     ensures { IfOk result (λ v. v.items ≡ picked as_str (items_view items.now)) }
@@ -180,17 +163,6 @@ fn names_of(alloc: Global, items: &[Value]) -> Result<Vec<PropertyName>, AllocEr
         }
     }
     Ok(names)
-}
-
-// The strings among the items, in rising order.
-fn sorted_texts_of(alloc: Global, items: &[Value]) -> Result<Vec<String>, AllocError>
-    ensures sorted { IfOk result (λ v. IsSorted string_cmp v.items) }
-    ensures same { IfOk result (λ v.
-        IsPermutation (picked as_str (items_view items.now)) (map string_bytes v.items)) }
-{
-    let mut texts = texts_of(alloc, items)?;
-    texts.sort_unstable();
-    Ok(texts)
 }
 
 // The strings among the items.

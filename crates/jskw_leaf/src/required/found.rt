@@ -1,5 +1,5 @@
-//! Which of some names an object has. A few names are looked for in one walk over an object of not
-//! too many members; else each is looked up by its key.
+//! Which of some names an object has. They are looked for in one walk over an object of not too many
+//! members, of which only a few are told apart by it; else each is looked up by its key.
 ghost use Rattle.std.specs.Prelude.{◌≡◌, ◌<◌, ◌≤◌, ◌==◌, ◌^◌, [], IfSome, Some, IsTrue, is_some};
 ghost use Rattle.std.specs.Prelude.{not, length, slice_get, slice_index_or};
 ghost use Rattle.std.specs.Int.{bit_at};
@@ -10,31 +10,24 @@ ghost use Rattle.jskw_leaf.specs.Required.{is_among, Marks};
 use super::names::Names;
 use jskw_value::{Json, KeyHead, Object};
 
-// The most names that one walk looks for; of more the comparisons would take longer than look-ups.
+// The most names that one walk tells apart: it compares a member with each, and marks it by a bit.
 const MAX_SCANNED_REQUIRED: usize = 16;
 
-// Whether the object has every name.
+// Whether the object has every name. A walk over it is taken where it is no longer than look-ups.
 #[tactic(auto, using(crate::proofs::Counting::too_few))]
 pub(crate) fn has_all<F: Json, L: Names<F>>(names: &L, object: &F::Node) -> bool
     requires { IsTrue (is_object (F.Node.tree object.now)) }
     ensures { result ≡ list_all (has_name (F.Node.tree object.now)) (L.names names.now) }
 {
-    if Object::len(object) < names.len() {
+    let (count, members) = (names.len(), Object::len(object));
+    if members < count {
         return false;
     }
-    if is_scanned::<F>(names.len(), object) {
+    if members <= F::KEYS_PER_LOOKUP.saturating_mul(count) {
         walk_finds_all(names, object)
     } else {
         lookups_find_all(names, object)
     }
-}
-
-// Whether so many names are looked for in one walk over the object.
-fn is_scanned<F: Json>(count: usize, object: &F::Node) -> bool
-    requires { IsTrue (is_object (F.Node.tree object.now)) }
-    ensures { IsTrue result → count ≤ 16 }
-{
-    count <= MAX_SCANNED_REQUIRED && Object::len(object) <= F::KEYS_PER_LOOKUP.saturating_mul(count)
 }
 
 // Counts the names that a walk meets, and stops where none is left to be met: both the names and
@@ -47,7 +40,7 @@ fn walk_finds_all<F: Json, L: Names<F>>(names: &L, object: &F::Node) -> bool
     let count = names.len();
     let mut found = 0;
     for (text, _) in object.walk() {
-        if place_of(names, text).is_some() {
+        if names.contains(text) {
             found += 1;
             if found == count {
                 return true;
@@ -94,7 +87,9 @@ pub(crate) fn scanned<F: Json, L: Names<F>>(names: &L, object: &F::Node) -> Opti
     ensures marks { IfSome result (λ found.
         Marks found (F.Node.tree object.now) (L.names names.now)) }
 {
-    if is_scanned::<F>(names.len(), object) {
+    let count = names.len();
+    let most = F::KEYS_PER_LOOKUP.saturating_mul(count);
+    if count <= MAX_SCANNED_REQUIRED && Object::len(object) <= most {
         Some(found_by_walk(names, object))
     } else {
         None

@@ -1,10 +1,13 @@
 //! Lists of required names, each once.
 ghost use Rattle.std.specs.Prelude.{◌≡◌, ◌<◌, ℕ, List, [], ◌∷◌, IfOk, length, map, slice_index_or};
+ghost use Rattle.std.specs.Prelude.{string_bytes};
 ghost use Rattle.std.specs.List.{IsDistinct};
 ghost use Rattle.std.specs.Str.{bytes_eq};
+ghost use Rattle.jskw_leaf.specs.Required.{is_among};
 
 use super::prepared::PreparedName;
-use jskw_value::Json;
+use crate::text_table::TextTable;
+use jskw_value::{Json, KeyHead};
 use std::alloc::{AllocError, Global};
 use std::marker::Model;
 
@@ -21,24 +24,31 @@ pub trait Names<F: Json> {
     fn at(&self, index: usize) -> &PreparedName<F>
         requires { index < length (names self.now) }
         ensures { result.now ≡ slice_index_or (names self.now) index result.now };
+
+    /// Whether a text is one of them.
+    fn contains(&self, text: &str) -> bool
+        ensures { result ≡ is_among (names self.now) text.now };
 }
 
-/// Any number of names. Contracts see a list.
+/// Any number of names, beside a table of them in which a text is looked up. Contracts see a list.
 #[derive(Drop)]
 pub struct NameList<F: Json> {
     names: Vec<PreparedName<F>>,
+    table: TextTable,
 }
 
 impl<F: Json> Model for NameList<F> {
     ghost use Rattle.std.specs.Prelude.{ℕ, List};
     ghost use Rattle.std.specs.List.{IsDistinct};
+    ghost use Rattle.std.specs.List.Sorted.{IsPermutation};
     ghost use Rattle.std.specs.Str.{bytes_eq};
 
     ghost Value = { List (List ℕ) };
 
     ghost view = { λ l. l.names.items };
 
-    ghost invariant = { λ l. IsDistinct bytes_eq l.names.items };
+    ghost invariant = { λ l. IsDistinct bytes_eq l.names.items
+        × IsPermutation l.names.items l.table };
 }
 
 impl<F: Json> NameList<F> {
@@ -51,8 +61,20 @@ impl<F: Json> NameList<F> {
         for text in texts {
             names.push(PreparedName::new(alloc, text)?)?;
         }
-        Ok(NameList { names })
+        let table = TextTable::new(strings_of(alloc, texts)?);
+        Ok(NameList { names, table })
     }
+}
+
+// The texts as strings. Only memory can fail.
+fn strings_of(alloc: Global, texts: &[&str]) -> Result<Vec<String>, AllocError>
+    ensures { IfOk result (λ v. map string_bytes v.items ≡ map (λ text. text.now) texts.now) }
+{
+    let mut strings = Vec::new(alloc);
+    for text in texts {
+        strings.push(String::from_str(alloc, text)?)?;
+    }
+    Ok(strings)
 }
 
 impl<F: Json> Names<F> for NameList<F> {
@@ -64,6 +86,10 @@ impl<F: Json> Names<F> for NameList<F> {
 
     fn at(&self, index: usize) -> &PreparedName<F> {
         &self.names[index]
+    }
+
+    fn contains(&self, text: &str) -> bool {
+        self.table.contains(text)
     }
 }
 
@@ -108,6 +134,10 @@ impl<F: Json> Names<F> for OneName<F> {
     fn at(&self, index: usize) -> &PreparedName<F> {
         let _ = index;
         &self.name
+    }
+
+    fn contains(&self, text: &str) -> bool {
+        self.name.matches(KeyHead::of(text), text)
     }
 }
 
@@ -156,6 +186,11 @@ impl<F: Json> Names<F> for TwoNames<F> {
             0 => &self.first,
             _ => &self.second,
         }
+    }
+
+    fn contains(&self, text: &str) -> bool {
+        let head = KeyHead::of(text);
+        self.first.matches(head, text) || self.second.matches(head, text)
     }
 }
 
@@ -212,5 +247,12 @@ impl<F: Json> Names<F> for ThreeNames<F> {
             1 => &self.second,
             _ => &self.third,
         }
+    }
+
+    fn contains(&self, text: &str) -> bool {
+        let head = KeyHead::of(text);
+        self.first.matches(head, text)
+            || self.second.matches(head, text)
+            || self.third.matches(head, text)
     }
 }

@@ -203,6 +203,45 @@ fn names_that_collide(rt: HostRuntime) -> Result<(), Fail> {
     Ok(())
 }
 
+// The names from n00 to n16 between quotes, each before an ending, without those that are left out.
+fn seventeen(alloc: Global, ending: &str, left_out: &[&str]) -> Result<String, Fail> {
+    let mut text = String::new(alloc);
+    for i in 0..17u64 {
+        let name = format!(in alloc; "n{}{}", i / 10, i % 10)?;
+        if left_out.contains(&name.as_str()) {
+            continue;
+        }
+        if !text.is_empty() {
+            text.push(',')?;
+        }
+        text.push_str(format!(in alloc; "\"{name}\"{ending}")?.as_str())?;
+    }
+    Ok(text)
+}
+
+#[test]
+fn seventeen_names(rt: HostRuntime) -> Result<(), Fail> {
+    let alloc = rt.alloc();
+    let settings = all_of(alloc, Draft::Draft202012);
+    let names = seventeen(alloc, "", &["n16", "n00"])?;
+    let schema = format!(in alloc; "{{\"required\":[\"n16\",{names},\"n00\"]}}")?;
+    for (left_out, wanted) in [
+        (["", ""], "valid"),
+        (["n16", ""], "required n16"),
+        (["n00", ""], "required n00"),
+        (["n00", "n08"], "required n08, required n00"),
+        (["n00", "n16"], "required n16, required n00"),
+    ] {
+        let members = seventeen(alloc, ":0", &left_out)?;
+        for more in ["", ",\"\":1", ",\"n\":1,\"n17\":2,\"z\":3"] {
+            let instance = format!(in alloc; "{{{members}{more}}}")?;
+            let (schema, instance) = (schema.as_str(), instance.as_str());
+            check(&rt, alloc, &settings, schema, "required", instance, wanted)?;
+        }
+    }
+    Ok(())
+}
+
 // One item beside `properties` and `additionalProperties`.
 const ONE_ITEM: &str =
     r#"{"required":["a"],"properties":{"a":{}},"additionalProperties":false}|{}|required|nothing is asserted

@@ -1,6 +1,7 @@
 // Members with distinct names.
 use crate::tests::trees::{handed_back, insert, number};
 use jskw_value::{DecimalTree, Members, Node, Object};
+use std::alloc::{AllocError, Global};
 use std::test::Fail;
 
 #[test]
@@ -22,6 +23,39 @@ fn a_repeated_name_comes_back_and_the_first_member_stays(rt: HostRuntime) -> Res
     let first = members.get("a").and_then(|tree| tree.as_number());
     assert_eq!(rt; first.ok_or("a number")?.coefficient(), 1);
     assert!(rt; members.get("b").is_none());
+    Ok(())
+}
+
+// The names of an object by their places, a comma behind each.
+fn names_of(alloc: Global, object: &DecimalTree) -> Result<String, AllocError> {
+    let mut text = String::new(alloc);
+    if object.is_object() {
+        for place in 0..Object::len(object) {
+            text.push_str(object.name_at(place))?;
+            text.push(',')?;
+        }
+    }
+    Ok(text)
+}
+
+#[test]
+fn names_rise_in_whatever_order_they_come(rt: HostRuntime) -> Result<(), Fail> {
+    for (names, wanted) in [
+        (["b", "a", "c"], "a,b,c,"),
+        (["c", "b", "a"], "a,b,c,"),
+        (["aa", "", "a"], ",a,aa,"),
+        (["é", "z", "Z"], "Z,z,é,"),
+        (["10", "9", "1"], "1,10,9,"),
+    ] {
+        let mut members = Members::new(rt.alloc());
+        for name in names {
+            insert(rt.alloc(), &mut members, name, DecimalTree::Null)?;
+        }
+        let again = String::from_str(rt.alloc(), names[0])?;
+        assert!(rt; members.insert(again, DecimalTree::Null).is_err());
+        let object = DecimalTree::Object(members);
+        assert_eq!(rt; names_of(rt.alloc(), &object)?.as_str(), wanted);
+    }
     Ok(())
 }
 

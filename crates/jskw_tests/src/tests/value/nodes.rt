@@ -93,7 +93,7 @@ fn members_by_place_and_by_name(rt: HostRuntime) -> Result<(), Fail> {
     let tree = DecimalTree::Object(members);
     assert_eq!(rt;
         read_object::<DecimalJson>(rt.alloc(), &tree, "")?.as_str(),
-        "b1null++1"
+        "nullb1++1"
     );
     let none = DecimalTree::Object(Members::new(rt.alloc()));
     assert_eq!(rt;

@@ -69,6 +69,6 @@ fn members_are_written_in_order_behind_what_was_there(rt: HostRuntime) -> Result
     insert(rt.alloc(), &mut members, "a", DecimalTree::Bool(false))?;
     let object = DecimalTree::Object(members);
     let text = written(&object, String::from_str(rt.alloc(), "old ")?)?;
-    assert_eq!(rt; text.as_str(), "old {\"b\\n\":2.0,\"a\":false}");
+    assert_eq!(rt; text.as_str(), "old {\"a\":false,\"b\\n\":2.0}");
     Ok(())
 }

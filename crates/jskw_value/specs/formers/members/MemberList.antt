@@ -9,13 +9,14 @@ use denote.HolePlaces.{Recodes, struct_places, laid}
 use denote.Hole.Fix.{over}
 use denote.Param.Weighed.{Weighed, w_list, w_via, w_pair, w_const}
 use denote.Model.Placed.{view_places}
-use Rattle.std.specs.List.{IsDistinct, IsDistinct-prop}
-use Rattle.std.specs.Str.{bytes_eq}
+use Rattle.std.specs.Cmp.Lexicographic.{slice_cmp}
+use Rattle.std.specs.List.Sorted.{IsStrictlySortedBy-prop}
+use Rattle.std.specs.Ordering.{nat_cmp}
 use Rattle.std.specs.formers.vec.Vec as vec
 use Rattle.std.specs.declared.alloc.Global.{Global}
 use Rattle.std.specs.contracts.alloc.Global as heap
 use Rattle.std.specs.contracts.impls.GlobalAllocator.TheImpl.{ghosts}
-use Rattle.jskw_value.specs.Members.{names, text_code, member_code}
+use Rattle.jskw_value.specs.Members.{names, text_code, member_code, AreSorted}
 use Rattle.jskw_value.specs.declared.members.Member.{Member}
 use Rattle.jskw_value.specs.declared.members.MemberList.TheInside.{Inside}
 use Rattle.jskw_value.specs.declared.members.MemberList.TheView.{view, invariant}
@@ -53,8 +54,8 @@ module _ (R S : RattleType) (h : R.Denot → S.Denot) where
 
   pub the_places : Alike R S h → Alike (C.the_row R) (C.the_row S) ((the_former this).map R.Denot S.Denot h)
   the_places a = view_places fields (the_former this) view (λ X Y k u. refl) (λ X u. refl) R.Denot S.Denot h (C.the_row R).coded (C.the_row S).coded
-      (invariant R.Denot) (invariant S.Denot) (λ u. IsDistinct-prop bytes_eq _) (λ u. IsDistinct-prop bytes_eq _)
-      (λ u e. subst (IsDistinct bytes_eq) (sym (names-map h u.list.items)) e) (λ u e. subst (IsDistinct bytes_eq) (names-map h u.list.items) e)
+      (invariant R.Denot) (invariant S.Denot) (λ u. IsStrictlySortedBy-prop (slice_cmp nat_cmp) _) (λ u. IsStrictlySortedBy-prop (slice_cmp nat_cmp) _)
+      (λ u e. subst AreSorted (sym (names-map h u.list.items)) e) (λ u e. subst AreSorted (names-map h u.list.items) e)
       (over (I.the_row R)) (over (I.the_row S))
       (struct_places (I.the_type R) (I.the_type S) (vec.mapped (on_value h), tt) _ (λ d. refl) refl (laid _ _ _ (vec.the_places heap.the_row ghosts (M.the_row R) (M.the_row S) (on_value h) (member_places a)), tt))
 

@@ -1,0 +1,11 @@
+use Rattle.std.proofs.Common.{rules}
+use Rattle.std.proofs.lemmas.Fn.{always_returns_same}
+use Rattle.jskw_leaf.specs.Options.{text_against}
+use Rattle.jskw_leaf.proofs.Tables.{searched_texts}
+use Rattle.jskw_leaf.proofs.text_table.TextTable.contains.Goals as goal
+
+pub returns : goal.returns
+returns c =
+    let found = c.binary_search_by.ensures in
+    let by_text = found.position (text_against c.args.text.now) (always_returns_same _ _ _ (λ a r g called. (search rules, search rules))) in
+    rw (← c.self.view_is, c.is_ok.ensures.value, ← c.deref.ensures.value) (searched_texts c.args.text.now _ _ (rw c.deref.ensures.value c.self.invariant) found.bound by_text)
