@@ -1,25 +1,28 @@
 -- Fingerprints: equal trees have one, where no object that it looks at has a name twice.
-use Rattle.std.proofs.Common.{◌≡◌, ℕ, zero, suc, ◌+◌, ◌-◌, ◌%◌, ◌^◌, ◌<◌, ◌≤◌, ◌&&◌, ◌||◌, min, nat_le, List, [], ◌∷◌, length, get_or, drop, take, Bool, true, false, not, cond, Option, Some, None, refl, sym, ap, ap₂, subst, ◌∙◌, arith, length-take, if◌then◌else◌}
+use Rattle.std.proofs.Common.{◌≡◌, ℕ, zero, suc, ◌+◌, ◌-◌, ◌/◌, ◌%◌, ◌^◌, ◌<◌, ◌≤◌, ◌&&◌, ◌||◌, min, nat_le, List, [], ◌∷◌, length, get_or, drop, take, Bool, true, false, not, cond, Option, Some, None, refl, sym, ap, ap₂, subst, ◌∙◌, arith, length-take, if◌then◌else◌}
 use Rattle.std.proofs.Math.Bool.{or-true}
 use Rattle.std.proofs.Math.Nat.{mod-add-mod}
 use Rattle.std.proofs.lemmas.Bool.{and_from, and_parts, false_from_ne_true, le-leb, leb-true, not_from_false, not-true}
 use Rattle.std.proofs.lemmas.Bool.Decides.{Decides-eqb}
-use Rattle.std.proofs.lemmas.List.{at_drop_all, get_or-take}
+use Rattle.std.proofs.lemmas.List.{at_drop_all, get_or-take, take_all}
 use Rattle.std.proofs.lemmas.List.Sums.{sum_by-cons}
 use Rattle.std.proofs.lemmas.Map.Entries.{length-keys_of}
 use Rattle.std.proofs.lemmas.Map.Keys.{IsDistinct-head, IsDistinct-tail, IsDistinct-cons}
 use Rattle.std.proofs.lemmas.Option.{same_Some}
 use Rattle.std.proofs.lemmas.Slice.Eq.{bytes_eq-Decides}
 use Rattle.std.specs.Cmp.{booleans_Decides}
+use Rattle.std.specs.Int.{w64, from_le_bytes}
+use Rattle.std.specs.Int.Bits.{bit_xor}
 use Rattle.std.specs.List.{list_all, sum_by, IsDistinct}
 use Rattle.std.specs.Map.{keys_of, values_of, lookup}
 use Rattle.std.specs.Option.{option_map_or}
 use Rattle.std.specs.Set.{is_member}
 use Rattle.std.specs.Str.{bytes_eq}
 use Rattle.jskw_value.specs.Equality.{equal, items_alike, members_alike, AreAmong}
-use Rattle.jskw_value.specs.Fingerprint.{stirred, word_at, text_print, share, print, items_print, members_print, list_print, member_print, own_names_distinct, is_distinct_within, items_distinct_within, members_distinct_within}
-use Rattle.jskw_value.specs.Number.{num_equal}
-use Rattle.jskw_value.specs.Tree.{Tree, null, boolean, number, string, array, object, Items, no_items, item, Members, no_members, member, item_list, member_list, items, members, names, values, get, is_array, is_object, has_name}
+use Rattle.jskw_value.specs.Fingerprint.{stirred, word_at, pairs_stirred, text_print, share, print, items_print, members_print, list_print, member_print, own_names_distinct, is_distinct_within, items_distinct_within, members_distinct_within}
+use Rattle.jskw_value.specs.Number.{Num, num_equal}
+use Rattle.jskw_value.specs.PropertyName.{padded}
+use Rattle.jskw_value.specs.Tree.{Tree, null, boolean, number, string, array, object, Items, no_items, item, Members, no_members, member, item_list, member_list, items, members, names, values, get, as_number, as_string, is_array, is_object, has_name}
 use Rattle.jskw_value.proofs.Alike.{names_found}
 use Rattle.jskw_value.proofs.Depth.{item_depth}
 use Rattle.jskw_value.proofs.DistinctNames.{not_among}
@@ -242,7 +245,17 @@ distinct_elsewhere b (array ts) h k = cc
 distinct_elsewhere b (object ms) h k = cc
 distinct_elsewhere b _ h k = refl
 
-pub ruleset by_level = (print_of_array, distinct_in_array, print_of_members, print_of_count, distinct_in_members, distinct_in_count, distinct_elsewhere)
+-- nor has a number
+pub distinct_number : (b : ℕ) (t : Tree) (n : Num) → as_number t ≡ Some n → is_distinct_within b t ≡ true
+distinct_number b (number n) m h = refl
+distinct_number b _ m h = cc
+
+-- nor a string
+pub distinct_string : (b : ℕ) (t : Tree) (s : List ℕ) → as_string t ≡ Some s → is_distinct_within b t ≡ true
+distinct_string b (string s) r h = refl
+distinct_string b _ r h = cc
+
+pub ruleset by_level = (print_of_array, distinct_in_array, print_of_members, print_of_count, distinct_in_members, distinct_in_count, distinct_elsewhere, distinct_number, distinct_string)
 
 -- ---- for the code, one item or member on
 
@@ -280,9 +293,35 @@ sum_step s x rest all h = mod-add-mod (s + x) (2 ^ 64) rest ∙ ap (λ n. n % 2 
 
 -- ---- for the code, texts
 
--- up to eight bytes are one word
-pub one_word : (s : List ℕ) → length s ≤ 8 → word_at s (length s - 16) ≡ word_at s (length s - 8)
-one_word s h = ap (word_at s) same
+-- up to sixteen bytes are the last pair
+pub one_pair : (b : ℕ) (s : List ℕ) → length s ≤ 16
+    → text_print b s ≡ stirred (bit_xor 9600629759793949339 (length s)) (word_at s (length s - 16)) (word_at s (length s - 8))
+unfolding text_print
+one_pair b s h =
+    ap (λ n. stirred (pairs_stirred n (bit_xor 9600629759793949339 (length s)) s) (word_at s (length s - 16)) (word_at s (length s - 8))) none
   where
-    same : length s - 16 ≡ length s - 8
-    same = omega (arith, h)
+    none : min b ((length s - 1) / 16) ≡ 0
+    none = omega (arith, h)
+
+-- less than eight are one word
+pub one_word : (b : ℕ) (s : List ℕ) → length s < 8
+    → text_print b s ≡ stirred (bit_xor 9600629759793949339 (length s)) (from_le_bytes w64 (padded s)) (from_le_bytes w64 (padded s))
+unfolding word_at
+one_word b s h = one_pair b s (omega (arith, h))
+    ∙ ap₂ (stirred (bit_xor 9600629759793949339 (length s))) (whole (length s - 16) (omega (arith, h))) (whole (length s - 8) (omega (arith, h)))
+  where
+    whole : (i : ℕ) → i ≡ 0 → word_at s i ≡ from_le_bytes w64 (padded s)
+    whole i e = ap (λ j. from_le_bytes w64 (padded (take 8 (drop j s)))) e ∙ ap (λ xs. from_le_bytes w64 (padded xs)) (take_all 8 s (omega (arith, h)))
+
+-- so few bytes with zeros behind them, one by one
+pub few_padded : (s : List ℕ) → length s < 8
+    → (get_or s 0 0 ∷ get_or s 1 0 ∷ get_or s 2 0 ∷ get_or s 3 0 ∷ get_or s 4 0 ∷ get_or s 5 0 ∷ get_or s 6 0 ∷ 0 ∷ []) ≡ padded s
+few_padded [] l = refl
+few_padded (a ∷ []) l = refl
+few_padded (a ∷ b ∷ []) l = refl
+few_padded (a ∷ b ∷ c ∷ []) l = refl
+few_padded (a ∷ b ∷ c ∷ d ∷ []) l = refl
+few_padded (a ∷ b ∷ c ∷ d ∷ e ∷ []) l = refl
+few_padded (a ∷ b ∷ c ∷ d ∷ e ∷ f ∷ []) l = refl
+few_padded (a ∷ b ∷ c ∷ d ∷ e ∷ f ∷ g ∷ []) l = refl
+few_padded (a ∷ b ∷ c ∷ d ∷ e ∷ f ∷ g ∷ h ∷ s) l = absurd (omega (arith, l))

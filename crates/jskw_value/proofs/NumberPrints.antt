@@ -1,12 +1,13 @@
 -- Fingerprints of numbers: by their mathematical value.
-use Rattle.std.proofs.Common.{◌≡◌, ℕ, zero, suc, ◌+◌, ◌-◌, ◌*◌, ◌/◌, ◌%◌, ◌^◌, ◌<◌, ◌≤◌, refl, sym, ap, ap₂, ◌∙◌, arith, pos, negsuc, ◌*ℤ◌, ℤ, true}
+use Rattle.std.proofs.Common.{◌≡◌, ℕ, zero, suc, ◌+◌, ◌-◌, ◌*◌, ◌/◌, ◌%◌, ◌^◌, ◌<◌, ◌≤◌, refl, sym, ap, ap₂, ◌∙◌, arith, pos, negsuc, ◌*ℤ◌, ℤ, Bool, true, false, nat_lt, Some, None, option_and_then, if◌then◌else◌}
 use Rattle.std.proofs.Math.Nat.{mul_right_comm, mul_comm, mul_assoc, mul-div_cancel, div-div-eq-div-mul, div-add-mod, div-one, mod-lt, mod-one, add-mul, mul-lt-mul_of_pos_right}
 use Rattle.std.proofs.lemmas.Bool.Decides.{Decides-int_eq}
 use Rattle.std.proofs.lemmas.Int.{unsigned_abs-mul}
 use Rattle.std.proofs.lemmas.Nat.{mul-lt, pow-add}
+use Rattle.std.proofs.lemmas.Option.{same_Some}
 use Rattle.std.specs.Prelude.{unsigned_abs}
 use Rattle.jskw_value.specs.Fingerprint.{stirred, sign_print, parts_print, number_print}
-use Rattle.jskw_value.specs.Number.{Num, exact, num_equal}
+use Rattle.jskw_value.specs.Number.{Num, exact, float, num_equal, whole, u64_of}
 use Rattle.jskw_value.proofs.Numbers.{pos-ne-neg, product-above}
 use Rattle.jskw_value.proofs.Powers.{ten_pow_low}
 
@@ -91,5 +92,18 @@ whole_alone n k e = sym (ap (λ m. n / 10 ^ m) e ∙ div-one n)
 -- with nothing behind the point
 pub no_rest : (n k : ℕ) → k ≡ 0 → 0 ≡ n % 10 ^ k * 10 ^ 18 / 10 ^ k
 no_rest n k e = sym (ap (λ m. n % 10 ^ m * 10 ^ 18 / 10 ^ m) e ∙ ap (λ m. m * 10 ^ 18 / 1) (mod-one n) ∙ refl)
+
+-- of a whole number from 0 to 2^64 - 1
+pub whole_print : (m : Num) (n : ℕ) → option_and_then u64_of (whole m) ≡ Some n → number_print m ≡ stirred 6 n 0
+unfolding parts_print
+whole_print (exact (pos c) zero) n e =
+    ap₂ (stirred 6) (sym (whole_alone c 0 refl)) (sym (no_rest c 0 refl)) ∙ ap (λ x. stirred 6 x 0) (go (nat_lt c (2 ^ 64)) e)
+  where
+    go : (b : Bool) → (if b then Some c else None) ≡ Some n → c ≡ n
+    go true e = same_Some c n e
+    go false e = cc
+whole_print (exact (negsuc c) zero) n e = cc
+whole_print (exact c (suc k)) n e = cc
+whole_print float n e = cc
 
 pub ruleset parts = (scaled_up, rest_fits, whole_alone, no_rest, ten_pow_low)

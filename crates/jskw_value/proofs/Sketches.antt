@@ -28,24 +28,24 @@ or_kept : (w m x : ℕ) → bit_or w m ≡ w → bit_or (bit_or w x) m ≡ bit_o
 or_kept w m x e = or_assoc w x m ∙ ap (bit_or w) (or_comm x m) ∙ sym (or_assoc w m x) ∙ ap (λ y. bit_or y x) e
 
 -- what was set just now is set
-pub set_this : (ws : List ℕ) (p q i : ℕ) → i ≡ place p (length ws) → i < length ws
-    → is_set (set ws i (bit_or (get_or ws i 0) (marks q))) p q ≡ true
+pub set_this : (ws : List ℕ) (p m i : ℕ) → i ≡ place p (length ws) → i < length ws
+    → is_set (set ws i (bit_or (get_or ws i 0) m)) p m ≡ true
 unfolding is_set
-set_this ws p q i e h = ap (λ w. bit_or w (marks q) == w) word ∙ (Decides-eqb _ _).1 (or_twice (get_or ws i 0) (marks q))
+set_this ws p m i e h = ap (λ w. bit_or w m == w) word ∙ (Decides-eqb _ _).1 (or_twice (get_or ws i 0) m)
   where
     new : List ℕ
-    new = set ws i (bit_or (get_or ws i 0) (marks q))
+    new = set ws i (bit_or (get_or ws i 0) m)
 
-    word : get_or new (place p (length new)) 0 ≡ bit_or (get_or ws i 0) (marks q)
-    word = ap (λ n. get_or new (place p n) 0) (length-set ws i (bit_or (get_or ws i 0) (marks q)))
-        ∙ ap (λ k. get_or new k 0) (sym e) ∙ get_or-set_same ws i (bit_or (get_or ws i 0) (marks q)) 0 h
+    word : get_or new (place p (length new)) 0 ≡ bit_or (get_or ws i 0) m
+    word = ap (λ n. get_or new (place p n) 0) (length-set ws i (bit_or (get_or ws i 0) m))
+        ∙ ap (λ k. get_or new k 0) (sym e) ∙ get_or-set_same ws i (bit_or (get_or ws i 0) m) 0 h
 
 -- what was set before is too
 pub set_other : (ws : List ℕ) (i m p q : ℕ) → i < length ws → is_set ws p q ≡ true
     → is_set (set ws i (bit_or (get_or ws i 0) m)) p q ≡ true
 unfolding is_set
 set_other ws i m p q h k =
-    ap (λ n. bit_or (get_or new (place p n) 0) (marks q) == get_or new (place p n) 0) (length-set ws i (bit_or (get_or ws i 0) m))
+    ap (λ n. bit_or (get_or new (place p n) 0) q == get_or new (place p n) 0) (length-set ws i (bit_or (get_or ws i 0) m))
     ∙ go (eqb_tells (place p (length ws)) i)
   where
     new : List ℕ
@@ -54,15 +54,15 @@ set_other ws i m p q h k =
     at : ℕ
     at = place p (length ws)
 
-    go : (((at == i) ≡ true) × (at ≡ i)) ⊎ (((at == i) ≡ false) × (at ≢ i)) → (bit_or (get_or new at 0) (marks q) == get_or new at 0) ≡ true
-    go (inl t) = ap (λ j. bit_or (get_or new j 0) (marks q) == get_or new j 0) t.1
-        ∙ ap (λ w. bit_or w (marks q) == w) (get_or-set_same ws i (bit_or (get_or ws i 0) m) 0 h)
-        ∙ (Decides-eqb _ _).1 (or_kept (get_or ws i 0) (marks q) m ((Decides-eqb _ _).0 (ap (λ j. bit_or (get_or ws j 0) (marks q) == get_or ws j 0) (sym t.1) ∙ k)))
-    go (inr t) = ap (λ w. bit_or w (marks q) == w) (get_or-set_other ws i at (bit_or (get_or ws i 0) m) 0 t.1) ∙ k
+    go : (((at == i) ≡ true) × (at ≡ i)) ⊎ (((at == i) ≡ false) × (at ≢ i)) → (bit_or (get_or new at 0) q == get_or new at 0) ≡ true
+    go (inl t) = ap (λ j. bit_or (get_or new j 0) q == get_or new j 0) t.1
+        ∙ ap (λ w. bit_or w q == w) (get_or-set_same ws i (bit_or (get_or ws i 0) m) 0 h)
+        ∙ (Decides-eqb _ _).1 (or_kept (get_or ws i 0) q m ((Decides-eqb _ _).0 (ap (λ j. bit_or (get_or ws j 0) q == get_or ws j 0) (sym t.1) ∙ k)))
+    go (inr t) = ap (λ w. bit_or w q == w) (get_or-set_other ws i at (bit_or (get_or ws i 0) m) 0 t.1) ∙ k
 
 -- a fingerprint is marked once its three words are set
-pub marked_all : (ws xs ys : List ℕ) (p : ℕ) → is_set ws (p / 2 ^ 32) p ≡ true → is_set xs p (p / 2 ^ 32) ≡ true
-    → is_set ys (bit_xor p (p / 2 ^ 32)) (p / 2 ^ 16) ≡ true
+pub marked_all : (ws xs ys : List ℕ) (p : ℕ) → is_set ws (p / 2 ^ 32) (marks p) ≡ true → is_set xs p (marks p) ≡ true
+    → is_set ys (bit_xor p (p / 2 ^ 32)) (marks p) ≡ true
     → ((q r : ℕ) → is_set ws q r ≡ true → is_set xs q r ≡ true) → ((q r : ℕ) → is_set xs q r ≡ true → is_set ys q r ≡ true)
     → is_marked ys p ≡ true
 unfolding is_marked

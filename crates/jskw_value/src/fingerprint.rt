@@ -1,13 +1,17 @@
 //! Fingerprints of nodes: equal nodes have one fingerprint, and most others differ. A fingerprint
 //! looks no further into a node than a budget reaches.
-ghost use Rattle.std.specs.Prelude.{◌≡◌, ◌≤◌, ◌<◌, ◌*◌, ◌/◌, ◌%◌, ◌^◌, length, take, false, IsTrue};
+ghost use Rattle.std.specs.Prelude.{◌≡◌, ℕ, ◌≤◌, ◌<◌, ◌+◌, ◌-◌, ◌*◌, ◌/◌, ◌%◌, ◌^◌, length, take};
+ghost use Rattle.std.specs.Prelude.{get_or, None, IsTrue};
+ghost use Rattle.std.specs.Int.{w64, from_le_bytes};
 ghost use Rattle.std.specs.List.{sum_by, IsDistinct, list_all};
 ghost use Rattle.std.specs.Str.{bytes_eq};
 ghost use Rattle.jskw_value.specs.Decimal.{value};
 ghost use Rattle.jskw_value.specs.Fingerprint.{folded, stirred, word_at, text_print, sign_print};
 ghost use Rattle.jskw_value.specs.Fingerprint.{number_print, share, print, list_print};
 ghost use Rattle.jskw_value.specs.Fingerprint.{member_print, is_distinct_within};
-ghost use Rattle.jskw_value.specs.Tree.{is_array, is_object, items, members, names, values};
+ghost use Rattle.jskw_value.specs.PropertyName.{padded};
+ghost use Rattle.jskw_value.specs.Tree.{as_number, as_string, is_array, is_object, items};
+ghost use Rattle.jskw_value.specs.Tree.{members, names, values};
 
 use crate::decimal::{Decimal, ten_to};
 use crate::json::{Array, JsonNumber, Node, Object};
@@ -20,12 +24,36 @@ pub(crate) fn fingerprint<N: Node>(node: &N, budget: usize) -> u64
     ensures value { result ≡ print budget (N.tree node.now) }
     ensures distinct { IsTrue (is_distinct_within budget (N.tree node.now)) }
 {
+    if let Some(number) = node.as_number() {
+        return of_number(number);
+    }
+    if let Some(text) = node.as_string() {
+        return of_text(text, budget);
+    }
+    of_other(node, budget)
+}
+
+// Of a node that is neither a number nor a string. It is never inlined, so that those two take no
+// frame of its size.
+#[inline(never)]
+#[cycle(print)]
+#[tactic(auto, using(crate::proofs::Fingerprints::by_level))]
+fn of_other<N: Node>(node: &N, budget: usize) -> u64
+    requires number { as_number (N.tree node.now) ≡ None }
+    requires string { as_string (N.tree node.now) ≡ None }
+    ensures value { result ≡ print budget (N.tree node.now) }
+    ensures distinct { IsTrue (is_distinct_within budget (N.tree node.now)) }
+{
     if node.is_array() {
-        of_array(node, budget)
-    } else if node.is_object() {
-        of_object(node, budget)
-    } else {
-        of_leaf(node, budget)
+        return of_array(node, budget);
+    }
+    if node.is_object() {
+        return of_object(node, budget);
+    }
+    match node.as_boolean() {
+        Some(true) => 3,
+        Some(false) => 2,
+        None => 1,
     }
 }
 
@@ -88,33 +116,18 @@ fn share(budget: usize, count: usize) -> usize
     budget / count.max(2)
 }
 
-// Of a node that is neither an array nor an object.
-fn of_leaf<N: Node>(node: &N, budget: usize) -> u64
-    requires array { is_array (N.tree node.now) ≡ false }
-    requires object { is_object (N.tree node.now) ≡ false }
-    ensures { result ≡ print budget (N.tree node.now) }
-{
-    if let Some(number) = node.as_number() {
-        return of_number(number);
-    }
-    if let Some(text) = node.as_string() {
-        return of_text(text, budget);
-    }
-    match node.as_boolean() {
-        Some(true) => 3,
-        Some(false) => 2,
-        None => 1,
-    }
-}
-
-// Of a number by its value; floats have one fingerprint.
+// Of a number by its value; floats have one fingerprint. Most numbers are whole and not below 0, and
+// go a short way.
+#[tactic(auto, using(crate::proofs::NumberPrints::whole_print))]
 fn of_number<A: JsonNumber>(number: &A) -> u64
     ensures { result ≡ number_print (A.number number.now) }
 {
-    if number.is_lawful() {
-        of_decimal(&number.decimal())
-    } else {
-        8
+    if !number.is_lawful() {
+        return 8;
+    }
+    match number.as_u64() {
+        Some(whole) => stir(6, whole, 0),
+        None => of_decimal(&number.decimal()),
     }
 }
 
@@ -155,34 +168,95 @@ fn of_text(text: &str, budget: usize) -> u64
 }
 
 // Of a text: its length, as many pairs of words from its front as the budget has units, and its
-// last pair, which may overlap them. A text of up to eight bytes is one word, which stands twice.
-#[tactic(auto, using(crate::proofs::Fingerprints::one_word), unfolding(crate::specs::Fingerprint::text_print))]
+// last pair, which may overlap them. A text of less than eight bytes is one word, which stands
+// twice. What others need is never inlined, so that a text of up to sixteen bytes takes no frame.
+#[tactic(auto, using(crate::proofs::Fingerprints::one_pair))]
 fn of_bytes(bytes: &[u8], budget: usize) -> u64
     ensures { result ≡ text_print budget bytes.now }
 {
     let count = bytes.len();
-    let mut hash = 9600629759793949339 ^ count as u64;
-    for i in 0..budget.min(count.saturating_sub(1) / 16) {
-        hash = stir(hash, word_at(bytes, 16 * i), word_at(bytes, 16 * i + 8));
+    if count < 8 {
+        of_one_word(bytes)
+    } else if count <= 16 {
+        stir_last_pair(9600629759793949339 ^ count as u64, bytes)
+    } else {
+        of_many_words(bytes, budget)
     }
-    let last = word_at(bytes, count.saturating_sub(8));
-    if count <= 8 {
-        return stir(hash, last, last);
-    }
-    stir(hash, word_at(bytes, count.saturating_sub(16)), last)
 }
 
-// Up to eight bytes from an index on, as a number.
+// Of a text of less than eight bytes, for any budget.
+#[inline(never)]
+#[tactic(auto, using(crate::proofs::Fingerprints::one_word))]
+fn of_one_word(bytes: &[u8]) -> u64
+    requires { length bytes.now < 8 }
+    ensures { (budget : ℕ) → result ≡ text_print budget bytes.now }
+{
+    let word = number_of_few(bytes);
+    stir(9600629759793949339 ^ bytes.len() as u64, word, word)
+}
+
+// The number of less than eight bytes, the lowest byte first. It is put together in registers: a
+// copy of so few bytes into memory would be waited for.
+#[tactic(auto, using(crate::proofs::Fingerprints::few_padded))]
+fn number_of_few(bytes: &[u8]) -> u64
+    requires { length bytes.now < 8 }
+    ensures { result ≡ from_le_bytes w64 (padded bytes.now) }
+{
+    u64::from_le_bytes([
+        byte_at(bytes, 0),
+        byte_at(bytes, 1),
+        byte_at(bytes, 2),
+        byte_at(bytes, 3),
+        byte_at(bytes, 4),
+        byte_at(bytes, 5),
+        byte_at(bytes, 6),
+        0,
+    ])
+}
+
+// The byte at an index, 0 behind the last.
+fn byte_at(bytes: &[u8], index: usize) -> u8
+    ensures { result ≡ get_or bytes.now index 0 }
+{
+    if index < bytes.len() { bytes[index] } else { 0 }
+}
+
+// Of a text of at least eight bytes.
+#[inline(never)]
+#[tactic(auto, unfolding(crate::specs::Fingerprint::text_print))]
+fn of_many_words(bytes: &[u8], budget: usize) -> u64
+    requires { 8 ≤ length bytes.now }
+    ensures { result ≡ text_print budget bytes.now }
+{
+    let count = bytes.len();
+    let mut hash = 9600629759793949339 ^ count as u64;
+    for i in 0..budget.min((count - 1) / 16) {
+        hash = stir(hash, word_at(bytes, 16 * i), word_at(bytes, 16 * i + 8));
+    }
+    stir_last_pair(hash, bytes)
+}
+
+// The last pair of words, which overlap in a text of less than sixteen bytes, mixed into a hash.
+fn stir_last_pair(hash: u64, bytes: &[u8]) -> u64
+    requires { 8 ≤ length bytes.now }
+    ensures { let count = length bytes.now in
+        result ≡ stirred hash (word_at bytes.now (count - 16)) (word_at bytes.now (count - 8)) }
+{
+    let count = bytes.len();
+    stir(
+        hash,
+        word_at(bytes, count.saturating_sub(16)),
+        word_at(bytes, count - 8),
+    )
+}
+
+// The eight bytes from an index on, as a number.
 fn word_at(bytes: &[u8], start: usize) -> u64
-    requires { start ≤ length bytes.now }
+    requires { start + 8 ≤ length bytes.now }
     ensures { result ≡ word_at bytes.now start }
 {
     let rest = &bytes[start..];
-    if rest.len() < 8 {
-        number_of(rest)
-    } else {
-        number_of(&rest[..8])
-    }
+    number_of(&rest[..8])
 }
 
 // Two words mixed into a hash.

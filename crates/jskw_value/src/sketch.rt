@@ -3,18 +3,17 @@
 ghost use Rattle.std.specs.Prelude.{ℕ, ◌≡◌, ◌≤◌, ◌<◌, ◌^◌, length, true};
 ghost use Rattle.jskw_value.specs.Sketch.{place, marks, is_set, is_marked};
 
-// Whether a fingerprint is marked. A half of it picks a word and the other half the bits, either
-// way round, and so do both together.
+// Whether a fingerprint is marked: its bits are set in three words. Each half of it picks one of
+// them, and so do both together.
 #[tactic(auto, unfolding(crate::specs::Sketch::is_marked))]
 pub(crate) fn is_marked(sketch: &[u64], print: u64) -> bool
     requires filled { 0 < length sketch.now }
     requires short { length sketch.now ≤ 2 ^ 32 }
     ensures { result ≡ is_marked sketch.now print }
 {
+    let bits = marks(print);
     let high = print >> 32;
-    is_set(sketch, high, print)
-        && is_set(sketch, print, high)
-        && is_set(sketch, print ^ high, print >> 16)
+    is_set(sketch, high, bits) && is_set(sketch, print, bits) && is_set(sketch, print ^ high, bits)
 }
 
 // Marks a fingerprint.
@@ -26,13 +25,14 @@ pub(crate) fn mark(sketch: &mut [u64], print: u64)
     ensures this { is_marked sketch.new print ≡ true }
     ensures others { (p : ℕ) → is_marked sketch.old p ≡ true → is_marked sketch.new p ≡ true }
 {
+    let bits = marks(print);
     let high = print >> 32;
-    set(sketch, high, print);
-    set(sketch, print, high);
-    set(sketch, print ^ high, print >> 16);
+    set(sketch, high, bits);
+    set(sketch, print, bits);
+    set(sketch, print ^ high, bits);
 }
 
-// Whether the bits of a number are all set in the word that another one picks.
+// Whether bits are all set in the word that a number picks.
 #[tactic(auto, unfolding(crate::specs::Sketch::is_set))]
 fn is_set(sketch: &[u64], picks: u64, bits: u64) -> bool
     requires filled { 0 < length sketch.now }
@@ -40,7 +40,7 @@ fn is_set(sketch: &[u64], picks: u64, bits: u64) -> bool
     ensures { result ≡ is_set sketch.now picks bits }
 {
     let word = sketch[place(picks, sketch.len())];
-    word | marks(bits) == word
+    word | bits == word
 }
 
 // Sets them.
@@ -53,7 +53,7 @@ fn set(sketch: &mut [u64], picks: u64, bits: u64)
     ensures others { (p q : ℕ) → is_set sketch.old p q ≡ true → is_set sketch.new p q ≡ true }
 {
     let at = place(picks, sketch.len());
-    sketch[at] |= marks(bits);
+    sketch[at] |= bits;
 }
 
 // The word that the lower half of a number picks among so many.
@@ -67,13 +67,15 @@ fn place(picks: u64, count: usize) -> usize
     ((picks % (1 << 32) * count as u64) >> 32) as usize
 }
 
-// The bits of a word that a number sets: four, of which some may be the same.
+// The bits that a fingerprint sets in each of its words: five, of which some may be the same. They
+// come from the lower ends of its halves, whose upper ends pick the words.
 #[tactic(auto, unfolding(crate::specs::Sketch::marks))]
-fn marks(bits: u64) -> u64
-    ensures { result ≡ marks bits }
+fn marks(print: u64) -> u64
+    ensures { result ≡ marks print }
 {
-    (1 << (bits % 64))
-        | (1 << (bits / 64 % 64))
-        | (1 << (bits / 4096 % 64))
-        | (1 << (bits / 262144 % 64))
+    (1 << (print % 64))
+        | (1 << ((print >> 6) % 64))
+        | (1 << ((print >> 9) % 64))
+        | (1 << ((print >> 32) % 64))
+        | (1 << ((print >> 38) % 64))
 }

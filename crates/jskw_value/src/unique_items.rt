@@ -158,7 +158,9 @@ fn is_new<N: Node>(
     true
 }
 
-// Whether an item from one index up to another is equal to a later one.
+// Whether an item from one index up to another is equal to a later one. It is seldom asked, and
+// never inlined, so that the loop over all items keeps its registers.
+#[inline(never)]
 #[tactic(auto, using(crate::proofs::Blocks::new_start, crate::proofs::Blocks::new_step, crate::proofs::Blocks::is_twice))]
 fn occurs_between<N: Node>(array: &N, start: usize, end: usize, index: usize) -> bool
     requires array { IsTrue (is_array (N.tree array.now)) }

@@ -9,16 +9,19 @@ use Rattle.jskw_value.proofs.Depth.{depth, height}
 use Rattle.jskw_value.proofs.fingerprint.+print.Given as goal
 
 abbrev pub decreases-fingerprint : goal.decreases-fingerprint
-decreases-fingerprint g l = 3 * depth (g.N.Rooted.tree l.node.now) + 2
+decreases-fingerprint g l = 4 * depth (g.N.Rooted.tree l.node.now) + 3
+
+abbrev pub decreases-of_other : goal.decreases-of_other
+decreases-of_other g l = 4 * depth (g.N.Rooted.tree l.node.now) + 2
 
 abbrev pub decreases-of_array : goal.decreases-of_array
-decreases-of_array g l = 3 * depth (g.N.Rooted.tree l.node.now) + 1
+decreases-of_array g l = 4 * depth (g.N.Rooted.tree l.node.now) + 1
 
 abbrev pub decreases-of_object : goal.decreases-of_object
-decreases-of_object g l = 3 * depth (g.N.Rooted.tree l.node.now) + 1
+decreases-of_object g l = 4 * depth (g.N.Rooted.tree l.node.now) + 1
 
 abbrev pub decreases-of_members : goal.decreases-of_members
-decreases-of_members g l = 3 * depth (g.N.Rooted.tree l.node.now)
+decreases-of_members g l = 4 * depth (g.N.Rooted.tree l.node.now)
 
 abbrev pub invariant-of_array-loop-i : goal.invariant-of_array-loop-i
 invariant-of_array-loop-i g l =

@@ -1,7 +1,7 @@
 use Rattle.std.proofs.Common.{◌≡◌, ◌-◌, ◌/◌, min, length}
 use Rattle.std.specs.Int.Bits.{bit_xor}
 use Rattle.jskw_value.specs.Fingerprint.{pairs_stirred}
-use Rattle.jskw_value.proofs.fingerprint.of_bytes.Given as goal
+use Rattle.jskw_value.proofs.fingerprint.of_many_words.Given as goal
 
 abbrev pub invariant-loop-i : goal.invariant-loop-i
 invariant-loop-i l =
