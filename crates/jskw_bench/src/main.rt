@@ -3,12 +3,15 @@
 //! line `sizes` it prints how many bytes values take. Each other line is a case: its name, a schema
 //! and an instance, with a tab between each two. The name of a loop written by hand may follow,
 //! which makes the tests of the schema; then it has to answer as the schema does, and its
-//! nanoseconds are printed last.
+//! nanoseconds are printed last. In place of the schema there may be the word `insert`, and in place
+//! of the instance an array of names then: members of these are inserted into an object of decimals.
 #![tactic(auto)]
 
 mod by_hand;
+mod insertion;
 mod timing;
 
+use insertion::time_insertions;
 use jskw_array::compiler::compile;
 use jskw_array::{SchemaNode, Validator};
 use jskw_report::{Context, Draft, Location, Settings, ValidationContext, VocabularySet};
@@ -116,6 +119,21 @@ fn print_sizes(rt: &HostRuntime) -> io::Result<()> {
     println!(rt; "sizes\t{node}\t{validator}\t{location}")
 }
 
+// Inserts members of the names in a text.
+fn run_insertions(rt: &HostRuntime, name: &str, names: &str, is_timed: bool) -> io::Result<()> {
+    let Ok(Value::Array(names)) = Value::from_str(rt.alloc(), names) else {
+        return println!(rt; "{name}\tno names");
+    };
+    let span = if is_timed { SPAN } else { 0 };
+    let timing = time_insertions(rt, span, names.as_slice())?;
+    let is_done = timing.answer() == Some(true);
+    print!(rt; "{name}\t{}", if is_done { "inserted" } else { "refused" })?;
+    if is_timed {
+        print_nanoseconds(rt, &timing)?;
+    }
+    println!(rt; "")
+}
+
 fn run_case(rt: &HostRuntime, settings: &Settings, line: &str, is_timed: bool) -> io::Result<()> {
     let alloc = rt.alloc();
     let mut parts = line.split('\t');
@@ -123,6 +141,9 @@ fn run_case(rt: &HostRuntime, settings: &Settings, line: &str, is_timed: bool) -
     let schema = parts.next().unwrap_or("");
     let instance = parts.next().unwrap_or("");
     let loop_name = parts.next();
+    if schema == "insert" {
+        return run_insertions(rt, name, instance, is_timed);
+    }
     let Ok(schema) = Value::from_str(alloc, schema) else {
         return println!(rt; "{name}\tno schema");
     };
