@@ -1,5 +1,6 @@
 //! Options that are strings, and perhaps null.
-ghost use Rattle.std.specs.Prelude.{◌≡◌, IsSome, IfOk, true, map, refl, string_bytes};
+ghost use Rattle.std.specs.Prelude.{◌≡◌, IsSome, IfOk, true, map, refl, string_bytes, string_cmp};
+ghost use Rattle.std.specs.List.Sorted.{IsSorted};
 ghost use Rattle.serde_json.specs.Data.{array};
 ghost use Rattle.serde_json.specs.Find.{as_array, as_str};
 ghost use Rattle.serde_json.specs.View.{view, items_view};
@@ -8,7 +9,7 @@ ghost use Rattle.jskw_leaf.specs.Options.{not_among, options_of, AreOptions, som
 ghost use Rattle.jskw_leaf.specs.Options.{picked, only, has_null};
 
 use super::{NullOption, not_among};
-use crate::text_table::TextTable;
+use crate::text_table::{is_in_table, sorted};
 use jskw_report::{Assertion, Location, ValidationErrorKind};
 use jskw_value::{Json, KeyHead, Node, Nullability, PropertyName};
 use serde_json::Value;
@@ -82,11 +83,13 @@ impl<N: Nullability> Assertion for SmallStringEnumValidator<N> {
 #[derive(Drop)]
 pub struct BigStringEnumValidator<N: Nullability> {
     options: Value,
-    items: TextTable,
+    items: Vec<String>,
     null: NullOption<N>,
     location: Location,
     ghost array: { IsSome (as_array (view options)) },
-    ghost listed: { AreOptions as_string (some_text items) null (options_of (view options)) },
+    ghost sorted: { IsSorted string_cmp items.items },
+    ghost listed: { AreOptions as_string (some_text (map string_bytes items.items)) null
+        (options_of (view options)) },
 }
 
 impl<N: Nullability> BigStringEnumValidator<N> {
@@ -107,7 +110,7 @@ impl<N: Nullability> BigStringEnumValidator<N> {
     {
         Ok(BigStringEnumValidator {
             options: options.clone()?,
-            items: TextTable::new(texts_of(alloc, items)?),
+            items: sorted(texts_of(alloc, items)?),
             null: NullOption::new(),
             location,
         })
@@ -125,7 +128,7 @@ impl<N: Nullability> Assertion for BigStringEnumValidator<N> {
 
     fn holds<F: Json>(&self, instance: &F::Node) -> bool {
         match instance.as_string() {
-            Some(text) => self.items.contains(text),
+            Some(text) => is_in_table(&self.items, text),
             None => self.null.accepts::<F>(instance),
         }
     }

@@ -6,7 +6,7 @@ ghost use Rattle.std.specs.Str.{bytes_eq};
 ghost use Rattle.jskw_leaf.specs.Required.{is_among};
 
 use super::prepared::PreparedName;
-use crate::text_table::TextTable;
+use crate::text_table::{is_in_table, sorted};
 use jskw_value::{Json, KeyHead};
 use std::alloc::{AllocError, Global};
 use std::marker::Model;
@@ -34,21 +34,24 @@ pub trait Names<F: Json> {
 #[derive(Drop)]
 pub struct NameList<F: Json> {
     names: Vec<PreparedName<F>>,
-    table: TextTable,
+    table: Vec<String>,
 }
 
 impl<F: Json> Model for NameList<F> {
-    ghost use Rattle.std.specs.Prelude.{ℕ, List};
+    ghost use Rattle.std.specs.Prelude.{ℕ, List, map, string_bytes, string_cmp};
     ghost use Rattle.std.specs.List.{IsDistinct};
-    ghost use Rattle.std.specs.List.Sorted.{IsPermutation};
+    ghost use Rattle.std.specs.List.Sorted.{IsSorted, IsPermutation};
     ghost use Rattle.std.specs.Str.{bytes_eq};
 
     ghost Value = { List (List ℕ) };
 
     ghost view = { λ l. l.names.items };
 
-    ghost invariant = { λ l. IsDistinct bytes_eq l.names.items
-        × IsPermutation l.names.items l.table };
+    ghost invariant = { λ l. record {
+      distinct : IsDistinct bytes_eq l.names.items;
+      sorted : IsSorted string_cmp l.table.items;
+      same : IsPermutation l.names.items (map string_bytes l.table.items);
+    } };
 }
 
 impl<F: Json> NameList<F> {
@@ -61,7 +64,7 @@ impl<F: Json> NameList<F> {
         for text in texts {
             names.push(PreparedName::new(alloc, text)?)?;
         }
-        let table = TextTable::new(strings_of(alloc, texts)?);
+        let table = sorted(strings_of(alloc, texts)?);
         Ok(NameList { names, table })
     }
 }
@@ -89,7 +92,7 @@ impl<F: Json> Names<F> for NameList<F> {
     }
 
     fn contains(&self, text: &str) -> bool {
-        self.table.contains(text)
+        is_in_table(&self.table, text)
     }
 }
 
