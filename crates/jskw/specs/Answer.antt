@@ -1,5 +1,5 @@
 -- What is answered to a request, and how it is written.
-use Rattle.std.specs.Prelude.{ℕ, List, [], ◌∷◌, ◌++◌, codes, Option, Some, None, Ok, Err}
+use Rattle.std.specs.Prelude.{ℕ, List, [], ◌∷◌, ◌++◌, codes, false, Option, Some, None, Ok, Err}
 use Rattle.jskw_value.specs.FirstFloat.{first_float}
 use Rattle.jskw_value.specs.Pointer.{Pointer}
 use Rattle.jskw_value.specs.Serde.{tree_of}
@@ -8,6 +8,7 @@ use Rattle.jskw_report.specs.Fail.{Failure, fail}
 use Rattle.jskw_report.specs.KeywordValue.{Refusal}
 use Rattle.jskw_report.specs.Kind.{keyword_of}
 use Rattle.jskw_report.specs.Read.{Reading, read}
+use Rattle.jskw_report.specs.Setting.{with_object_layer}
 use Rattle.jskw.specs.Request.{Request, request_in}
 use Rattle.jskw.specs.declared.service.Verdict.{Verdict}
 use Rattle.jskw.specs.declared.service.Verdict.TheVariants.{Valid, Invalid, Refused}
@@ -27,10 +28,10 @@ judged (Err e) found t = bad_schema e
 judged (Ok s) (Some p) t = float_at p
 judged (Ok s) None t = errors (fail s t [])
 
--- the schema first, then the floats of the instance, then its errors
+-- the schema first, which is read without an object layer, then the floats of the instance, then its errors
 abbrev pub answer : Option Request → Answer
 answer None = no_request
-answer (Some r) = judged (read r.schema r.setting []) (first_float (tree_of r.instance)) (tree_of r.instance)
+answer (Some r) = judged (read r.schema (with_object_layer false r.setting) []) (first_float (tree_of r.instance)) (tree_of r.instance)
 
 abbrev pub verdict_of : Answer → Verdict
 verdict_of (errors []) = Valid

@@ -1,5 +1,5 @@
 -- What the input asks for: a schema, an instance, and a setting.
-use Rattle.std.specs.Prelude.{ℕ, List, [], ◌∷◌, codes, bytes_eq, Option, Some, None, if◌then◌else◌, option_and_then, option_map}
+use Rattle.std.specs.Prelude.{ℕ, List, [], ◌∷◌, true, codes, bytes_eq, Option, Some, None, if◌then◌else◌, option_and_then, option_map}
 use Rattle.std.specs.Str.{is_utf8}
 use Rattle.serde_json.specs.Data.{Data, string, array, object, Items, no_items, item, Members}
 use Rattle.serde_json.specs.Find.{get_member}
@@ -69,7 +69,7 @@ overridden_of (Some (array ds)) = texts_of ds
 overridden_of (Some d) = None
 
 abbrev pub setting_from : Option Draft → Option VocabularySet → Option (List (List ℕ)) → Option Setting
-setting_from (Some d) (Some v) (Some names) = Some (record { draft = d; vocabularies = v; overridden = names })
+setting_from (Some d) (Some v) (Some names) = Some (record { draft = d; vocabularies = v; overridden = names; object_layer = true })
 setting_from _ _ _ = None
 
 abbrev pub setting_of : Members → Option Setting

@@ -46,7 +46,8 @@ pub enum RunFault {
 /// JSON object with the members `schema` and `instance`; `draft` (`"4"`, `"6"`, `"7"`, `"2019-09"`
 /// or `"2020-12"`, the default), `vocabularies` (an array of `"core"`, `"applicator"` and
 /// `"validation"`; all by default) and `overridden` (an array of names; none by default) may be
-/// there. All output is built before the first write. Neither device has failed yet.
+/// there. There is no object layer, to which a `required` could be left. All output is built before
+/// the first write. Neither device has failed yet.
 pub fn run<R: Source, W: Sink>(
     alloc: Global,
     reader: &mut R,
@@ -166,7 +167,7 @@ fn refuse_request(alloc: Global) -> Result<Reply, AllocError>
     Ok(Reply::Answer(Verdict::Refused, text))
 }
 
-// The schema first, then the floats of the instance, then its errors.
+// The schema first, without an object layer, then the floats of the instance, then its errors.
 fn reply_to_request(alloc: Global, request: &Request<'_>) -> Result<Reply, AllocError>
     ensures verdict { IfOk result
         (λ reply. verdict_in reply ≡ verdict_of (answer (Some (request_view request.now)))) }
@@ -174,6 +175,7 @@ fn reply_to_request(alloc: Global, request: &Request<'_>) -> Result<Reply, Alloc
         (λ reply. text_in reply ≡ output_of (answer (Some (request_view request.now)))) }
 {
     let ctx: Context<'_, SerdeJson> = Context::new(alloc, &request.settings);
+    let ctx = ctx.with_object_layer(false);
     let node = match compile(alloc, &ctx, request.schema) {
         Ok(node) => node,
         Err(CompileFault::Bad(error)) => return refuse_schema(alloc, &error),

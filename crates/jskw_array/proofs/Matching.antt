@@ -1,18 +1,17 @@
 -- The error of `contains`, and how often its schema is applied.
-use Rattle.std.proofs.Common.{◌≡◌, ◌≤◌, ◌+◌, ◌∙◌, ℕ, suc, List, [], ◌∷◌, length, map, sum_by, count_by, nat_le, Bool, true, false, not, ◌||◌, cond, Some, None, refl, sym, ap, arith, zero-add, if◌then◌else◌}
-use Rattle.std.proofs.Math.Bool.{and-true}
-use Rattle.std.proofs.lemmas.Bool.{le-leb}
+use Rattle.std.proofs.Common.{◌≡◌, ◌≤◌, ◌+◌, ◌∙◌, ℕ, suc, List, [], ◌∷◌, length, map, sum_by, count_by, nat_le, Bool, true, false, cond, Some, None, refl, sym, ap, arith, zero-add, if◌then◌else◌}
 use Rattle.std.proofs.lemmas.List.Sums.{sum_by-cons, sum_by-le-sum_by}
 use Rattle.jskw_value.specs.Pointer.{Pointer}
 use Rattle.jskw_value.specs.Tree.{Tree, is_array, items}
 use Rattle.jskw_report.proofs.Counts.{needed-le}
+use Rattle.jskw_report.proofs.Fails.{keyword_empty}
 use Rattle.jskw_report.specs.Applications.{needed, pairs}
 use Rattle.jskw_report.specs.Evaluation.{Evaluation, evaluate_matching, indices, matching_indices, of_errors, tree, unit}
-use Rattle.jskw_report.specs.Fail.{Failure, keyword_fail, is_empty, passes}
-use Rattle.jskw_report.specs.Holds.{holds}
+use Rattle.jskw_report.specs.Fail.{Failure, failing_bound, keyword_fail, is_empty, passes}
+use Rattle.jskw_report.specs.Holds.{holds, keyword_holds}
 use Rattle.jskw_report.specs.Kind as kind
 use Rattle.jskw_report.specs.Keyword.{Schema, Bounds, contains}
-use Rattle.jskw_array.specs.Limits.{matching_result, no_bounds}
+use Rattle.jskw_array.specs.Limits.{fault_of, matching_result}
 
 at_most_one : (f : Pointer → Failure) (b : Bounds) (array over low : Bool)
     → length (if array then map f (if over then b.many ∷ [] else (if low then [] else b.few ∷ [])) else []) ≤ 1
@@ -31,37 +30,38 @@ contains_once s b t p =
 pub sum_needed : (s : Schema) (ts : List Tree) → sum_by (needed s) ts ≤ sum_by (pairs s) ts
 sum_needed s ts = sum_by-le-sum_by (needed s) (pairs s) ts (λ u. needed-le s u)
 
--- ---- the unit without bounds
+-- ---- the unit
 
--- one item matches where there is an index of one
-any_index : (m : Tree → Bool) (i : ℕ) (ts : List Tree) → nat_le 1 (count_by m ts) ≡ not (is_empty (matching_indices m i ts))
-any_index m i [] = refl
-any_index m i (t ∷ ts) = ap (nat_le 1) (sum_by-cons (λ x. cond (m x) 1 0) t ts) ∙ one_more (m t) (any_index m (suc i) ts)
+-- as many items match as there are indices of them
+indices_count : (m : Tree → Bool) (i : ℕ) (ts : List Tree) → length (matching_indices m i ts) ≡ count_by m ts
+indices_count m i [] = refl
+indices_count m i (t ∷ ts) = one_more (m t) (indices_count m (suc i) ts) ∙ sym (sum_by-cons (λ x. cond (m x) 1 0) t ts)
   where
-    one_more : (b : Bool) → nat_le 1 (count_by m ts) ≡ not (is_empty (matching_indices m (suc i) ts))
-        → nat_le 1 (cond b 1 0 + count_by m ts) ≡ not (is_empty (if b then i ∷ matching_indices m (suc i) ts else matching_indices m (suc i) ts))
-    one_more true e = le-leb 1 (1 + count_by m ts) (omega arith)
-    one_more false e = ap (nat_le 1) (zero-add (count_by m ts)) ∙ e
+    one_more : (b : Bool) → length (matching_indices m (suc i) ts) ≡ count_by m ts
+        → length (if b then i ∷ matching_indices m (suc i) ts else matching_indices m (suc i) ts) ≡ cond b 1 0 + count_by m ts
+    one_more true e = omega (arith, e)
+    one_more false e = e ∙ sym (zero-add (count_by m ts))
 
--- by the indices of the items that match, and whether there are enough
-by_indices : (f : Pointer → Failure) (q : Pointer) (array enough : Bool) (is : List ℕ) (es : List Evaluation) → ((p : Pointer) → (f p).kind ≡ kind.Contains) → enough ≡ not (is_empty is)
-    → matching_result array is es ≡ (if not (not array || enough)
-    then of_errors (if array then map f (if enough then [] else q ∷ []) else [])
-    else record { valid = true; annotation = Some (indices is); descriptions = []; children = es })
+-- by where `contains` fails, which is at one bound at most
+by_fault : (f : Pointer → Failure) → ((q : Pointer) → (f q).kind ≡ kind.Contains) → (array valid : Bool) (qs : List Pointer) (is : List ℕ) (es : List Evaluation)
+    → length (if array then map f qs else []) ≤ 1 → valid ≡ is_empty (if array then map f qs else [])
+    → matching_result (if array then qs else []) is es
+    ≡ (if valid then record { valid = true; annotation = Some (indices is); descriptions = []; children = es } else of_errors (if array then map f qs else []))
 unfolding of_errors
-by_indices f q false enough is es k e = refl
-by_indices f q true true [] es k e = cc
-by_indices f q true false [] es k e = ap (λ x. record { valid = false; annotation = None; descriptions = kind.keyword_of x ∷ []; children = [] }) (sym (k q))
-by_indices f q true true (i ∷ is) es k e = refl
-by_indices f q true false (i ∷ is) es k e = cc
+by_fault f k false true qs is es once e = refl
+by_fault f k false false qs is es once e = cc
+by_fault f k true true [] is es once e = refl
+by_fault f k true false [] is es once e = cc
+by_fault f k true true (q ∷ qs) is es once e = cc
+by_fault f k true false (q ∷ []) is es once e = ap (λ x. record { valid = false; annotation = None; descriptions = kind.keyword_of x ∷ []; children = [] }) (sym (k q))
+by_fault f k true false (q ∷ r ∷ qs) is es once e = absurd (omega (arith, once))
 
 -- it is that of `contains`
-pub matching_is_unit : (s : Schema) (q : Pointer) (t : Tree) (p : Pointer)
-    → matching_result (is_array t) (matching_indices (holds s) 0 (items t)) (evaluate_matching (holds s) (tree s) 0 (items t) p) ≡ unit (contains s (no_bounds q)) t p
-matching_is_unit s q t p =
-    let f : Pointer → Failure = λ q. record { kind = kind.Contains; instance_location = p; keyword_location = q; tree = t } in
-    let n = count_by (holds s) (items t) in
+pub matching_is_unit : (s : Schema) (b : Bounds) (t : Tree) (p : Pointer) → let is = matching_indices (holds s) 0 (items t) in
+    matching_result (fault_of b (length is) t) is (evaluate_matching (holds s) (tree s) 0 (items t) p) ≡ unit (contains s b) t p
+matching_is_unit s b t p =
     let is = matching_indices (holds s) 0 (items t) in
     let es = evaluate_matching (holds s) (tree s) 0 (items t) p in
-    by_indices f q (is_array t) (nat_le 1 n) is es (λ q. refl) (any_index (holds s) 0 (items t))
-    ∙ ap (λ b. if not (not (is_array t) || b) then of_errors (if is_array t then map f (if nat_le 1 n then [] else q ∷ []) else []) else record { valid = true; annotation = Some (indices is); descriptions = []; children = es }) (sym (and-true (nat_le 1 n)))
+    ap (λ n. matching_result (fault_of b n t) is es) (indices_count (holds s) 0 (items t))
+    ∙ by_fault (λ q. record { kind = kind.Contains; instance_location = p; keyword_location = q; tree = t }) (λ q. refl) (is_array t) (keyword_holds (contains s b) t)
+    (failing_bound b (count_by (holds s) (items t))) is es (contains_once s b t p) (keyword_empty (contains s b) t p)

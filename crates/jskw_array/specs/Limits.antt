@@ -1,8 +1,8 @@
 -- What is asked of the number of items that match `contains`.
-use Rattle.std.specs.Prelude.{ℕ, ◌+◌, min, List, [], ◌∷◌, Bool, true, false, Option, Some, None, count_by, if◌then◌else◌}
+use Rattle.std.specs.Prelude.{ℕ, ◌+◌, min, List, [], ◌∷◌, true, false, Option, Some, None, if◌then◌else◌}
 use Rattle.std.specs.Borrow.{Bor}
 use Rattle.jskw_value.specs.Pointer.{Pointer}
-use Rattle.jskw_value.specs.Tree.{Tree, items, is_array}
+use Rattle.jskw_value.specs.Tree.{Tree, is_array}
 use Rattle.jskw_report.specs.Evaluation.{Evaluation, Result, indices, invalid_unit}
 use Rattle.jskw_report.specs.Fail.{failing_bound}
 use Rattle.jskw_report.specs.Keyword.{Bounds}
@@ -10,7 +10,7 @@ use Rattle.jskw_report.specs.Kind.{Contains, keyword_of}
 use Rattle.jskw_array.specs.declared.contains.Limits.{Limits}
 
 abbrev pub bounds_of : Limits → Bounds
-bounds_of l = record { lower = l.lower; upper = l.upper; few = l.few.now; many = l.many.now; bounded = l.bounded }
+bounds_of l = record { lower = l.lower; upper = l.upper; few = l.few.now; many = l.many.now }
 
 -- how many matches settle whether the bounds are kept
 abbrev pub settled : ℕ → Option ℕ → ℕ
@@ -25,15 +25,11 @@ abbrev pub failing : Option (Bor Pointer) → List Pointer
 failing None = []
 failing (Some q) = q.now ∷ []
 
--- where `contains` fails of the tree, if `matches` is the test of its schema
-abbrev pub fault_of : Bounds → (Tree → Bool) → Tree → List Pointer
-fault_of b matches t = if is_array t then failing_bound b (count_by matches (items t)) else []
+-- where `contains` fails of the tree, if n of its items match
+abbrev pub fault_of : Bounds → ℕ → Tree → List Pointer
+fault_of b n t = if is_array t then failing_bound b n else []
 
--- without bounds one item is to match
-abbrev pub no_bounds : Pointer → Bounds
-no_bounds q = record { lower = 1; upper = None; few = q; many = q; bounded = false }
-
--- the unit without bounds, by the indices of the items that match and their nodes: an array is to have one
-abbrev pub matching_result : Bool → List ℕ → List Evaluation → Result
-matching_result true [] es = invalid_unit (keyword_of Contains ∷ [])
-matching_result _ is es = record { valid = true; annotation = Some (indices is); descriptions = []; children = es }
+-- the unit, by where `contains` fails, the indices of the items that match and their nodes
+abbrev pub matching_result : List Pointer → List ℕ → List Evaluation → Result
+matching_result [] is es = record { valid = true; annotation = Some (indices is); descriptions = []; children = es }
+matching_result (q ∷ qs) is es = invalid_unit (keyword_of Contains ∷ [])

@@ -7,7 +7,6 @@ use Rattle.jskw_report.specs.Keyword.{Schema, schema_object, no_marks, no_keywor
 use Rattle.jskw_report.specs.Keyword as keyword
 use Rattle.jskw_report.specs.Meaning.{Placed, placed}
 use Rattle.jskw_leaf.specs.Meaning.{leaf_keyword, single_type}
-use Rattle.jskw_array.specs.Limits.{no_bounds}
 use Rattle.jskw_array.specs.declared.additional_items.AdditionalItemsBooleanValidator.{AdditionalItemsBooleanValidator}
 use Rattle.jskw_array.specs.declared.additional_items.AdditionalItemsObjectValidator.{AdditionalItemsObjectValidator}
 use Rattle.jskw_array.specs.declared.contains.AnyBounds.{AnyBounds}
@@ -33,16 +32,16 @@ schemas_of (s ∷ ss) = schema s (schemas_of ss)
 -- ---- the bounds of `contains`
 
 abbrev pub unbounded : Unbounded → Bounds
-unbounded b = no_bounds b.location
+unbounded b = record { lower = 1; upper = None; few = b.location; many = b.location }
 
 abbrev pub at_least : AtLeast → Bounds
-at_least b = record { lower = b.min_contains; upper = None; few = b.location; many = b.location; bounded = true }
+at_least b = record { lower = b.min_contains; upper = None; few = b.location; many = b.location }
 
 abbrev pub at_most : AtMost → Bounds
-at_most b = record { lower = 1; upper = Some b.max_contains; few = b.location; many = b.location; bounded = true }
+at_most b = record { lower = 1; upper = Some b.max_contains; few = b.location; many = b.location }
 
 abbrev pub between : Between → Bounds
-between b = record { lower = b.min_contains; upper = Some b.max_contains; few = b.min_location; many = b.max_location; bounded = true }
+between b = record { lower = b.min_contains; upper = Some b.max_contains; few = b.min_location; many = b.max_location }
 
 abbrev pub any_bounds : AnyBounds → Bounds
 any_bounds (some.Unbounded b) = unbounded b

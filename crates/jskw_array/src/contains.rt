@@ -10,14 +10,12 @@ ghost use Rattle.jskw_report.specs.Meaning.{one};
 ghost use Rattle.jskw_report.specs.Read.{Reading, bound_beside, bound_value, read_bounds};
 ghost use Rattle.jskw_report.specs.Read.{bounds_of as bounds_between};
 ghost use Rattle.jskw_report.specs.declared.keyword.KeywordName.TheVariants as word;
-ghost use Rattle.jskw_array.specs.Limits.{bounds_of, enough, failing, no_bounds};
+ghost use Rattle.jskw_array.specs.Limits.{bounds_of, enough, failing};
 ghost use Rattle.jskw_array.specs.Meaning.{any_bounds, at_least, at_most, between, contains};
 ghost use Rattle.jskw_array.specs.Meaning.{unbounded, validator_keyword};
 
 use crate::compiler::compile_at;
-use crate::meeting::{
-    collect_matches, contains_fault, evaluate_bounds, evaluate_matches, validate_matches,
-};
+use crate::meeting::{collect_matches, contains_fault, evaluate_matches, validate_matches};
 use crate::node::SchemaNode;
 use crate::validator::Validator;
 use jskw_number::helpers::map_get_u64;
@@ -36,7 +34,6 @@ pub struct Limits<'v> {
     pub(crate) upper: Option<u64>,
     pub(crate) few: &'v Location,
     pub(crate) many: &'v Location,
-    pub(crate) bounded: bool,
 }
 
 impl<'v> Limits<'v> {
@@ -74,9 +71,7 @@ pub trait MatchBounds {
 
     /// The bounds, to be looked at.
     fn limits(&self) -> Limits<'_>
-        ensures bounds { bounds_of result ≡ bounds self.now }
-        ensures unbounded { result.bounded ≡ false
-            → bounds_of result ≡ no_bounds result.few.now };
+        ensures { bounds_of result ≡ bounds self.now };
 }
 
 /// The validator of `contains`, by its bounds.
@@ -126,11 +121,14 @@ impl<F: Json, B: MatchBounds> Validate<F> for Contains<B, SchemaNode<F>> {
         location: &mut LazyLocation,
         ctx: &mut ValidationContext,
     ) -> Result<EvaluationResult, AllocError> {
-        let limits = self.bounds.limits();
-        if limits.bounded {
-            return evaluate_bounds(alloc, &self.node, limits, instance, location, ctx);
-        }
-        evaluate_matches(alloc, &self.node, limits.few, instance, location, ctx)
+        evaluate_matches(
+            alloc,
+            &self.node,
+            self.bounds.limits(),
+            instance,
+            location,
+            ctx,
+        )
     }
 }
 
@@ -149,7 +147,6 @@ impl MatchBounds for Unbounded {
             upper: None,
             few: &self.location,
             many: &self.location,
-            bounded: false,
         }
     }
 }
@@ -173,7 +170,6 @@ impl MatchBounds for AtLeast {
             upper: None,
             few: &self.location,
             many: &self.location,
-            bounded: true,
         }
     }
 }
@@ -197,7 +193,6 @@ impl MatchBounds for AtMost {
             upper: Some(self.max_contains),
             few: &self.location,
             many: &self.location,
-            bounded: true,
         }
     }
 }
@@ -223,7 +218,6 @@ impl MatchBounds for Between {
             upper: Some(self.max_contains),
             few: &self.min_location,
             many: &self.max_location,
-            bounded: true,
         }
     }
 }

@@ -1,23 +1,23 @@
 //! How subschemas meet the items of an instance: the one place that goes down into items. What is
 //! no array has none.
-ghost use Rattle.std.specs.Prelude.{◌≡◌, IfOk, IsTrue, drop, length, sum_by};
+ghost use Rattle.std.specs.Prelude.{◌≡◌, IfOk, IsTrue, count_by, drop, length, sum_by};
 ghost use Rattle.std.specs.List.{list_all};
-ghost use Rattle.jskw_value.specs.Tree.{is_array, is_lawful, items};
+ghost use Rattle.jskw_value.specs.Tree.{is_lawful, items};
 ghost use Rattle.jskw_report.specs.Applications.{each_needed, each_pairs, needed, pairs};
 ghost use Rattle.jskw_report.specs.Applications.{sum_to_failure};
-ghost use Rattle.jskw_report.specs.Evaluation.{evaluate_each, evaluate_pairs, of_errors, tree, unit};
+ghost use Rattle.jskw_report.specs.Evaluation.{evaluate_each, evaluate_pairs, tree, unit};
 ghost use Rattle.jskw_report.specs.EvaluationView.{result_of};
 ghost use Rattle.jskw_report.specs.Fail.{each_fails, each_item, fail, keyword_fail};
 ghost use Rattle.jskw_report.specs.Holds.{each_holds, holds};
 ghost use Rattle.jskw_report.specs.Keyword.{contains};
 ghost use Rattle.jskw_report.specs.Observe.{Appends, CountsUpTo, IsFirst};
 ghost use Rattle.jskw_report.specs.Paths.{path_of};
-ghost use Rattle.jskw_array.specs.Limits.{bounds_of, failing, fault_of, matching_result, no_bounds};
+ghost use Rattle.jskw_array.specs.Limits.{bounds_of, failing, fault_of, matching_result};
 ghost use Rattle.jskw_array.specs.Meaning.{schemas_of};
 
 use crate::contains::Limits;
 use crate::node::SchemaNode;
-use jskw_report::validator::{append_first, evaluate_first};
+use jskw_report::validator::append_first;
 use jskw_report::{
     Annotations, ErrorDescription, EvaluationNode, EvaluationResult, Fault, LazyLocation, Location,
     ValidationContext, ValidationError, ValidationErrorKind,
@@ -241,8 +241,8 @@ pub(crate) fn contains_fault<'v, F: Json>(
     ctx: &mut ValidationContext,
 ) -> Option<&'v Location>
     requires { IsTrue (is_lawful (F.Node.tree instance.now)) }
-    ensures answer { failing result
-        ≡ fault_of (bounds_of limits.entry) (holds node.now) (F.Node.tree instance.now) }
+    ensures answer { let t = F.Node.tree instance.now in failing result
+        ≡ fault_of (bounds_of limits.entry) (count_by (holds node.now) (items t)) t }
     ensures counted { CountsUpTo ctx.old ctx.new
         (sum_by (needed node.now) (items (F.Node.tree instance.now))) }
 {
@@ -309,43 +309,19 @@ pub(crate) fn collect_matches<'i, F: Json>(
     )
 }
 
-// The unit of a `contains` with bounds: its error alone.
-#[tactic(auto, using(crate::proofs::Matching::sum_needed))]
-pub(crate) fn evaluate_bounds<F: Json>(
-    alloc: Global,
-    node: &SchemaNode<F>,
-    limits: Limits<'_>,
-    instance: &F::Node,
-    location: &mut LazyLocation,
-    ctx: &mut ValidationContext,
-) -> Result<EvaluationResult, AllocError>
-    requires { IsTrue (is_lawful (F.Node.tree instance.now)) }
-    ensures gives { IfOk result (λ r. result_of r
-        ≡ of_errors (keyword_fail (contains node.now (bounds_of limits.entry))
-        (F.Node.tree instance.now) (path_of location.old))) }
-    ensures location { location.new ≡ location.old }
-    ensures counted { CountsUpTo ctx.old ctx.new
-        (sum_by (pairs node.now) (items (F.Node.tree instance.now))) }
-{
-    evaluate_first(
-        alloc,
-        validate_matches(node, limits, instance, location, ctx),
-    )
-}
-
-// The unit of a `contains` without bounds: the nodes of the items that match, and their indices; or
-// the error of the keyword location where none does.
+// The unit of `contains`: the nodes of the items that match, and their indices; or its error. Each
+// item is asked once.
 #[cycle(evaluate)]
 pub(crate) fn evaluate_matches<'i, F: Json>(
     alloc: Global,
     node: &SchemaNode<F>,
-    schema_path: &'i Location,
+    limits: Limits<'i>,
     instance: &'i F::Node,
     location: &mut LazyLocation,
     ctx: &mut ValidationContext,
 ) -> Result<EvaluationResult, AllocError>
     requires { IsTrue (is_lawful (F.Node.tree instance.now)) }
-    ensures gives { IfOk result (λ r. result_of r ≡ unit (contains node.now (no_bounds schema_path.now))
+    ensures gives { IfOk result (λ r. result_of r ≡ unit (contains node.now (bounds_of limits.entry))
         (F.Node.tree instance.now) (path_of location.old)) }
     ensures location { location.new ≡ location.old }
     ensures counted { CountsUpTo ctx.old ctx.new
@@ -364,23 +340,25 @@ pub(crate) fn evaluate_matches<'i, F: Json>(
         children.push(child)?;
         matches.push(index)?;
     }
-    matching_unit::<F>(alloc, children, matches, schema_path, instance, location)
+    matching_unit::<F>(alloc, children, matches, limits, instance, location)
 }
 
-// The unit of an array without bounds of which these items match, with their nodes; what is no array
-// has none.
+// The unit of an instance of which these items match, with their nodes; what is no array has none.
 fn matching_unit<'i, F: Json>(
     alloc: Global,
     children: Vec<EvaluationNode>,
     matches: Vec<usize>,
-    schema_path: &'i Location,
+    limits: Limits<'i>,
     instance: &'i F::Node,
     location: &LazyLocation,
 ) -> Result<EvaluationResult, AllocError>
-    ensures { IfOk result (λ r. result_of r ≡ matching_result (is_array (F.Node.tree instance.now))
+    ensures { IfOk result (λ r. result_of r ≡ matching_result
+        (fault_of (bounds_of limits.entry) (length matches.items) (F.Node.tree instance.now))
         matches.items children.items) }
 {
-    if instance.is_array() && matches.is_empty() {
+    if instance.is_array()
+        && let Some(schema_path) = limits.fault(matches.len() as u64)
+    {
         let kind = ValidationErrorKind::Contains;
         let error: ValidationError<F> = ValidationError::new(
             kind,

@@ -19,9 +19,8 @@ use crate::items::{
     StringItems, items_unit,
 };
 use crate::meeting::{
-    collect_each, collect_matches, collect_rest, contains_fault, each_is_valid, evaluate_bounds,
-    evaluate_each, evaluate_matches, evaluate_rest, rest_is_valid, validate_each, validate_matches,
-    validate_rest,
+    collect_each, collect_matches, collect_rest, contains_fault, each_is_valid, evaluate_each,
+    evaluate_matches, evaluate_rest, rest_is_valid, validate_each, validate_matches, validate_rest,
 };
 use crate::node::{SchemaNode, some_hands_on};
 use crate::prefix_items::{PrefixItemsValidator, prefix_unit};
@@ -174,15 +173,6 @@ impl<F: Json> Validate<F> for Validator<F> {
             Validator::ItemsInteger(v) => v.evaluate(alloc, instance, location, ctx),
             Validator::ItemsIntegerDraft4(v) => v.evaluate(alloc, instance, location, ctx),
             Validator::AdditionalItemsObject(v) => v.evaluate(alloc, instance, location, ctx),
-            Validator::MinContains(v) => {
-                evaluate_bounds(alloc, &v.node, v.bounds.limits(), instance, location, ctx)
-            }
-            Validator::MaxContains(v) => {
-                evaluate_bounds(alloc, &v.node, v.bounds.limits(), instance, location, ctx)
-            }
-            Validator::MinMaxContains(v) => {
-                evaluate_bounds(alloc, &v.node, v.bounds.limits(), instance, location, ctx)
-            }
             Validator::ItemsArray(v) => {
                 let nodes = evaluate_each(alloc, v.nodes.as_slice(), instance, location, ctx)?;
                 Ok(EvaluationResult::from_children(alloc, nodes))
@@ -201,14 +191,16 @@ impl<F: Json> Validate<F> for Validator<F> {
                 Ok(items_unit(alloc, start, nodes, instance))
             }
             Validator::Contains(v) => {
-                evaluate_matches(
-                    alloc,
-                    &v.node,
-                    v.bounds.limits().few,
-                    instance,
-                    location,
-                    ctx,
-                )
+                evaluate_matches(alloc, &v.node, v.bounds.limits(), instance, location, ctx)
+            }
+            Validator::MinContains(v) => {
+                evaluate_matches(alloc, &v.node, v.bounds.limits(), instance, location, ctx)
+            }
+            Validator::MaxContains(v) => {
+                evaluate_matches(alloc, &v.node, v.bounds.limits(), instance, location, ctx)
+            }
+            Validator::MinMaxContains(v) => {
+                evaluate_matches(alloc, &v.node, v.bounds.limits(), instance, location, ctx)
             }
         }
     }

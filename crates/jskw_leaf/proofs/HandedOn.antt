@@ -14,7 +14,7 @@ pub passes_at : (test : Data → Bool) (name : List ℕ) (ms : Members) (d : Dat
 passes_at test name ms d e = ap (λ o. option_map_or test o false) e
 
 pub handed_on : (s : Setting) (ms : Members) → stands s Required ≡ true
-    → is_handed_on s ms ≡ (has_vocabulary s Applicator && is_absent (codes "patternProperties") ms && (requires_one_of_properties s ms || requires_two_of_properties s ms))
+    → is_handed_on s ms ≡ (s.object_layer && has_vocabulary s Applicator && is_absent (codes "patternProperties") ms && (requires_one_of_properties s ms || requires_two_of_properties s ms))
 unfolding is_handed_on
 handed_on s ms h = rw h refl
 

@@ -368,9 +368,10 @@ mutual
   -- the result of a keyword
   pub unit_same : (k : Keyword) (t u : Tree) → Twin t u → (p : Pointer) → unit k t p ≡ unit k u p
   unit_same (assertion q a) t u w p = errors_same _ _ (keyword_fail_same (assertion q a) t u w p)
-  unit_same (contains s b) t u w p = if_same (ap (λ h. b.bounded || not h) (keyword_holds_same (contains s b) t u w)) (errors_same _ _ (keyword_fail_same (contains s b) t u w p))
+  unit_same (contains s b) t u w p = if_same (keyword_holds_same (contains s b) t u w)
       (ap₂ (λ (is : List ℕ) (es : List Evaluation). record { valid = true; annotation = Some (indices is); descriptions = []; children = es }) (matching_indices_same (holds s) (holds_same s) 0 _ _ (twin_items t u w))
       (evaluate_matching_same (holds s) (tree s) (holds_same s) (λ t u w p. tree_same s t u w p) 0 _ _ p (twin_items t u w)))
+      (errors_same _ _ (keyword_fail_same (contains s b) t u w p))
   unit_same (items_list ss) t u w p = ap (of_children None) (evaluate_pairs_same ss 0 _ _ p (twin_items t u w))
   unit_same (prefix_items ss) t u w p = ap₂ of_children (ap (prefix_annotation (schema_count ss)) (twins_length _ _ (twin_items t u w))) (evaluate_pairs_same ss 0 _ _ p (twin_items t u w))
   unit_same (items_from n s bare) t u w p = if_same (array_same t u w)

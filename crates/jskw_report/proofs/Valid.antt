@@ -1,5 +1,5 @@
 -- The evaluation tree is valid where the schema holds.
-use Rattle.std.specs.Prelude.{◌≡◌, ℕ, suc, ◌||◌, not, List, [], ◌∷◌, drop, Bool, true, false, if◌then◌else◌}
+use Rattle.std.specs.Prelude.{◌≡◌, ℕ, suc, List, [], ◌∷◌, drop, Bool, true, false, if◌then◌else◌}
 use Rattle.std.specs.List.{list_all}
 use Rattle.std.proofs.Common.{refl, sym, ap}
 use Rattle.std.proofs.Math.Seq.{drop-nil}
@@ -13,12 +13,11 @@ use Rattle.jskw_value.proofs.Booleans.{both}
 use Rattle.jskw_report.proofs.Fails.{keyword_empty}
 
 -- the result of `contains`, by its errors or by the items that match
-contains_valid : (bounded holds' : Bool) (fs : List Failure) (r : Result) → holds' ≡ is_empty fs → r.valid ≡ true
-    → (if bounded || not holds' then of_errors fs else r).valid ≡ holds'
+contains_valid : (holds' : Bool) (fs : List Failure) (r : Result) → holds' ≡ is_empty fs → r.valid ≡ true
+    → (if holds' then r else of_errors fs).valid ≡ holds'
 unfolding of_errors
-contains_valid true holds' fs r e v = sym e
-contains_valid false true fs r e v = v
-contains_valid false false fs r e v = sym e
+contains_valid true fs r e v = v
+contains_valid false fs r e v = sym e
 
 -- the nodes of the items in turn
 each_valid : (h : Tree → Bool) (f : Tree → Pointer → Evaluation) → ((t : Tree) (p : Pointer) → is_valid (f t p) ≡ h t)
@@ -48,7 +47,7 @@ mutual
   -- the result of a keyword
   pub unit_valid : (k : Keyword) (t : Tree) (p : Pointer) → (unit k t p).valid ≡ keyword_holds k t
   unit_valid (assertion q a) t p = sym (keyword_empty (assertion q a) t p)
-  unit_valid (contains s b) t p = contains_valid b.bounded (keyword_holds (contains s b) t) (keyword_fail (contains s b) t p) _ (keyword_empty (contains s b) t p) refl
+  unit_valid (contains s b) t p = contains_valid (keyword_holds (contains s b) t) (keyword_fail (contains s b) t p) _ (keyword_empty (contains s b) t p) refl
   unit_valid (items_list ss) t p = pairs_valid ss 0 (items t) p
   unit_valid (prefix_items ss) t p = pairs_valid ss 0 (items t) p
   unit_valid (items_from n s bare) t p = items_valid (holds s) n t _ (each_valid (holds s) (tree s) (λ t p. tree_valid s t p) n (drop n (items t)) p)

@@ -1,5 +1,5 @@
 -- The evaluation tree of a schema over an instance: a node for each schema and each keyword (Core 12.3).
-use Rattle.std.specs.Prelude.{ℕ, zero, suc, nat_lt, nat_le, List, [], ◌∷◌, map, drop, length, Bool, true, false, ◌||◌, not, Option, Some, None, if◌then◌else◌}
+use Rattle.std.specs.Prelude.{ℕ, zero, suc, nat_lt, nat_le, List, [], ◌∷◌, map, drop, length, Bool, true, false, Option, Some, None, if◌then◌else◌}
 use Rattle.std.specs.List.{list_all}
 use Rattle.jskw_value.specs.Pointer.{Pointer, item_location}
 use Rattle.jskw_value.specs.Tree.{Tree, items, is_array}
@@ -125,12 +125,12 @@ abbrev mutual
   units (keyword q k ks) t p = node_at q p (unit k t p) ∷ units ks t p
 
   -- the keyword's result, annotated for `items` by whether it was applied to any item (Core 10.3.1.2) and for `contains`
-  -- by the indices that match (Core 10.3.1.3); a bounded or failed `contains` tells its errors alone
+  -- by the indices that match (Core 10.3.1.3); a `contains` that fails tells its error alone
   pub unit : Keyword → Tree → Pointer → Result
   unit (assertion q a) t p = of_errors (keyword_fail (assertion q a) t p)
-  unit (contains s b) t p = if b.bounded || not (keyword_holds (contains s b) t)
-      then of_errors (keyword_fail (contains s b) t p)
-      else record { valid = true; annotation = Some (indices (matching_indices (holds s) 0 (items t))); descriptions = []; children = evaluate_matching (holds s) (tree s) 0 (items t) p }
+  unit (contains s b) t p = if keyword_holds (contains s b) t
+      then record { valid = true; annotation = Some (indices (matching_indices (holds s) 0 (items t))); descriptions = []; children = evaluate_matching (holds s) (tree s) 0 (items t) p }
+      else of_errors (keyword_fail (contains s b) t p)
   unit (items_list ss) t p = of_children None (evaluate_pairs ss 0 (items t) p)
   unit (prefix_items ss) t p = of_children (prefix_annotation (schema_count ss) (length (items t))) (evaluate_pairs ss 0 (items t) p)
   unit (items_from n s bare) t p = if is_array t

@@ -38,14 +38,12 @@ pub data Assertion : Type 0 where
   -- `additionalItems` of `false`, behind so many schemas of `items` (Draft 7 Validation 6.4.2)
   at_most : ℕ → Assertion
 
--- how many items are to match `contains`, where it fails with too few and with too many, and whether a bound was read
--- (Validation 6.4.4, 6.4.5)
+-- how many items are to match `contains`, and where it fails with too few and with too many (Validation 6.4.4, 6.4.5)
 pub record Bounds : Type 0 where
   pub lower : ℕ
   pub upper : Option ℕ
   pub few : Pointer
   pub many : Pointer
-  pub bounded : Bool
 
 -- what is marked of an object: its `required` is handed on to the keywords of objects; and its `type`, `minItems`,
 -- `maxItems` and `items` are checked together. What the schema asserts is its keywords alone

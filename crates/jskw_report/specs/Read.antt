@@ -119,10 +119,10 @@ bound_value q (Some d) = map_ok Some (size_value q d)
 
 -- of the schema at p, by the bounds that were read: without `minContains` one item is to match; it fails at a bound, where there is one
 abbrev pub bounds_of : Pointer → Option ℕ → Option ℕ → Bounds
-bounds_of p None None = let q = keyword_location p word.Contains in record { lower = 1; upper = None; few = q; many = q; bounded = false }
-bounds_of p (Some l) None = let q = member_location p min_contains in record { lower = l; upper = None; few = q; many = q; bounded = true }
-bounds_of p None (Some u) = let q = member_location p max_contains in record { lower = 1; upper = Some u; few = q; many = q; bounded = true }
-bounds_of p (Some l) (Some u) = record { lower = l; upper = Some u; few = member_location p min_contains; many = member_location p max_contains; bounded = true }
+bounds_of p None None = let q = keyword_location p word.Contains in record { lower = 1; upper = None; few = q; many = q }
+bounds_of p (Some l) None = let q = member_location p min_contains in record { lower = l; upper = None; few = q; many = q }
+bounds_of p None (Some u) = let q = member_location p max_contains in record { lower = 1; upper = Some u; few = q; many = q }
+bounds_of p (Some l) (Some u) = record { lower = l; upper = Some u; few = member_location p min_contains; many = member_location p max_contains }
 
 -- `minContains` is judged before `maxContains`
 abbrev pub read_bounds : Setting → Pointer → Members → Result Bounds Refusal

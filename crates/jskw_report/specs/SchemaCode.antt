@@ -61,10 +61,9 @@ assertion_code =
 abbrev bounds_code : Coded Bounds
 bounds_code =
     code_by _
-    (coded× (coded× coded_ℕ (coded_option coded_ℕ))
-    (coded× (coded× (coded_list coded_ℕ) (coded_list coded_ℕ)) coded_bool))
-    (λ b. ((b.lower, b.upper), ((b.few, b.many), b.bounded)))
-    (λ p. record { lower = p.0.0; upper = p.0.1; few = p.1.0.0; many = p.1.0.1; bounded = p.1.1 }) (λ _. refl)
+    (coded× (coded× coded_ℕ (coded_option coded_ℕ)) (coded× (coded_list coded_ℕ) (coded_list coded_ℕ)))
+    (λ b. ((b.lower, b.upper), (b.few, b.many)))
+    (λ p. record { lower = p.0.0; upper = p.0.1; few = p.1.0; many = p.1.1 }) (λ _. refl)
 
 -- the code of marks
 abbrev marks_code : Coded Marks

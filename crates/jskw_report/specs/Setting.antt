@@ -13,11 +13,17 @@ use Rattle.jskw_report.specs.declared.settings.Vocabulary.{Vocabulary}
 use Rattle.jskw_report.specs.declared.settings.Vocabulary.TheVariants.{Core, Applicator, Validation}
 use Rattle.jskw_report.specs.declared.settings.VocabularySet.{VocabularySet}
 
--- the draft, the vocabularies in use (Core 8.1.2), and the names of the overridden keywords, which other code asserts
+-- the draft, the vocabularies in use (Core 8.1.2), the names of the overridden keywords, which other code asserts, and
+-- whether there is an object layer: other code that asserts the keywords of objects, to which a `required` may be left
 pub record Setting : Type 0 where
   pub draft : Draft
   pub vocabularies : VocabularySet
   pub overridden : List (List ℕ)
+  pub object_layer : Bool
+
+-- the setting with an object layer, or without one
+abbrev pub with_object_layer : Bool → Setting → Setting
+with_object_layer b s = record s { object_layer = b }
 
 -- where a schema or a keyword is read: the setting, and the keyword location (Core 12.3.1)
 pub record Spot : Type 0 where

@@ -124,7 +124,9 @@ requires_two_of_properties s ms = member_passes (has_items 2) (name_of word.Requ
     && member_passes has_few_members (codes "properties") ms && not (is_overridden s (codes "properties"))
     && not (member_passes is_false (codes "additionalProperties") ms) && not (member_passes is_object (codes "additionalProperties") ms)
 
--- `required` is left to the keywords of objects beside it: it asserts nothing here, and its items aren't judged
+-- `required` is left to the keywords of objects beside it, which an object layer asserts: here it asserts nothing, and
+-- its items aren't judged
 unfoldable pub is_handed_on : Setting → Members → Bool
-is_handed_on s ms = stands s word.Required && has_vocabulary s Applicator && is_absent (codes "patternProperties") ms
+is_handed_on s ms = stands s word.Required && s.object_layer && has_vocabulary s Applicator
+    && is_absent (codes "patternProperties") ms
     && (requires_one_of_properties s ms || requires_two_of_properties s ms)

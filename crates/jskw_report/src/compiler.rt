@@ -1,8 +1,8 @@
 //! Where a keyword is compiled.
-ghost use Rattle.std.specs.Prelude.{◌≡◌, [], IfOk, option_map};
+ghost use Rattle.std.specs.Prelude.{◌≡◌, [], IfOk, option_map, true};
 ghost use Rattle.serde_json.specs.Find.{get_member};
 ghost use Rattle.serde_json.specs.View.{view, members_view};
-ghost use Rattle.jskw_report.specs.Setting.{has_vocabulary, is_overridden};
+ghost use Rattle.jskw_report.specs.Setting.{has_vocabulary, is_overridden, with_object_layer};
 ghost use Rattle.jskw_report.specs.Paths.{segment_location};
 ghost use Rattle.jskw_report.specs.Read.{keyword_location};
 
@@ -19,28 +19,60 @@ use std::marker::{Model, PhantomData};
 #[derive(Drop)]
 pub struct Context<'s, F: Json> {
     settings: &'s Settings,
+    object_layer: bool,
     location: Location,
     representation: PhantomData<F>,
 }
 
 impl<'s, F: Json> Model for Context<'s, F> {
-    ghost use Rattle.jskw_report.specs.Setting.{Spot};
+    ghost use Rattle.jskw_report.specs.Setting.{Spot, with_object_layer};
 
     ghost Value = { Spot };
 
-    ghost view = { λ c. record { setting = c.settings.now; location = c.location } };
+    ghost view = { λ c. record {
+      setting = with_object_layer c.object_layer c.settings.now;
+      location = c.location;
+    } };
 }
 
 impl<'s, F: Json> Context<'s, F> {
-    /// The context of a whole schema: the keyword location is the empty pointer.
+    /// The context of a whole schema, with an object layer: the keyword location is the empty
+    /// pointer.
     pub fn new(alloc: Global, settings: &'s Settings) -> Context<'s, F>
-        ensures { result ≡ record { setting = settings.now; location = [] } }
+        ensures { result ≡ record {
+          setting = with_object_layer true settings.now;
+          location = [];
+        } }
     {
         Context {
             settings,
+            object_layer: true,
             location: Location::new(alloc),
             representation: PhantomData,
         }
+    }
+
+    /// The context with an object layer, or without one. The keywords of objects are asserted by
+    /// the object layer, which other code has, and a `required` beside them may be left to it.
+    /// Without one nothing is left to it.
+    #[must_use]
+    pub fn with_object_layer(self, object_layer: bool) -> Context<'s, F>
+        ensures { result ≡ record {
+          setting = with_object_layer object_layer self.entry.setting;
+          location = self.entry.location;
+        } }
+    {
+        Context {
+            object_layer,
+            ..self
+        }
+    }
+
+    /// Whether there is an object layer.
+    pub fn object_layer(&self) -> bool
+        ensures { result ≡ self.now.setting.object_layer }
+    {
+        self.object_layer
     }
 
     /// The draft.
@@ -71,6 +103,7 @@ impl<'s, F: Json> Context<'s, F> {
     {
         Ok(Context {
             settings: self.settings,
+            object_layer: self.object_layer,
             location: self.location.join(alloc, segment)?,
             representation: PhantomData,
         })

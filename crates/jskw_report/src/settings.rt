@@ -1,5 +1,5 @@
 //! What a schema is read under: its draft, the vocabularies, and the overridden names.
-ghost use Rattle.std.specs.Prelude.{◌≡◌, map, string_bytes};
+ghost use Rattle.std.specs.Prelude.{◌≡◌, map, string_bytes, true};
 ghost use Rattle.jskw_report.specs.Setting.{has, with_vocabulary, no_vocabulary, all_vocabularies};
 ghost use Rattle.jskw_report.specs.Setting.{has_vocabulary, is_overridden};
 
@@ -104,7 +104,7 @@ pub struct Settings {
 }
 
 impl Model for Settings {
-    ghost use Rattle.std.specs.Prelude.{map, string_bytes};
+    ghost use Rattle.std.specs.Prelude.{map, string_bytes, true};
     ghost use Rattle.jskw_report.specs.Setting.{Setting};
 
     ghost Value = { Setting };
@@ -113,16 +113,19 @@ impl Model for Settings {
       draft = s.draft;
       vocabularies = s.vocabularies;
       overridden = map string_bytes s.overridden.items;
+      object_layer = true;
     } };
 }
 
 impl Settings {
-    /// The setting of these three. An overridden name may be any text, and may be there twice.
+    /// The setting of these three, with an object layer. An overridden name may be any text, and may
+    /// be there twice.
     pub fn new(draft: Draft, vocabularies: VocabularySet, overridden: Vec<String>) -> Settings
         ensures { result ≡ record {
           draft = draft;
           vocabularies = vocabularies;
           overridden = map string_bytes overridden.items;
+          object_layer = true;
         } }
     {
         Settings {

@@ -28,10 +28,16 @@ of_evaluations = tt
     contains_tells_the_matches = refl
 
     -- {"contains":{"type":"string"},"minContains":0} on [1,"a"]
-    a_bounded_contains_tells_nothing :
+    a_bounded_contains_tells_the_matches :
         evaluated latest (obj (is "contains" (obj (is "type" (str "string") ∷ [])) ∷ is "minContains" (num 0) ∷ [])) (arr (num 1 ∷ str "a" ∷ []))
-        ≡ Some (ev true "" "" None [] (ev true "/contains" "" None [] [] ∷ []))
-    a_bounded_contains_tells_nothing = refl
+        ≡ Some (ev true "" "" None [] (ev true "/contains" "" (Some (indices (1 ∷ []))) [] (ev true "/contains" "/1" None [] (ev true "/contains/type" "/1" None [] [] ∷ []) ∷ []) ∷ []))
+    a_bounded_contains_tells_the_matches = refl
+
+    -- {"contains":{"type":"string"},"maxContains":1} on ["a","b"]
+    a_bounded_contains_that_fails_tells_its_error_alone :
+        evaluated latest (obj (is "contains" (obj (is "type" (str "string") ∷ [])) ∷ is "maxContains" (num 1) ∷ [])) (arr (str "a" ∷ str "b" ∷ []))
+        ≡ Some (ev false "" "" None [] (ev false "/contains" "" None ("contains" ∷ []) [] ∷ []))
+    a_bounded_contains_that_fails_tells_its_error_alone = refl
 
     -- {"prefixItems":[{"type":"integer"}]} on [1,"x"]
     prefix_items_tell_the_last_index :

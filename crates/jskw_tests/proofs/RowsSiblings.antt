@@ -4,12 +4,14 @@
 use Rattle.std.specs.Prelude.{⊤, ◌≡◌, [], ◌∷◌, true, false, codes, Some, Ok}
 use Rattle.std.specs.Fmt.{digits}
 use Rattle.std.proofs.Common.{refl}
+use Rattle.jskw_value.specs.declared.types.JsonType.TheVariants.{String}
 use Rattle.jskw_report.specs.declared.settings.Draft.TheVariants.{Draft7, Draft201909}
 use Rattle.jskw_report.specs.Keyword.{assertion, required}
+use Rattle.jskw_report.specs.KeywordValue.{of_type}
 use Rattle.jskw_report.specs.Read.{asserted, read_word}
-use Rattle.jskw_report.specs.Setting.{no_vocabulary}
+use Rattle.jskw_report.specs.Setting.{no_vocabulary, with_object_layer}
 use Rattle.jskw_report.specs.Sibling.{is_handed_on, is_fused}
-use Rattle.jskw_tests.proofs.Worked.{num, minus, str, yes, no, arr, is, obj, obj_of, under, latest, with, applicator_only, validation_only, without, hands_on, asserted_in, fused}
+use Rattle.jskw_tests.proofs.Worked.{num, minus, str, yes, no, arr, is, obj, obj_of, under, latest, with, applicator_only, validation_only, without, hands_on, asserted_in, fused, compile, refusal}
 use Rattle.jskw_report.specs.declared.keyword.KeywordName.TheVariants as word
 
 -- ---- what is handed on
@@ -35,6 +37,24 @@ of_handed_on = tt
         asserted_in word.Required latest (obj (is "properties" (obj (is "a" (obj []) ∷ [])) ∷ is "required" (arr (str "a" ∷ str "b" ∷ [])) ∷ is "patternProperties" (obj []) ∷ []))
         ≡ Some (Ok (assertion (codes "/required") (required (codes "a" ∷ codes "b" ∷ []))))
     pattern_properties_keep_it_here = refl
+
+    -- {"properties":{"a":{}},"additionalProperties":false,"required":["a"]}, without an object layer
+    without_an_object_layer_it_stays :
+        asserted_in word.Required (with_object_layer false latest) (obj (is "properties" (obj (is "a" (obj []) ∷ [])) ∷ is "additionalProperties" no ∷ is "required" (arr (str "a" ∷ [])) ∷ []))
+        ≡ Some (Ok (assertion (codes "/required") (required (codes "a" ∷ []))))
+    without_an_object_layer_it_stays = refl
+
+    -- {"properties":{"a":{}},"additionalProperties":false,"required":[5]}, without an object layer
+    without_an_object_layer_it_is_judged :
+        compile (with_object_layer false latest) (obj (is "properties" (obj (is "a" (obj []) ∷ [])) ∷ is "additionalProperties" no ∷ is "required" (arr (num 5 ∷ [])) ∷ []))
+        ≡ refusal (of_type String) "/required" (num 5)
+    without_an_object_layer_it_is_judged = refl
+
+    -- {"items":{"properties":{"a":{}},"required":["a","b"]}}, without an object layer
+    without_an_object_layer_no_subschema_hands_on :
+        hands_on (with_object_layer false latest) (obj (is "items" (obj (is "properties" (obj (is "a" (obj []) ∷ [])) ∷ is "required" (arr (str "a" ∷ str "b" ∷ [])) ∷ [])) ∷ []))
+        ≡ Some false
+    without_an_object_layer_no_subschema_hands_on = refl
 
     -- {"properties":{"a":{}},"required":["a","b"]}, with the vocabulary of Validation 6 alone
     without_the_applicator_vocabulary_it_stays :

@@ -98,9 +98,9 @@ decimal_tree c k = tree.number (exact c k)
 
 -- ---- settings
 
--- the draft with all vocabularies
+-- the draft with all vocabularies and an object layer
 abbrev pub under : Draft → Setting
-under d = record { draft = d; vocabularies = all_vocabularies; overridden = [] }
+under d = record { draft = d; vocabularies = all_vocabularies; overridden = []; object_layer = true }
 
 -- Draft 2020-12
 abbrev pub latest : Setting

@@ -1,4 +1,4 @@
-// Names that are required, and where they are left to the keywords of objects.
+// Names that are required: none are left to the keywords of objects.
 use super::check_requests;
 use std::test::Fail;
 
@@ -13,8 +13,10 @@ const REQUIRED: &str = r#"{"schema":{"required":["a","a"]},"instance":{"a":1}} =
 {"schema":{"required":[""]},"instance":{"":null}} => valid
 {"schema":{"required":"a"},"instance":{}} => refused: schema|type|/required
 {"schema":{"required":["a",5]},"instance":{}} => refused: schema|type|/required
-{"schema":{"required":["a",5],"properties":{"a":{}}},"instance":{}} => valid
-{"schema":{"required":["a"],"properties":{"a":{}},"additionalProperties":false},"instance":{}} => valid
+{"schema":{"required":["a",5],"properties":{"a":{}}},"instance":{}} => refused: schema|type|/required
+{"schema":{"properties":{"a":{}},"additionalProperties":false,"required":["a"]},"instance":{}} => required||/required
+{"schema":{"properties":{"a":{}},"additionalProperties":false,"required":[5]},"instance":{}} => refused: schema|type|/required
+{"schema":{"items":{"properties":{"a":{}},"required":["a","b"]}},"instance":[{}]} => required|/0|/items/required;required|/0|/items/required
 {"schema":{"required":["a"],"properties":{"a":{}},"additionalProperties":false},"instance":{},"draft":"2019-09","vocabularies":["core","validation"]} => required||/required
 {"schema":{"required":["a","b"],"properties":{"a":{}},"additionalProperties":{}},"instance":{}} => required||/required;required||/required
 {"schema":{"required":["a"]},"instance":{},"overridden":["required"]} => valid

@@ -1,7 +1,7 @@
-use Rattle.std.proofs.Common.{rules, ◌≡◌, ◌∙◌, ◌++◌, [], ◌∷◌, true, false, None, ap, ap₂, sym, subst, refl, append_assoc, IfOk, arith}
+use Rattle.std.proofs.Common.{rules, ◌≡◌, ◌∙◌, ◌++◌, [], ◌∷◌, length, true, false, None, ap, ap₂, sym, subst, refl, append_assoc, IfOk, arith}
 use Rattle.std.proofs.Math.Nat.{le_trans}
 use Rattle.std.proofs.lemmas.Grind.{common_steps}
-use Rattle.jskw_value.specs.Tree.{is_array, items}
+use Rattle.jskw_value.specs.Tree.{items}
 use Rattle.jskw_report.proofs.Appended.{units_appended}
 use Rattle.jskw_report.proofs.Gathering.{gathered_all, index_end, index_passed, index_taken, node_end, node_passed, node_taken}
 use Rattle.jskw_report.proofs.Valid.{tree_valid}
@@ -14,7 +14,7 @@ use Rattle.jskw_report.specs.Keyword.{false_schema}
 use Rattle.jskw_report.specs.Observe.{CountsUpTo}
 use Rattle.jskw_report.specs.Paths.{path_of}
 use Rattle.jskw_array.specs.Fused.{absorbed_keywords, shape_keywords}
-use Rattle.jskw_array.specs.Limits.{matching_result}
+use Rattle.jskw_array.specs.Limits.{bounds_of, fault_of, matching_result}
 use Rattle.jskw_array.specs.Meaning.{validator_keyword}
 use Rattle.jskw_array.specs.Node.{fused_keywords, schema_of}
 use Rattle.jskw_array.specs.Units.{keywords_of}
@@ -88,7 +88,8 @@ meeting::evaluate_matches-returns-clause-gives g t c =
     let p = path_of c.args.location.now in
     let nodes = gathered_all _ _ _ (node_end ts l.index (omega arith) (holds s) (tree s) p) l.invariant.gathered in
     let indices = gathered_all _ _ _ (index_end ts l.index (omega arith) (holds s)) l.invariant.matching in
-    let is = ap₂ (λ is es. matching_result (is_array instance) is es) indices nodes ∙ matching_is_unit s c.args.schema_path.now instance p in
+    let b = bounds_of c.args.limits in
+    let is = ap₂ (λ is es. matching_result (fault_of b (length is) instance) is es) indices nodes ∙ matching_is_unit s b instance p in
     subst (λ x. IfOk c.matching_unit.result (λ r. result_of r ≡ x)) is c.matching_unit.ensures
 
 -- ---- the keywords

@@ -37,6 +37,7 @@ const MOST: &str = r#"{"schema":true,"instance":5} => 1 1
 {"schema":{"items":[true],"additionalItems":false},"instance":[1,2],"draft":"7"} => 2 2
 {"schema":{"contains":{"const":1}},"instance":[1,2]} => 3 3
 {"schema":{"contains":{"const":1},"maxContains":1},"instance":[1,1,2,1]} => 5 5
+{"schema":{"contains":{"type":"string"},"minContains":1},"instance":["a","b"]} => 3 3
 {"schema":{"contains":{"items":{}},"minContains":2},"instance":[[1],[2,3]]} => 6 6"#;
 
 // What is counted by `is_valid`, `validate`, `collect_errors` and `evaluate_instance`, each so many

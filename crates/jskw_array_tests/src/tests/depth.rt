@@ -48,10 +48,12 @@ fn false_at_depth_gives_one_error_at_its_location(rt: HostRuntime) -> Result<(),
     let wanted = format!(in alloc; "falseSchema|{at}|{by}")?;
     let settings = latest(alloc);
     let told = Told::Locations;
-    let found = said::<SerdeJson>(&rt, alloc, told, &settings, &schema, &instance)?;
+    let ctx: Context<SerdeJson> = Context::new(alloc, &settings);
+    let found = said(&rt, alloc, told, &ctx, &schema, &instance)?;
     assert_eq!(rt; found.as_str(), wanted.as_str());
     let tree = decimal_tree(alloc, &instance)?;
-    let found = said::<DecimalJson>(&rt, alloc, told, &settings, &schema, &tree)?;
+    let ctx: Context<DecimalJson> = Context::new(alloc, &settings);
+    let found = said(&rt, alloc, told, &ctx, &schema, &tree)?;
     assert_eq!(rt; found.as_str(), wanted.as_str());
     Ok(())
 }

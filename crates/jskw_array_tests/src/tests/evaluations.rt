@@ -72,7 +72,8 @@ const OF_A_LIST: &str =
 {"schema":{"items":[false,true]},"instance":[1]} => -@(-/items@(-/items/0@/0!falseSchema))
 {"schema":{"items":[true]},"instance":5} => +@(+/items@)"#;
 
-// `contains` without bounds has the nodes of the items that match, and tells their indices.
+// `contains` has the nodes of the items that match, and tells their indices; where it fails it has
+// its error alone.
 const OF_CONTAINS: &str =
     r#"{"schema":{"contains":{"type":"string"}},"instance":[1,"a"]} => +@(+/contains@=[1](+/contains@/1(+/contains/type@/1)))
 {"schema":{"contains":{"type":"string"}},"instance":["a",1,"b"]} => +@(+/contains@=[0, 2](+/contains@/0(+/contains/type@/0) +/contains@/2(+/contains/type@/2)))
@@ -82,15 +83,21 @@ const OF_CONTAINS: &str =
 {"schema":{"contains":{"type":"string"},"minContains":0},"instance":[1,"a"],"draft":"7"} => +@(+/contains@=[1](+/contains@/1(+/contains/type@/1)))
 {"schema":{"contains":true,"maxContains":0},"instance":[1],"vocabularies":["applicator"]} => +@(+/contains@=[0](+/contains@/0))"#;
 
-// `contains` with a bound has its error alone.
+// With bounds it does the same.
 const OF_BOUNDS: &str =
-    r#"{"schema":{"contains":{"type":"string"},"minContains":0},"instance":[1,"a"]} => +@(+/contains@)
-{"schema":{"contains":{"type":"string"},"maxContains":1},"instance":[1,"a"]} => +@(+/contains@)
-{"schema":{"contains":{"type":"string"},"minContains":1,"maxContains":1},"instance":[1,"a"]} => +@(+/contains@)
+    r#"{"schema":{"contains":{"type":"string"},"minContains":0},"instance":[1]} => +@(+/contains@=[])
+{"schema":{"contains":{"type":"string"},"minContains":0},"instance":[1,"a"]} => +@(+/contains@=[1](+/contains@/1(+/contains/type@/1)))
+{"schema":{"contains":{"type":"string"},"minContains":1},"instance":["a","b"]} => +@(+/contains@=[0, 1](+/contains@/0(+/contains/type@/0) +/contains@/1(+/contains/type@/1)))
 {"schema":{"contains":{"type":"string"},"minContains":2},"instance":[1,"a"]} => -@(-/contains@!contains)
+{"schema":{"contains":{"type":"string"},"maxContains":1},"instance":[1,"a"]} => +@(+/contains@=[1](+/contains@/1(+/contains/type@/1)))
+{"schema":{"contains":{"type":"string"},"maxContains":1},"instance":["a","b"]} => -@(-/contains@!contains)
 {"schema":{"contains":true,"maxContains":0},"instance":[1]} => -@(-/contains@!contains)
+{"schema":{"contains":{"type":"string"},"minContains":1,"maxContains":1},"instance":[1,"a"]} => +@(+/contains@=[1](+/contains@/1(+/contains/type@/1)))
+{"schema":{"contains":{"type":"string"},"minContains":1,"maxContains":2},"instance":["a",1,"b"]} => +@(+/contains@=[0, 2](+/contains@/0(+/contains/type@/0) +/contains@/2(+/contains/type@/2)))
 {"schema":{"contains":true,"minContains":3,"maxContains":1},"instance":[1,2]} => -@(-/contains@!contains)
-{"schema":{"contains":true,"minContains":3},"instance":5} => +@(+/contains@)"#;
+{"schema":{"contains":true,"minContains":3},"instance":5} => +@(+/contains@=[])
+{"schema":{"contains":true,"maxContains":0},"instance":5} => +@(+/contains@=[])
+{"schema":{"contains":true,"minContains":1,"maxContains":2},"instance":5} => +@(+/contains@=[])"#;
 
 #[test]
 fn a_schema_has_a_node_for_each_keyword(rt: HostRuntime) -> Result<(), Fail> {
@@ -123,7 +130,7 @@ fn contains_tells_which_items_match(rt: HostRuntime) -> Result<(), Fail> {
 }
 
 #[test]
-fn contains_with_a_bound_has_its_error_alone(rt: HostRuntime) -> Result<(), Fail> {
+fn contains_with_bounds_tells_which_items_match(rt: HostRuntime) -> Result<(), Fail> {
     check_evaluations(&rt, rt.alloc(), OF_BOUNDS)
 }
 

@@ -44,6 +44,13 @@ const NOT_ASSERTED: &str =
 {"schema":{"items":{"properties":{"a":{}},"required":["a","b","c"]}},"instance":[{"b":1}]} => required|/0|/items/required;required|/0|/items/required
 {"schema":{"items":{"required":["a"]},"properties":{"a":{}},"additionalProperties":false},"instance":[{}]} => required|/0|/items/required"#;
 
+// Without an object layer it is asserted.
+const WITHOUT_OBJECT_LAYER: &str =
+    r#"{"schema":{"properties":{"a":{}},"additionalProperties":false,"required":["a"]},"instance":{},"objectLayer":false} => required||/required
+{"schema":{"properties":{"a":{}},"additionalProperties":false,"required":["a"]},"instance":{"a":1},"objectLayer":false} => valid
+{"schema":{"properties":{"a":{}},"additionalProperties":false,"required":[5]},"instance":{},"objectLayer":false} => refused: schema|type|/required
+{"schema":{"items":{"properties":{"a":{}},"required":["a","b"]}},"instance":[{}],"objectLayer":false} => required|/0|/items/required;required|/0|/items/required"#;
+
 // Whether `required` is handed on, by the schema itself.
 const HANDED_ON: &str =
     r#"{"schema":{"required":["a"],"properties":{"a":{}},"additionalProperties":false},"instance":null} => true
@@ -56,6 +63,8 @@ const HANDED_ON: &str =
 {"schema":{"required":["a","b"],"properties":{"a":{}}},"instance":null,"draft":"2020-12","vocabularies":["validation"]} => false
 {"schema":{"required":["a","b"],"properties":{"a":{}}},"instance":null,"draft":"4","vocabularies":[]} => true
 {"schema":{"properties":{"a":{}},"additionalProperties":false},"instance":null} => false
+{"schema":{"required":["a"],"properties":{"a":{}},"additionalProperties":false},"instance":null,"objectLayer":false} => false
+{"schema":{"required":["a","b"],"properties":{"a":{}}},"instance":null,"objectLayer":false} => false
 {"schema":{},"instance":null} => false
 {"schema":true,"instance":null} => false
 {"schema":false,"instance":null} => false"#;
@@ -72,6 +81,7 @@ const HANDED_ON_BELOW: &str =
 {"schema":{"contains":{"properties":{"a":{}},"required":["a","b"]},"maxContains":0},"instance":null} => true
 {"schema":{"contains":{"properties":{"a":{}},"required":["a","b"]},"minContains":0,"maxContains":0},"instance":null} => true
 {"schema":{"items":{"contains":{"items":[{"properties":{"a":{}},"required":["a","b"]}]}}},"instance":null} => true
+{"schema":{"items":{"properties":{"a":{}},"required":["a","b"]}},"instance":null,"objectLayer":false} => false
 {"schema":{"items":{"properties":{"a":{}},"required":["a","b"]}},"instance":null,"overridden":["items"]} => false
 {"schema":{"items":{"properties":{"a":{}},"required":["a","b"]}},"instance":null,"overridden":["required"]} => false
 {"schema":{"items":{"properties":{"a":{}},"required":["a","b"]}},"instance":null,"vocabularies":["validation"]} => false
@@ -121,4 +131,9 @@ fn required_of_a_subschema_is_handed_on(rt: HostRuntime) -> Result<(), Fail> {
 #[test]
 fn required_that_is_handed_on_asserts_nothing(rt: HostRuntime) -> Result<(), Fail> {
     check_errors(&rt, rt.alloc(), NOT_ASSERTED)
+}
+
+#[test]
+fn without_an_object_layer_required_is_asserted(rt: HostRuntime) -> Result<(), Fail> {
+    check_errors(&rt, rt.alloc(), WITHOUT_OBJECT_LAYER)
 }

@@ -1,13 +1,12 @@
 // What the observers of a compiled schema say of an instance, over both representations.
 use super::decimals::{decimal_tree, decimals_of};
-use super::rows::{Request, request_of, row};
+use super::rows::{Request, context_of, request_of, row};
 use super::written::tree_text;
 use jskw_array::SchemaNode;
 use jskw_array::compiler::compile;
 use jskw_array::laws::observers_agree;
 use jskw_report::{
-    CompileFault, Context, EvaluationNode, Fault, LazyLocation, Settings, ValidationContext,
-    ValidationError,
+    CompileFault, Context, EvaluationNode, Fault, LazyLocation, ValidationContext, ValidationError,
 };
 use jskw_value::{DecimalJson, Json, Node, SerdeJson};
 use serde_json::Value;
@@ -157,12 +156,11 @@ pub(super) fn said<F: Json>(
     rt: &impl Abort,
     alloc: Global,
     told: Told,
-    settings: &Settings,
+    ctx: &Context<'_, F>,
     schema: &Value,
     instance: &F::Node,
 ) -> Result<String, Fail> {
-    let ctx: Context<F> = Context::new(alloc, settings);
-    match compile(alloc, &ctx, schema) {
+    match compile(alloc, ctx, schema) {
         Ok(node) => observed::<F>(rt, alloc, told, &node, instance),
         Err(CompileFault::Bad(error)) => Ok(refusal_text(alloc, told, &error)?),
         Err(CompileFault::Memory(error)) => Err(error)?,
@@ -174,7 +172,7 @@ pub(super) fn compiled<F: Json>(
     alloc: Global,
     request: &Request<'_>,
 ) -> Result<SchemaNode<F>, Fail> {
-    let ctx: Context<F> = Context::new(alloc, &request.settings);
+    let ctx: Context<F> = context_of(alloc, request);
     match compile(alloc, &ctx, request.schema) {
         Ok(node) => Ok(node),
         Err(_) => Err("not compiled")?,
@@ -187,12 +185,13 @@ fn check_told(rt: &impl Abort, alloc: Global, told: Told, table: &str) -> Result
         let (text, answer) = row(line)?;
         let value = Value::from_str(alloc, text)?;
         let request = request_of(alloc, &value)?;
-        let settings = &request.settings;
         let schema = request.schema;
-        let found = said::<SerdeJson>(rt, alloc, told, settings, schema, request.instance)?;
+        let ctx: Context<SerdeJson> = context_of(alloc, &request);
+        let found = said(rt, alloc, told, &ctx, schema, request.instance)?;
         assert_eq!(rt; found.as_str(), answer, "{line}");
         let tree = decimal_tree(alloc, request.instance)?;
-        let found = said::<DecimalJson>(rt, alloc, told, settings, schema, &tree)?;
+        let ctx: Context<DecimalJson> = context_of(alloc, &request);
+        let found = said(rt, alloc, told, &ctx, schema, &tree)?;
         assert_eq!(rt; found.as_str(), answer, "{line}, over decimals");
     }
     Ok(())
@@ -221,9 +220,8 @@ pub(super) fn check_decimals(rt: &impl Abort, alloc: Global, table: &str) -> Res
         let value = Value::from_str(alloc, text)?;
         let request = request_of(alloc, &value)?;
         let tree = decimals_of(alloc, request.instance)?;
-        let settings = &request.settings;
-        let schema = request.schema;
-        let found = said::<DecimalJson>(rt, alloc, Told::Locations, settings, schema, &tree)?;
+        let ctx: Context<DecimalJson> = context_of(alloc, &request);
+        let found = said(rt, alloc, Told::Locations, &ctx, request.schema, &tree)?;
         assert_eq!(rt; found.as_str(), answer, "{line}");
     }
     Ok(())

@@ -1,14 +1,17 @@
 // The lines of a table: a request, and what is answered.
-use jskw_report::{Draft, Settings, Vocabulary, VocabularySet};
+use jskw_report::{Context, Draft, Settings, Vocabulary, VocabularySet};
+use jskw_value::Json;
 use serde_json::Value;
 use std::alloc::Global;
 use std::test::Fail;
 
-// A schema, the settings that it is read under, and an instance.
+// A schema, the settings that it is read under and whether there is an object layer, and an
+// instance.
 #[derive(Drop)]
 pub(super) struct Request<'v> {
     pub(super) schema: &'v Value,
     pub(super) settings: Settings,
+    pub(super) object_layer: bool,
     pub(super) instance: &'v Value,
 }
 
@@ -18,13 +21,20 @@ pub(super) fn row(line: &str) -> Result<(&str, &str), Fail> {
 }
 
 // The request that the value is: an object with `schema` and `instance`, and with `draft`,
-// `vocabularies` and `overridden` where they are not those of 2020-12 alone.
+// `vocabularies` and `overridden` where they are not those of 2020-12 alone, and `objectLayer`
+// where there is none.
 pub(super) fn request_of<'v>(alloc: Global, value: &'v Value) -> Result<Request<'v>, Fail> {
     Ok(Request {
         schema: value.get("schema").ok_or("no schema")?,
         settings: settings_of(alloc, value)?,
+        object_layer: value.get("objectLayer").is_none(),
         instance: value.get("instance").ok_or("no instance")?,
     })
+}
+
+// Where the schema of a request is compiled.
+pub(super) fn context_of<'r, F: Json>(alloc: Global, request: &'r Request<'_>) -> Context<'r, F> {
+    Context::new(alloc, &request.settings).with_object_layer(request.object_layer)
 }
 
 // The settings of a request.

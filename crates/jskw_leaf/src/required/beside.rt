@@ -18,11 +18,11 @@ const HASHMAP_THRESHOLD: usize = 15;
 
 /// Whether `required`, whose value is `schema` and stands in `parent`, is left to the keywords of
 /// objects beside it: then [`compile`](super::compile) makes nothing. `ctx` is at the location of
-/// `parent`, and the keyword is read there. That is so under the applicator vocabulary without
-/// `patternProperties`, of one item beside `properties` and an `additionalProperties` of `false`
-/// that isn't overridden, and of two items beside `properties` of fewer than 15 members that aren't
-/// overridden, where `additionalProperties` is neither `false` nor an object. Items count as they
-/// are written.
+/// `parent`, and the keyword is read there. Where there is an object layer, that is so under the
+/// applicator vocabulary without `patternProperties`, of one item beside `properties` and an
+/// `additionalProperties` of `false` that isn't overridden, and of two items beside `properties` of
+/// fewer than 15 members that aren't overridden, where `additionalProperties` is neither `false` nor
+/// an object. Items count as they are written.
 #[tactic(auto, using(crate::proofs::HandedOn::handed_on))]
 pub fn is_handed_on<F: Json>(
     ctx: &Context<'_, F>,
@@ -34,7 +34,8 @@ pub fn is_handed_on<F: Json>(
         ≡ Some (view schema.now) }
     ensures { result ≡ is_handed_on ctx.now.setting (members_view parent.now.entries) }
 {
-    ctx.has_vocabulary(Vocabulary::Applicator)
+    ctx.object_layer()
+        && ctx.has_vocabulary(Vocabulary::Applicator)
         && !has_member(parent, "patternProperties")
         && (requires_one_of_properties(ctx, parent, schema)
             || requires_two_of_properties(ctx, parent, schema))

@@ -51,9 +51,21 @@ pub(super) fn said<F: Json>(
     name: &str,
     instance: &F::Node,
 ) -> Result<String, Fail> {
+    let root: Context<F> = Context::new(alloc, settings);
+    said_below(rt, alloc, &root, schema, name, instance)
+}
+
+// The same, with the context of the whole schema.
+pub(super) fn said_below<F: Json>(
+    rt: &impl Abort,
+    alloc: Global,
+    root: &Context<'_, F>,
+    schema: &str,
+    name: &str,
+    instance: &F::Node,
+) -> Result<String, Fail> {
     let schema = Value::from_str(alloc, schema)?;
     let parent = schema.as_object().ok_or("no object")?;
-    let root: Context<F> = Context::new(alloc, settings);
     let ctx = root.new_at_location(alloc, LocationSegment::Name("items"))?;
     outcome::<F, LeafValidator<F>>(rt, alloc, compiled(alloc, &ctx, parent, name)?, instance)
 }

@@ -1,10 +1,11 @@
 // `required`: its forms, and where it is handed on.
-use super::keywords::outcome;
+use super::keywords::{outcome, said_below};
 use super::places::member_location;
+use super::trees::decimal_tree;
 use super::{all_of, check, check_rows, columns, overriding, settings_of};
 use jskw_leaf::{LeafValidator, required};
-use jskw_report::{Draft, Vocabulary, VocabularySet};
-use jskw_value::{Json, SerdeJson};
+use jskw_report::{Context, Draft, Vocabulary, VocabularySet};
+use jskw_value::{DecimalJson, Json, SerdeJson};
 use serde_json::Value;
 use std::alloc::{AllocError, Global};
 use std::process::Abort;
@@ -335,6 +336,42 @@ fn overridden_siblings(rt: HostRuntime) -> Result<(), Fail> {
     ] {
         let settings = overriding(alloc, Draft::Draft202012, &[name])?;
         check(&rt, alloc, &settings, schema, "required", "{}", wanted)?;
+    }
+    Ok(())
+}
+
+// What `required` says of an object without members, where there is no object layer.
+fn said_without_layer<F: Json>(
+    rt: &impl Abort,
+    alloc: Global,
+    schema: &str,
+    instance: &F::Node,
+) -> Result<String, Fail> {
+    let settings = all_of(alloc, Draft::Draft202012);
+    let root: Context<F> = Context::new(alloc, &settings).with_object_layer(false);
+    said_below(rt, alloc, &root, schema, "required", instance)
+}
+
+#[test]
+fn without_an_object_layer_nothing_is_handed_on(rt: HostRuntime) -> Result<(), Fail> {
+    let alloc = rt.alloc();
+    let instance = Value::from_str(alloc, "{}")?;
+    let tree = decimal_tree(alloc, &instance)?;
+    for (schema, wanted) in [
+        (
+            r#"{"required":["a"],"properties":{"a":{}},"additionalProperties":false}"#,
+            A,
+        ),
+        (r#"{"required":["a","b"],"properties":{"a":{}}}"#, A_AND_B),
+        (
+            r#"{"required":[5],"properties":{"a":{}},"additionalProperties":false}"#,
+            "refused: type String at /items/required, 5",
+        ),
+    ] {
+        let found = said_without_layer::<SerdeJson>(&rt, alloc, schema, &instance)?;
+        assert_eq!(rt; found.as_str(), wanted, "{schema}");
+        let found = said_without_layer::<DecimalJson>(&rt, alloc, schema, &tree)?;
+        assert_eq!(rt; found.as_str(), wanted, "{schema}, over decimals");
     }
     Ok(())
 }

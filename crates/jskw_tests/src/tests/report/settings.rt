@@ -164,6 +164,20 @@ fn a_context_stands_at_its_location(rt: HostRuntime) -> Result<(), Fail> {
 }
 
 #[test]
+fn a_context_keeps_whether_there_is_an_object_layer(rt: HostRuntime) -> Result<(), Fail> {
+    let settings = all_of(rt.alloc(), Draft::Draft202012);
+    let whole = Context::<SerdeJson>::new(rt.alloc(), &settings);
+    assert!(rt; whole.object_layer());
+    let without = whole.with_object_layer(false);
+    assert!(rt; !without.object_layer());
+    let items = without.new_at_location(rt.alloc(), LocationSegment::Name("items"))?;
+    assert!(rt; !items.object_layer());
+    assert_eq!(rt; items.location().as_str(), "/items");
+    assert!(rt; items.with_object_layer(true).object_layer());
+    Ok(())
+}
+
+#[test]
 fn a_member_is_found_by_its_name(rt: HostRuntime) -> Result<(), Fail> {
     let schema = Value::from_str(
         rt.alloc(),
