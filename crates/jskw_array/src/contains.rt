@@ -1,5 +1,5 @@
 //! `contains` (Core 10.3.1.3) with `minContains` and `maxContains` (Validation 6.4.4, 6.4.5).
-ghost use Rattle.std.specs.Prelude.{◌≡◌, IfOk, false};
+ghost use Rattle.std.specs.Prelude.{◌≡◌, IfOk};
 ghost use Rattle.serde_json.specs.View.{view, members_view};
 ghost use Rattle.jskw_value.specs.Pointer.{member_location};
 ghost use Rattle.jskw_report.specs.Compile.{Compiles, Makes, reading};
