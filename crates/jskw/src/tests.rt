@@ -5,7 +5,6 @@ mod devices;
 mod names;
 mod numbers;
 mod options;
-mod refused;
 mod requests;
 
 use crate::memory::{ArraySink, SliceSource};

@@ -25,7 +25,7 @@ use Rattle.jskw_report.specs.declared.settings.Draft.{Draft}
 use Rattle.jskw_report.specs.declared.settings.Draft.TheVariants.{Draft4}
 use Rattle.jskw_leaf.specs.Meaning.{type_at}
 use Rattle.jskw_array.proofs.Readings.{items_of_one}
-use Rattle.jskw_array.specs.Fused.{optional}
+use Rattle.jskw_array.specs.Fused.{fused_words, optional}
 
 -- ---- what holds of a fused schema
 
@@ -213,16 +213,33 @@ module _ (spot : Spot) (ms : Members) (d : Data) (h : is_fused spot.setting ms �
 
 -- ---- the whole
 
--- what is read of `items` behind them, and of the others behind that
-pub fused_read : (ws vs : List KeywordName) (s : Setting) (p : Pointer) (ms : Members) (js ks : Keywords)
-    → read_words ws s p ms (λ name. part_named name ms) ≡ Ok js → read_words vs s p ms (λ name. part_named name ms) ≡ Ok ks
-    → read_words (ws ++ vs) s p ms (λ name. part_named name ms) ≡ Ok (append_keywords js ks)
-fused_read ws vs s p ms js ks first second = read_appended ws vs s p ms (λ name. part_named name ms) ∙ ap₂ (join_ok append_keywords) first second
+-- what is read of them, where what stands before is read
+pub fused_behind : (ws vs : List KeywordName) (s : Setting) (p : Pointer) (ms : Members) (js : Keywords)
+    → read_words ws s p ms (λ name. part_named name ms) ≡ Ok js
+    → read_words (ws ++ vs) s p ms (λ name. part_named name ms) ≡ map_ok (append_keywords js) (read_words vs s p ms (λ name. part_named name ms))
+fused_behind ws vs s p ms js first =
+    read_appended ws vs s p ms (λ name. part_named name ms) ∙ ap (λ r. join_ok append_keywords r (read_words vs s p ms (λ name. part_named name ms))) first
 
-pub fused_refused_next : (ws vs : List KeywordName) (s : Setting) (p : Pointer) (ms : Members) (js : Keywords) (e : Refusal)
-    → read_words ws s p ms (λ name. part_named name ms) ≡ Ok js → read_words vs s p ms (λ name. part_named name ms) ≡ Err e
-    → read_words (ws ++ vs) s p ms (λ name. part_named name ms) ≡ Err e
-fused_refused_next ws vs s p ms js e first second = read_appended ws vs s p ms (λ name. part_named name ms) ∙ ap₂ (join_ok append_keywords) first second
+-- nothing is read where what stands before is refused
+pub fused_refused : (ws vs : List KeywordName) (s : Setting) (p : Pointer) (ms : Members) (e : Refusal)
+    → read_words ws s p ms (λ name. part_named name ms) ≡ Err e → read_words (ws ++ vs) s p ms (λ name. part_named name ms) ≡ Err e
+fused_refused ws vs s p ms e first =
+    read_appended ws vs s p ms (λ name. part_named name ms) ∙ ap (λ r. join_ok append_keywords r (read_words vs s p ms (λ name. part_named name ms))) first
+
+-- the shape is that of `items` behind the others
+pub shape_reads : (spot : Spot) (ms : Members) (d : Data) → is_fused spot.setting ms ≡ true → get_member (name_of word.Items) ms ≡ Some d → (js : Keywords)
+    → read_words (word.TypeKeyword ∷ word.MinItems ∷ word.MaxItems ∷ []) spot.setting spot.location ms (λ name. part_named name ms) ≡ Ok js
+    → read_words fused_words spot.setting spot.location ms (λ name. part_named name ms)
+    ≡ map_ok (λ k. append_keywords js (keyword (keyword_location spot.location word.Items) k no_keywords)) (items_value spot.setting spot.location ms d)
+shape_reads spot ms d h at js first =
+    fused_behind (word.TypeKeyword ∷ word.MinItems ∷ word.MaxItems ∷ []) (word.Items ∷ []) spot.setting spot.location ms js first
+    ∙ ap (map_ok (append_keywords js)) (items_alone spot ms d h at)
+    ∙ go (items_value spot.setting spot.location ms d)
+  where
+    go : (r : Result Keyword Refusal) → map_ok (append_keywords js) (map_ok (λ k. keyword (keyword_location spot.location word.Items) k no_keywords) r)
+        ≡ map_ok (λ k. append_keywords js (keyword (keyword_location spot.location word.Items) k no_keywords)) r
+    go (Ok k) = refl
+    go (Err e) = refl
 
 -- ---- each bound
 

@@ -1,10 +1,13 @@
 -- The keywords of units that are put together.
+use Rattle.std.specs.Prelude.{Box}
 use Rattle.std.proofs.Common.{◌≡◌, ℕ, ◌+◌, ◌<◌, ◌≤◌, List, [], ◌∷◌, ◌++◌, length, get_or, drop, Vec, Global, Bool, true, false, ◌||◌, refl, ap}
 use Rattle.std.proofs.lemmas.List.{drop_all}
 use Rattle.jskw_report.proofs.Appended.{hand_on_appended}
 use Rattle.jskw_report.proofs.Gathering.{drop_here}
 use Rattle.jskw_report.specs.Keyword.{Schema, Keywords, append_keywords, keyword, no_keywords, all_hand_on, each_hands_on, hands_on_required, keyword_hands_on}
 use Rattle.jskw_array.specs.Meaning.{schemas_of, validator_keyword}
+use Rattle.jskw_array.specs.Fused.{shape_keywords}
+use Rattle.jskw_array.specs.declared.items.array_shape.ArrayShapeValidator.{ArrayShapeValidator}
 use Rattle.jskw_array.specs.Units.{keywords_of}
 use Rattle.jskw_array.specs.declared.unit.Unit as declared
 
@@ -17,6 +20,10 @@ keywords_of_more (v ∷ us) u = ap (keyword v.location (validator_keyword v.vali
 -- of a whole vector
 abbrev pub keywords_in : {F N O P : Type 0} → Vec (declared.Unit F N O P) Global → Keywords
 keywords_in units = keywords_of units.items
+
+-- of a shape in a box
+abbrev pub shape_in : {F N O P : Type 0} → Box (ArrayShapeValidator F N O P) Global → Keywords
+shape_in shape = shape_keywords shape.value
 
 -- ---- which of them hand a `required` on
 

@@ -1,17 +1,18 @@
 //! Compiles schemas, keyword by keyword.
-ghost use Rattle.std.specs.Prelude.{◌≡◌, Err, IfOk, IsTrue, Some, true};
+ghost use Rattle.std.specs.Prelude.{◌≡◌, ◌++◌, [], ◌∷◌, Err, IfOk, IsTrue, Result, Some, true};
 ghost use Rattle.serde_json.specs.Data.{object};
 ghost use Rattle.serde_json.specs.Find.{get_member};
 ghost use Rattle.serde_json.specs.View.{view, items_view, members_view};
 ghost use Rattle.jskw_value.specs.declared.types.JsonType.TheVariants.{Boolean, Object};
 ghost use Rattle.jskw_report.specs.Compile.{Compiles, Makes};
-ghost use Rattle.jskw_report.specs.Keyword.{Schema};
-ghost use Rattle.jskw_report.specs.KeywordValue.{of_types, wrong};
+ghost use Rattle.jskw_report.specs.Keyword.{Keywords, Schema, append_keywords};
+ghost use Rattle.jskw_report.specs.KeywordValue.{Refusal, map_ok, of_types, wrong};
 ghost use Rattle.jskw_report.specs.Read.{Asserts, keyword_location, part_named};
 ghost use Rattle.jskw_report.specs.Read.{read, read_each, read_word, read_words, whole};
 ghost use Rattle.jskw_report.specs.Setting.{keywords, name_of};
 ghost use Rattle.jskw_report.specs.Sibling.{is_fused, is_handed_on};
 ghost use Rattle.jskw_leaf.specs.Meaning.{leaf_keyword};
+ghost use Rattle.jskw_array.specs.Fused.{shape_keywords};
 ghost use Rattle.jskw_array.specs.Meaning.{schemas_of, validator_keyword};
 ghost use Rattle.jskw_array.specs.Units.{keywords_of};
 ghost use Rattle.jskw_array.specs.Siblings.{schema_count};
@@ -89,14 +90,42 @@ fn compile_fused<'a, F: Json>(
     let Some(items) = member_of(parent, KeywordName::Items.as_str()) else {
         unreachable!();
     };
-    let shape = ArrayShapeValidator::compile(alloc, ctx, parent, items)?;
-    let units = compile_keywords(alloc, ctx, parent, &KeywordName::ALL[FUSED..])?;
-    let shape = Box::new(alloc, shape)?;
-    Ok(SchemaNode::of_keywords(location, hands_on, Some(shape), units))
+    let shape = boxed(
+        alloc,
+        ArrayShapeValidator::compile(alloc, ctx, parent, items),
+    )?;
+    let units = compile_keywords(alloc, ctx, parent, &KeywordName::ALL[FUSED..]);
+    of_fused(location, hands_on, shape, units)
 }
 
 // The keywords of the fused shape are the first so many.
 const FUSED: usize = 4;
+
+// The fused shape, where it was compiled, in a box.
+fn boxed<'a, F: Json>(
+    alloc: Global,
+    compiled: CompilationResult<'a, ArrayShapeValidator<F>>,
+) -> CompilationResult<'a, Box<ArrayShapeValidator<F>>>
+    ensures { (read : Result Keywords Refusal) → Makes shape_keywords compiled.entry read
+        → Makes (λ shape. shape_keywords shape.value) result read }
+{
+    Ok(Box::new(alloc, compiled?)?)
+}
+
+// The schema of a fused shape and of the keywords behind, where these were compiled.
+fn of_fused<'a, F: Json>(
+    location: Location,
+    hands_on: bool,
+    shape: Box<ArrayShapeValidator<F>>,
+    compiled: CompilationResult<'a, Vec<Unit<F>>>,
+) -> CompilationResult<'a, SchemaNode<F>>
+    ensures { (read : Result Keywords Refusal)
+        → Makes (λ units. keywords_of units.items) compiled.entry read → Makes (λ s. s) result
+        (whole location (record { hands_on = hands_on; fused = true })
+        (map_ok (append_keywords (shape_keywords shape.value)) read)) }
+{
+    Ok(SchemaNode::of_keywords(location, hands_on, Some(shape), compiled?))
+}
 
 // The fault of a value that is neither a boolean nor an object.
 fn no_schema<'a>(alloc: Global, location: &Location, value: &'a Value) -> CompileFault<'a>
@@ -140,19 +169,34 @@ fn compile_keywords<'a, F: Json>(
     for &keyword in keywords {
         match compile_keyword(alloc, ctx, parent, keyword) {
             None => {}
-            Some(Ok(validator)) => {
-                let location = ctx.keyword_location(alloc, keyword)?;
-                units.push(Unit {
-                    validator,
-                    location,
-                })?;
-            }
+            Some(Ok(validator)) => push_unit(alloc, ctx, keyword, validator, &mut units)?,
             Some(Err(fault)) => return Err(fault),
         }
     }
     // a validator takes some hundred bytes, and a vector grows by more than one
     units.shrink_to_fit();
     Ok(units)
+}
+
+// Appends a keyword with its validator.
+fn push_unit<F: Json>(
+    alloc: Global,
+    ctx: &Context<'_, F>,
+    keyword: KeywordName,
+    validator: Validator<F>,
+    units: &mut Vec<Unit<F>>,
+) -> Result<(), AllocError>
+    ensures { IfOk result (λ _. units.new.items ≡ units.old.items ++ record {
+      validator = validator;
+      location = keyword_location ctx.now.location keyword;
+    } ∷ []) }
+{
+    let location = ctx.keyword_location(alloc, keyword);
+    units.push(location.map(|location| Unit {
+        validator,
+        location,
+    })?)?;
+    Ok(())
 }
 
 // One keyword of an object, None where it is absent, does not stand or asserts nothing.

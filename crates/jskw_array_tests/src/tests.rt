@@ -20,6 +20,3 @@ mod refusals;
 mod applications;
 mod depth;
 mod evaluations;
-
-// What is told where memory is wanted.
-mod memory;

@@ -3,6 +3,7 @@ ghost use Rattle.std.specs.Prelude.{IsTrue};
 ghost use Rattle.jskw_value.specs.Serde.{value_tree};
 ghost use Rattle.jskw_value.specs.Tree.{is_lawful};
 
+use crate::leaves::{false_schema, integer_type, required_at};
 use crate::printed::{print_error, print_tree};
 use jskw_array::SchemaNode;
 use jskw_array::compiler::compile;
@@ -19,14 +20,20 @@ use std::io;
 pub(crate) fn make(rt: &HostRuntime, line: &str) -> io::Result<()> {
     let mut parts = line.split('\t');
     let call = parts.next().unwrap_or("");
-    if call == "insert" {
-        return insert_members(rt);
+    match call {
+        "insert" => return insert_members(rt),
+        "false_schema" => return false_schema(rt),
+        "integer_type" => return integer_type(rt),
+        "required_at" => return required_at(rt),
+        _ => {}
     }
     let draft = draft_of(parts.next().unwrap_or(""))?;
     let schema = value_of(rt.alloc(), parts.next().unwrap_or(""))?;
     let instance = value_of(rt.alloc(), parts.next().unwrap_or(""))?;
-    if call == "first_unlawful" {
-        return tell_float(rt, &instance);
+    match call {
+        "first_unlawful" => return tell_float(rt, &instance),
+        "write_json" => return write_json(rt, &instance),
+        _ => {}
     }
     let settings = Settings::new(draft, VocabularySet::all(), Vec::new(rt.alloc()));
     let ctx: Context<SerdeJson> = Context::new(rt.alloc(), &settings);
@@ -70,6 +77,7 @@ fn observe(
         "validate" => validate(rt, node, instance),
         "collect_errors" => collect_errors(rt, node, instance),
         "evaluate_instance" => evaluate_instance(rt, node, instance),
+        "hold" => hold(rt, node, instance),
         "compile" => println!(rt; "compiled"),
         _ => Err(io::ErrorKind::InvalidInput)?,
     }
@@ -125,8 +133,24 @@ fn evaluate_instance(
     print_tree(rt, &tree)
 }
 
+// What is said of a whole instance of which keywords without subschemas hold. Behind the first line
+// no memory is asked for.
+fn hold(rt: &HostRuntime, node: &SchemaNode<SerdeJson>, instance: &Value) -> io::Result<()>
+    requires { IsTrue (is_lawful (value_tree instance.now)) }
+{
+    let mut location = LazyLocation::new(rt.alloc());
+    let mut ctx = ValidationContext::new();
+    let mut errors = Vec::new(rt.alloc());
+    println!(rt; "ready")?;
+    println!(rt; "{}", node.is_valid(instance, &mut ctx))?;
+    let first = node.validate(instance, &mut location, &mut ctx);
+    println!(rt; "{}", first.is_ok())?;
+    node.collect_errors(instance, &mut location, &mut ctx, &mut errors)?;
+    println!(rt; "{}", errors.len())
+}
+
 // Item 2 of item 7 of a whole instance.
-fn two_below(alloc: Global) -> Result<LazyLocation, AllocError> {
+pub(crate) fn two_below(alloc: Global) -> Result<LazyLocation, AllocError> {
     let mut location = LazyLocation::new(alloc);
     location.push(7)?;
     location.push(2)?;
@@ -147,6 +171,17 @@ fn tell_float(rt: &HostRuntime, instance: &Value) -> io::Result<()> {
         Some(location) => println!(rt; "a float at {}", location.as_str()),
         None => println!(rt; "no float"),
     }
+}
+
+// The text behind an old one. Where it is not written whole, the old one is still there.
+fn write_json(rt: &HostRuntime, instance: &Value) -> io::Result<()> {
+    let mut text = String::from_str(rt.alloc(), "old ")?;
+    let written = instance.write_json(&mut text);
+    if !text.as_str().starts_with("old ") {
+        println!(rt; "lost")?;
+    }
+    written?;
+    println!(rt; "{}", text.as_str())
 }
 
 // Inserts members one by one. One that is refused is handed back, and those before it stay.

@@ -1,12 +1,12 @@
 //! Errors and evaluation trees as lines.
 use jskw_report::{Annotations, EvaluationNode, ValidationError};
-use jskw_value::SerdeJson;
+use jskw_value::Json;
 use std::io;
 
 /// Prints the keyword, the instance location and the keyword location of an error.
-pub(crate) fn print_error(
+pub(crate) fn print_error<F: Json>(
     rt: &HostRuntime,
-    error: &ValidationError<'_, SerdeJson>,
+    error: &ValidationError<'_, F>,
 ) -> io::Result<()> {
     let (at, by) = (error.instance_path().as_str(), error.schema_path().as_str());
     println!(rt; "{}\t{at}\t{by}", error.kind().keyword())

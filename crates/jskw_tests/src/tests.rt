@@ -5,8 +5,7 @@ mod places;
 mod texts;
 mod trees;
 
-// What values and reports answer, and what is told where memory is wanted.
-mod memory;
+// What values and reports answer.
 mod report;
 mod value;
 

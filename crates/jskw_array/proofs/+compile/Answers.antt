@@ -1,11 +1,11 @@
-use Rattle.std.proofs.Common.{rules, ◌≡◌, List, [], ◌∷◌, ℕ, Option, Some, None, Ok, Err, true, false, drop, sym, ap, subst, ◌+◌, ◌∙◌, arith}
+use Rattle.std.proofs.Common.{rules, ◌≡◌, List, ℕ, Option, Some, None, Ok, Err, true, false, drop, sym, ap, subst, ◌+◌, ◌∙◌, arith}
 use Rattle.serde_json.specs.Data.{items_depth}
 use Rattle.serde_json.specs.Find.{get_member, as_array}
 use Rattle.serde_json.specs.View.{view, items_view, members_view}
 use Rattle.jskw_value.specs.Pointer.{item_location}
 use Rattle.jskw_report.proofs.Reading.{read_absent, read_not_standing, read_standing}
 use Rattle.jskw_report.specs.Compile.{Compiles, Makes, reading}
-use Rattle.jskw_report.specs.Keyword.{Marks, Schema, append_keywords, contains, items_from, keyword, no_keywords, schema_object}
+use Rattle.jskw_report.specs.Keyword.{Marks, Schema, append_keywords, contains, items_from, keyword, no_keywords}
 use Rattle.jskw_report.specs.KeywordValue.{join_ok, map_ok}
 use Rattle.jskw_report.specs.Read.{Part, keyword_location, part_named, read, read_bounds, read_each, read_words, whole}
 use Rattle.jskw_report.specs.Setting.{keywords, name_of, stands}
@@ -19,12 +19,12 @@ use Rattle.jskw_array.specs.Siblings.{schema_count}
 use Rattle.jskw_array.proofs.Depths.{depth_array, item_depth, member_depth}
 use Rattle.jskw_array.proofs.EachSchema.{after as after_schemas, after_none as after_no_schemas, each_end, each_made, each_refused, schemas_in, schemas_of_more}
 use Rattle.jskw_array.proofs.Faults.{compiles_as, handed_on, refused_whole}
-use Rattle.jskw_array.proofs.FusedReading.{fused_items, fused_read, fused_refused_next, is_there, items_alone, items_reads, items_value}
+use Rattle.jskw_array.proofs.FusedReading.{fused_behind, fused_items, fused_refused, is_there, items_reads, items_value, shape_reads}
 use Rattle.jskw_array.proofs.Readings.{additional_absent, additional_false, additional_of_schema, additional_true, bare_is_type, bare_stands, contains_of_schema, contains_read, items_bare, items_of_array, items_of_schema, items_silent, prefix_of_array, prefix_refused, read_boolean, view-Bool}
 use Rattle.jskw_array.proofs.Turns.{after_none, turn_end, turn_made, turn_refused, turn_silent}
-use Rattle.jskw_array.proofs.Units.{keywords_in, keywords_of_more}
+use Rattle.jskw_array.proofs.Units.{keywords_in, keywords_of_more, shape_in}
 use Rattle.jskw_array.proofs.+compile.Goals as goal
-use Rattle.jskw_array.proofs.+compile.Goals.{compiler::compile_keywords-in-None, compiler::compile_keywords-in-Some-Ok+in_ok-location-in-Some-Ok+in_ok-push-in-Some-Ok}
+use Rattle.jskw_array.proofs.+compile.Goals.{compiler::compile_keywords-in-None, compiler::compile_keywords-in-Some-Ok+in_ok-push_unit-in-Some-Ok}
 
 -- ---- a schema
 
@@ -51,17 +51,30 @@ compiler::compile_fused-compile-requires g t c κs within =
     let below = member_depth (name_of word.Items) ms (view c.in-Some.items.now) found in
     (omega (arith, below, c.decreases), search (rules, found, c.requires.fused))
 
-pub compiler::compile_fused-returns : goal.compiler::compile_fused-returns
-compiler::compile_fused-returns g t c =
+pub compiler::compile_fused-returns-in_err-shape : goal.compiler::compile_fused-returns-in_err-shape
+compiler::compile_fused-returns-in_err-shape g t c =
     let p = c.args.ctx.now.location in
     let ms = members_view c.args.parent.now.entries in
-    let us = keywords_of c.in_ok-units.units.items in
     let marks : Marks = record { hands_on = c.args.hands_on; fused = true } in
-    let all = fused_read fused_words (drop 4 keywords) c.args.ctx.now.setting p ms (shape_keywords c.in_ok-shape.shape) us c.in_ok-shape.ensures c.in_ok-units.ensures in
-    ap (whole p marks) all
-    ∙ ap (λ v. Ok (schema_object p marks (append_keywords (shape_keywords v) us))) (sym c.in_ok-shape-2.ensures.ok)
-    ∙ ap (λ q. Ok (schema_object q marks (append_keywords (shape_keywords c.in_ok-shape-2.shape.value) us))) (sym c.requires.location)
-    ∙ ap Ok (sym c.of_keywords.ensures)
+    let first = read_words fused_words c.args.ctx.now.setting p ms (λ name. part_named name ms) in
+    let of_shape = shape_in {F = g.row.F.Denot} {N = g.row.F-Node.Denot} {O = g.row.F-Node-Number.Denot} {P = g.row.F-Node-PreparedKey.Denot} in
+    let made = subst (λ r. Makes of_shape r first) c.in_err-shape.was (c.boxed.ensures first c.compile.ensures) in
+    handed_on of_shape (λ (n : Schema). n) c.in_err-shape.field-0.0 _ first _ c.from_residual.ensures.1 made
+    (λ e refused. ap (whole p marks) (fused_refused fused_words (drop 4 keywords) c.args.ctx.now.setting p ms e refused))
+
+pub compiler::compile_fused-returns : goal.compiler::compile_fused-returns
+compiler::compile_fused-returns g t c =
+    let s = c.args.ctx.now.setting in
+    let p = c.args.ctx.now.location in
+    let ms = members_view c.args.parent.now.entries in
+    let js = shape_keywords c.in_ok-shape.shape.value in
+    let marks : Marks = record { hands_on = c.args.hands_on; fused = true } in
+    let first = read_words fused_words s p ms (λ name. part_named name ms) in
+    let of_shape = shape_in {F = g.row.F.Denot} {N = g.row.F-Node.Denot} {O = g.row.F-Node-Number.Denot} {P = g.row.F-Node-PreparedKey.Denot} in
+    let made = subst (λ r. Makes of_shape r first) c.in_ok-shape.was (c.boxed.ensures first c.compile.ensures) in
+    let all = fused_behind fused_words (drop 4 keywords) s p ms js made in
+    subst (Makes (λ (n : Schema). n) c.of_fused.result) (ap (λ q. whole q marks (map_ok (append_keywords js) (read_words (drop 4 keywords) s p ms (λ name. part_named name ms)))) c.requires.location ∙ sym (ap (whole p marks) all))
+    (c.of_fused.ensures _ c.compile_keywords-units.ensures)
 
 pub items::array_shape::ArrayShapeValidator::compile-unreachable-requires : goal.items::array_shape::ArrayShapeValidator::compile-unreachable-requires
 items::array_shape::ArrayShapeValidator::compile-unreachable-requires g t c =
@@ -72,34 +85,18 @@ items::array_shape::ArrayShapeValidator::compile-unreachable-requires g t c =
     let none = subst (λ x. Compiles keyword_of x (reading word.Items spot ms d)) c.in_default.is c.compile-2.ensures in
     subst (Compiles keyword_of None) (items_reads spot ms d c.requires.fused c.requires.items) none
 
-pub items::array_shape::ArrayShapeValidator::compile-returns-in_err-validator : goal.items::array_shape::ArrayShapeValidator::compile-returns-in_err-validator
-items::array_shape::ArrayShapeValidator::compile-returns-in_err-validator g t c =
-    let keyword_of = validator_keyword {F = g.row.F.Denot} {N = g.row.F-Node.Denot} {O = g.row.F-Node-Number.Denot} {P = g.row.F-Node-PreparedKey.Denot} in
-    let spot = c.args.ctx.now in
-    let ms = members_view c.args.parent.now.entries in
-    let d = view c.args.items.now in
-    let value = items_value spot.setting spot.location ms d in
-    let x = c.in_err-validator.field-0.0 in
-    let compiled = subst (Compiles keyword_of (Some c.in-Some.compiled)) (items_reads spot ms d c.requires.fused c.requires.items) c.in-Some.ensures in
-    let made = subst (λ r. Makes keyword_of r value) c.in_err-validator.was compiled in
-    handed_on keyword_of shape_keywords x _ value _ c.from_residual-in_err-validator.ensures.1 made
-    (λ e refused. fused_refused_next (word.TypeKeyword ∷ word.MinItems ∷ word.MaxItems ∷ []) (word.Items ∷ []) spot.setting spot.location ms (absorbed_keywords c.in_ok-absorbed.absorbed) e c.in_ok-absorbed.ensures
-    (items_alone spot ms d c.requires.fused c.requires.items ∙ ap (map_ok (λ k. keyword (keyword_location spot.location word.Items) k no_keywords)) refused))
-
 pub items::array_shape::ArrayShapeValidator::compile-returns : goal.items::array_shape::ArrayShapeValidator::compile-returns
 items::array_shape::ArrayShapeValidator::compile-returns g t c =
     let keyword_of = validator_keyword {F = g.row.F.Denot} {N = g.row.F-Node.Denot} {O = g.row.F-Node-Number.Denot} {P = g.row.F-Node-PreparedKey.Denot} in
     let spot = c.args.ctx.now in
     let ms = members_view c.args.parent.now.entries in
     let d = view c.args.items.now in
-    let value = items_value spot.setting spot.location ms d in
+    let of_shape = shape_keywords {F = g.row.F.Denot} {N = g.row.F-Node.Denot} {O = g.row.F-Node-Number.Denot} {P = g.row.F-Node-PreparedKey.Denot} in
     let absorbed = absorbed_keywords c.in_ok-absorbed.absorbed in
-    let k = keyword_of c.in_ok-validator.validator in
-    let compiled = subst (Compiles keyword_of (Some c.in-Some.compiled)) (items_reads spot ms d c.requires.fused c.requires.items) c.in-Some.ensures in
-    let made = subst (λ r. Makes keyword_of r value) c.in_ok-validator.was compiled in
-    fused_read (word.TypeKeyword ∷ word.MinItems ∷ word.MaxItems ∷ []) (word.Items ∷ []) spot.setting spot.location ms absorbed (keyword (keyword_location spot.location word.Items) k no_keywords) c.in_ok-absorbed.ensures
-    (items_alone spot ms d c.requires.fused c.requires.items ∙ ap (map_ok (λ k. keyword (keyword_location spot.location word.Items) k no_keywords)) made)
-    ∙ ap (λ q. Ok (append_keywords absorbed (keyword q k no_keywords))) (sym c.in_ok-location.ensures)
+    let made = subst (Compiles keyword_of (Some c.in-Some.compiled)) (items_reads spot ms d c.requires.fused c.requires.items) c.in-Some.ensures in
+    let all = shape_reads spot ms d c.requires.fused c.requires.items absorbed c.in_ok-absorbed.ensures in
+    subst (Makes of_shape c.with_items.result) (ap (λ q. map_ok (λ k. append_keywords absorbed (keyword q k no_keywords)) (items_value spot.setting spot.location ms d)) c.in_ok-location.ensures ∙ sym all)
+    (c.with_items.ensures _ made)
 
 -- ---- the keywords of an object
 
@@ -124,10 +121,9 @@ compiler::compile_keywords-loop-keyword-preserved g t c =
     elim c.match-compile_keyword.branch [
       | compiler::compile_keywords-in-None w ↦
           rw w.units-is (turn_silent keyword_of done all s p ms parts ws index word.TypeKeyword c.loop-keyword-test.true l.invariant w.in-None.ensures)
-      | compiler::compile_keywords-in-Some-Ok+in_ok-location-in-Some-Ok+in_ok-push-in-Some-Ok w ↦
+      | compiler::compile_keywords-in-Some-Ok+in_ok-push_unit-in-Some-Ok w ↦
           let turn = turn_made keyword_of done all s p ms parts ws index word.TypeKeyword c.loop-keyword-test.true l.invariant _ _ w.in-Some-Ok.field-0-is w.in-Some-Ok.ensures in
-          let location = w.in_ok-location-in-Some-Ok.ensures in
-          rw (w.units-is, w.in_ok-push-in-Some-Ok.ensures.items, keywords_of_more, location) turn
+          rw (w.units-is, w.in_ok-push_unit-in-Some-Ok.ensures, keywords_of_more) turn
     ]
 
 pub compiler::compile_keywords-returns : goal.compiler::compile_keywords-returns

@@ -2,8 +2,8 @@
 //! (Validation 6.1.1, 6.4.1, 6.4.2, Core 10.3.1.2), with no other keyword of items beside them. The
 //! type and the length are looked at once, and then the items.
 ghost use Rattle.std.specs.List.{list_all};
-ghost use Rattle.std.specs.Prelude.{◌≡◌, [], ◌∷◌, ◌++◌, IfOk, IfSome, IsTrue, Some, is_some};
-ghost use Rattle.std.specs.Prelude.{length};
+ghost use Rattle.std.specs.Prelude.{◌≡◌, [], ◌∷◌, ◌++◌, IfOk, IfSome, IsTrue, Result, Some};
+ghost use Rattle.std.specs.Prelude.{is_some, length};
 ghost use Rattle.serde_json.specs.Find.{get_member};
 ghost use Rattle.serde_json.specs.View.{view, members_view};
 ghost use Rattle.jskw_value.specs.Tree.{Tree, is_array as is_list, is_lawful, items};
@@ -16,6 +16,8 @@ ghost use Rattle.jskw_report.specs.Evaluation.{node_at, of_errors, unit, units};
 ghost use Rattle.jskw_report.specs.EvaluationView.{result_of};
 ghost use Rattle.jskw_report.specs.Fail.{all_fail, keyword_fail};
 ghost use Rattle.jskw_report.specs.Holds.{all_hold, assertion_holds};
+ghost use Rattle.jskw_report.specs.Keyword.{Keyword, append_keywords, keyword, no_keywords};
+ghost use Rattle.jskw_report.specs.KeywordValue.{Refusal, map_ok};
 ghost use Rattle.jskw_report.specs.Meaning.{placed};
 ghost use Rattle.jskw_report.specs.Observe.{Appends, CountsUpTo, IsFirst, failures_unless};
 ghost use Rattle.jskw_report.specs.Paths.{path_of};
@@ -28,10 +30,12 @@ ghost use Rattle.jskw_number.specs.Meaning.{max_items, min_items};
 ghost use Rattle.jskw_array.specs.Fused.{absorbed_bounds, absorbed_keywords, absorbed_type};
 ghost use Rattle.jskw_array.specs.Fused.{Extends, count_of, fused_words, optional, shape_keywords};
 ghost use Rattle.jskw_array.specs.Fused.{shape_meaning};
+ghost use Rattle.jskw_array.specs.Meaning.{validator_keyword};
 ghost use Rattle.jskw_array.specs.Node.{fused_keywords};
 
 use crate::items::{self, is_items_schema};
 use crate::unit::Unit;
+use crate::validator::Validator;
 use jskw_leaf::type_::ArrayTypeValidator;
 use jskw_number::helpers::size_limit;
 use jskw_number::max_items::MaxItemsValidator;
@@ -81,17 +85,12 @@ impl<F: Json> ArrayShapeValidator<F> {
             (read_words fused_words ctx.now.setting ctx.now.location ms
             (λ name. part_named name ms)) }
     {
+        let location = ctx.keyword_location(alloc, KeywordName::Items)?;
         let absorbed = AbsorbedKeywords::compile(alloc, ctx, parent)?;
         let Some(compiled) = items::compile(alloc, ctx, parent, items) else {
             unreachable!();
         };
-        let validator = compiled?;
-        let location = ctx.keyword_location(alloc, KeywordName::Items)?;
-        let items = Unit {
-            validator,
-            location,
-        };
-        Ok(ArrayShapeValidator { absorbed, items })
+        with_items(absorbed, location, compiled)
     }
 
     /// The keywords that are checked with `items`.
@@ -100,6 +99,23 @@ impl<F: Json> ArrayShapeValidator<F> {
     {
         &self.absorbed
     }
+}
+
+// The shape of the other keywords and of `items`, where that was compiled.
+fn with_items<'a, F: Json>(
+    absorbed: AbsorbedKeywords,
+    location: Location,
+    compiled: CompilationResult<'a, Validator<F>>,
+) -> CompilationResult<'a, ArrayShapeValidator<F>>
+    ensures { (read : Result Keyword Refusal) → Makes validator_keyword compiled.entry read
+        → Makes shape_keywords result (map_ok (λ k. append_keywords (absorbed_keywords absorbed)
+        (keyword location k no_keywords)) read) }
+{
+    let items = Unit {
+        validator: compiled?,
+        location,
+    };
+    Ok(ArrayShapeValidator { absorbed, items })
 }
 
 impl<F: Json> Validate<F> for ArrayShapeValidator<F> {

@@ -1,0 +1,81 @@
+//! Validators that are made by themselves, without a schema around them.
+use crate::calls::two_below;
+use crate::printed::print_error;
+use jskw_leaf::boolean::FalseValidator;
+use jskw_leaf::required;
+use jskw_leaf::type_::IntegerTypeValidator;
+use jskw_report::{
+    CompileFault, EvaluationResult, Fault, Location, LocationSegment, Validate, ValidationContext,
+};
+use jskw_value::{DecimalJson, DecimalTree, Json, Members, Node, SerdeJson};
+use serde_json::Value;
+use std::alloc::{AllocError, Global};
+use std::io;
+
+/// What `type` of `integer` says of null.
+pub(crate) fn integer_type(rt: &HostRuntime) -> io::Result<()> {
+    let validator = IntegerTypeValidator::new(member_location(rt.alloc())?);
+    observe::<SerdeJson, _>(rt, &validator, &Value::Null)
+}
+
+/// What the schema `false` says of true.
+pub(crate) fn false_schema(rt: &HostRuntime) -> io::Result<()> {
+    let validator = FalseValidator::new(member_location(rt.alloc())?);
+    observe::<DecimalJson, _>(rt, &validator, &DecimalTree::Bool(true))
+}
+
+/// What names at a location of their own say of an object without members.
+pub(crate) fn required_at(rt: &HostRuntime) -> io::Result<()> {
+    let alloc = rt.alloc();
+    let names = match Value::from_str(alloc, r#"["b","c","d","e"]"#) {
+        Ok(names) => names,
+        Err(_) => return Err(AllocError)?,
+    };
+    let location = member_location(alloc)?;
+    match required::compile_with_path::<DecimalJson>(alloc, &names, location) {
+        Some(Ok(leaf)) => {
+            let instance = DecimalTree::Object(Members::new(alloc));
+            observe::<DecimalJson, _>(rt, &leaf, &instance)
+        }
+        Some(Err(CompileFault::Memory(error))) => Err(error)?,
+        _ => Err(io::ErrorKind::InvalidInput)?,
+    }
+}
+
+// The location of the member `a` of the whole schema.
+fn member_location(alloc: Global) -> Result<Location, AllocError> {
+    Location::new(alloc).join(alloc, LocationSegment::Name("a"))
+}
+
+// Prints what each observer says: whether the keyword holds, its first error, all of them, and the
+// keywords of those of its unit.
+fn observe<F: Json, V: Validate<F>>(
+    rt: &HostRuntime,
+    validator: &V,
+    instance: &F::Node,
+) -> io::Result<()> {
+    if !instance.is_lawful() {
+        return Err(io::ErrorKind::InvalidInput)?;
+    }
+    let mut location = two_below(rt.alloc())?;
+    let mut ctx = ValidationContext::new();
+    println!(rt; "{}", validator.is_valid(instance, &mut ctx))?;
+    match validator.validate(instance, &mut location, &mut ctx) {
+        Ok(()) => println!(rt; "valid")?,
+        Err(Fault::Invalid(error)) => print_error(rt, &error)?,
+        Err(Fault::Memory(error)) => return Err(error)?,
+    }
+    let mut errors = Vec::new(rt.alloc());
+    let collected = validator.collect_errors(instance, &mut location, &mut ctx, &mut errors);
+    for error in &errors {
+        print_error(rt, error)?;
+    }
+    collected?;
+    let unit = validator.evaluate(rt.alloc(), instance, &mut location, &mut ctx)?;
+    if let EvaluationResult::Invalid { errors, .. } = &unit {
+        for error in errors {
+            println!(rt; "{}", error.keyword())?;
+        }
+    }
+    Ok(())
+}
