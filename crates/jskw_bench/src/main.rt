@@ -60,6 +60,20 @@ fn time_is_valid(
     })
 }
 
+// The same of a schema that is yet to be compiled, None where it is refused.
+fn time_schema(
+    rt: &HostRuntime,
+    settings: &Settings,
+    schema: &Value,
+    span: u128,
+    instances: &[Instance],
+) -> io::Result<Option<Timing>> {
+    match compiled(rt.alloc(), settings, schema) {
+        Some(node) => Ok(Some(time_is_valid(rt, span, instances, &node)?)),
+        None => Ok(None),
+    }
+}
+
 // The same of the loop of a name, None where no loop has the name.
 fn time_by_hand(
     rt: &HostRuntime,
@@ -147,14 +161,13 @@ fn run_case(rt: &HostRuntime, settings: &Settings, line: &str, is_timed: bool) -
     let Ok(schema) = Value::from_str(alloc, schema) else {
         return println!(rt; "{name}\tno schema");
     };
-    let Some(node) = compiled(alloc, settings, &schema) else {
-        return println!(rt; "{name}\tnot compiled");
-    };
     let Some(instances) = instances(alloc, instance)? else {
         return println!(rt; "{name}\tno instance");
     };
     let span = if is_timed { SPAN } else { 0 };
-    let is_valid = time_is_valid(rt, span, &instances, &node)?;
+    let Some(is_valid) = time_schema(rt, settings, &schema, span, &instances)? else {
+        return println!(rt; "{name}\tnot compiled");
+    };
     let by_hand = time_by_hand(rt, span, &instances, loop_name.unwrap_or(""))?;
     if loop_name.is_some() && by_hand.is_none() {
         return println!(rt; "{name}\tno loop");

@@ -3,7 +3,7 @@ ghost use Rattle.std.specs.Prelude.{IsTrue};
 ghost use Rattle.jskw_value.specs.Serde.{value_tree};
 ghost use Rattle.jskw_value.specs.Tree.{is_lawful};
 
-use crate::leaves::{false_schema, integer_type, required_at};
+use crate::leaves::{false_schema, integer_type};
 use crate::printed::{print_error, print_tree};
 use jskw_array::SchemaNode;
 use jskw_array::compiler::compile;
@@ -24,7 +24,6 @@ pub(crate) fn make(rt: &HostRuntime, line: &str) -> io::Result<()> {
         "insert" => return insert_members(rt),
         "false_schema" => return false_schema(rt),
         "integer_type" => return integer_type(rt),
-        "required_at" => return required_at(rt),
         _ => {}
     }
     let draft = draft_of(parts.next().unwrap_or(""))?;
@@ -35,10 +34,21 @@ pub(crate) fn make(rt: &HostRuntime, line: &str) -> io::Result<()> {
         "write_json" => return write_json(rt, &instance),
         _ => {}
     }
+    compile_and_observe(rt, call, draft, &schema, &instance)
+}
+
+// Compiles the schema, and asks of it what the call names.
+fn compile_and_observe(
+    rt: &HostRuntime,
+    call: &str,
+    draft: Draft,
+    schema: &Value,
+    instance: &Value,
+) -> io::Result<()> {
     let settings = Settings::new(draft, VocabularySet::all(), Vec::new(rt.alloc()));
     let ctx: Context<SerdeJson> = Context::new(rt.alloc(), &settings);
-    match compile(rt.alloc(), &ctx, &schema) {
-        Ok(node) => observe(rt, &node, call, &instance),
+    match compile(rt.alloc(), &ctx, schema) {
+        Ok(node) => observe(rt, &node, call, instance),
         Err(CompileFault::Bad(error)) => print_error(rt, &error),
         Err(CompileFault::Memory(error)) => Err(error)?,
     }

@@ -2,12 +2,11 @@
 use crate::calls::two_below;
 use crate::printed::print_error;
 use jskw_leaf::boolean::FalseValidator;
-use jskw_leaf::required;
 use jskw_leaf::type_::IntegerTypeValidator;
 use jskw_report::{
-    CompileFault, EvaluationResult, Fault, Location, LocationSegment, Validate, ValidationContext,
+    EvaluationResult, Fault, Location, LocationSegment, Validate, ValidationContext,
 };
-use jskw_value::{DecimalJson, DecimalTree, Json, Members, Node, SerdeJson};
+use jskw_value::{DecimalJson, DecimalTree, Json, Node, SerdeJson};
 use serde_json::Value;
 use std::alloc::{AllocError, Global};
 use std::io;
@@ -22,24 +21,6 @@ pub(crate) fn integer_type(rt: &HostRuntime) -> io::Result<()> {
 pub(crate) fn false_schema(rt: &HostRuntime) -> io::Result<()> {
     let validator = FalseValidator::new(member_location(rt.alloc())?);
     observe::<DecimalJson, _>(rt, &validator, &DecimalTree::Bool(true))
-}
-
-/// What names at a location of their own say of an object without members.
-pub(crate) fn required_at(rt: &HostRuntime) -> io::Result<()> {
-    let alloc = rt.alloc();
-    let names = match Value::from_str(alloc, r#"["b","c","d","e"]"#) {
-        Ok(names) => names,
-        Err(_) => return Err(AllocError)?,
-    };
-    let location = member_location(alloc)?;
-    match required::compile_with_path::<DecimalJson>(alloc, &names, location) {
-        Some(Ok(leaf)) => {
-            let instance = DecimalTree::Object(Members::new(alloc));
-            observe::<DecimalJson, _>(rt, &leaf, &instance)
-        }
-        Some(Err(CompileFault::Memory(error))) => Err(error)?,
-        _ => Err(io::ErrorKind::InvalidInput)?,
-    }
 }
 
 // The location of the member `a` of the whole schema.

@@ -3,8 +3,8 @@
 //! memory are refused, a beginning of the answer is printed, with `memory` behind it, or all of it.
 //!
 //! A line is the name of a call, a draft, a schema and an instance, with a tab between each two; the
-//! lines `insert`, `false_schema`, `integer_type` and `required_at` are whole as they are. Of a call
-//! `hold` no memory is asked for behind the line `ready`.
+//! lines `insert`, `false_schema` and `integer_type` are whole as they are. Of a call `hold` no memory
+//! is asked for behind the line `ready`.
 #![tactic(auto)]
 
 mod calls;

@@ -176,13 +176,12 @@ fn kept(alloc: Global, draft: Draft, schema: &str, name: &str) -> Result<String,
     let parent = schema.as_object().ok_or("no object")?;
     let settings = all_of(alloc, draft);
     let ctx: Context<SerdeJson> = Context::new(alloc, &settings);
-    match compiled(alloc, &ctx, parent, name)? {
-        Some(Ok(LeafValidator::Number(limit))) => {
-            let (keyword, value) = limit_value_of(&limit).ok_or("no limit")?;
-            Ok(written(value, format!(in alloc; "{keyword} ")?)?)
-        }
-        _ => Err("not compiled")?,
-    }
+    let compiled = compiled(alloc, &ctx, parent, name)?;
+    let Some(Ok(LeafValidator::Number(limit))) = &compiled else {
+        return Err("not compiled")?;
+    };
+    let (keyword, value) = limit_value_of(limit).ok_or("no limit")?;
+    Ok(written(value, format!(in alloc; "{keyword} ")?)?)
 }
 
 // Schema, keyword, what it is compiled to with the value that is kept.

@@ -14,10 +14,10 @@ fn bound_of(alloc: Global, schema: &str, name: &str) -> Result<String, Fail> {
     let parent = schema.as_object().ok_or("no object")?;
     let settings = all_of(alloc, Draft::Draft202012);
     let ctx: Context<SerdeJson> = Context::new(alloc, &settings);
-    match map_get_u64(alloc, parent, &ctx, name) {
+    match &map_get_u64(alloc, parent, &ctx, name) {
         None => Ok(String::from_str(alloc, "absent")?),
         Some(Ok(limit)) => Ok(format!(in alloc; "{limit}")?),
-        Some(Err(fault)) => Ok(fault_text(alloc, &fault)?),
+        Some(Err(fault)) => Ok(fault_text(alloc, fault)?),
     }
 }
 

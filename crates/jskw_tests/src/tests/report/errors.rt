@@ -4,44 +4,35 @@ use jskw_report::{
     ErrorDescription, EvaluationResult, Location, LocationSegment, ValidationError,
     ValidationErrorKind,
 };
-use jskw_value::{DecimalJson, DecimalTree, Node, SerdeJson};
+use jskw_value::{DecimalJson, DecimalTree, Json, Node, SerdeJson};
 use serde_json::Value;
+use std::alloc::Global;
+use std::process::Abort;
 use std::test::Fail;
 
-#[test]
-fn an_error_of_a_serde_json_value_has_what_it_was_made_of(rt: HostRuntime) -> Result<(), Fail> {
-    let instance = Value::from_str(rt.alloc(), "[5]")?;
-    let schema_path = member_location(rt.alloc(), "minItems")?;
-    let error: ValidationError<SerdeJson> = ValidationError::new(
-        ValidationErrorKind::MinItems { limit: 2 },
-        Location::new(rt.alloc()).join(rt.alloc(), LocationSegment::Index(4))?,
-        &schema_path,
-        &instance,
-    );
+// An error of this instance has what it was made of.
+fn check_error<F: Json>(
+    rt: &impl Abort,
+    alloc: Global,
+    instance: &F::Node,
+) -> Result<(), Fail> {
+    let at = Location::new(alloc).join(alloc, LocationSegment::Index(4))?;
+    let schema_path = member_location(alloc, "minItems")?;
+    let kind = ValidationErrorKind::MinItems { limit: 2 };
+    let error: ValidationError<F> = ValidationError::new(kind, at, &schema_path, instance);
     assert_eq!(rt; error.kind().keyword(), "minItems");
     assert_eq!(rt; error.instance_path().as_str(), "/4");
     assert_eq!(rt; error.schema_path().as_str(), "/minItems");
     assert_eq!(rt; error.evaluation_path().as_str(), "/minItems");
-    assert!(rt; error.instance().equals(&instance));
+    assert!(rt; error.instance().equals(instance));
     Ok(())
 }
 
 #[test]
-fn an_error_of_a_decimal_tree_has_what_it_was_made_of(rt: HostRuntime) -> Result<(), Fail> {
-    let instance = DecimalTree::Bool(true);
-    let schema_path = member_location(rt.alloc(), "uniqueItems")?;
-    let error: ValidationError<DecimalJson> = ValidationError::new(
-        ValidationErrorKind::UniqueItems,
-        Location::new(rt.alloc()),
-        &schema_path,
-        &instance,
-    );
-    assert_eq!(rt; error.kind().keyword(), "uniqueItems");
-    assert_eq!(rt; error.instance_path().as_str(), "");
-    assert_eq!(rt; error.schema_path().as_str(), "/uniqueItems");
-    assert_eq!(rt; error.evaluation_path().as_str(), "/uniqueItems");
-    assert!(rt; error.instance().as_boolean() == Some(true));
-    Ok(())
+fn an_error_has_what_it_was_made_of(rt: HostRuntime) -> Result<(), Fail> {
+    let instance = Value::from_str(rt.alloc(), "[5]")?;
+    check_error::<SerdeJson>(&rt, rt.alloc(), &instance)?;
+    check_error::<DecimalJson>(&rt, rt.alloc(), &DecimalTree::Bool(true))
 }
 
 #[test]
