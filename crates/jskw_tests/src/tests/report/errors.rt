@@ -11,11 +11,7 @@ use std::process::Abort;
 use std::test::Fail;
 
 // An error of this instance has what it was made of.
-fn check_error<F: Json>(
-    rt: &impl Abort,
-    alloc: Global,
-    instance: &F::Node,
-) -> Result<(), Fail> {
+fn check_error<F: Json>(rt: &impl Abort, alloc: Global, instance: &F::Node) -> Result<(), Fail> {
     let at = Location::new(alloc).join(alloc, LocationSegment::Index(4))?;
     let schema_path = member_location(alloc, "minItems")?;
     let kind = ValidationErrorKind::MinItems { limit: 2 };
