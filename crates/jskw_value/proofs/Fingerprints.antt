@@ -312,16 +312,3 @@ one_word b s h = one_pair b s (omega (arith, h))
   where
     whole : (i : ℕ) → i ≡ 0 → word_at s i ≡ from_le_bytes w64 (padded s)
     whole i e = ap (λ j. from_le_bytes w64 (padded (take 8 (drop j s)))) e ∙ ap (λ xs. from_le_bytes w64 (padded xs)) (take_all 8 s (omega (arith, h)))
-
--- so few bytes with zeros behind them, one by one
-pub few_padded : (s : List ℕ) → length s < 8
-    → (get_or s 0 0 ∷ get_or s 1 0 ∷ get_or s 2 0 ∷ get_or s 3 0 ∷ get_or s 4 0 ∷ get_or s 5 0 ∷ get_or s 6 0 ∷ 0 ∷ []) ≡ padded s
-few_padded [] l = refl
-few_padded (a ∷ []) l = refl
-few_padded (a ∷ b ∷ []) l = refl
-few_padded (a ∷ b ∷ c ∷ []) l = refl
-few_padded (a ∷ b ∷ c ∷ d ∷ []) l = refl
-few_padded (a ∷ b ∷ c ∷ d ∷ e ∷ []) l = refl
-few_padded (a ∷ b ∷ c ∷ d ∷ e ∷ f ∷ []) l = refl
-few_padded (a ∷ b ∷ c ∷ d ∷ e ∷ f ∷ g ∷ []) l = refl
-few_padded (a ∷ b ∷ c ∷ d ∷ e ∷ f ∷ g ∷ h ∷ s) l = absurd (omega (arith, l))

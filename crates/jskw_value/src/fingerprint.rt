@@ -1,21 +1,19 @@
 //! Fingerprints of nodes: equal nodes have one fingerprint, and most others differ. A fingerprint
 //! looks no further into a node than a budget reaches.
 ghost use Rattle.std.specs.Prelude.{◌≡◌, ℕ, ◌≤◌, ◌<◌, ◌+◌, ◌-◌, ◌*◌, ◌/◌, ◌%◌, ◌^◌, length, take};
-ghost use Rattle.std.specs.Prelude.{get_or, None, IsTrue};
-ghost use Rattle.std.specs.Int.{w64, from_le_bytes};
+ghost use Rattle.std.specs.Prelude.{None, IsTrue};
 ghost use Rattle.std.specs.List.{sum_by, IsDistinct, list_all};
 ghost use Rattle.std.specs.Str.{bytes_eq};
 ghost use Rattle.jskw_value.specs.Decimal.{value};
 ghost use Rattle.jskw_value.specs.Fingerprint.{folded, stirred, word_at, text_print, sign_print};
 ghost use Rattle.jskw_value.specs.Fingerprint.{number_print, share, print, list_print};
 ghost use Rattle.jskw_value.specs.Fingerprint.{member_print, is_distinct_within};
-ghost use Rattle.jskw_value.specs.PropertyName.{padded};
 ghost use Rattle.jskw_value.specs.Tree.{as_number, as_string, is_array, is_object, items};
 ghost use Rattle.jskw_value.specs.Tree.{members, names, values};
 
 use crate::decimal::{Decimal, ten_to};
 use crate::json::{Array, JsonNumber, Node, Object};
-use crate::property_name::number_of;
+use crate::property_name::{number_of, number_of_few};
 
 // The fingerprint of a node. It takes no memory, and some steps for each unit of the budget.
 #[cycle(print)]
@@ -193,32 +191,6 @@ fn of_one_word(bytes: &[u8]) -> u64
 {
     let word = number_of_few(bytes);
     stir(9600629759793949339 ^ bytes.len() as u64, word, word)
-}
-
-// The number of less than eight bytes, the lowest byte first. It is put together in registers: a
-// copy of so few bytes into memory would be waited for.
-#[tactic(auto, using(crate::proofs::Fingerprints::few_padded))]
-fn number_of_few(bytes: &[u8]) -> u64
-    requires { length bytes.now < 8 }
-    ensures { result ≡ from_le_bytes w64 (padded bytes.now) }
-{
-    u64::from_le_bytes([
-        byte_at(bytes, 0),
-        byte_at(bytes, 1),
-        byte_at(bytes, 2),
-        byte_at(bytes, 3),
-        byte_at(bytes, 4),
-        byte_at(bytes, 5),
-        byte_at(bytes, 6),
-        0,
-    ])
-}
-
-// The byte at an index, 0 behind the last.
-fn byte_at(bytes: &[u8], index: usize) -> u8
-    ensures { result ≡ get_or bytes.now index 0 }
-{
-    if index < bytes.len() { bytes[index] } else { 0 }
 }
 
 // Of a text of at least eight bytes.

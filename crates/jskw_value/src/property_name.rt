@@ -1,5 +1,5 @@
 //! Names that are compared often, with what tells most of them apart at a glance.
-ghost use Rattle.std.specs.Prelude.{◌≡◌, ◌≤◌, length, IfOk};
+ghost use Rattle.std.specs.Prelude.{◌≡◌, ◌≤◌, ◌<◌, length, get_or, IfOk};
 ghost use Rattle.std.specs.Int.{w64, from_le_bytes};
 ghost use Rattle.std.specs.Str.{bytes_eq};
 ghost use Rattle.jskw_value.specs.PropertyName.{head_of, padded};
@@ -18,16 +18,24 @@ pub struct KeyHead {
 
 impl KeyHead {
     /// The head of a text. It takes no memory.
-    #[tactic(auto, unfolding(crate::specs::PropertyName::head_of))]
+    #[tactic(auto, using(crate::proofs::Heads::head_of_few, crate::proofs::Heads::head_of_many))]
     pub fn of(text: &str) -> KeyHead
         ensures { result ≡ head_of text.now }
     {
         let bytes = text.as_bytes();
-        let count = bytes.len().min(8);
+        let length = bytes.len();
+        if length < 8 {
+            let word = number_of_few(bytes);
+            return KeyHead {
+                length,
+                first: word,
+                last: word,
+            };
+        }
         KeyHead {
-            length: bytes.len(),
-            first: number_of(&bytes[..count]),
-            last: number_of(&bytes[bytes.len() - count..]),
+            length,
+            first: number_of(&bytes[..8]),
+            last: number_of(&bytes[length - 8..]),
         }
     }
 }
@@ -48,6 +56,32 @@ fn padded(bytes: &[u8]) -> [u8; 8]
     let mut eight = [0u8; 8];
     eight[..bytes.len()].copy_from_slice(bytes);
     eight
+}
+
+// The number of less than eight bytes, the lowest byte first. It is put together in registers: a
+// copy of so few bytes into memory would be waited for.
+#[tactic(auto, using(crate::proofs::Heads::few_padded))]
+pub(crate) fn number_of_few(bytes: &[u8]) -> u64
+    requires { length bytes.now < 8 }
+    ensures { result ≡ from_le_bytes w64 (padded bytes.now) }
+{
+    u64::from_le_bytes([
+        byte_at(bytes, 0),
+        byte_at(bytes, 1),
+        byte_at(bytes, 2),
+        byte_at(bytes, 3),
+        byte_at(bytes, 4),
+        byte_at(bytes, 5),
+        byte_at(bytes, 6),
+        0,
+    ])
+}
+
+// The byte at an index, 0 behind the last.
+fn byte_at(bytes: &[u8], index: usize) -> u8
+    ensures { result ≡ get_or bytes.now index 0 }
+{
+    if index < bytes.len() { bytes[index] } else { 0 }
 }
 
 /// A text with its head, for a name that many others are compared with. Contracts see the text.
