@@ -10,8 +10,8 @@ use Rattle.jskw_value.specs.Number.{Num, exact, cmp_whole}
 use Rattle.jskw_value.specs.Tree.{Tree, number, as_number}
 use Rattle.jskw_value.specs.declared.decimal.Decimal.{Decimal}
 use Rattle.jskw_report.specs.Holds.{limit_holds}
-use Rattle.jskw_report.specs.Keyword.{Minimum, Maximum, ExclusiveMinimum, ExclusiveMaximum}
-use Rattle.jskw_number.specs.Limit.{stands_to}
+use Rattle.jskw_report.specs.Keyword.{Relation, Minimum, Maximum, ExclusiveMinimum, ExclusiveMaximum}
+use Rattle.jskw_number.specs.Limit.{allows, stands_to}
 
 -- what a decimal's `cmp_whole` answers is how its tree stands to the whole number
 pub stands_number : (t : Tree) (n : Num) (d : Decimal) (z : ℤ) → as_number t ≡ Some n → value d ≡ n → stands_to z t ≡ Some (cmp_whole d.coefficient d.scale z)
@@ -48,18 +48,10 @@ is_lt_of a b true y = refl
 is_lt_of a b false true = refl
 is_lt_of a b false false = refl
 
-pub minimum_by_order : (z : ℤ) (t : Tree) → limit_holds Minimum z t ≡ option_map_or is_ge (stands_to z t) true
-minimum_by_order z (number (exact c k)) = let m : ℤ = z *ℤ pos (10 ^ k) in sym (is_ge_of c m (int_lt c m) (int_lt m c) (int_le m c) refl refl refl)
-minimum_by_order z _ = refl
-
-pub maximum_by_order : (z : ℤ) (t : Tree) → limit_holds Maximum z t ≡ option_map_or is_le (stands_to z t) true
-maximum_by_order z (number (exact c k)) = let m : ℤ = z *ℤ pos (10 ^ k) in sym (is_le_of c m (int_lt c m) (int_lt m c) (int_le c m) refl refl refl)
-maximum_by_order z _ = refl
-
-pub exclusive_minimum_by_order : (z : ℤ) (t : Tree) → limit_holds ExclusiveMinimum z t ≡ option_map_or is_gt (stands_to z t) true
-exclusive_minimum_by_order z (number (exact c k)) = let m : ℤ = z *ℤ pos (10 ^ k) in sym (is_gt_of c m (int_lt c m) (int_lt m c) refl refl)
-exclusive_minimum_by_order z _ = refl
-
-pub exclusive_maximum_by_order : (z : ℤ) (t : Tree) → limit_holds ExclusiveMaximum z t ≡ option_map_or is_lt (stands_to z t) true
-exclusive_maximum_by_order z (number (exact c k)) = let m : ℤ = z *ℤ pos (10 ^ k) in sym (is_lt_of c m (int_lt c m) (int_lt m c))
-exclusive_maximum_by_order z _ = refl
+-- a number is within a limit where its order to it is allowed
+pub by_order : (r : Relation) (z : ℤ) (t : Tree) → limit_holds r z t ≡ option_map_or (allows r) (stands_to z t) true
+by_order Minimum z (number (exact c k)) = let m : ℤ = z *ℤ pos (10 ^ k) in sym (is_ge_of c m (int_lt c m) (int_lt m c) (int_le m c) refl refl refl)
+by_order Maximum z (number (exact c k)) = let m : ℤ = z *ℤ pos (10 ^ k) in sym (is_le_of c m (int_lt c m) (int_lt m c) (int_le c m) refl refl refl)
+by_order ExclusiveMinimum z (number (exact c k)) = let m : ℤ = z *ℤ pos (10 ^ k) in sym (is_gt_of c m (int_lt c m) (int_lt m c) refl refl)
+by_order ExclusiveMaximum z (number (exact c k)) = let m : ℤ = z *ℤ pos (10 ^ k) in sym (is_lt_of c m (int_lt c m) (int_lt m c))
+by_order _ z _ = refl

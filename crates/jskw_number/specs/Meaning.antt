@@ -3,10 +3,11 @@ use Rattle.std.specs.Int.NonZero.{non_zero_u64_get}
 use Rattle.std.specs.Prelude.{◌≡◌, ℤ, pos, Option, Some, None, refl}
 use Rattle.serde_json.specs.Data.{Data}
 use Rattle.serde_json.specs.View.{view}
+use Rattle.jskw_value.specs.Pointer.{Pointer}
 use Rattle.jskw_value.specs.Tree.{Tree}
 use Rattle.jskw_report.specs.Fail.{error_kinds, unless}
 use Rattle.jskw_report.specs.Holds.{assertion_holds}
-use Rattle.jskw_report.specs.Keyword.{Keyword, size, limit, multiple_of}
+use Rattle.jskw_report.specs.Keyword.{Keyword, Relation, size, limit, multiple_of}
 use Rattle.jskw_report.specs.Keyword as which
 use Rattle.jskw_report.specs.Kind.{ErrorKind}
 use Rattle.jskw_report.specs.Kind as kind
@@ -15,10 +16,6 @@ use Rattle.jskw_number.specs.declared.min_items.MinItemsValidator.{MinItemsValid
 use Rattle.jskw_number.specs.declared.max_items.MaxItemsValidator.{MaxItemsValidator}
 use Rattle.jskw_number.specs.declared.min_properties.MinPropertiesValidator.{MinPropertiesValidator}
 use Rattle.jskw_number.specs.declared.max_properties.MaxPropertiesValidator.{MaxPropertiesValidator}
-use Rattle.jskw_number.specs.declared.minmax.Minimum.{Minimum}
-use Rattle.jskw_number.specs.declared.minmax.Maximum.{Maximum}
-use Rattle.jskw_number.specs.declared.minmax.ExclusiveMinimum.{ExclusiveMinimum}
-use Rattle.jskw_number.specs.declared.minmax.ExclusiveMaximum.{ExclusiveMaximum}
 use Rattle.jskw_number.specs.declared.multiple_of.MultipleOfIntegerValidator.{MultipleOfIntegerValidator}
 use Rattle.jskw_number.specs.declared.number.NumberValidator.{NumberValidator}
 use Rattle.jskw_number.specs.declared.number.NumberValidator.TheVariants.{MinItems, MaxItems, MinProperties, MaxProperties, MinimumU64, MinimumI64, MaximumU64, MaximumI64, ExclusiveMinimumU64, ExclusiveMinimumI64, ExclusiveMaximumU64, ExclusiveMaximumI64, MultipleOfInteger}
@@ -37,19 +34,11 @@ min_properties v = record { location = v.location; claim = size which.MinPropert
 abbrev pub max_properties : MaxPropertiesValidator → Placed
 max_properties v = record { location = v.location; claim = size which.MaxProperties v.limit }
 
--- ---- limits, of a type T whose values are whole numbers
+-- ---- limits
 
-abbrev pub minimum : {T : Type 0} → (T → ℤ) → Minimum T → Placed
-minimum whole v = record { location = v.location; claim = limit which.Minimum (whole v.limit) }
-
-abbrev pub maximum : {T : Type 0} → (T → ℤ) → Maximum T → Placed
-maximum whole v = record { location = v.location; claim = limit which.Maximum (whole v.limit) }
-
-abbrev pub exclusive_minimum : {T : Type 0} → (T → ℤ) → ExclusiveMinimum T → Placed
-exclusive_minimum whole v = record { location = v.location; claim = limit which.ExclusiveMinimum (whole v.limit) }
-
-abbrev pub exclusive_maximum : {T : Type 0} → (T → ℤ) → ExclusiveMaximum T → Placed
-exclusive_maximum whole v = record { location = v.location; claim = limit which.ExclusiveMaximum (whole v.limit) }
+-- to the number z by the relation r, failing at the location
+abbrev pub placed_limit : Relation → ℤ → Pointer → Placed
+placed_limit r z q = record { location = q; claim = limit r z }
 
 -- ---- divisors
 
@@ -64,14 +53,14 @@ number_assertion (MinItems v) = min_items v
 number_assertion (MaxItems v) = max_items v
 number_assertion (MinProperties v) = min_properties v
 number_assertion (MaxProperties v) = max_properties v
-number_assertion (MinimumU64 v) = minimum pos v
-number_assertion (MinimumI64 v) = minimum (λ z. z) v
-number_assertion (MaximumU64 v) = maximum pos v
-number_assertion (MaximumI64 v) = maximum (λ z. z) v
-number_assertion (ExclusiveMinimumU64 v) = exclusive_minimum pos v
-number_assertion (ExclusiveMinimumI64 v) = exclusive_minimum (λ z. z) v
-number_assertion (ExclusiveMaximumU64 v) = exclusive_maximum pos v
-number_assertion (ExclusiveMaximumI64 v) = exclusive_maximum (λ z. z) v
+number_assertion (MinimumU64 v) = placed_limit which.Minimum (pos v.limit) v.location
+number_assertion (MinimumI64 v) = placed_limit which.Minimum v.limit v.location
+number_assertion (MaximumU64 v) = placed_limit which.Maximum (pos v.limit) v.location
+number_assertion (MaximumI64 v) = placed_limit which.Maximum v.limit v.location
+number_assertion (ExclusiveMinimumU64 v) = placed_limit which.ExclusiveMinimum (pos v.limit) v.location
+number_assertion (ExclusiveMinimumI64 v) = placed_limit which.ExclusiveMinimum v.limit v.location
+number_assertion (ExclusiveMaximumU64 v) = placed_limit which.ExclusiveMaximum (pos v.limit) v.location
+number_assertion (ExclusiveMaximumI64 v) = placed_limit which.ExclusiveMaximum v.limit v.location
 number_assertion (MultipleOfInteger v) = multiple_of_integer v
 
 -- the keyword that it stands for

@@ -2,19 +2,20 @@
 //! `exclusiveMaximum`. Numbers are compared exactly, however they are written. A limit is a whole
 //! number from -2^63 to 2^64-1. The error of any other number is of the kind `CompileError`, and
 //! that of any other value of the type number.
-ghost use Rattle.std.specs.Prelude.{◌≡◌, ◌≤ℤ◌, ◌<ℤ◌, ℤ, pos, negsuc, true, refl, IfOk, IfSome};
-ghost use Rattle.std.specs.Prelude.{IsTrue};
+ghost use Rattle.std.specs.Prelude.{◌≡◌, ◌≤ℤ◌, ◌<ℤ◌, ℤ, pos, negsuc, true, refl, Some};
+ghost use Rattle.std.specs.Prelude.{IfOk, IfSome, IsTrue};
 ghost use Rattle.serde_json.specs.View.{view, members_view};
 ghost use Rattle.jskw_value.specs.Tree.{is_lawful};
 ghost use Rattle.jskw_report.specs.Compile.{Compiles, Makes, reading};
+ghost use Rattle.jskw_report.specs.Errors.{kind_of};
+ghost use Rattle.jskw_report.specs.Fail.{limit_kind};
+ghost use Rattle.jskw_report.specs.Keyword.{Relation};
 ghost use Rattle.jskw_report.specs.Keyword as relation;
-ghost use Rattle.jskw_report.specs.Kind as kind;
-ghost use Rattle.jskw_report.specs.Read.{limit_keyword};
+ghost use Rattle.jskw_report.specs.Read.{limit_keyword, limit_word};
 ghost use Rattle.jskw_report.specs.Setting.{is_after_draft_4};
 ghost use Rattle.jskw_report.specs.declared.keyword.KeywordName.TheVariants as word;
-ghost use Rattle.jskw_number.specs.Limit.{stands_to};
-ghost use Rattle.jskw_number.specs.Meaning.{limit_of, number_keyword};
-ghost use Rattle.jskw_number.specs.Meaning as meaning;
+ghost use Rattle.jskw_number.specs.Limit.{allows, stands_to};
+ghost use Rattle.jskw_number.specs.Meaning.{limit_of, number_assertion, number_keyword, placed_limit};
 
 use crate::helpers::{WholeNumber, whole_number};
 use crate::number::NumberValidator;
@@ -25,6 +26,7 @@ use jskw_value::{Json, JsonNumber, Node};
 use serde_json::{Map, Value};
 use std::alloc::Global;
 use std::cmp::Ordering;
+use std::marker::PhantomData;
 
 /// The type of a limit: a whole number from -2^63 to 2^64-1.
 pub trait Whole: Copy + Drop {
@@ -63,31 +65,63 @@ fn compared<F: Json, T: Whole>(instance: &F::Node, limit: T) -> Option<Ordering>
     Some(number.decimal().cmp_whole(limit.to_i128()))
 }
 
-/// The validator of `minimum` (Validation 6.2.4): it holds of a number that is at least the limit,
-/// and of whatever is no number.
+/// A relation of numbers to a limit, one of four, which is known where the code is compiled.
+pub trait LimitTest {
+    /// The relation.
+    ghost relation: { Relation };
+
+    /// The keyword of the relation.
+    fn keyword() -> KeywordName
+        ensures { result ≡ limit_word relation };
+
+    /// Whether a number that stands so to the limit is within it.
+    fn allows(ordering: Ordering) -> bool
+        ensures { result ≡ allows relation ordering };
+
+    /// The kind of the error of a number that is not.
+    fn kind<'k>(limit: i128) -> ValidationErrorKind<'k>
+        ensures { kind_of result ≡ limit_kind relation limit };
+
+    /// The validator of a limit that is a `u64`, with its value in the schema, which fails at the
+    /// location.
+    fn of_u64(limit: u64, value: Value, location: Location) -> NumberValidator
+        ensures assertion { number_assertion result ≡ placed_limit relation (pos limit) location }
+        ensures value { limit_of result ≡ Some (view value) };
+
+    /// The validator of a limit that is an `i64`, with its value in the schema, which fails at the
+    /// location.
+    fn of_i64(limit: i64, value: Value, location: Location) -> NumberValidator
+        ensures assertion { number_assertion result ≡ placed_limit relation limit location }
+        ensures value { limit_of result ≡ Some (view value) };
+}
+
+/// The validator of a limit: it holds of a number that stands to the limit as `R` asks for, and of
+/// whatever is no number.
 #[derive(Drop)]
-pub struct Minimum<T> {
+pub struct Limit<T, R> {
     limit: T,
     limit_value: Value,
     location: Location,
+    relation: PhantomData<R>,
 }
 
 /// From the limit, its value in the schema and the keyword location.
-impl<T> From<(T, Value, Location)> for Minimum<T> {
-    ghost from_gives = { λ parts v. v
-        ≡ record { limit = parts.0; limit_value = parts.1; location = parts.2 } };
+impl<T, R> From<(T, Value, Location)> for Limit<T, R> {
+    ghost from_gives = { λ parts v. (v.limit ≡ parts.0) × (v.limit_value ≡ parts.1)
+        × (v.location ≡ parts.2) };
 
-    fn from(parts: (T, Value, Location)) -> Minimum<T> {
+    fn from(parts: (T, Value, Location)) -> Limit<T, R> {
         let (limit, limit_value, location) = parts;
-        Minimum {
+        Limit {
             limit,
             limit_value,
             location,
+            relation: PhantomData,
         }
     }
 }
 
-impl<T> Minimum<T> {
+impl<T, R> Limit<T, R> {
     /// The limit as the schema has it.
     pub fn limit_value(&self) -> &Value
         ensures { result.now ≡ self.now.limit_value }
@@ -96,191 +130,175 @@ impl<T> Minimum<T> {
     }
 }
 
-#[tactic(auto, using(crate::proofs::Limits::minimum_by_order))]
-impl<T: Whole> Assertion for Minimum<T> {
-    ghost asserts = { meaning.minimum T.whole };
+impl<T: Whole, R: LimitTest> Assertion for Limit<T, R> {
+    ghost asserts = { λ v. placed_limit R.relation (T.whole v.limit) v.location };
 
-    ghost error = { λ v. kind.Minimum (T.whole v.limit) };
+    ghost error = { λ v. limit_kind R.relation (T.whole v.limit) };
 
     ghost fails_once = { λ v t. refl };
 
+    #[tactic(auto, using(crate::proofs::Limits::by_order))]
     fn holds<F: Json>(&self, instance: &F::Node) -> bool {
-        compared::<F, T>(instance, self.limit).is_none_or(|ordering| ordering.is_ge())
+        match compared::<F, T>(instance, self.limit) {
+            Some(ordering) => R::allows(ordering),
+            None => true,
+        }
     }
 
     fn kind(&self) -> ValidationErrorKind<'_> {
-        let limit = self.limit.to_i128();
-        ValidationErrorKind::Minimum { limit }
+        R::kind(self.limit.to_i128())
     }
 
     fn location(&self) -> &Location {
         &self.location
+    }
+}
+
+/// At least the limit.
+#[derive(Drop)]
+pub struct AtLeast;
+
+impl LimitTest for AtLeast {
+    ghost relation = { relation.Minimum };
+
+    fn keyword() -> KeywordName {
+        KeywordName::Minimum
+    }
+
+    fn allows(ordering: Ordering) -> bool {
+        ordering.is_ge()
+    }
+
+    fn kind<'k>(limit: i128) -> ValidationErrorKind<'k> {
+        ValidationErrorKind::Minimum { limit }
+    }
+
+    fn of_u64(limit: u64, value: Value, location: Location) -> NumberValidator {
+        NumberValidator::MinimumU64(Limit::from((limit, value, location)))
+    }
+
+    fn of_i64(limit: i64, value: Value, location: Location) -> NumberValidator {
+        NumberValidator::MinimumI64(Limit::from((limit, value, location)))
+    }
+}
+
+/// The validator of `minimum` (Validation 6.2.4): it holds of a number that is at least the limit,
+/// and of whatever is no number.
+pub type Minimum<T> = Limit<T, AtLeast>;
+
+/// At most the limit.
+#[derive(Drop)]
+pub struct AtMost;
+
+impl LimitTest for AtMost {
+    ghost relation = { relation.Maximum };
+
+    fn keyword() -> KeywordName {
+        KeywordName::Maximum
+    }
+
+    fn allows(ordering: Ordering) -> bool {
+        ordering.is_le()
+    }
+
+    fn kind<'k>(limit: i128) -> ValidationErrorKind<'k> {
+        ValidationErrorKind::Maximum { limit }
+    }
+
+    fn of_u64(limit: u64, value: Value, location: Location) -> NumberValidator {
+        NumberValidator::MaximumU64(Limit::from((limit, value, location)))
+    }
+
+    fn of_i64(limit: i64, value: Value, location: Location) -> NumberValidator {
+        NumberValidator::MaximumI64(Limit::from((limit, value, location)))
     }
 }
 
 /// The validator of `maximum` (Validation 6.2.2): it holds of a number that is at most the limit,
 /// and of whatever is no number.
+pub type Maximum<T> = Limit<T, AtMost>;
+
+/// Above the limit.
 #[derive(Drop)]
-pub struct Maximum<T> {
-    limit: T,
-    limit_value: Value,
-    location: Location,
-}
+pub struct Above;
 
-/// From the limit, its value in the schema and the keyword location.
-impl<T> From<(T, Value, Location)> for Maximum<T> {
-    ghost from_gives = { λ parts v. v
-        ≡ record { limit = parts.0; limit_value = parts.1; location = parts.2 } };
+impl LimitTest for Above {
+    ghost relation = { relation.ExclusiveMinimum };
 
-    fn from(parts: (T, Value, Location)) -> Maximum<T> {
-        let (limit, limit_value, location) = parts;
-        Maximum {
-            limit,
-            limit_value,
-            location,
-        }
-    }
-}
-
-impl<T> Maximum<T> {
-    /// The limit as the schema has it.
-    pub fn limit_value(&self) -> &Value
-        ensures { result.now ≡ self.now.limit_value }
-    {
-        &self.limit_value
-    }
-}
-
-#[tactic(auto, using(crate::proofs::Limits::maximum_by_order))]
-impl<T: Whole> Assertion for Maximum<T> {
-    ghost asserts = { meaning.maximum T.whole };
-
-    ghost error = { λ v. kind.Maximum (T.whole v.limit) };
-
-    ghost fails_once = { λ v t. refl };
-
-    fn holds<F: Json>(&self, instance: &F::Node) -> bool {
-        compared::<F, T>(instance, self.limit).is_none_or(|ordering| ordering.is_le())
+    fn keyword() -> KeywordName {
+        KeywordName::ExclusiveMinimum
     }
 
-    fn kind(&self) -> ValidationErrorKind<'_> {
-        let limit = self.limit.to_i128();
-        ValidationErrorKind::Maximum { limit }
+    fn allows(ordering: Ordering) -> bool {
+        ordering.is_gt()
     }
 
-    fn location(&self) -> &Location {
-        &self.location
+    fn kind<'k>(limit: i128) -> ValidationErrorKind<'k> {
+        ValidationErrorKind::ExclusiveMinimum { limit }
+    }
+
+    fn of_u64(limit: u64, value: Value, location: Location) -> NumberValidator {
+        NumberValidator::ExclusiveMinimumU64(Limit::from((limit, value, location)))
+    }
+
+    fn of_i64(limit: i64, value: Value, location: Location) -> NumberValidator {
+        NumberValidator::ExclusiveMinimumI64(Limit::from((limit, value, location)))
     }
 }
 
 /// The validator of `exclusiveMinimum` (Validation 6.2.5): it holds of a number that is above the
 /// limit, and of whatever is no number.
+pub type ExclusiveMinimum<T> = Limit<T, Above>;
+
+/// Below the limit.
 #[derive(Drop)]
-pub struct ExclusiveMinimum<T> {
-    limit: T,
-    limit_value: Value,
-    location: Location,
-}
+pub struct Below;
 
-/// From the limit, its value in the schema and the keyword location.
-impl<T> From<(T, Value, Location)> for ExclusiveMinimum<T> {
-    ghost from_gives = { λ parts v. v
-        ≡ record { limit = parts.0; limit_value = parts.1; location = parts.2 } };
+impl LimitTest for Below {
+    ghost relation = { relation.ExclusiveMaximum };
 
-    fn from(parts: (T, Value, Location)) -> ExclusiveMinimum<T> {
-        let (limit, limit_value, location) = parts;
-        ExclusiveMinimum {
-            limit,
-            limit_value,
-            location,
-        }
-    }
-}
-
-impl<T> ExclusiveMinimum<T> {
-    /// The limit as the schema has it.
-    pub fn limit_value(&self) -> &Value
-        ensures { result.now ≡ self.now.limit_value }
-    {
-        &self.limit_value
-    }
-}
-
-#[tactic(auto, using(crate::proofs::Limits::exclusive_minimum_by_order))]
-impl<T: Whole> Assertion for ExclusiveMinimum<T> {
-    ghost asserts = { meaning.exclusive_minimum T.whole };
-
-    ghost error = { λ v. kind.ExclusiveMinimum (T.whole v.limit) };
-
-    ghost fails_once = { λ v t. refl };
-
-    fn holds<F: Json>(&self, instance: &F::Node) -> bool {
-        compared::<F, T>(instance, self.limit).is_none_or(|ordering| ordering.is_gt())
+    fn keyword() -> KeywordName {
+        KeywordName::ExclusiveMaximum
     }
 
-    fn kind(&self) -> ValidationErrorKind<'_> {
-        let limit = self.limit.to_i128();
-        ValidationErrorKind::ExclusiveMinimum { limit }
+    fn allows(ordering: Ordering) -> bool {
+        ordering.is_lt()
     }
 
-    fn location(&self) -> &Location {
-        &self.location
+    fn kind<'k>(limit: i128) -> ValidationErrorKind<'k> {
+        ValidationErrorKind::ExclusiveMaximum { limit }
+    }
+
+    fn of_u64(limit: u64, value: Value, location: Location) -> NumberValidator {
+        NumberValidator::ExclusiveMaximumU64(Limit::from((limit, value, location)))
+    }
+
+    fn of_i64(limit: i64, value: Value, location: Location) -> NumberValidator {
+        NumberValidator::ExclusiveMaximumI64(Limit::from((limit, value, location)))
     }
 }
 
 /// The validator of `exclusiveMaximum` (Validation 6.2.3): it holds of a number that is below the
 /// limit, and of whatever is no number.
-#[derive(Drop)]
-pub struct ExclusiveMaximum<T> {
-    limit: T,
-    limit_value: Value,
-    location: Location,
-}
+pub type ExclusiveMaximum<T> = Limit<T, Below>;
 
-/// From the limit, its value in the schema and the keyword location.
-impl<T> From<(T, Value, Location)> for ExclusiveMaximum<T> {
-    ghost from_gives = { λ parts v. v
-        ≡ record { limit = parts.0; limit_value = parts.1; location = parts.2 } };
-
-    fn from(parts: (T, Value, Location)) -> ExclusiveMaximum<T> {
-        let (limit, limit_value, location) = parts;
-        ExclusiveMaximum {
-            limit,
-            limit_value,
-            location,
-        }
-    }
-}
-
-impl<T> ExclusiveMaximum<T> {
-    /// The limit as the schema has it.
-    pub fn limit_value(&self) -> &Value
-        ensures { result.now ≡ self.now.limit_value }
-    {
-        &self.limit_value
-    }
-}
-
-#[tactic(auto, using(crate::proofs::Limits::exclusive_maximum_by_order))]
-impl<T: Whole> Assertion for ExclusiveMaximum<T> {
-    ghost asserts = { meaning.exclusive_maximum T.whole };
-
-    ghost error = { λ v. kind.ExclusiveMaximum (T.whole v.limit) };
-
-    ghost fails_once = { λ v t. refl };
-
-    fn holds<F: Json>(&self, instance: &F::Node) -> bool {
-        compared::<F, T>(instance, self.limit).is_none_or(|ordering| ordering.is_lt())
-    }
-
-    fn kind(&self) -> ValidationErrorKind<'_> {
-        let limit = self.limit.to_i128();
-        ValidationErrorKind::ExclusiveMaximum { limit }
-    }
-
-    fn location(&self) -> &Location {
-        &self.location
-    }
+// The validator of a value at the keyword of a relation, or the value's fault there.
+pub(crate) fn make<'a, F: Json, R: LimitTest>(
+    alloc: Global,
+    ctx: &Context<'_, F>,
+    schema: &'a Value,
+) -> CompilationResult<'a, NumberValidator>
+    ensures keyword { Makes number_keyword result
+        (limit_keyword R.relation ctx.now.location (view schema.now)) }
+    ensures value { IfOk result (λ v. limit_of v ≡ Some (view schema.now)) }
+{
+    let location = ctx.keyword_location(alloc, R::keyword())?;
+    let limit = whole_number(alloc, &location, schema)?;
+    let value = schema.clone()?;
+    Ok(match limit {
+        WholeNumber::Unsigned(limit) => R::of_u64(limit, value, location),
+        WholeNumber::Signed(limit) => R::of_i64(limit, value, location),
+    })
 }
 
 /// Compiles `minimum` of the drafts after Draft 4, in which
@@ -299,30 +317,7 @@ pub fn compile_minimum<'a, F: Json>(
     ensures value { IfSome result (λ r. IfOk r (λ v. limit_of v ≡ Some (view schema.now))) }
 {
     let _ = parent;
-    Some(make_minimum(alloc, ctx, schema))
-}
-
-// The validator of a value at `minimum`, or the value's fault there.
-pub(crate) fn make_minimum<'a, F: Json>(
-    alloc: Global,
-    ctx: &Context<'_, F>,
-    schema: &'a Value,
-) -> CompilationResult<'a, NumberValidator>
-    ensures keyword { Makes number_keyword result
-        (limit_keyword relation.Minimum ctx.now.location (view schema.now)) }
-    ensures value { IfOk result (λ v. limit_of v ≡ Some (view schema.now)) }
-{
-    let location = ctx.keyword_location(alloc, KeywordName::Minimum)?;
-    let limit = whole_number(alloc, &location, schema)?;
-    let value = schema.clone()?;
-    Ok(match limit {
-        WholeNumber::Unsigned(limit) => {
-            NumberValidator::MinimumU64(Minimum::from((limit, value, location)))
-        }
-        WholeNumber::Signed(limit) => {
-            NumberValidator::MinimumI64(Minimum::from((limit, value, location)))
-        }
-    })
+    Some(make::<F, AtLeast>(alloc, ctx, schema))
 }
 
 /// Compiles `maximum` of the drafts after Draft 4, in which
@@ -341,30 +336,7 @@ pub fn compile_maximum<'a, F: Json>(
     ensures value { IfSome result (λ r. IfOk r (λ v. limit_of v ≡ Some (view schema.now))) }
 {
     let _ = parent;
-    Some(make_maximum(alloc, ctx, schema))
-}
-
-// The validator of a value at `maximum`, or the value's fault there.
-pub(crate) fn make_maximum<'a, F: Json>(
-    alloc: Global,
-    ctx: &Context<'_, F>,
-    schema: &'a Value,
-) -> CompilationResult<'a, NumberValidator>
-    ensures keyword { Makes number_keyword result
-        (limit_keyword relation.Maximum ctx.now.location (view schema.now)) }
-    ensures value { IfOk result (λ v. limit_of v ≡ Some (view schema.now)) }
-{
-    let location = ctx.keyword_location(alloc, KeywordName::Maximum)?;
-    let limit = whole_number(alloc, &location, schema)?;
-    let value = schema.clone()?;
-    Ok(match limit {
-        WholeNumber::Unsigned(limit) => {
-            NumberValidator::MaximumU64(Maximum::from((limit, value, location)))
-        }
-        WholeNumber::Signed(limit) => {
-            NumberValidator::MaximumI64(Maximum::from((limit, value, location)))
-        }
-    })
+    Some(make::<F, AtMost>(alloc, ctx, schema))
 }
 
 /// Compiles `exclusiveMinimum`, in Draft 4 no keyword of its own. The limit keeps the value of the
@@ -382,30 +354,7 @@ pub fn compile_exclusive_minimum<'a, F: Json>(
     ensures value { IfSome result (λ r. IfOk r (λ v. limit_of v ≡ Some (view schema.now))) }
 {
     let _ = parent;
-    Some(make_exclusive_minimum(alloc, ctx, schema))
-}
-
-// The validator of a value at `exclusiveMinimum`, or the value's fault there.
-pub(crate) fn make_exclusive_minimum<'a, F: Json>(
-    alloc: Global,
-    ctx: &Context<'_, F>,
-    schema: &'a Value,
-) -> CompilationResult<'a, NumberValidator>
-    ensures keyword { Makes number_keyword result
-        (limit_keyword relation.ExclusiveMinimum ctx.now.location (view schema.now)) }
-    ensures value { IfOk result (λ v. limit_of v ≡ Some (view schema.now)) }
-{
-    let location = ctx.keyword_location(alloc, KeywordName::ExclusiveMinimum)?;
-    let limit = whole_number(alloc, &location, schema)?;
-    let value = schema.clone()?;
-    Ok(match limit {
-        WholeNumber::Unsigned(limit) => {
-            NumberValidator::ExclusiveMinimumU64(ExclusiveMinimum::from((limit, value, location)))
-        }
-        WholeNumber::Signed(limit) => {
-            NumberValidator::ExclusiveMinimumI64(ExclusiveMinimum::from((limit, value, location)))
-        }
-    })
+    Some(make::<F, Above>(alloc, ctx, schema))
 }
 
 /// Compiles `exclusiveMaximum`, in Draft 4 no keyword of its own. The limit keeps the value of the
@@ -423,28 +372,5 @@ pub fn compile_exclusive_maximum<'a, F: Json>(
     ensures value { IfSome result (λ r. IfOk r (λ v. limit_of v ≡ Some (view schema.now))) }
 {
     let _ = parent;
-    Some(make_exclusive_maximum(alloc, ctx, schema))
-}
-
-// The validator of a value at `exclusiveMaximum`, or the value's fault there.
-pub(crate) fn make_exclusive_maximum<'a, F: Json>(
-    alloc: Global,
-    ctx: &Context<'_, F>,
-    schema: &'a Value,
-) -> CompilationResult<'a, NumberValidator>
-    ensures keyword { Makes number_keyword result
-        (limit_keyword relation.ExclusiveMaximum ctx.now.location (view schema.now)) }
-    ensures value { IfOk result (λ v. limit_of v ≡ Some (view schema.now)) }
-{
-    let location = ctx.keyword_location(alloc, KeywordName::ExclusiveMaximum)?;
-    let limit = whole_number(alloc, &location, schema)?;
-    let value = schema.clone()?;
-    Ok(match limit {
-        WholeNumber::Unsigned(limit) => {
-            NumberValidator::ExclusiveMaximumU64(ExclusiveMaximum::from((limit, value, location)))
-        }
-        WholeNumber::Signed(limit) => {
-            NumberValidator::ExclusiveMaximumI64(ExclusiveMaximum::from((limit, value, location)))
-        }
-    })
+    Some(make::<F, Below>(alloc, ctx, schema))
 }

@@ -8,7 +8,7 @@ ghost use Rattle.jskw_report.specs.declared.keyword.KeywordName.TheVariants as w
 ghost use Rattle.jskw_number.specs.Meaning.{limit_of, number_keyword};
 
 use crate::helpers::has_true;
-use crate::minmax::{make_exclusive_minimum, make_minimum};
+use crate::minmax::{Above, AtLeast, make};
 use crate::number::NumberValidator;
 use jskw_report::{CompilationResult, Context, KeywordName};
 use jskw_value::Json;
@@ -31,8 +31,8 @@ pub fn compile<'a, F: Json>(
     ensures value { IfSome result (λ r. IfOk r (λ v. limit_of v ≡ Some (view schema.now))) }
 {
     if has_true(parent, KeywordName::ExclusiveMinimum) {
-        Some(make_exclusive_minimum(alloc, ctx, schema))
+        Some(make::<F, Above>(alloc, ctx, schema))
     } else {
-        Some(make_minimum(alloc, ctx, schema))
+        Some(make::<F, AtLeast>(alloc, ctx, schema))
     }
 }
