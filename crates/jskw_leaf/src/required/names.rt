@@ -7,7 +7,7 @@ ghost use Rattle.jskw_leaf.specs.Required.{is_among};
 
 use super::prepared::PreparedName;
 use crate::text_table::{is_in_table, sorted};
-use jskw_value::{Json, KeyHead};
+use jskw_value::Json;
 use std::alloc::{AllocError, Global};
 use std::marker::Model;
 
@@ -140,7 +140,7 @@ impl<F: Json> Names<F> for OneName<F> {
     }
 
     fn contains(&self, text: &str) -> bool {
-        self.name.matches(KeyHead::of(text), text)
+        self.name.is(text)
     }
 }
 
@@ -192,8 +192,7 @@ impl<F: Json> Names<F> for TwoNames<F> {
     }
 
     fn contains(&self, text: &str) -> bool {
-        let head = KeyHead::of(text);
-        self.first.matches(head, text) || self.second.matches(head, text)
+        self.first.is(text) || self.second.is(text)
     }
 }
 
@@ -253,9 +252,6 @@ impl<F: Json> Names<F> for ThreeNames<F> {
     }
 
     fn contains(&self, text: &str) -> bool {
-        let head = KeyHead::of(text);
-        self.first.matches(head, text)
-            || self.second.matches(head, text)
-            || self.third.matches(head, text)
+        self.first.is(text) || self.second.is(text) || self.third.is(text)
     }
 }

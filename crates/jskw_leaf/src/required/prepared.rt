@@ -43,7 +43,14 @@ impl<F: Json> PreparedName<F> {
         self.name.as_str()
     }
 
-    // Whether the name is this text, whose head the caller has.
+    // Whether the name is this text.
+    pub(crate) fn is(&self, text: &str) -> bool
+        ensures { result ≡ bytes_eq self.now text.now }
+    {
+        self.as_str() == text
+    }
+
+    // Whether the name is this text, whose head the caller has, as who compares many names does.
     pub(crate) fn matches(&self, head: KeyHead, text: &str) -> bool
         requires { head ≡ head_of text.now }
         ensures { result ≡ bytes_eq self.now text.now }
