@@ -3,11 +3,11 @@
 use super::decimals::decimal_tree;
 use super::observed::compiled;
 use super::rows::{Request, request_of, row};
-use jskw_array::{SchemaNode, additional_items};
+use jskw_array::{SchemaNode, Validator, additional_items};
 use jskw_report::{Context, Fault, LazyLocation, Validate, ValidationContext};
 use jskw_value::{DecimalJson, Json, Node, SerdeJson};
 use serde_json::Value;
-use std::alloc::Global;
+use std::alloc::{AllocError, Global};
 use std::process::Abort;
 use std::test::Fail;
 
@@ -102,13 +102,24 @@ fn observers_apply_no_more_than_the_pairs_that_meet(rt: HostRuntime) -> Result<(
         let most = [needed, needed, pairs, pairs];
         let value = Value::from_str(rt.alloc(), text)?;
         let request = request_of(rt.alloc(), &value)?;
-        let node: SchemaNode<SerdeJson> = compiled(rt.alloc(), &request)?;
-        check_counts(&rt, rt.alloc(), line, most, &node, request.instance)?;
-        let node: SchemaNode<DecimalJson> = compiled(rt.alloc(), &request)?;
+        check_request::<SerdeJson>(&rt, rt.alloc(), line, most, &request, request.instance)?;
         let tree = decimal_tree(rt.alloc(), request.instance)?;
-        check_counts(&rt, rt.alloc(), line, most, &node, &tree)?;
+        check_request::<DecimalJson>(&rt, rt.alloc(), line, most, &request, &tree)?;
     }
     Ok(())
+}
+
+// The observers of a request's schema apply no more than this to the instance.
+fn check_request<F: Json>(
+    rt: &impl Abort,
+    alloc: Global,
+    line: &str,
+    most: [u64; 4],
+    request: &Request<'_>,
+    instance: &F::Node,
+) -> Result<(), Fail> {
+    let node: SchemaNode<F> = compiled(alloc, request)?;
+    check_counts(rt, alloc, line, most, &node, instance)
 }
 
 // What is counted of a request.
@@ -151,13 +162,24 @@ fn evaluating_additional_items_applies_their_schema_alone(rt: HostRuntime) -> Re
     let schema = request.schema.get("additionalItems").ok_or("no member")?;
     let ctx: Context<SerdeJson> = Context::new(rt.alloc(), &request.settings);
     let compiled = additional_items::compile(rt.alloc(), &ctx, parent, schema);
-    let Some(Ok(validator)) = compiled else {
+    let Some(Ok(validator)) = &compiled else {
         return Err("no validator")?;
     };
-    assert!(rt; request.instance.is_lawful());
-    let mut location = LazyLocation::new(rt.alloc());
-    let mut ctx = ValidationContext::new();
-    let _ = validator.evaluate(rt.alloc(), request.instance, &mut location, &mut ctx)?;
-    assert!(rt; ctx.applications() <= 2);
+    let count = evaluation_count::<SerdeJson>(&rt, rt.alloc(), validator, request.instance)?;
+    assert!(rt; count <= 2);
     Ok(())
+}
+
+// How many subschemas the evaluation of a keyword applies.
+fn evaluation_count<F: Json>(
+    rt: &impl Abort,
+    alloc: Global,
+    validator: &Validator<F>,
+    instance: &F::Node,
+) -> Result<u64, AllocError> {
+    assert!(rt; instance.is_lawful());
+    let mut location = LazyLocation::new(alloc);
+    let mut ctx = ValidationContext::new();
+    let _ = validator.evaluate(alloc, instance, &mut location, &mut ctx)?;
+    Ok(ctx.applications())
 }

@@ -1,12 +1,11 @@
 // Schemas and instances that nest a hundred deep.
-use super::decimals::decimal_tree;
-use super::observed::{Told, said};
+use super::observed::check_errors;
 use jskw_array::SchemaNode;
 use jskw_array::compiler::compile;
 use jskw_report::{
     Annotations, CompileFault, Context, Draft, Settings, ValidationContext, VocabularySet,
 };
-use jskw_value::{DecimalJson, Node, SerdeJson};
+use jskw_value::{Node, SerdeJson};
 use serde_json::Value;
 use std::alloc::{AllocError, Global};
 use std::process::Abort;
@@ -39,23 +38,20 @@ fn latest(alloc: Global) -> Settings {
 
 #[test]
 fn false_at_depth_gives_one_error_at_its_location(rt: HostRuntime) -> Result<(), Fail> {
-    let alloc = rt.alloc();
-    let schema = Value::from_str(alloc, nested_schema(alloc, "false")?.as_str())?;
-    let instance = Value::from_str(alloc, nested(alloc, "[", "1", "]")?.as_str())?;
-    let at = nested(alloc, "/0", "", "")?;
-    let by = nested(alloc, "/items", "", "")?;
-    let (at, by) = (at.as_str(), by.as_str());
-    let wanted = format!(in alloc; "falseSchema|{at}|{by}")?;
-    let settings = latest(alloc);
-    let told = Told::Locations;
-    let ctx: Context<SerdeJson> = Context::new(alloc, &settings);
-    let found = said(&rt, alloc, told, &ctx, &schema, &instance)?;
-    assert_eq!(rt; found.as_str(), wanted.as_str());
-    let tree = decimal_tree(alloc, &instance)?;
-    let ctx: Context<DecimalJson> = Context::new(alloc, &settings);
-    let found = said(&rt, alloc, told, &ctx, &schema, &tree)?;
-    assert_eq!(rt; found.as_str(), wanted.as_str());
-    Ok(())
+    check_errors(&rt, rt.alloc(), deep_row(rt.alloc())?.as_str())
+}
+
+// The row of `false` in so many `items`, asked of as many arrays.
+fn deep_row(alloc: Global) -> Result<String, AllocError> {
+    let mut row = String::from_str(alloc, r#"{"schema":"#)?;
+    row.push_str(nested_schema(alloc, "false")?.as_str())?;
+    row.push_str(r#","instance":"#)?;
+    row.push_str(nested(alloc, "[", "1", "]")?.as_str())?;
+    row.push_str("} => falseSchema|")?;
+    row.push_str(nested(alloc, "/0", "", "")?.as_str())?;
+    row.push('|')?;
+    row.push_str(nested(alloc, "/items", "", "")?.as_str())?;
+    Ok(row)
 }
 
 // The compiled schema of a text, None where memory is wanting.

@@ -6,7 +6,7 @@ use jskw_array::SchemaNode;
 use jskw_report::{LazyLocation, ValidationContext};
 use jskw_value::{Node, SerdeJson};
 use serde_json::Value;
-use std::alloc::Global;
+use std::alloc::{AllocError, Global};
 use std::process::Abort;
 use std::test::Fail;
 
@@ -139,22 +139,25 @@ fn an_instance_below_is_evaluated_at_its_location(rt: HostRuntime) -> Result<(),
     let value = Value::from_str(rt.alloc(), r#"{"schema":false,"instance":1}"#)?;
     let request = request_of(rt.alloc(), &value)?;
     let node: SchemaNode<SerdeJson> = compiled(rt.alloc(), &request)?;
-    check_below(&rt, rt.alloc(), &node, request.instance)
+    let text = text_below(&rt, rt.alloc(), &node, request.instance)?;
+    assert_eq!(rt; text.as_str(), "-@/3!falseSchema at /3");
+    Ok(())
 }
 
-// The evaluation of `false` at the item of index 3.
-fn check_below(
+// The evaluation of an instance that is the item of index 3, and its location behind it.
+fn text_below(
     rt: &impl Abort,
     alloc: Global,
     node: &SchemaNode<SerdeJson>,
     instance: &Value,
-) -> Result<(), Fail> {
+) -> Result<String, AllocError> {
+    assert!(rt; instance.is_lawful());
     let mut location = LazyLocation::new(alloc);
     location.push(3)?;
-    assert!(rt; instance.is_lawful());
     let mut ctx = ValidationContext::new();
     let tree = node.evaluate_instance_below(alloc, instance, &mut location, &mut ctx)?;
-    assert_eq!(rt; tree_text(alloc, &tree)?.as_str(), "-@/3!falseSchema");
-    assert_eq!(rt; location.render()?.as_str(), "/3");
-    Ok(())
+    let mut text = tree_text(alloc, &tree)?;
+    text.push_str(" at ")?;
+    text.push_str(location.render()?.as_str())?;
+    Ok(text)
 }

@@ -3,13 +3,11 @@ use super::observed::{check_errors, check_evaluations, compiled};
 use super::rows::{Request, request_of, row};
 use super::written::tree_text;
 use jskw_array::SchemaNode;
-use jskw_array::items::{AbsorbedKeywords, ArrayShapeValidator, array_shape_fusion};
-use jskw_report::compiler::member_of;
-use jskw_report::{CompileFault, Context, Location};
+use jskw_array::items::{AbsorbedKeywords, array_shape_fusion};
+use jskw_report::{Context, Location};
 use jskw_value::SerdeJson;
-use serde_json::{Map, Value};
-use std::alloc::Global;
-use std::process::Abort;
+use serde_json::Value;
+use std::alloc::{AllocError, Global};
 use std::test::Fail;
 
 // Whether the keywords of the schema are checked together.
@@ -97,38 +95,24 @@ fn fused_keywords_have_a_unit_each(rt: HostRuntime) -> Result<(), Fail> {
     check_evaluations(&rt, rt.alloc(), EVALUATIONS)
 }
 
-// The validator of the four keywords of an object.
-fn shape_of(
-    alloc: Global,
-    ctx: &Context<'_, SerdeJson>,
-    parent: &Map<String, Value>,
-) -> Result<ArrayShapeValidator<SerdeJson>, Fail> {
-    if !array_shape_fusion(ctx, parent) {
-        return Err("not fused")?;
-    }
-    let items = member_of(parent, "items").ok_or("no items")?;
-    match ArrayShapeValidator::compile(alloc, ctx, parent, items) {
-        Ok(shape) => Ok(shape),
-        Err(CompileFault::Bad(_)) => Err("refused")?,
-        Err(CompileFault::Memory(error)) => Err(error)?,
-    }
+// The node of `type` where the instance is no array.
+fn type_text(alloc: Global, absorbed: &AbsorbedKeywords) -> Result<String, AllocError> {
+    let at = Location::new(alloc);
+    let node = absorbed.evaluate_type::<SerdeJson>(alloc, &Value::Null, false, &at)?;
+    tree_text(alloc, &node)
 }
 
-// The nodes of `type`, `minItems` and `maxItems` of the number 5.
-fn check_absorbed(rt: &impl Abort, alloc: Global, absorbed: &AbsorbedKeywords) -> Result<(), Fail> {
-    let five = Value::from_str(alloc, "5")?;
-    let is_array = five.is_array();
-    if is_array {
-        return Err("an array")?;
-    }
-    let at = Location::new(alloc);
-    let of_type = absorbed.evaluate_type::<SerdeJson>(alloc, &five, is_array, &at)?;
-    assert_eq!(rt; tree_text(alloc, &of_type)?.as_str(), "-/type@!type");
+// The nodes of the bounds, with a semicolon behind each, where the instance is no array.
+fn count_texts(alloc: Global, absorbed: &AbsorbedKeywords) -> Result<String, AllocError> {
     let mut nodes = Vec::new(alloc);
-    absorbed.evaluate_counts::<SerdeJson>(alloc, &five, None, &at, &mut nodes)?;
-    assert_eq!(rt; nodes.len(), 1);
-    assert_eq!(rt; tree_text(alloc, &nodes[0])?.as_str(), "+/minItems@");
-    Ok(())
+    let at = Location::new(alloc);
+    absorbed.evaluate_counts::<SerdeJson>(alloc, &Value::Null, None, &at, &mut nodes)?;
+    let mut text = String::new(alloc);
+    for node in &nodes {
+        text.push_str(tree_text(alloc, node)?.as_str())?;
+        text.push(';')?;
+    }
+    Ok(text)
 }
 
 #[test]
@@ -136,10 +120,9 @@ fn absorbed_keywords_have_their_nodes(rt: HostRuntime) -> Result<(), Fail> {
     let text = r#"{"schema":{"type":"array","items":false,"minItems":1},"instance":5}"#;
     let value = Value::from_str(rt.alloc(), text)?;
     let request = request_of(rt.alloc(), &value)?;
-    let Value::Object(parent) = request.schema else {
-        return Err("no object")?;
-    };
-    let ctx: Context<SerdeJson> = Context::new(rt.alloc(), &request.settings);
-    let shape = shape_of(rt.alloc(), &ctx, parent)?;
-    check_absorbed(&rt, rt.alloc(), shape.absorbed())
+    let node: SchemaNode<SerdeJson> = compiled(rt.alloc(), &request)?;
+    let absorbed = node.array_shape().ok_or("not fused")?.absorbed();
+    assert_eq!(rt; type_text(rt.alloc(), absorbed)?.as_str(), "-/type@!type");
+    assert_eq!(rt; count_texts(rt.alloc(), absorbed)?.as_str(), "+/minItems@;");
+    Ok(())
 }

@@ -65,6 +65,22 @@ pub(super) fn observed<F: Json>(
     node: &SchemaNode<F>,
     instance: &F::Node,
 ) -> Result<String, Fail> {
+    let errors = errors_of(rt, alloc, node, instance)?;
+    let tree = evaluation_of(rt, alloc, node, instance)?;
+    check_descriptions(rt, alloc, &tree, &errors)?;
+    Ok(match told {
+        Told::Evaluation => tree_text(alloc, &tree)?,
+        _ => lines_of(alloc, told, &errors)?,
+    })
+}
+
+// All errors of a lawful instance; `is_valid` and `validate` have to agree with them.
+fn errors_of<'i, F: Json>(
+    rt: &impl Abort,
+    alloc: Global,
+    node: &'i SchemaNode<F>,
+    instance: &'i F::Node,
+) -> Result<Vec<ValidationError<'i, F>>, Fail> {
     assert!(rt; instance.is_lawful());
     let mut location = LazyLocation::new(alloc);
     let mut ctx = ValidationContext::new();
@@ -78,42 +94,59 @@ pub(super) fn observed<F: Json>(
     );
     all?;
     assert_eq!(rt; is_valid, errors.is_empty());
-    match first {
-        Ok(()) => assert!(rt; errors.is_empty()),
-        Err(Fault::Invalid(first)) => check_first(rt, alloc, &first, &errors)?,
-        Err(Fault::Memory(error)) => return Err(error)?,
-    }
-    let tree = node.evaluate_instance(alloc, instance, &mut ctx)?;
-    assert_eq!(rt; tree.valid(), errors.is_empty());
-    check_descriptions(rt, alloc, &tree, &errors)?;
-    if let Told::Evaluation = told {
-        return Ok(tree_text(alloc, &tree)?);
-    }
-    Ok(lines_of(alloc, told, &errors)?)
+    check_first(rt, alloc, first, errors.as_slice().first())?;
+    Ok(errors)
 }
 
-// This is the first of the errors.
+// What `validate` answers is the first of all errors, if there is one.
 fn check_first<F: Json>(
     rt: &impl Abort,
     alloc: Global,
-    first: &ValidationError<F>,
-    errors: &Vec<ValidationError<F>>,
+    answer: Result<(), Fault<F>>,
+    head: Option<&ValidationError<F>>,
 ) -> Result<(), Fail> {
-    let head = errors.as_slice().first().ok_or("no error")?;
+    match (answer, head) {
+        (Ok(()), None) => Ok(()),
+        (Err(Fault::Invalid(first)), Some(head)) => check_same(rt, alloc, &first, head),
+        (Err(Fault::Memory(error)), _) => Err(error)?,
+        _ => Err("another first error")?,
+    }
+}
+
+// Two errors have one text of each kind.
+fn check_same<F: Json>(
+    rt: &impl Abort,
+    alloc: Global,
+    one: &ValidationError<F>,
+    other: &ValidationError<F>,
+) -> Result<(), Fail> {
     for told in [Told::Locations, Told::Message] {
-        let wanted = line_of(alloc, told, head)?;
-        assert_eq!(rt; line_of(alloc, told, first)?.as_str(), wanted.as_str());
+        let wanted = line_of(alloc, told, other)?;
+        assert_eq!(rt; line_of(alloc, told, one)?.as_str(), wanted.as_str());
     }
     Ok(())
 }
 
-// The descriptions of an evaluation are those of the errors, in their order.
+// The evaluation of a lawful instance.
+fn evaluation_of<F: Json>(
+    rt: &impl Abort,
+    alloc: Global,
+    node: &SchemaNode<F>,
+    instance: &F::Node,
+) -> Result<EvaluationNode, AllocError> {
+    assert!(rt; instance.is_lawful());
+    node.evaluate_instance(alloc, instance, &mut ValidationContext::new())
+}
+
+// An evaluation is valid where there is no error, and its descriptions are those of the errors, in
+// their order.
 fn check_descriptions<F: Json>(
     rt: &impl Abort,
     alloc: Global,
     tree: &EvaluationNode,
     errors: &Vec<ValidationError<F>>,
 ) -> Result<(), Fail> {
+    assert_eq!(rt; tree.valid(), errors.is_empty());
     let mut errors = errors.iter();
     let mut nodes = Vec::new(alloc);
     nodes.push(tree)?;

@@ -118,13 +118,10 @@ fn several_errors_with_their_limits(rt: HostRuntime) -> Result<(), Fail> {
     check_messages(&rt, rt.alloc(), SEVERAL)
 }
 
-// Where the compiled schema stands.
-fn location_of(
-    alloc: Global,
-    ctx: &Context<'_, SerdeJson>,
-    schema: &Value,
-) -> Result<Location, Fail> {
-    let node: SchemaNode<SerdeJson> = compile(alloc, ctx, schema).ok().ok_or("not compiled")?;
+// Where the compiled schema of a text stands.
+fn location_of(alloc: Global, ctx: &Context<'_, SerdeJson>, text: &str) -> Result<Location, Fail> {
+    let schema = Value::from_str(alloc, text)?;
+    let node: SchemaNode<SerdeJson> = compile(alloc, ctx, &schema).ok().ok_or("not compiled")?;
     Ok(node.location().copy(alloc)?)
 }
 
@@ -135,9 +132,8 @@ fn a_schema_stands_at_the_location_of_its_context(rt: HostRuntime) -> Result<(),
     let whole: Context<SerdeJson> = Context::new(alloc, &settings);
     let below = whole.new_at_location(alloc, LocationSegment::Name("a/b"))?;
     for text in ["true", "false", r#"{"type":"null"}"#] {
-        let schema = Value::from_str(alloc, text)?;
         for (ctx, location) in [(&whole, ""), (&below, "/a~1b")] {
-            let found = location_of(alloc, ctx, &schema)?;
+            let found = location_of(alloc, ctx, text)?;
             assert_eq!(rt; found.as_str(), location, "{text}");
         }
     }
