@@ -28,6 +28,7 @@ use std::alloc::{AllocError, Global};
 // ---- a schema for each item
 
 // Whether each schema holds of the item of its index, as far as both go.
+#[inline(never)]
 #[cycle(is_valid)]
 pub(crate) fn each_is_valid<F: Json>(
     nodes: &[SchemaNode<F>],
@@ -128,6 +129,7 @@ pub(crate) fn evaluate_each<F: Json>(
 // ---- one schema for the items from an index on
 
 // Whether the schema holds of every item from `start` on, where there are so many in all.
+#[inline(never)]
 #[cycle(is_valid)]
 pub(crate) fn rest_is_valid<F: Json>(
     start: usize,
@@ -233,6 +235,7 @@ pub(crate) fn evaluate_rest<F: Json>(
 // ---- the items that match
 
 // Where `contains` fails, None where it holds. No item is asked once the answer is settled.
+#[inline(never)]
 #[cycle(is_valid)]
 pub(crate) fn contains_fault<'v, F: Json>(
     node: &SchemaNode<F>,

@@ -26,6 +26,7 @@ pub(crate) struct Unit<F: Json> {
 }
 
 // Whether every keyword holds of the instance.
+#[inline(never)]
 #[cycle(is_valid)]
 pub(crate) fn units_are_valid<F: Json>(
     units: &[Unit<F>],

@@ -27,6 +27,7 @@ impl Assertion for ConstValueValidator {
 
     ghost fails_once = { λ _ _. refl };
 
+    #[inline(never)]
     fn holds<F: Json>(&self, instance: &F::Node) -> bool {
         instance.equals_value(&self.value)
     }
@@ -129,6 +130,7 @@ impl Assertion for ConstStringValidator {
 
     ghost fails_once = { λ _ _. refl };
 
+    #[inline(never)]
     fn holds<F: Json>(&self, instance: &F::Node) -> bool {
         instance.as_string() == self.value.as_str()
     }

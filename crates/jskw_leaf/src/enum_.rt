@@ -75,6 +75,7 @@ impl Assertion for SingleValueEnumValidator {
 
     ghost fails_once = { λ _ _. refl };
 
+    #[inline(never)]
     fn holds<F: Json>(&self, instance: &F::Node) -> bool {
         instance.equals_value(&self.value)
     }
@@ -122,6 +123,7 @@ impl<N: Nullability> NullOption<N> {
 }
 
 // Whether an option that the value lists equals the instance.
+#[inline(never)]
 fn is_listed<F: Json>(options: &Value, instance: &F::Node) -> bool
     ensures { result ≡ is_option (options_of (view options.now)) (F.Node.tree instance.now) }
 {

@@ -15,6 +15,7 @@ pub(crate) fn sorted(mut texts: Vec<String>) -> Vec<String>
 }
 
 // Whether the text is one of the sorted ones.
+#[inline(never)]
 pub(crate) fn is_in_table(table: &[String], text: &str) -> bool
     requires { IsSorted string_cmp table.now }
     ensures { result ≡ some_text (map string_bytes table.now) text.now }

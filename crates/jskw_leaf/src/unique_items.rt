@@ -27,6 +27,7 @@ impl Assertion for UniqueItemsValidator {
 
     ghost fails_once = { λ _ _. refl };
 
+    #[inline(never)]
     #[tactic(auto, using(crate::proofs::Options::no_items_unique))]
     fn holds<F: Json>(&self, instance: &F::Node) -> bool {
         !instance.is_array() || instance.is_unique()

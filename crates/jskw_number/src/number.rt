@@ -66,6 +66,7 @@ impl Assertion for NumberValidator {
 
     ghost fails_once = { number_fails_once };
 
+    #[inline(never)]
     fn holds<F: Json>(&self, instance: &F::Node) -> bool {
         whichever!(self, validator => validator.holds::<F>(instance))
     }

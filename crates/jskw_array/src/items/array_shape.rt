@@ -121,6 +121,7 @@ fn with_items<'a, F: Json>(
 impl<F: Json> Validate<F> for ArrayShapeValidator<F> {
     ghost meaning = { shape_meaning };
 
+    #[inline(never)]
     #[cycle(is_valid)]
     fn is_valid(&self, instance: &F::Node, ctx: &mut ValidationContext) -> bool {
         match self.absorbed.valid_count(instance) {

@@ -82,6 +82,7 @@ impl<N: Nullability> Assertion for IntegerEnumValidator<N> {
 }
 
 // Whether the number is one of the sorted integers, by its value.
+#[inline(never)]
 fn is_in_table(table: &[i64], number: &Decimal) -> bool
     requires { IsSorted int_cmp table.now }
     ensures { result ≡ some_integer table.now (value number.now) }

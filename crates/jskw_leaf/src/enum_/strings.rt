@@ -143,6 +143,7 @@ impl<N: Nullability> Assertion for BigStringEnumValidator<N> {
 }
 
 // Whether the text is one of the names.
+#[inline(never)]
 fn is_one_of(names: &[PropertyName], text: &str) -> bool
     ensures { result ≡ some_text names.now text.now }
 {

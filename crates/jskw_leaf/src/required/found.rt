@@ -14,6 +14,7 @@ use jskw_value::{Json, KeyHead, Object};
 const MAX_SCANNED_REQUIRED: usize = 16;
 
 // Whether the object has every name. A walk over it is taken where it is no longer than look-ups.
+#[inline(never)]
 #[tactic(auto, using(crate::proofs::Counting::too_few))]
 pub(crate) fn has_all<F: Json, L: Names<F>>(names: &L, object: &F::Node) -> bool
     requires { IsTrue (is_object (F.Node.tree object.now)) }
