@@ -139,7 +139,17 @@ fn an_instance_below_is_evaluated_at_its_location(rt: HostRuntime) -> Result<(),
     let value = Value::from_str(rt.alloc(), r#"{"schema":false,"instance":1}"#)?;
     let request = request_of(rt.alloc(), &value)?;
     let node: SchemaNode<SerdeJson> = compiled(rt.alloc(), &request)?;
-    let text = text_below(&rt, rt.alloc(), &node, request.instance)?;
+    check_below(&rt, rt.alloc(), &node, request.instance)
+}
+
+// The evaluation of `false` at the item of index 3.
+fn check_below(
+    rt: &impl Abort,
+    alloc: Global,
+    node: &SchemaNode<SerdeJson>,
+    instance: &Value,
+) -> Result<(), Fail> {
+    let text = text_below(rt, alloc, node, instance)?;
     assert_eq!(rt; text.as_str(), "-@/3!falseSchema at /3");
     Ok(())
 }

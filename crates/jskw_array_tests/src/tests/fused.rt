@@ -8,6 +8,7 @@ use jskw_report::{Context, Location};
 use jskw_value::SerdeJson;
 use serde_json::Value;
 use std::alloc::{AllocError, Global};
+use std::process::Abort;
 use std::test::Fail;
 
 // Whether the keywords of the schema are checked together.
@@ -122,7 +123,12 @@ fn absorbed_keywords_have_their_nodes(rt: HostRuntime) -> Result<(), Fail> {
     let request = request_of(rt.alloc(), &value)?;
     let node: SchemaNode<SerdeJson> = compiled(rt.alloc(), &request)?;
     let absorbed = node.array_shape().ok_or("not fused")?.absorbed();
-    assert_eq!(rt; type_text(rt.alloc(), absorbed)?.as_str(), "-/type@!type");
-    assert_eq!(rt; count_texts(rt.alloc(), absorbed)?.as_str(), "+/minItems@;");
+    check_absorbed(&rt, rt.alloc(), absorbed)
+}
+
+// The nodes of `type` and `minItems` where the instance is no array.
+fn check_absorbed(rt: &impl Abort, alloc: Global, absorbed: &AbsorbedKeywords) -> Result<(), Fail> {
+    assert_eq!(rt; type_text(alloc, absorbed)?.as_str(), "-/type@!type");
+    assert_eq!(rt; count_texts(alloc, absorbed)?.as_str(), "+/minItems@;");
     Ok(())
 }
