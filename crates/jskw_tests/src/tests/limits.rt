@@ -4,11 +4,12 @@ use super::texts::written;
 use super::{DRAFTS_AFTER_4, all_of, check_rows, columns, overriding};
 use jskw_leaf::LeafValidator;
 use jskw_number::NumberValidator;
-use jskw_number::minmax::{ExclusiveMaximum, ExclusiveMinimum, Maximum, Minimum};
+use jskw_number::minmax::{Above, AtLeast, AtMost, Below, Limit, LimitTest, Whole};
 use jskw_report::{Context, Draft, Location};
 use jskw_value::SerdeJson;
 use serde_json::Value;
-use std::alloc::Global;
+use std::alloc::{AllocError, Global};
+use std::process::Abort;
 use std::test::Fail;
 
 // In the drafts after Draft 4.
@@ -130,19 +131,31 @@ fn limits_in_draft_4_beside_an_overridden_name(rt: HostRuntime) -> Result<(), Fa
     check_rows(&rt, rt.alloc(), &settings, LIMITS_DRAFT_4)
 }
 
+// The value that a limit keeps, of the relation and by the type of the limit.
+fn kept_by<T: Whole, R: LimitTest>(
+    alloc: Global,
+    limit: T,
+    value: &Value,
+) -> Result<Option<i64>, AllocError> {
+    let limit: Limit<T, R> = Limit::from((limit, value.clone()?, Location::new(alloc)));
+    Ok(limit.limit_value().as_i64())
+}
+
+// Limits of each relation keep the value.
+fn check_kept(rt: &impl Abort, alloc: Global, value: &Value) -> Result<(), Fail> {
+    let limit = value.as_i64().ok_or("no limit")?;
+    assert_eq!(rt; kept_by::<i64, AtLeast>(alloc, limit, value)?, Some(limit));
+    assert_eq!(rt; kept_by::<i64, AtMost>(alloc, limit, value)?, Some(limit));
+    assert_eq!(rt; kept_by::<i64, Above>(alloc, limit, value)?, Some(limit));
+    assert_eq!(rt; kept_by::<u64, Below>(alloc, 7, value)?, Some(limit));
+    Ok(())
+}
+
 #[test]
 fn limits_keep_their_value(rt: HostRuntime) -> Result<(), Fail> {
     for text in ["5", "-5"] {
         let value = Value::from_str(rt.alloc(), text)?;
-        let limit = value.as_i64().ok_or("no limit")?;
-        let minimum = Minimum::from((limit, value.clone()?, Location::new(rt.alloc())));
-        assert_eq!(rt; minimum.limit_value().as_i64(), Some(limit));
-        let maximum = Maximum::from((limit, value.clone()?, Location::new(rt.alloc())));
-        assert_eq!(rt; maximum.limit_value().as_i64(), Some(limit));
-        let above = ExclusiveMinimum::from((limit, value.clone()?, Location::new(rt.alloc())));
-        assert_eq!(rt; above.limit_value().as_i64(), Some(limit));
-        let below = ExclusiveMaximum::from((7u64, value.clone()?, Location::new(rt.alloc())));
-        assert_eq!(rt; below.limit_value().as_i64(), Some(limit));
+        check_kept(&rt, rt.alloc(), &value)?;
     }
     Ok(())
 }
