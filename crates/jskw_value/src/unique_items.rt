@@ -1,14 +1,16 @@
 //! Whether the items of an array differ. It takes no memory but its frame: a sketch on the stack
 //! tells of most items that no earlier one is equal.
-ghost use Rattle.std.specs.Prelude.{◌≡◌, ◌≤◌, ◌<◌, ◌+◌, ◌^◌, drop, length, true, false, IsTrue};
+ghost use Rattle.std.specs.Prelude.{◌≡◌, ◌≤◌, ◌<◌, ◌+◌, ◌^◌, drop, length, true, false};
+ghost use Rattle.std.specs.Prelude.{IsTrue, option_and_then};
 ghost use Rattle.std.specs.List.{list_any};
 ghost use Rattle.jskw_value.specs.Equality.{equal, unique};
-ghost use Rattle.jskw_value.specs.Tree.{is_array, items};
+ghost use Rattle.jskw_value.specs.Number.{u64_of, whole};
+ghost use Rattle.jskw_value.specs.Tree.{as_number, is_array, items};
 ghost use Rattle.jskw_value.specs.Unique.{IsNewAt, IsToldOf, IsUniqueIn};
 
 use crate::equality::equal_nodes;
 use crate::fingerprint::fingerprint;
-use crate::json::{Array, Node};
+use crate::json::{Array, JsonNumber, Node};
 use crate::sketch::{is_marked, mark};
 
 // Up to so many items are compared pair by pair.
@@ -171,9 +173,31 @@ fn occurs_between<N: Node>(array: &N, start: usize, end: usize, index: usize) ->
 {
     let item = array.item(index);
     for j in start..end {
-        if equal_nodes(array.item(j), item) {
+        if are_equal(array.item(j), item) {
             return true;
         }
     }
     false
+}
+
+// Whether two items are equal. It is asked of many that are not, so that whole numbers from 0 on
+// are told apart at once.
+fn are_equal<N: Node>(left: &N, right: &N) -> bool
+    ensures { result ≡ equal (N.tree left.now) (N.tree right.now) }
+{
+    match (whole_number(left), whole_number(right)) {
+        (Some(a), Some(b)) => a == b,
+        _ => equal_nodes(left, right),
+    }
+}
+
+// The number that a node is, where it is written without a point and lies from 0 to 2^64 - 1.
+fn whole_number<N: Node>(node: &N) -> Option<u64>
+    ensures { result ≡ option_and_then u64_of (option_and_then whole (as_number (N.tree node.now))) }
+{
+    let number = node.as_number()?;
+    if !number.is_lawful() {
+        return None;
+    }
+    number.as_u64()
 }
