@@ -20,7 +20,7 @@ mod types;
 mod unique_items;
 
 use jskw_report::{Draft, Settings, VocabularySet};
-use jskw_value::{DecimalJson, DecimalTree, SerdeJson};
+use jskw_value::{DecimalJson, DecimalTree, JsonType, SerdeJson};
 use keywords::said;
 use serde_json::Value;
 use std::alloc::{AllocError, Global};
@@ -41,6 +41,17 @@ const DRAFTS_AFTER_4: [Draft; 4] = [
     Draft::Draft7,
     Draft::Draft201909,
     Draft::Draft202012,
+];
+
+// The types by their names.
+const TYPES: [(&str, JsonType); 7] = [
+    ("array", JsonType::Array),
+    ("boolean", JsonType::Boolean),
+    ("integer", JsonType::Integer),
+    ("null", JsonType::Null),
+    ("number", JsonType::Number),
+    ("object", JsonType::Object),
+    ("string", JsonType::String),
 ];
 
 // The settings of a draft with these vocabularies and no overridden name.
@@ -103,6 +114,11 @@ fn check(
     Ok(())
 }
 
+// A table's line of two columns, with a bar between them.
+fn pair(line: &str) -> Result<(&str, &str), Fail> {
+    Ok(line.split_once('|').ok_or("no second column")?)
+}
+
 // The first two columns of a table's line, with a bar behind each, and the rest of it.
 fn columns(line: &str) -> Result<(&str, &str, &str), Fail> {
     let (first, rest) = line.split_once('|').ok_or("no second column")?;
@@ -111,7 +127,7 @@ fn columns(line: &str) -> Result<(&str, &str, &str), Fail> {
 }
 
 // Goes through the lines of a table under the settings: schema, instance, keyword, what is said.
-fn check_rows(
+fn check_rows_under(
     rt: &impl Abort,
     alloc: Global,
     settings: &Settings,
@@ -119,8 +135,13 @@ fn check_rows(
 ) -> Result<(), Fail> {
     for line in table.lines() {
         let (schema, instance, rest) = columns(line)?;
-        let (name, wanted) = rest.split_once('|').ok_or("no outcome")?;
+        let (name, wanted) = pair(rest)?;
         check(rt, alloc, settings, schema, name, instance, wanted)?;
     }
     Ok(())
+}
+
+// The same in a draft with every vocabulary and no overridden name.
+fn check_rows(rt: &impl Abort, alloc: Global, draft: Draft, table: &str) -> Result<(), Fail> {
+    check_rows_under(rt, alloc, &all_of(alloc, draft), table)
 }

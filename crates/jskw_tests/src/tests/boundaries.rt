@@ -122,48 +122,24 @@ fn check_bound(
     Ok(())
 }
 
-// The limits of a number, which stands to them like this.
-fn check_limits(
+// A line of the table by the keywords.
+fn check_number(
     rt: &impl Abort,
     alloc: Global,
     settings: &Settings,
-    number: &str,
-    stands: &str,
+    line: &str,
 ) -> Result<(), Fail> {
+    let (number, stands, divides) = columns(line)?;
+    assert!(rt; stands.len() == LIMITS.len() && divides.len() == DIVISORS.len());
     for (limit, symbol) in LIMITS.iter().zip(stands.chars()) {
         for (keyword, allowed) in RELATIONS {
-            check_bound(
-                rt,
-                alloc,
-                settings,
-                keyword,
-                limit,
-                number,
-                allowed.contains(symbol),
-            )?;
+            let holds = allowed.contains(symbol);
+            check_bound(rt, alloc, settings, keyword, limit, number, holds)?;
         }
     }
-    Ok(())
-}
-
-// The divisors of a number, which divide it or not like this.
-fn check_divisors(
-    rt: &impl Abort,
-    alloc: Global,
-    settings: &Settings,
-    number: &str,
-    divides: &str,
-) -> Result<(), Fail> {
     for (divisor, letter) in DIVISORS.iter().zip(divides.chars()) {
-        check_bound(
-            rt,
-            alloc,
-            settings,
-            "multipleOf",
-            divisor,
-            number,
-            letter == 'y',
-        )?;
+        let holds = letter == 'y';
+        check_bound(rt, alloc, settings, "multipleOf", divisor, number, holds)?;
     }
     Ok(())
 }
@@ -172,10 +148,7 @@ fn check_divisors(
 fn keywords_are_exact_at_boundaries(rt: HostRuntime) -> Result<(), Fail> {
     let settings = all_of(rt.alloc(), Draft::Draft202012);
     for line in NUMBERS.lines() {
-        let (number, stands, divides) = columns(line)?;
-        assert!(rt; stands.len() == LIMITS.len() && divides.len() == DIVISORS.len());
-        check_limits(&rt, rt.alloc(), &settings, number, stands)?;
-        check_divisors(&rt, rt.alloc(), &settings, number, divides)?;
+        check_number(&rt, rt.alloc(), &settings, line)?;
     }
     Ok(())
 }

@@ -1,5 +1,5 @@
 // `const`.
-use super::{all_of, check_rows};
+use super::check_rows;
 use jskw_report::Draft;
 use std::test::Fail;
 
@@ -34,6 +34,11 @@ const VALUES: &str = r#"{"const":null}|null|const|valid
 {"const":{"a":[{"b":1}]}}|{"a":[{"b":2}]}|const|const {"a":[{"b":1}]}
 {"const":{}}|[]|const|const {}"#;
 
+#[test]
+fn each_form_by_the_type_of_its_value(rt: HostRuntime) -> Result<(), Fail> {
+    check_rows(&rt, rt.alloc(), Draft::Draft202012, VALUES)
+}
+
 // The value 2, and decimals.
 const FRACTIONS: &str = r#"{"const":2}|#2e-0|const|valid
 {"const":2}|#20e-1|const|valid
@@ -41,6 +46,11 @@ const FRACTIONS: &str = r#"{"const":2}|#2e-0|const|valid
 {"const":2}|#25e-1|const|const 2
 {"const":2}|#20e-2|const|const 2
 {"const":2}|#-20e-1|const|const 2"#;
+
+#[test]
+fn numbers_with_a_fraction(rt: HostRuntime) -> Result<(), Fail> {
+    check_rows(&rt, rt.alloc(), Draft::Draft6, FRACTIONS)
+}
 
 // Floats in the value, of which the first is named, in the order of the items and of the names.
 const FLOATS: &str =
@@ -54,19 +64,6 @@ const FLOATS: &str =
 {"const":{"a":[1],"b":"2.0"}}|null|const|const {"a":[1],"b":"2.0"}"#;
 
 #[test]
-fn each_form_by_the_type_of_its_value(rt: HostRuntime) -> Result<(), Fail> {
-    let settings = all_of(rt.alloc(), Draft::Draft202012);
-    check_rows(&rt, rt.alloc(), &settings, VALUES)
-}
-
-#[test]
-fn numbers_with_a_fraction(rt: HostRuntime) -> Result<(), Fail> {
-    let settings = all_of(rt.alloc(), Draft::Draft6);
-    check_rows(&rt, rt.alloc(), &settings, FRACTIONS)
-}
-
-#[test]
 fn floats_are_refused(rt: HostRuntime) -> Result<(), Fail> {
-    let settings = all_of(rt.alloc(), Draft::Draft202012);
-    check_rows(&rt, rt.alloc(), &settings, FLOATS)
+    check_rows(&rt, rt.alloc(), Draft::Draft202012, FLOATS)
 }

@@ -57,6 +57,11 @@ const VALUES: &str = r#"[]||null []
 [[1],[1]]|[1]|1
 [18446744073709551615,1]|18446744073709551615 1|-1 18446744073709551614"#;
 
+#[test]
+fn options_of_one_value_or_of_any_types(rt: HostRuntime) -> Result<(), Fail> {
+    check_table(&rt, rt.alloc(), VALUES)
+}
+
 // Integers, some with null.
 const INTEGERS: &str = r#"[1,3]||2
 [1,2,3]|2|4 0 -2 "2" null true [2]
@@ -66,6 +71,11 @@ const INTEGERS: &str = r#"[1,3]||2
 [9007199254740993,1]|9007199254740993|9007199254740992
 [9223372036854775807,-9223372036854775808]|9223372036854775807 -9223372036854775808|9223372036854775806 9223372036854775808 18446744073709551615 0
 [-1,0]||18446744073709551615"#;
+
+#[test]
+fn options_that_are_integers_or_null(rt: HostRuntime) -> Result<(), Fail> {
+    check_table(&rt, rt.alloc(), INTEGERS)
+}
 
 // Strings, some with null.
 const STRINGS: &str = r#"["a","b"]|"b"|"" null
@@ -77,6 +87,11 @@ const STRINGS: &str = r#"["a","b"]|"b"|"" null
 ["1","2"]||1
 ["prefix0001suffix00","prefix0002suffix00"]|"prefix0002suffix00"|"prefix0003suffix00" "prefix0002suffix0""#;
 
+#[test]
+fn options_that_are_strings_or_null(rt: HostRuntime) -> Result<(), Fail> {
+    check_table(&rt, rt.alloc(), STRINGS)
+}
+
 // Up to ten options, and more.
 const MANY_STRINGS: &str = r#"["a","b","c","d","e","f","g","h","i","j"]|"a" "j"|"k" null
 ["a","b","c","d","e","f","g","h","i","j","k"]|"a" "k"|"z" "" null 1
@@ -85,21 +100,6 @@ const MANY_STRINGS: &str = r#"["a","b","c","d","e","f","g","h","i","j"]|"a" "j"|
 ["a","b","c","d","e","f","g","h","i","j",null]|"a" null|false
 ["a","b","c","d","e","f","g","h","i","j","k",null]|"k" null|"z" 1
 ["head0000-k-tail0000","head0000-j-tail0000","head0000-i-tail0000","head0000-h-tail0000","head0000-g-tail0000","head0000-f-tail0000","head0000-e-tail0000","head0000-d-tail0000","head0000-c-tail0000","head0000-b-tail0000","head0000-a-tail0000"]|"head0000-a-tail0000" "head0000-k-tail0000"|"head0000-l-tail0000" "head0000-`-tail0000""#;
-
-#[test]
-fn options_of_one_value_or_of_any_types(rt: HostRuntime) -> Result<(), Fail> {
-    check_table(&rt, rt.alloc(), VALUES)
-}
-
-#[test]
-fn options_that_are_integers_or_null(rt: HostRuntime) -> Result<(), Fail> {
-    check_table(&rt, rt.alloc(), INTEGERS)
-}
-
-#[test]
-fn options_that_are_strings_or_null(rt: HostRuntime) -> Result<(), Fail> {
-    check_table(&rt, rt.alloc(), STRINGS)
-}
 
 #[test]
 fn ten_and_more_strings(rt: HostRuntime) -> Result<(), Fail> {
@@ -124,40 +124,31 @@ fn options_text(
     Ok(text)
 }
 
+// Goes through a table's line of ten thousand such options and the last, and of these instances.
+fn check_many(
+    rt: &impl Abort,
+    alloc: Global,
+    before: &str,
+    after: &str,
+    last: &str,
+    instances: &str,
+) -> Result<(), Fail> {
+    let options = options_text(alloc, 10000, before, after, last)?;
+    let line = format!(in alloc; "{options}|{instances}")?;
+    check_table(rt, alloc, line.as_str())
+}
+
 #[test]
 fn ten_thousand_integers(rt: HostRuntime) -> Result<(), Fail> {
-    let alloc = rt.alloc();
-    let integers = options_text(alloc, 10000, "", "", "-1")?;
-    let integers_or_null = options_text(alloc, 10000, "", "", "null")?;
-    for (options, instance, holds) in [
-        (&integers, "-1", true),
-        (&integers, "9999", true),
-        (&integers, "10000", false),
-        (&integers, "null", false),
-        (&integers_or_null, "0", true),
-        (&integers_or_null, "null", true),
-    ] {
-        check_options(&rt, alloc, options.as_str(), instance, holds)?;
-    }
-    Ok(())
+    check_many(&rt, rt.alloc(), "", "", "-1", "-1 9999|10000 null")?;
+    check_many(&rt, rt.alloc(), "", "", "null", "0 null|")
 }
 
 #[test]
 fn ten_thousand_strings(rt: HostRuntime) -> Result<(), Fail> {
-    let alloc = rt.alloc();
-    let strings = options_text(alloc, 10000, "\"n", "\"", "\"\"")?;
-    let strings_or_null = options_text(alloc, 10000, "\"n", "\"", "null")?;
-    for (options, instance, holds) in [
-        (&strings, r#""""#, true),
-        (&strings, r#""n9999""#, true),
-        (&strings, r#""n10000""#, false),
-        (&strings, "null", false),
-        (&strings_or_null, r#""n0""#, true),
-        (&strings_or_null, "null", true),
-    ] {
-        check_options(&rt, alloc, options.as_str(), instance, holds)?;
-    }
-    Ok(())
+    let instances = r#""" "n9999"|"n10000" null"#;
+    check_many(&rt, rt.alloc(), "\"n", "\"", "\"\"", instances)?;
+    check_many(&rt, rt.alloc(), "\"n", "\"", "null", r#""n0" null|"#)
 }
 
 // Integers, and decimals.
@@ -167,6 +158,11 @@ const FRACTIONS: &str = r#"[1,2,3]|#20e-1 #3000000000000000000e-18|#25e-1 #20e-2
 [18446744073709551615,1]|#10e-1|
 [9007199254740993]|#90071992547409930e-1|#90071992547409920e-1
 [9007199254740993,1]|#90071992547409930e-1|#90071992547409920e-1"#;
+
+#[test]
+fn numbers_with_a_fraction_among_options(rt: HostRuntime) -> Result<(), Fail> {
+    check_table(&rt, rt.alloc(), FRACTIONS)
+}
 
 // What is no array, and arrays with a float, of which the first is named.
 const BAD_OPTIONS: &str = r#"{"enum":5}|null|enum|refused: type Array at /items/enum, 5
@@ -184,12 +180,6 @@ const BAD_OPTIONS: &str = r#"{"enum":5}|null|enum|refused: type Array at /items/
 {"enum":[{"a":[0,{"b":2.5}]},{}]}|null|enum|refused: compileError Not a whole number of 64 bits at /items/enum, 2.5"#;
 
 #[test]
-fn numbers_with_a_fraction_among_options(rt: HostRuntime) -> Result<(), Fail> {
-    check_table(&rt, rt.alloc(), FRACTIONS)
-}
-
-#[test]
 fn what_is_no_array_of_options_is_refused(rt: HostRuntime) -> Result<(), Fail> {
-    let settings = all_of(rt.alloc(), Draft::Draft202012);
-    check_rows(&rt, rt.alloc(), &settings, BAD_OPTIONS)
+    check_rows(&rt, rt.alloc(), Draft::Draft202012, BAD_OPTIONS)
 }

@@ -1,7 +1,7 @@
 // Limits and divisors.
 use super::keywords::compiled;
 use super::texts::written;
-use super::{DRAFTS_AFTER_4, all_of, check_rows, columns, overriding};
+use super::{DRAFTS_AFTER_4, all_of, check_rows, check_rows_under, columns, overriding};
 use jskw_leaf::LeafValidator;
 use jskw_number::NumberValidator;
 use jskw_number::minmax::{Above, AtLeast, AtMost, Below, Limit, LimitTest, Whole};
@@ -110,17 +110,16 @@ const DIVISORS: &str = r#"{"multipleOf":9007199254740993}|18014398509481986|mult
 #[test]
 fn limits_after_draft_4(rt: HostRuntime) -> Result<(), Fail> {
     for draft in DRAFTS_AFTER_4 {
-        check_rows(&rt, rt.alloc(), &all_of(rt.alloc(), draft), LIMITS)?;
-        check_rows(&rt, rt.alloc(), &all_of(rt.alloc(), draft), DIVISORS)?;
+        check_rows(&rt, rt.alloc(), draft, LIMITS)?;
+        check_rows(&rt, rt.alloc(), draft, DIVISORS)?;
     }
     Ok(())
 }
 
 #[test]
 fn limits_in_draft_4(rt: HostRuntime) -> Result<(), Fail> {
-    let settings = all_of(rt.alloc(), Draft::Draft4);
-    check_rows(&rt, rt.alloc(), &settings, LIMITS_DRAFT_4)?;
-    check_rows(&rt, rt.alloc(), &settings, DIVISORS)
+    check_rows(&rt, rt.alloc(), Draft::Draft4, LIMITS_DRAFT_4)?;
+    check_rows(&rt, rt.alloc(), Draft::Draft4, DIVISORS)
 }
 
 // The sibling is read all the same.
@@ -128,7 +127,7 @@ fn limits_in_draft_4(rt: HostRuntime) -> Result<(), Fail> {
 fn limits_in_draft_4_beside_an_overridden_name(rt: HostRuntime) -> Result<(), Fail> {
     let names = ["exclusiveMinimum", "exclusiveMaximum"];
     let settings = overriding(rt.alloc(), Draft::Draft4, &names)?;
-    check_rows(&rt, rt.alloc(), &settings, LIMITS_DRAFT_4)
+    check_rows_under(&rt, rt.alloc(), &settings, LIMITS_DRAFT_4)
 }
 
 // The value that a limit keeps, of the relation and by the type of the limit.

@@ -41,9 +41,19 @@ const FORMS: &str = r#"{"required":["a"]}|{"a":null}|required|valid
 {"required":["a","b","c","d"]}|{"a":1,"c":3,"e":5,"f":6,"g":7,"h":8,"i":9,"j":10,"k":11}|required|required b, required d
 {"required":["a","b","c","d"]}|{"e":1,"d":2,"x":3,"y":4,"c":5}|required|required a, required b"#;
 
+#[test]
+fn each_form_by_the_number_of_names(rt: HostRuntime) -> Result<(), Fail> {
+    check_rows(&rt, rt.alloc(), Draft::Draft202012, FORMS)
+}
+
 // The errors stand in the order of the list.
 const ORDER: &str = r#"{"required":["c","a"]}|{"b":1}|required|required c, required a
 {"required":["z","b","a","y"]}|{"b":1}|required|required z, required a, required y"#;
+
+#[test]
+fn errors_stand_in_the_order_of_the_list(rt: HostRuntime) -> Result<(), Fail> {
+    check_rows(&rt, rt.alloc(), Draft::Draft202012, ORDER)
+}
 
 // Each name once.
 const REPEATED: &str = r#"{"required":["a","a"]}|{"a":1}|required|valid
@@ -54,41 +64,14 @@ const REPEATED: &str = r#"{"required":["a","a"]}|{"a":1}|required|valid
 {"required":["a","a","b","a","c","b"]}|{"b":1}|required|required a, required c
 {"required":["a","b","a","c","d","d"]}|{"b":1,"d":2}|required|required a, required c"#;
 
+#[test]
+fn each_name_once(rt: HostRuntime) -> Result<(), Fail> {
+    check_rows(&rt, rt.alloc(), Draft::Draft202012, REPEATED)
+}
+
 // Without a name it holds of every object.
 const NO_NAMES: &str = r#"{"required":[]}|{}|required|valid
 {"required":[]}|{"a":1}|required|valid"#;
-
-// What is no array of strings; the first item at fault is named.
-const BAD_VALUES: &str = r#"{"required":5}|{}|required|refused: type Array at /items/required, 5
-{"required":"a","properties":{},"additionalProperties":false}|{}|required|refused: type Array at /items/required, "a"
-{"required":["a",5]}|{}|required|refused: type String at /items/required, 5
-{"required":[1]}|{}|required|refused: type String at /items/required, 1
-{"required":[1,"a"]}|{}|required|refused: type String at /items/required, 1
-{"required":["a","b",1]}|{}|required|refused: type String at /items/required, 1
-{"required":["a",1,"c"]}|{}|required|refused: type String at /items/required, 1
-{"required":[1,"b","c"]}|{}|required|refused: type String at /items/required, 1
-{"required":["a","b","c",1]}|{}|required|refused: type String at /items/required, 1
-{"required":["a",null,5]}|{}|required|refused: type String at /items/required, null
-{"required":["a","a","b","c",["d"]]}|{}|required|refused: type String at /items/required, ["d"]
-{"required":[1.5]}|{}|required|refused: type String at /items/required, 1.5"#;
-
-#[test]
-fn each_form_by_the_number_of_names(rt: HostRuntime) -> Result<(), Fail> {
-    let settings = all_of(rt.alloc(), Draft::Draft202012);
-    check_rows(&rt, rt.alloc(), &settings, FORMS)
-}
-
-#[test]
-fn errors_stand_in_the_order_of_the_list(rt: HostRuntime) -> Result<(), Fail> {
-    let settings = all_of(rt.alloc(), Draft::Draft202012);
-    check_rows(&rt, rt.alloc(), &settings, ORDER)
-}
-
-#[test]
-fn each_name_once(rt: HostRuntime) -> Result<(), Fail> {
-    let settings = all_of(rt.alloc(), Draft::Draft202012);
-    check_rows(&rt, rt.alloc(), &settings, REPEATED)
-}
 
 #[test]
 fn it_holds_of_what_is_no_object_and_without_a_name(rt: HostRuntime) -> Result<(), Fail> {
@@ -105,13 +88,26 @@ fn it_holds_of_what_is_no_object_and_without_a_name(rt: HostRuntime) -> Result<(
             check(&rt, alloc, &settings, schema, "required", instance, "valid")?;
         }
     }
-    check_rows(&rt, alloc, &settings, NO_NAMES)
+    check_rows(&rt, alloc, Draft::Draft202012, NO_NAMES)
 }
+
+// What is no array of strings; the first item at fault is named.
+const BAD_VALUES: &str = r#"{"required":5}|{}|required|refused: type Array at /items/required, 5
+{"required":"a","properties":{},"additionalProperties":false}|{}|required|refused: type Array at /items/required, "a"
+{"required":["a",5]}|{}|required|refused: type String at /items/required, 5
+{"required":[1]}|{}|required|refused: type String at /items/required, 1
+{"required":[1,"a"]}|{}|required|refused: type String at /items/required, 1
+{"required":["a","b",1]}|{}|required|refused: type String at /items/required, 1
+{"required":["a",1,"c"]}|{}|required|refused: type String at /items/required, 1
+{"required":[1,"b","c"]}|{}|required|refused: type String at /items/required, 1
+{"required":["a","b","c",1]}|{}|required|refused: type String at /items/required, 1
+{"required":["a",null,5]}|{}|required|refused: type String at /items/required, null
+{"required":["a","a","b","c",["d"]]}|{}|required|refused: type String at /items/required, ["d"]
+{"required":[1.5]}|{}|required|refused: type String at /items/required, 1.5"#;
 
 #[test]
 fn bad_values_are_refused(rt: HostRuntime) -> Result<(), Fail> {
-    let settings = all_of(rt.alloc(), Draft::Draft202012);
-    check_rows(&rt, rt.alloc(), &settings, BAD_VALUES)
+    check_rows(&rt, rt.alloc(), Draft::Draft202012, BAD_VALUES)
 }
 
 // The texts `prefix0000suffix00` and so on, so many, which have the same length, beginning and end;
@@ -257,6 +253,11 @@ const ONE_ITEM: &str =
 {"required":["a","b","b"],"properties":{"a":{}},"additionalProperties":false}|{}|required|required a, required b
 {"required":[],"properties":{"a":{}},"additionalProperties":false}|{}|required|valid"#;
 
+#[test]
+fn one_item_is_handed_on(rt: HostRuntime) -> Result<(), Fail> {
+    check_rows(&rt, rt.alloc(), Draft::Draft202012, ONE_ITEM)
+}
+
 // Two items beside `properties`.
 const TWO_ITEMS: &str =
     r#"{"required":["a","b"],"properties":{"a":{}}}|{}|required|nothing is asserted
@@ -276,15 +277,8 @@ const TWO_ITEMS: &str =
 {"required":["a"],"properties":{"a":{}}}|{}|required|required a"#;
 
 #[test]
-fn one_item_is_handed_on(rt: HostRuntime) -> Result<(), Fail> {
-    let settings = all_of(rt.alloc(), Draft::Draft202012);
-    check_rows(&rt, rt.alloc(), &settings, ONE_ITEM)
-}
-
-#[test]
 fn two_items_are_handed_on(rt: HostRuntime) -> Result<(), Fail> {
-    let settings = all_of(rt.alloc(), Draft::Draft202012);
-    check_rows(&rt, rt.alloc(), &settings, TWO_ITEMS)
+    check_rows(&rt, rt.alloc(), Draft::Draft202012, TWO_ITEMS)
 }
 
 // What is said where others are to look for the names.
@@ -293,8 +287,13 @@ const HANDED_ON: &str = "nothing is asserted";
 // What is said of an object without `a`.
 const A: &str = "required a";
 
-// What is said of an object without both.
+// What is said of an object without both, and without three.
 const A_AND_B: &str = "required a, required b";
+
+const A_B_AND_C: &str = "required a, required b, required c";
+
+// What is said of a value with 5 among its items.
+const NO_STRING: &str = "refused: type String at /items/required, 5";
 
 #[test]
 fn two_items_beside_many_properties(rt: HostRuntime) -> Result<(), Fail> {
@@ -318,24 +317,22 @@ fn two_items_beside_many_properties(rt: HostRuntime) -> Result<(), Fail> {
     Ok(())
 }
 
+// An overridden name, a schema, and what is said of an object without members.
+const OVERRIDDEN: &str =
+    r#"additionalProperties|{"required":["a"],"properties":{"a":{}},"additionalProperties":false}|required a
+properties|{"required":["a"],"properties":{"a":{}},"additionalProperties":false}|nothing is asserted
+patternProperties|{"required":["a"],"properties":{"a":{}},"additionalProperties":false}|nothing is asserted
+properties|{"required":["a","b"],"properties":{"a":{}}}|required a, required b
+additionalProperties|{"required":["a","b"],"properties":{"a":{}}}|nothing is asserted
+additionalProperties|{"required":["a","b"],"properties":{"a":{}},"additionalProperties":false}|required a, required b
+additionalProperties|{"required":["a","b"],"properties":{"a":{}},"additionalProperties":{}}|required a, required b"#;
+
 #[test]
 fn overridden_siblings(rt: HostRuntime) -> Result<(), Fail> {
-    let alloc = rt.alloc();
-    let one = r#"{"required":["a"],"properties":{"a":{}},"additionalProperties":false}"#;
-    let two = r#"{"required":["a","b"],"properties":{"a":{}}}"#;
-    let closed = r#"{"required":["a","b"],"properties":{"a":{}},"additionalProperties":false}"#;
-    let schemas = r#"{"required":["a","b"],"properties":{"a":{}},"additionalProperties":{}}"#;
-    for (name, schema, wanted) in [
-        ("additionalProperties", one, A),
-        ("properties", one, HANDED_ON),
-        ("patternProperties", one, HANDED_ON),
-        ("properties", two, A_AND_B),
-        ("additionalProperties", two, HANDED_ON),
-        ("additionalProperties", closed, A_AND_B),
-        ("additionalProperties", schemas, A_AND_B),
-    ] {
-        let settings = overriding(alloc, Draft::Draft202012, &[name])?;
-        check(&rt, alloc, &settings, schema, "required", "{}", wanted)?;
+    for line in OVERRIDDEN.lines() {
+        let (name, schema, wanted) = columns(line)?;
+        let settings = overriding(rt.alloc(), Draft::Draft202012, &[name])?;
+        check(&rt, rt.alloc(), &settings, schema, "required", "{}", wanted)?;
     }
     Ok(())
 }
@@ -365,7 +362,7 @@ fn without_an_object_layer_nothing_is_handed_on(rt: HostRuntime) -> Result<(), F
         (r#"{"required":["a","b"],"properties":{"a":{}}}"#, A_AND_B),
         (
             r#"{"required":[5],"properties":{"a":{}},"additionalProperties":false}"#,
-            "refused: type String at /items/required, 5",
+            NO_STRING,
         ),
     ] {
         let found = said_without_layer::<SerdeJson>(&rt, alloc, schema, &instance)?;
@@ -387,21 +384,13 @@ fn without_the_applicator_vocabulary(rt: HostRuntime) -> Result<(), Fail> {
     let alone = r#"{"required":["a","b"]}"#;
     for (draft, schema, wanted) in [
         (Draft::Draft202012, closed, "required b"),
-        (
-            Draft::Draft202012,
-            three,
-            "required a, required b, required c",
-        ),
+        (Draft::Draft202012, three, A_B_AND_C),
         (Draft::Draft202012, alone, A_AND_B),
         (Draft::Draft202012, one, A),
         (Draft::Draft201909, one, A),
         (Draft::Draft202012, two, A_AND_B),
         (Draft::Draft201909, two, A_AND_B),
-        (
-            Draft::Draft201909,
-            bad,
-            "refused: type String at /items/required, 5",
-        ),
+        (Draft::Draft201909, bad, NO_STRING),
         (Draft::Draft7, one, HANDED_ON),
         (Draft::Draft6, one, HANDED_ON),
         (Draft::Draft4, two, HANDED_ON),
@@ -417,24 +406,11 @@ fn without_the_applicator_vocabulary(rt: HostRuntime) -> Result<(), Fail> {
     Ok(())
 }
 
-// What `required` of a value at a location says of an instance, over one representation.
-fn answer_at<F: Json>(
-    rt: &impl Abort,
-    alloc: Global,
-    value: &str,
-    instance: &F::Node,
-) -> Result<String, Fail> {
-    let schema = Value::from_str(alloc, value)?;
-    let location = member_location(alloc, "dependentRequired")?;
-    let compiled = required::compile_with_path::<F>(alloc, &schema, location);
-    outcome::<F, LeafValidator<F>>(rt, alloc, compiled, instance)
-}
-
 #[test]
 fn at_a_location_nothing_is_handed_on(rt: HostRuntime) -> Result<(), Fail> {
     let alloc = rt.alloc();
     let instance = Value::from_str(alloc, r#"{"b":1}"#)?;
-    for (value, wanted) in [
+    for (text, wanted) in [
         (r#"["a"]"#, "required a at /7 by /dependentRequired"),
         (r#"["b"]"#, "valid"),
         (r#"["a","b"]"#, "required a at /7 by /dependentRequired"),
@@ -442,8 +418,11 @@ fn at_a_location_nothing_is_handed_on(rt: HostRuntime) -> Result<(), Fail> {
         ("[5]", "refused: type String at /dependentRequired, 5"),
         ("5", "refused: type Array at /dependentRequired, 5"),
     ] {
-        let found = answer_at::<SerdeJson>(&rt, alloc, value, &instance)?;
-        assert_eq!(rt; found.as_str(), wanted, "{value}");
+        let value = Value::from_str(alloc, text)?;
+        let location = member_location(alloc, "dependentRequired")?;
+        let compiled = required::compile_with_path::<SerdeJson>(alloc, &value, location);
+        let found = outcome::<_, LeafValidator<SerdeJson>>(&rt, alloc, compiled, &instance)?;
+        assert_eq!(rt; found.as_str(), wanted, "{text}");
     }
     Ok(())
 }

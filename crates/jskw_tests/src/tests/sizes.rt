@@ -114,13 +114,8 @@ const SIZES: &str = r#"{"minItems":1}|[]|minItems|minItems 1
 
 #[test]
 fn sizes_around_their_bounds(rt: HostRuntime) -> Result<(), Fail> {
-    check_rows(
-        &rt,
-        rt.alloc(),
-        &all_of(rt.alloc(), Draft::Draft202012),
-        SIZES,
-    )?;
-    check_rows(&rt, rt.alloc(), &all_of(rt.alloc(), Draft::Draft4), SIZES)
+    check_rows(&rt, rt.alloc(), Draft::Draft202012, SIZES)?;
+    check_rows(&rt, rt.alloc(), Draft::Draft4, SIZES)
 }
 
 // From no item or member to one more than the bound.
@@ -151,6 +146,5 @@ const SIZES_AROUND_THREE: &str = r#"{"minItems":3}|[]|minItems|minItems 3
 
 #[test]
 fn each_size_around_a_bound(rt: HostRuntime) -> Result<(), Fail> {
-    let settings = all_of(rt.alloc(), Draft::Draft7);
-    check_rows(&rt, rt.alloc(), &settings, SIZES_AROUND_THREE)
+    check_rows(&rt, rt.alloc(), Draft::Draft7, SIZES_AROUND_THREE)
 }

@@ -1,6 +1,7 @@
 // Errors as texts: the kind with what the keyword asked for, and both locations.
+use super::TYPES;
 use jskw_report::{CompileFault, EnumOptions, TypeKind, ValidationError, ValidationErrorKind};
-use jskw_value::{Json, JsonType, JsonTypeSet, Node, SerdeJson};
+use jskw_value::{Json, JsonTypeSet, Node, SerdeJson};
 use serde_json::Value;
 use std::alloc::{AllocError, Global};
 use std::test::Fail;
@@ -8,15 +9,7 @@ use std::test::Fail;
 // The types of a set, in the order of their names.
 fn set_text(alloc: Global, types: JsonTypeSet) -> Result<String, AllocError> {
     let mut text = String::new(alloc);
-    for json_type in [
-        JsonType::Array,
-        JsonType::Boolean,
-        JsonType::Integer,
-        JsonType::Null,
-        JsonType::Number,
-        JsonType::Object,
-        JsonType::String,
-    ] {
+    for (_, json_type) in TYPES {
         if types.contains(json_type) {
             let name = format!(in alloc; " {json_type:?}")?;
             text.push_str(name.as_str())?;

@@ -2,7 +2,7 @@
 use super::observers::observed;
 use super::places::member_location;
 use super::trees::number;
-use super::{DRAFTS_AFTER_4, all_of, check_rows};
+use super::{DRAFTS_AFTER_4, check_rows};
 use jskw_leaf::boolean::FalseValidator;
 use jskw_leaf::legacy::type_draft_4;
 use jskw_leaf::type_::{
@@ -72,20 +72,17 @@ const FRACTIONS: &str = r#"{"type":"integer"}|#10e-0|type|valid
 #[test]
 fn named_types(rt: HostRuntime) -> Result<(), Fail> {
     for draft in [Draft::Draft4, Draft::Draft202012] {
-        let settings = all_of(rt.alloc(), draft);
-        check_rows(&rt, rt.alloc(), &settings, TYPES)?;
-        check_rows(&rt, rt.alloc(), &settings, BAD_TYPES)?;
+        check_rows(&rt, rt.alloc(), draft, TYPES)?;
+        check_rows(&rt, rt.alloc(), draft, BAD_TYPES)?;
     }
     Ok(())
 }
 
 #[test]
 fn integers_with_a_zero_fraction(rt: HostRuntime) -> Result<(), Fail> {
-    let settings = all_of(rt.alloc(), Draft::Draft4);
-    check_rows(&rt, rt.alloc(), &settings, FRACTIONS_IN_DRAFT_4)?;
+    check_rows(&rt, rt.alloc(), Draft::Draft4, FRACTIONS_IN_DRAFT_4)?;
     for draft in DRAFTS_AFTER_4 {
-        let settings = all_of(rt.alloc(), draft);
-        check_rows(&rt, rt.alloc(), &settings, FRACTIONS)?;
+        check_rows(&rt, rt.alloc(), draft, FRACTIONS)?;
     }
     Ok(())
 }

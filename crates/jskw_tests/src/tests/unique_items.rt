@@ -27,6 +27,11 @@ const ITEMS: &str = r#"{"uniqueItems":true}|[]|uniqueItems|valid
 {"uniqueItems":true}|"aa"|uniqueItems|valid
 {"uniqueItems":true}|{"a":1,"b":1}|uniqueItems|valid"#;
 
+#[test]
+fn unique_items(rt: HostRuntime) -> Result<(), Fail> {
+    check_rows(&rt, rt.alloc(), Draft::Draft202012, ITEMS)
+}
+
 // It asserts nothing unless it is true.
 const OTHER_VALUES: &str = r#"{"uniqueItems":false}|[1,1]|uniqueItems|nothing is asserted
 {"uniqueItems":5}|[1,1]|uniqueItems|nothing is asserted
@@ -36,15 +41,8 @@ const OTHER_VALUES: &str = r#"{"uniqueItems":false}|[1,1]|uniqueItems|nothing is
 {"uniqueItems":[true]}|[1,1]|uniqueItems|nothing is asserted"#;
 
 #[test]
-fn unique_items(rt: HostRuntime) -> Result<(), Fail> {
-    let settings = all_of(rt.alloc(), Draft::Draft202012);
-    check_rows(&rt, rt.alloc(), &settings, ITEMS)
-}
-
-#[test]
 fn unique_items_asserts_nothing_unless_it_is_true(rt: HostRuntime) -> Result<(), Fail> {
-    let settings = all_of(rt.alloc(), Draft::Draft202012);
-    check_rows(&rt, rt.alloc(), &settings, OTHER_VALUES)
+    check_rows(&rt, rt.alloc(), Draft::Draft202012, OTHER_VALUES)
 }
 
 #[test]

@@ -7,17 +7,34 @@ use jskw_report::{
 use jskw_value::{DecimalJson, DecimalTree, Json, JsonType, JsonTypeSet, SerdeJson};
 use serde_json::Value;
 use std::alloc::{AllocError, Global};
+use std::process::Abort;
 use std::test::Fail;
 
-// The text of an error of the kind about the node.
-fn text_of<F: Json>(
+// An error of the kind about the node has this text.
+fn check_text<F: Json>(
+    rt: &impl Abort,
     alloc: Global,
     kind: ValidationErrorKind<'_>,
     instance: &F::Node,
-) -> Result<String, AllocError> {
+    text: &str,
+) -> Result<(), AllocError> {
     let schema_path = Location::new(alloc);
     let error: ValidationError<F> = root_error(alloc, kind, &schema_path, instance);
-    error.message(alloc)
+    assert_eq!(rt; error.message(alloc)?.as_str(), text);
+    Ok(())
+}
+
+// So has one about a type, of an instance that is given as a JSON text.
+fn check_wrong_type(
+    rt: &impl Abort,
+    alloc: Global,
+    kind: TypeKind,
+    instance: &str,
+    text: &str,
+) -> Result<(), Fail> {
+    let instance = Value::from_str(alloc, instance)?;
+    let kind = ValidationErrorKind::WrongType { kind };
+    Ok(check_text::<SerdeJson>(rt, alloc, kind, &instance, text)?)
 }
 
 #[test]
@@ -151,8 +168,7 @@ fn each_kind_has_its_keyword_and_text(rt: HostRuntime) -> Result<(), Fail> {
     ] {
         assert_eq!(rt; kind.keyword(), keyword);
         let instance = Value::from_str(rt.alloc(), instance)?;
-        let found = text_of::<SerdeJson>(rt.alloc(), kind, &instance)?;
-        assert_eq!(rt; found.as_str(), text);
+        check_text::<SerdeJson>(&rt, rt.alloc(), kind, &instance, text)?;
     }
     Ok(())
 }
@@ -176,8 +192,7 @@ fn names_and_strings_are_escaped(rt: HostRuntime) -> Result<(), Fail> {
             "False schema does not allow \"\\\"\\u0001/\\n\"",
         ),
     ] {
-        let found = text_of::<SerdeJson>(rt.alloc(), kind, &instance)?;
-        assert_eq!(rt; found.as_str(), text);
+        check_text::<SerdeJson>(&rt, rt.alloc(), kind, &instance, text)?;
     }
     Ok(())
 }
@@ -203,17 +218,13 @@ fn options_are_named_up_to_three(rt: HostRuntime) -> Result<(), Fail> {
         let kind = ValidationErrorKind::Enum {
             options: EnumOptions::Listed(&listed),
         };
-        let found = text_of::<SerdeJson>(rt.alloc(), kind, &instance)?;
-        assert_eq!(rt; found.as_str(), text);
+        check_text::<SerdeJson>(&rt, rt.alloc(), kind, &instance, text)?;
     }
     let kind = ValidationErrorKind::Enum {
         options: EnumOptions::TypeNames,
     };
-    let found = text_of::<SerdeJson>(rt.alloc(), kind, &instance)?;
-    assert_eq!(rt;
-        found.as_str(),
-        "\"z\" is not one of \"array\", \"boolean\" or 5 other candidates"
-    );
+    let text = "\"z\" is not one of \"array\", \"boolean\" or 5 other candidates";
+    check_text::<SerdeJson>(&rt, rt.alloc(), kind, &instance, text)?;
     Ok(())
 }
 
@@ -241,12 +252,7 @@ fn types_are_named_in_one_order(rt: HostRuntime) -> Result<(), Fail> {
              \"array\", \"object\"",
         ),
     ] {
-        let instance = Value::from_str(rt.alloc(), "1")?;
-        let kind = ValidationErrorKind::WrongType {
-            kind: TypeKind::Multiple(types),
-        };
-        let found = text_of::<SerdeJson>(rt.alloc(), kind, &instance)?;
-        assert_eq!(rt; found.as_str(), text);
+        check_wrong_type(&rt, rt.alloc(), TypeKind::Multiple(types), "1", text)?;
     }
     Ok(())
 }
@@ -262,12 +268,7 @@ fn each_type_has_its_name(rt: HostRuntime) -> Result<(), Fail> {
         (JsonType::Object, "\"x\" is not of type \"object\""),
         (JsonType::String, "\"x\" is not of type \"string\""),
     ] {
-        let instance = Value::from_str(rt.alloc(), "\"x\"")?;
-        let kind = ValidationErrorKind::WrongType {
-            kind: TypeKind::Single(json_type),
-        };
-        let found = text_of::<SerdeJson>(rt.alloc(), kind, &instance)?;
-        assert_eq!(rt; found.as_str(), text);
+        check_wrong_type(&rt, rt.alloc(), TypeKind::Single(json_type), "\"x\"", text)?;
     }
     Ok(())
 }
@@ -280,8 +281,7 @@ fn decimals_are_written_with_their_scales(rt: HostRuntime) -> Result<(), Fail> {
         (6, 0, "6 is less than the minimum of 7"),
     ] {
         let kind = ValidationErrorKind::Minimum { limit: 7 };
-        let found = text_of::<DecimalJson>(rt.alloc(), kind, &number(coefficient, scale)?)?;
-        assert_eq!(rt; found.as_str(), text);
+        check_text::<DecimalJson>(&rt, rt.alloc(), kind, &number(coefficient, scale)?, text)?;
     }
     Ok(())
 }

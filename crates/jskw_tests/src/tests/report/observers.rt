@@ -50,20 +50,12 @@ fn an_error_is_appended_behind_the_others(rt: HostRuntime) -> Result<(), Fail> {
     let instance = Value::Null;
     let schema_path = Location::new(rt.alloc());
     let mut errors: Vec<ValidationError<SerdeJson>> = Vec::new(rt.alloc());
-    let first = root_error(
-        rt.alloc(),
-        ValidationErrorKind::Contains,
-        &schema_path,
-        &instance,
-    );
+    let kind = ValidationErrorKind::Contains;
+    let first = root_error(rt.alloc(), kind, &schema_path, &instance);
     append_first(Err(Fault::Invalid(first)), &mut errors)?;
     append_first(Ok(()), &mut errors)?;
-    let second = root_error(
-        rt.alloc(),
-        ValidationErrorKind::UniqueItems,
-        &schema_path,
-        &instance,
-    );
+    let kind = ValidationErrorKind::UniqueItems;
+    let second = root_error(rt.alloc(), kind, &schema_path, &instance);
     append_first(Err(Fault::Invalid(second)), &mut errors)?;
     let answer = append_first(Err(Fault::Memory(AllocError)), &mut errors);
     assert!(rt; answer.is_err());

@@ -1,19 +1,22 @@
 // JSON pointers. The expected texts are those of RFC 6901, sections 3 to 5.
+use crate::tests::pair;
 use crate::tests::places::member_location;
 use jskw_report::{LazyLocation, Location, LocationSegment};
 use std::test::Fail;
 
+// Names, each with its pointer.
+const NAMES: &str = r#"|/
+foo|/foo
+a/b|/a~1b
+m~n|/m~0n
+~1|/~01
+/~|/~1~0
+c%d "\é|/c%d "\é"#;
+
 #[test]
 fn names_are_escaped(rt: HostRuntime) -> Result<(), Fail> {
-    for (name, text) in [
-        ("", "/"),
-        ("foo", "/foo"),
-        ("a/b", "/a~1b"),
-        ("m~n", "/m~0n"),
-        ("~1", "/~01"),
-        ("/~", "/~1~0"),
-        ("c%d \"\\é", "/c%d \"\\é"),
-    ] {
+    for line in NAMES.lines() {
+        let (name, text) = pair(line)?;
         assert_eq!(rt; member_location(rt.alloc(), name)?.as_str(), text);
     }
     Ok(())

@@ -50,26 +50,7 @@ fn a_set_has_what_was_inserted(rt: HostRuntime) -> Result<(), Fail> {
 fn names(alloc: Global, settings: &Settings, are_read: bool) -> Result<String, Fail> {
     let ctx = Context::<SerdeJson>::new(alloc, settings);
     let mut names = String::new(alloc);
-    for keyword in [
-        KeywordName::TypeKeyword,
-        KeywordName::MinItems,
-        KeywordName::MaxItems,
-        KeywordName::Items,
-        KeywordName::PrefixItems,
-        KeywordName::AdditionalItems,
-        KeywordName::Contains,
-        KeywordName::UniqueItems,
-        KeywordName::Const,
-        KeywordName::Enum,
-        KeywordName::Minimum,
-        KeywordName::Maximum,
-        KeywordName::ExclusiveMinimum,
-        KeywordName::ExclusiveMaximum,
-        KeywordName::MultipleOf,
-        KeywordName::MinProperties,
-        KeywordName::MaxProperties,
-        KeywordName::Required,
-    ] {
+    for keyword in KeywordName::ALL {
         if keyword.stands(&ctx) == are_read {
             names.push_str(keyword.as_str())?;
             names.push(' ')?;

@@ -1,4 +1,6 @@
 // Decimals: their range, how they compare and divide, and what integers they are.
+use crate::tests::columns;
+use crate::tests::trees::decimal_of;
 use jskw_value::{Decimal, JsonNumber};
 use std::cmp::Ordering;
 use std::test::Fail;
@@ -62,30 +64,24 @@ fn decimals_are_multiples_of_divisors(rt: HostRuntime) -> Result<(), Fail> {
     Ok(())
 }
 
+// Two decimals by coefficient and scale, and whether they are equal.
+const DECIMALS: &str = "1e-0|10e-1|equal
+0e-0|0e-18|equal
+-5e-1|-50e-2|equal
+-5e-1|5e-1|different
+1e-0|1e-1|different
+18e-0|18000000000000000000e-18|equal
+-9223372036854775808e-0|-9223372036854775808e-18|different
+18446744073709551615e-0|18446744073709551614e-0|different";
+
 #[test]
 fn equality_is_by_mathematical_value(rt: HostRuntime) -> Result<(), Fail> {
-    for (coefficient, scale, other_coefficient, other_scale, are_equal) in [
-        (1, 0, 10, 1, true),
-        (0, 0, 0, 18, true),
-        (-5, 1, -50, 2, true),
-        (-5, 1, 5, 1, false),
-        (1, 0, 1, 1, false),
-        (18, 0, 18000000000000000000, 18, true),
-        (-9223372036854775808, 0, -9223372036854775808, 18, false),
-        (18446744073709551615, 0, 18446744073709551614, 0, false),
-    ] {
-        let left = Decimal::new(coefficient, scale).ok_or("left")?;
-        let right = Decimal::new(other_coefficient, other_scale).ok_or("right")?;
-        assert_eq!(rt;
-            left.equals(&right),
-            are_equal,
-            "{coefficient} and {other_coefficient}"
-        );
-        assert_eq!(rt;
-            right.equals(&left),
-            are_equal,
-            "{other_coefficient} and {coefficient}"
-        );
+    for line in DECIMALS.lines() {
+        let (left, right, stands) = columns(line)?;
+        let (left, right) = (decimal_of(left)?, decimal_of(right)?);
+        let are_equal = stands == "equal";
+        assert_eq!(rt; left.equals(&right), are_equal, "{line}");
+        assert_eq!(rt; right.equals(&left), are_equal, "{line}");
     }
     Ok(())
 }

@@ -1,4 +1,5 @@
 // Equality within a representation and across two.
+use crate::tests::columns;
 use crate::tests::trees::{insert, number, objects_in_two_orders, string};
 use jskw_value::laws::equality_is_equivalence;
 use jskw_value::names::names_are_distinct;
@@ -6,37 +7,32 @@ use jskw_value::{Array, DecimalTree, Members, Node};
 use serde_json::Value;
 use std::test::Fail;
 
+// Two values, and whether they are equal.
+const VALUES: &str = r#"null|null|equal
+null|false|different
+[]|{}|different
+[1,2]|[2,1]|different
+[1,2]|[1]|different
+{"a":1,"b":2}|{"b":2,"a":1}|equal
+{"a":1,"b":2}|{"a":1,"c":2}|different
+{"a":1}|{"a":1,"b":2}|different
+{"a":[1,{"b":null}]}|{"a":[1,{"b":null}]}|equal
+"a"|"b"|different
+1|"1"|different
+1.5|1.5|different
+18446744073709551615|-1|different"#;
+
 #[test]
 fn values_of_one_representation(rt: HostRuntime) -> Result<(), Fail> {
-    for (left, right, are_equal) in [
-        ("null", "null", true),
-        ("null", "false", false),
-        ("[]", "{}", false),
-        ("[1,2]", "[2,1]", false),
-        ("[1,2]", "[1]", false),
-        ("{\"a\":1,\"b\":2}", "{\"b\":2,\"a\":1}", true),
-        ("{\"a\":1,\"b\":2}", "{\"a\":1,\"c\":2}", false),
-        ("{\"a\":1}", "{\"a\":1,\"b\":2}", false),
-        ("{\"a\":[1,{\"b\":null}]}", "{\"a\":[1,{\"b\":null}]}", true),
-        ("\"a\"", "\"b\"", false),
-        ("1", "\"1\"", false),
-        ("1.5", "1.5", false),
-        ("18446744073709551615", "-1", false),
-    ] {
-        let left_value = Value::from_str(rt.alloc(), left)?;
-        let right_value = Value::from_str(rt.alloc(), right)?;
-        names_are_distinct(&left_value);
+    for line in VALUES.lines() {
+        let (left, right, stands) = columns(line)?;
+        let left = Value::from_str(rt.alloc(), left)?;
+        let right = Value::from_str(rt.alloc(), right)?;
+        names_are_distinct(&left);
         equality_is_equivalence();
-        assert_eq!(rt;
-            left_value.equals(&right_value),
-            are_equal,
-            "{left} and {right}"
-        );
-        assert_eq!(rt;
-            right_value.equals_value(&left_value),
-            are_equal,
-            "{right} and {left}"
-        );
+        let are_equal = stands == "equal";
+        assert_eq!(rt; left.equals(&right), are_equal, "{line}");
+        assert_eq!(rt; right.equals_value(&left), are_equal, "{line}");
     }
     Ok(())
 }

@@ -1,4 +1,5 @@
 // Floats and where they stand, in ordinary and in hostile values.
+use crate::tests::pair;
 use crate::tests::texts::written;
 use crate::tests::trees::number;
 use jskw_value::pointer::{push_index, push_name};
@@ -7,17 +8,19 @@ use serde_json::Value;
 use std::alloc::Global;
 use std::test::Fail;
 
+// Values, each with the pointer to its first float.
+const FLOATS: &str = r#"[1,1.5]|/1
+1.0|
+[0,[{"x":[1.5]},2.5],3.5]|/1/0/x/0
+{"b":0.5,"a":0.5}|/a
+{"a":[0,{"b/~c":0.5}]}|/a/1/b~1~0c
+{"":{"~":{"/":0.5}}}|//~0/~1
+[0,1,2,3,4,5,6,7,8,9,-0.5]|/10"#;
+
 #[test]
 fn the_first_float_by_its_location(rt: HostRuntime) -> Result<(), Fail> {
-    for (text, location) in [
-        ("[1,1.5]", "/1"),
-        ("1.0", ""),
-        ("[0,[{\"x\":[1.5]},2.5],3.5]", "/1/0/x/0"),
-        ("{\"b\":0.5,\"a\":0.5}", "/a"),
-        ("{\"a\":[0,{\"b/~c\":0.5}]}", "/a/1/b~1~0c"),
-        ("{\"\":{\"~\":{\"/\":0.5}}}", "//~0/~1"),
-        ("[0,1,2,3,4,5,6,7,8,9,-0.5]", "/10"),
-    ] {
+    for line in FLOATS.lines() {
+        let (text, location) = pair(line)?;
         let value = Value::from_str(rt.alloc(), text)?;
         assert!(rt; !value.is_lawful(), "{text}");
         let found = value.first_unlawful(rt.alloc())?.ok_or("no location")?;

@@ -1,4 +1,5 @@
 // What nodes answer, through the bounds that generic code knows.
+use crate::tests::pair;
 use crate::tests::trees::{insert, number, string};
 use jskw_value::{Array, DecimalJson, DecimalTree, Json, Members, Node, Object, SerdeJson};
 use serde_json::Value;
@@ -25,19 +26,21 @@ fn kinds<N: Node>(alloc: Global, node: &N) -> Result<String, AllocError> {
     Ok(kinds)
 }
 
+// Values, each with the letters of its questions.
+const KINDS: &str = r#"null|0
+1|n
+1.5|n!
+""|s
+[null]|a
+[1.5]|a!
+{"a":1}|o
+true|t
+false|f"#;
+
 #[test]
 fn a_node_is_of_one_kind(rt: HostRuntime) -> Result<(), Fail> {
-    for (text, letters) in [
-        ("null", "0"),
-        ("1", "n"),
-        ("1.5", "n!"),
-        ("\"\"", "s"),
-        ("[null]", "a"),
-        ("[1.5]", "a!"),
-        ("{\"a\":1}", "o"),
-        ("true", "t"),
-        ("false", "f"),
-    ] {
+    for line in KINDS.lines() {
+        let (text, letters) = pair(line)?;
         let value = Value::from_str(rt.alloc(), text)?;
         assert_eq!(rt; kinds(rt.alloc(), &value)?.as_str(), letters);
     }

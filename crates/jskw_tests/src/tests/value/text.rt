@@ -1,42 +1,44 @@
 // The compact JSON text of values, which no contract states.
+use crate::tests::pair;
 use crate::tests::texts::written;
-use crate::tests::trees::{insert, number, string};
+use crate::tests::trees::{decimal_of, insert, number, string};
 use jskw_value::{DecimalTree, Members};
 use serde_json::Value;
 use std::test::Fail;
 
+// Decimals by coefficient and scale, each with its text.
+const DECIMALS: &str = "7e-0|7
+10e-1|1.0
+-5e-1|-0.5
+0e-0|0
+0e-1|0.0
+-300e-2|-3.00
+1e-18|0.000000000000000001
+18446744073709551615e-18|18.446744073709551615
+-9223372036854775808e-0|-9223372036854775808
+-9223372036854775808e-18|-9.223372036854775808";
+
 #[test]
 fn decimals_have_the_digits_of_their_scale(rt: HostRuntime) -> Result<(), Fail> {
-    for (coefficient, scale, text) in [
-        (7, 0, "7"),
-        (10, 1, "1.0"),
-        (-5, 1, "-0.5"),
-        (0, 0, "0"),
-        (0, 1, "0.0"),
-        (-300, 2, "-3.00"),
-        (1, 18, "0.000000000000000001"),
-        (18446744073709551615, 18, "18.446744073709551615"),
-        (-9223372036854775808, 0, "-9223372036854775808"),
-        (-9223372036854775808, 18, "-9.223372036854775808"),
-    ] {
-        let found = written(&number(coefficient, scale)?, String::new(rt.alloc()))?;
-        assert_eq!(rt; found.as_str(), text);
+    for line in DECIMALS.lines() {
+        let (decimal, text) = pair(line)?;
+        let tree = DecimalTree::Number(decimal_of(decimal)?);
+        assert_eq!(rt; written(&tree, String::new(rt.alloc()))?.as_str(), text);
     }
     Ok(())
 }
 
+// Values, each with its compact text.
+const VALUES: &str = r#"null|null
+ [ true , false , [ ] , { } ] |[true,false,[],{}]
+{"b": 1, "a": [1, "x"]}|{"a":[1,"x"],"b":1}
+[1.5, 1e3, 18446744073709551615]|[float,float,18446744073709551615]
+{"": {"": -1}}|{"":{"":-1}}"#;
+
 #[test]
 fn values_are_written_compactly(rt: HostRuntime) -> Result<(), Fail> {
-    for (text, compact) in [
-        ("null", "null"),
-        (" [ true , false , [ ] , { } ] ", "[true,false,[],{}]"),
-        ("{\"b\": 1, \"a\": [1, \"x\"]}", "{\"a\":[1,\"x\"],\"b\":1}"),
-        (
-            "[1.5, 1e3, 18446744073709551615]",
-            "[float,float,18446744073709551615]",
-        ),
-        ("{\"\": {\"\": -1}}", "{\"\":{\"\":-1}}"),
-    ] {
+    for line in VALUES.lines() {
+        let (text, compact) = pair(line)?;
         let value = Value::from_str(rt.alloc(), text)?;
         let found = written(&value, String::new(rt.alloc()))?;
         assert_eq!(rt; found.as_str(), compact);

@@ -1,20 +1,11 @@
 // Types and sets of them.
-use crate::tests::trees::number;
+use crate::tests::trees::decimal_of;
+use crate::tests::{TYPES, pair};
 use jskw_value::{DecimalJson, DecimalTree, Json, JsonType, JsonTypeSet, Node, SerdeJson};
 use serde_json::Value;
 use std::alloc::{AllocError, Global};
 use std::str::FromStr;
 use std::test::Fail;
-
-const TYPES: [(&str, JsonType); 7] = [
-    ("array", JsonType::Array),
-    ("boolean", JsonType::Boolean),
-    ("integer", JsonType::Integer),
-    ("null", JsonType::Null),
-    ("number", JsonType::Number),
-    ("object", JsonType::Object),
-    ("string", JsonType::String),
-];
 
 #[test]
 fn names_of_types(rt: HostRuntime) {
@@ -60,18 +51,20 @@ fn types_of<F: Json>(alloc: Global, node: &F::Node) -> Result<String, AllocError
     Ok(names)
 }
 
+// Values, each with the names of its types.
+const VALUES: &str = r#"null| null
+true| boolean
+1| integer number
+-9223372036854775808| integer number
+"1"| string
+[1]| array
+{}| object
+1.0|"#;
+
 #[test]
 fn values_are_of_their_types(rt: HostRuntime) -> Result<(), Fail> {
-    for (text, names) in [
-        ("null", " null"),
-        ("true", " boolean"),
-        ("1", " integer number"),
-        ("-9223372036854775808", " integer number"),
-        ("\"1\"", " string"),
-        ("[1]", " array"),
-        ("{}", " object"),
-        ("1.0", ""),
-    ] {
+    for line in VALUES.lines() {
+        let (text, names) = pair(line)?;
         let value = Value::from_str(rt.alloc(), text)?;
         assert_eq!(rt; types_of::<SerdeJson>(rt.alloc(), &value)?.as_str(), names);
     }
@@ -82,16 +75,18 @@ fn values_are_of_their_types(rt: HostRuntime) -> Result<(), Fail> {
     Ok(())
 }
 
+// Decimals by coefficient and scale.
+const DECIMALS: &str = "10e-1| integer number
+15e-1| number
+1e-0| integer number
+0e-18| integer number
+1e-18| number";
+
 #[test]
 fn a_zero_fraction_makes_an_integer(rt: HostRuntime) -> Result<(), Fail> {
-    for (coefficient, scale, names) in [
-        (10, 1, " integer number"),
-        (15, 1, " number"),
-        (1, 0, " integer number"),
-        (0, 18, " integer number"),
-        (1, 18, " number"),
-    ] {
-        let tree = number(coefficient, scale)?;
+    for line in DECIMALS.lines() {
+        let (decimal, names) = pair(line)?;
+        let tree = DecimalTree::Number(decimal_of(decimal)?);
         assert_eq!(rt; types_of::<DecimalJson>(rt.alloc(), &tree)?.as_str(), names);
     }
     assert_eq!(rt;
