@@ -1,5 +1,5 @@
 -- The options of an `enum`, as the validators look for them.
-use Rattle.std.proofs.Common.{◌≡◌, ℕ, zero, ◌^◌, ℤ, pos, List, ◌∷◌, Bool, true, false, ◌&&◌, ◌||◌, if◌then◌else◌, nat_lt, Option, Some, None, is_some, refl, sym, ◌∙◌, subst, inl, inr}
+use Rattle.std.proofs.Common.{◌≡◌, ℕ, zero, ◌^◌, ℤ, pos, List, ◌∷◌, Bool, true, false, ◌&&◌, ◌||◌, if◌then◌else◌, nat_lt, Option, Some, None, is_some, refl, sym, ap, ◌∙◌, subst, inl, inr}
 use Rattle.std.proofs.lemmas.Bool.{true≢false, and_parts, or_cases, or_parts, both_ways, false_from_ne_true}
 use Rattle.std.proofs.lemmas.List.Sorted.{list_any-IsPermutation}
 use Rattle.std.specs.Prelude.{IsSome}
@@ -22,7 +22,7 @@ use Rattle.jskw_value.specs.declared.types.JsonTypeSet.{JsonTypeSet}
 use Rattle.jskw_value.specs.Pointer.{Pointer}
 use Rattle.jskw_report.specs.KeywordValue.{map_ok, unless_float, const_value, enum_value, first_float_item}
 use Rattle.jskw_report.specs.Holds.{is_option}
-use Rattle.jskw_leaf.specs.Options.{options_of, option_types, AreOptions, some_text, some_integer, picked, only, has_null, integer_of}
+use Rattle.jskw_leaf.specs.Options.{options_of, option_types, AreOptions, has_text, has_integer, is_text, is_integer, picked, only, has_null, integer_of}
 
 -- an array lists its items
 pub listed : (d : Data) → IsSome (as_array d) → array (options_of d) ≡ d
@@ -77,49 +77,61 @@ no_option s ds t e h = false_from_ne_true _ (λ k. both_ways _ (or_parts _ _ h).
 
 -- ---- options of one kind, and null
 
--- `each` says what one option accepts: where `kind` sees a string or a number, what is the same; else null, where it is null
+-- what an option or the others give, and what null gives, each by itself
+apart : (s u a n z : Bool) → ((s || (a && z)) || (u || (n && z))) ≡ ((s || u) || ((a || n) && z))
+apart true u a n z = refl
+apart false u false n z = refl
+apart false true true n true = refl
+apart false true true n false = refl
+apart false false true n true = refl
+apart false false true true false = refl
+apart false false true false false = refl
+
+-- `each` says what one option accepts: where `kind` sees a string or a number, what is the same; and null, where it is null
 module _ {X Y : Type 0} (pick : Data → Option X) (kind : Tree → Option Y) (same : X → Y → Bool)
     (each : (d : Data) (t : Tree) → (is_some (pick d) || is_some (as_null d)) ≡ true
-    → equal (tree_of d) t ≡ option_map_or (λ y. option_map_or (λ x. same x y) (pick d) false) (kind t) (is_some (as_null d) && tree.is_null t)) where
+    → equal (tree_of d) t ≡ (option_map_or (λ y. option_map_or (λ x. same x y) (pick d) false) (kind t) false || (is_some (as_null d) && tree.is_null t))) where
   -- one option before others; z tells whether the tree is null, a and n whether null is the option and one of the others
   one_more : (v : Option Y) (p : Option X) (xs : List X) (a n z : Bool)
-      → (option_map_or (λ y. option_map_or (λ x. same x y) p false) v (a && z) || option_map_or (λ y. list_any (λ x. same x y) xs) v (n && z))
-      ≡ option_map_or (λ y. list_any (λ x. same x y) (option_map_or (λ x. x ∷ xs) p xs)) v ((a || n) && z)
-  one_more (Some y) (Some x) xs a n z = refl
-  one_more (Some y) None xs a n z = refl
-  one_more None p xs false n z = refl
-  one_more None p xs true n true = refl
-  one_more None p xs true true false = refl
-  one_more None p xs true false false = refl
+      → ((option_map_or (λ y. option_map_or (λ x. same x y) p false) v false || (a && z)) || (option_map_or (λ y. list_any (λ x. same x y) xs) v false || (n && z)))
+      ≡ (option_map_or (λ y. list_any (λ x. same x y) (option_map_or (λ x. x ∷ xs) p xs)) v false || ((a || n) && z))
+  one_more (Some y) (Some x) xs a n z = apart (same x y) (list_any (λ x. same x y) xs) a n z
+  one_more (Some y) None xs a n z = apart false (list_any (λ x. same x y) xs) a n z
+  one_more None p xs a n z = apart false false a n z
 
-  of_picked : (ds : Items) → only pick ds ≡ true → AreOptions kind (λ y. list_any (λ x. same x y) (picked pick ds)) (has_null ds) ds
+  of_picked : (ds : Items) → only (λ d. is_some (pick d)) ds ≡ true → AreOptions (λ t. option_map_or (λ y. list_any (λ x. same x y) (picked pick ds)) (kind t) false) (has_null ds) ds
   of_picked no_items h t = go (kind t)
     where
-      go : (v : Option Y) → false ≡ option_map_or (λ y. false) v false
+      go : (v : Option Y) → false ≡ (option_map_or (λ y. false) v false || false)
       go None = refl
       go (Some y) = refl
   of_picked (item d ds) h t =
-      let all = and_parts (is_some (pick d) || is_some (as_null d)) (only pick ds) h in
+      let all = and_parts (is_some (pick d) || is_some (as_null d)) (only (λ d. is_some (pick d)) ds) h in
       rw (each d t all.0, of_picked ds all.1 t) (one_more (kind t) (pick d) (picked pick ds) (is_some (as_null d)) (has_null ds) (tree.is_null t))
 
-  -- the options in any order, with a mark that tells whether null is one of them
-  are_options : (d : Data) (ds : Items) (xs : List X) (n : Bool) → d ≡ array ds → only pick ds ≡ true → IsPermutation (picked pick ds) xs → n ≡ has_null ds
-      → AreOptions kind (λ y. list_any (λ x. same x y) xs) n (options_of d)
-  are_options d ds xs n e h p g t = rw (e, g) (of_picked ds h t ∙ go (kind t))
+  -- the options in any order
+  are_options : (ds : Items) (xs : List X) → only (λ d. is_some (pick d)) ds ≡ true → IsPermutation (picked pick ds) xs
+      → AreOptions (λ t. option_map_or (λ y. list_any (λ x. same x y) xs) (kind t) false) (has_null ds) ds
+  are_options ds xs h p t = of_picked ds h t ∙ go (kind t)
     where
-      go : (v : Option Y) → option_map_or (λ y. list_any (λ x. same x y) (picked pick ds)) v (has_null ds && tree.is_null t) ≡ option_map_or (λ y. list_any (λ x. same x y) xs) v (has_null ds && tree.is_null t)
-      go (Some y) = list_any-IsPermutation (λ x. same x y) (picked pick ds) xs p
+      go : (v : Option Y) → (option_map_or (λ y. list_any (λ x. same x y) (picked pick ds)) v false || (has_null ds && tree.is_null t)) ≡ (option_map_or (λ y. list_any (λ x. same x y) xs) v false || (has_null ds && tree.is_null t))
+      go (Some y) = ap (λ b. b || (has_null ds && tree.is_null t)) (list_any-IsPermutation (λ x. same x y) (picked pick ds) xs p)
       go None = refl
 
+by_itself : (b : Bool) → b ≡ (b || false)
+by_itself true = refl
+by_itself false = refl
+
 -- what a string among the options, or null, accepts
-text_option : (d : Data) (t : Tree) → (is_some (as_str d) || is_some (as_null d)) ≡ true
-    → equal (tree_of d) t ≡ option_map_or (λ s. option_map_or (λ n. bytes_eq n s) (as_str d) false) (tree.as_string t) (is_some (as_null d) && tree.is_null t)
+text_option : (d : Data) (t : Tree) → (is_text d || is_some (as_null d)) ≡ true
+    → equal (tree_of d) t ≡ (option_map_or (λ s. option_map_or (λ n. bytes_eq n s) (as_str d) false) (tree.as_string t) false || (is_some (as_null d) && tree.is_null t))
 text_option json.null tree.null h = refl
 text_option json.null t h = refl
+text_option (json.string n) (tree.string s) h = by_itself (bytes_eq n s)
 text_option (json.string n) t h = refl
 text_option d t h = absurd (true≢false (sym h))
 
-pub are_texts : (d : Data) (ds : Items) (names : List (List ℕ)) (n : Bool) → d ≡ array ds → only as_str ds ≡ true → IsPermutation (picked as_str ds) names → n ≡ has_null ds → AreOptions tree.as_string (some_text names) n (options_of d)
+pub are_texts : (ds : Items) (names : List (List ℕ)) → only is_text ds ≡ true → IsPermutation (picked as_str ds) names → AreOptions (has_text names) (has_null ds) ds
 are_texts = are_options as_str tree.as_string bytes_eq text_option
 
 -- an integer as a number
@@ -133,15 +145,15 @@ number_option (json.negative w) m h = refl
 number_option (json.float x) m h = absurd (true≢false (sym h))
 
 -- what an integer among the options, or null, accepts
-integer_option : (d : Data) (t : Tree) → (is_some (integer_of d) || is_some (as_null d)) ≡ true
-    → equal (tree_of d) t ≡ option_map_or (λ m. option_map_or (λ z. num_equal (exact z zero) m) (integer_of d) false) (tree.as_number t) (is_some (as_null d) && tree.is_null t)
+integer_option : (d : Data) (t : Tree) → (is_integer d || is_some (as_null d)) ≡ true
+    → equal (tree_of d) t ≡ (option_map_or (λ m. option_map_or (λ z. num_equal (exact z zero) m) (integer_of d) false) (tree.as_number t) false || (is_some (as_null d) && tree.is_null t))
 integer_option json.null tree.null h = refl
 integer_option json.null t h = refl
-integer_option (json.number n) (tree.number m) h = number_option n m h
+integer_option (json.number n) (tree.number m) h = number_option n m h ∙ by_itself _
 integer_option (json.number n) t h = refl
 integer_option d t h = absurd (true≢false (sym h))
 
-pub are_integers : (d : Data) (ds : Items) (zs : List ℤ) (n : Bool) → d ≡ array ds → only integer_of ds ≡ true → IsPermutation (picked integer_of ds) zs → n ≡ has_null ds → AreOptions tree.as_number (some_integer zs) n (options_of d)
+pub are_integers : (ds : Items) (zs : List ℤ) → only is_integer ds ≡ true → IsPermutation (picked integer_of ds) zs → AreOptions (has_integer zs) (has_null ds) ds
 are_integers = are_options integer_of tree.as_number (λ z. num_equal (exact z zero)) integer_option
 
 -- ---- floats among the options

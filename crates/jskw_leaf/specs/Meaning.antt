@@ -21,9 +21,7 @@ use Rattle.jskw_leaf.specs.declared.const_.ConstNullValidator.{ConstNullValidato
 use Rattle.jskw_leaf.specs.declared.const_.ConstStringValidator.{ConstStringValidator}
 use Rattle.jskw_leaf.specs.declared.enum_.EnumValidator.{EnumValidator}
 use Rattle.jskw_leaf.specs.declared.enum_.SingleValueEnumValidator.{SingleValueEnumValidator}
-use Rattle.jskw_leaf.specs.declared.enum_.strings.SmallStringEnumValidator.{SmallStringEnumValidator}
-use Rattle.jskw_leaf.specs.declared.enum_.strings.BigStringEnumValidator.{BigStringEnumValidator}
-use Rattle.jskw_leaf.specs.declared.enum_.integers.IntegerEnumValidator.{IntegerEnumValidator}
+use Rattle.jskw_leaf.specs.declared.enum_.table.TableEnumValidator.{TableEnumValidator}
 use Rattle.jskw_leaf.specs.declared.unique_items.UniqueItemsValidator.{UniqueItemsValidator}
 use Rattle.jskw_leaf.specs.Options.{options_of}
 use Rattle.jskw_leaf.specs.declared.leaf.LeafValidator.{LeafValidator}
@@ -82,15 +80,9 @@ enum_any v = among_at v.location v.options
 abbrev pub enum_single : SingleValueEnumValidator → Placed
 enum_single v = among_at v.location v.options
 
--- those of strings or integers: N tells whether null is among them, and g is what is known of N
-abbrev pub enum_small_string : {N : Type 0} {g : _} → SmallStringEnumValidator N g → Placed
-enum_small_string v = among_at v.location v.options
-
-abbrev pub enum_big_string : {N : Type 0} {g : _} → BigStringEnumValidator N g → Placed
-enum_big_string v = among_at v.location v.options
-
-abbrev pub enum_integer : {N : Type 0} {g : _} → IntegerEnumValidator N g → Placed
-enum_integer v = among_at v.location v.options
+-- T is the table that they stand in, and N tells whether null is among them
+abbrev pub enum_table : {T N : Type 0} → TableEnumValidator T N → Placed
+enum_table v = among_at v.location v.listed
 
 -- ---- `uniqueItems`
 
@@ -130,12 +122,12 @@ leaf_assertion (ConstObject v) = const_value v
 leaf_assertion (ConstString v) = const_string v
 leaf_assertion (Enum v) = enum_any v
 leaf_assertion (SingleValueEnum v) = enum_single v
-leaf_assertion (SmallStringEnum v) = enum_small_string v
-leaf_assertion (NullableSmallStringEnum v) = enum_small_string v
-leaf_assertion (BigStringEnum v) = enum_big_string v
-leaf_assertion (NullableBigStringEnum v) = enum_big_string v
-leaf_assertion (IntegerEnum v) = enum_integer v
-leaf_assertion (NullableIntegerEnum v) = enum_integer v
+leaf_assertion (SmallStringEnum v) = enum_table v
+leaf_assertion (NullableSmallStringEnum v) = enum_table v
+leaf_assertion (BigStringEnum v) = enum_table v
+leaf_assertion (NullableBigStringEnum v) = enum_table v
+leaf_assertion (IntegerEnum v) = enum_table v
+leaf_assertion (NullableIntegerEnum v) = enum_table v
 leaf_assertion (UniqueItems v) = unique_items v
 leaf_assertion (Required v) = required_names (λ names. names) v
 leaf_assertion (SingleItemRequired v) = required_names (λ names. names) v

@@ -8,10 +8,11 @@ use Rattle.std.specs.Str.{bytes_eq}
 use Rattle.std.specs.declared.alloc.Global.{Global}
 use Rattle.std.specs.declared.cmp.Ordering.{Ordering}
 use Rattle.serde_json.specs.Data.{Data, array, Items, no_items, item}
-use Rattle.serde_json.specs.Find.{as_null, as_number, as_i64}
+use Rattle.serde_json.specs.Find as json
+use Rattle.serde_json.specs.Find.{as_null, as_str, as_i64}
 use Rattle.jskw_value.specs.Number.{Num, exact, num_equal}
 use Rattle.jskw_value.specs.Serde.{tree_of}
-use Rattle.jskw_value.specs.Tree.{Tree, is_null}
+use Rattle.jskw_value.specs.Tree.{Tree, as_number, as_string, is_null}
 use Rattle.jskw_value.specs.Types.{insert, json_type}
 use Rattle.jskw_value.specs.declared.types.JsonTypeSet.{JsonTypeSet}
 use Rattle.jskw_report.specs.Holds.{is_option}
@@ -30,13 +31,21 @@ not_among d = Enum (Listed (array (options_of d)))
 abbrev pub some_text : List (List ℕ) → List ℕ → Bool
 some_text names s = list_any (λ n. bytes_eq n s) names
 
+-- a string that is one of the texts
+abbrev pub has_text : List (List ℕ) → Tree → Bool
+has_text names t = option_map_or (some_text names) (as_string t) false
+
 -- one of the integers, by its mathematical value
 abbrev pub some_integer : List ℤ → Num → Bool
 some_integer zs n = list_any (λ z. num_equal (exact z zero) n) zs
 
--- which trees are options: where `kind` sees a string or a number, what passes the test; else null, where it is listed
-abbrev pub AreOptions : {Y : Type 0} → (Tree → Option Y) → (Y → Bool) → Bool → Items → Type 0
-AreOptions kind test null ds = (t : Tree) → is_option ds t ≡ option_map_or test (kind t) (null && is_null t)
+-- a number that is one of the integers
+abbrev pub has_integer : List ℤ → Tree → Bool
+has_integer zs t = option_map_or (some_integer zs) (as_number t) false
+
+-- the options are those trees that pass the test, and null where it is listed
+abbrev pub AreOptions : (Tree → Bool) → Bool → Items → Type 0
+AreOptions test null ds = (t : Tree) → is_option ds t ≡ (test t || (null && is_null t))
 
 -- what `pick` takes of the options
 abbrev pub picked : {X : Type 0} → (Data → Option X) → Items → List X
@@ -45,17 +54,23 @@ picked pick (item d ds) = option_map_or (λ x. x ∷ picked pick ds) (pick d) (p
 
 -- an integer from -2^63 to 2^63 - 1
 abbrev pub integer_of : Data → Option ℤ
-integer_of d = option_and_then as_i64 (as_number d)
+integer_of d = option_and_then as_i64 (json.as_number d)
+
+abbrev pub is_text : Data → Bool
+is_text d = is_some (as_str d)
+
+abbrev pub is_integer : Data → Bool
+is_integer d = is_some (integer_of d)
 
 -- null is an option
 abbrev pub has_null : Items → Bool
 has_null no_items = false
 has_null (item d ds) = is_some (as_null d) || has_null ds
 
--- `pick` takes each option, or it is null
-abbrev pub only : {X : Type 0} → (Data → Option X) → Items → Bool
-only pick no_items = true
-only pick (item d ds) = (is_some (pick d) || is_some (as_null d)) && only pick ds
+-- each option passes the test, or it is null
+abbrev pub only : (Data → Bool) → Items → Bool
+only test no_items = true
+only test (item d ds) = (test d || is_some (as_null d)) && only test ds
 
 -- the set with the types of the options
 abbrev pub option_types : JsonTypeSet → Items → JsonTypeSet

@@ -1,10 +1,10 @@
 //! `enum` (Validation 6.1.2): the instance equals one of the schema's values.
-ghost use Rattle.std.specs.Prelude.{◌≡◌, ◌&&◌, IsSome, refl};
+ghost use Rattle.std.specs.Prelude.{◌≡◌, IsSome, refl};
 ghost use Rattle.serde_json.specs.Find.{as_array};
 ghost use Rattle.serde_json.specs.View.{view, items_view};
 ghost use Rattle.jskw_value.specs.Equality.{equal};
 ghost use Rattle.jskw_value.specs.Serde.{value_tree};
-ghost use Rattle.jskw_value.specs.Tree.{Tree, is_null};
+ghost use Rattle.jskw_value.specs.Tree.{Tree};
 ghost use Rattle.jskw_value.specs.Types.{no_types};
 ghost use Rattle.jskw_report.specs.Errors.{kind_of};
 ghost use Rattle.jskw_report.specs.Holds.{is_option};
@@ -13,14 +13,15 @@ ghost use Rattle.jskw_leaf.specs.Options.{not_among, options_of, option_types};
 mod integers;
 mod make;
 mod strings;
+mod table;
 
 pub use integers::IntegerEnumValidator;
 use jskw_report::{Assertion, EnumOptions, Location, ValidationErrorKind};
-use jskw_value::{Json, JsonTypeSet, Node, Nullability};
+use jskw_value::{Json, JsonTypeSet, Node};
 pub use make::compile;
 use serde_json::Value;
-use std::marker::{Model, PhantomData};
 pub use strings::{BigStringEnumValidator, SmallStringEnumValidator};
+pub use table::TableEnumValidator;
 
 /// The validator of options of any types. An instance whose type no option has is compared with
 /// none.
@@ -86,39 +87,6 @@ impl Assertion for SingleValueEnumValidator {
 
     fn location(&self) -> &Location {
         &self.location
-    }
-}
-
-// Whether null is an option, as the type tells. Contracts see the answer.
-#[derive(Drop)]
-pub(crate) struct NullOption<N: Nullability> {
-    nullability: PhantomData<N>,
-}
-
-impl<N: Nullability> Model for NullOption<N> {
-    ghost use Rattle.std.specs.Prelude.{Bool};
-
-    ghost Value = { Bool };
-
-    ghost view = { λ n. N.ACCEPTS_NULL };
-}
-
-impl<N: Nullability> NullOption<N> {
-    pub(crate) fn new() -> NullOption<N>
-        ensures { result ≡ N.ACCEPTS_NULL }
-    {
-        NullOption {
-            nullability: PhantomData,
-        }
-    }
-
-    // Whether null is an option and the instance is null.
-    pub(crate) fn accepts<F: Json>(&self, instance: &F::Node) -> bool
-        ensures { result ≡ (self.now && is_null (F.Node.tree instance.now)) }
-    {
-        // to read the field is to look into the model
-        let _nullability = &self.nullability;
-        N::ACCEPTS_NULL && instance.is_null()
     }
 }
 

@@ -1,7 +1,6 @@
 //! The validator of options.
 ghost use Rattle.std.specs.Prelude.{◌≡◌, true, IfOk};
 ghost use Rattle.serde_json.specs.Data.{array, item, no_items};
-ghost use Rattle.serde_json.specs.Find.{as_str};
 ghost use Rattle.serde_json.specs.View.{view, items_view, members_view};
 ghost use Rattle.jskw_value.specs.Types.{no_types};
 ghost use Rattle.jskw_report.specs.Compile.{Makes, Compiles, reading};
@@ -9,12 +8,12 @@ ghost use Rattle.jskw_report.specs.Meaning.{placed};
 ghost use Rattle.jskw_report.specs.Read.{enum_keyword, keyword_location};
 ghost use Rattle.jskw_report.specs.declared.keyword.KeywordName.TheVariants.{Enum};
 ghost use Rattle.jskw_leaf.specs.Meaning.{among_at, leaf_keyword};
-ghost use Rattle.jskw_leaf.specs.Options.{only, has_null, integer_of, option_types};
+ghost use Rattle.jskw_leaf.specs.Options.{has_null, is_integer, is_text, only, option_types};
 
-use super::{
-    BigStringEnumValidator, EnumValidator, IntegerEnumValidator, SingleValueEnumValidator,
-    SmallStringEnumValidator,
-};
+use super::integers::SortedIntegers;
+use super::strings::FewStrings;
+use super::table::{OptionTable, TableEnumValidator};
+use super::{EnumValidator, SingleValueEnumValidator};
 use crate::floats::refuse_floats;
 use crate::leaf::LeafValidator;
 use jskw_report::{
@@ -76,10 +75,10 @@ fn validator_of<F: Json>(
     if items.len() == 1 {
         return one_value(options, &items[0], location);
     }
-    if are_strings(items) {
+    if are_all::<FewStrings>(items) {
         return strings(alloc, options, items, location);
     }
-    if are_integers(items) {
+    if are_all::<SortedIntegers>(items) {
         return integers(alloc, options, items, location);
     }
     Ok(LeafValidator::Enum(EnumValidator {
@@ -113,20 +112,20 @@ fn strings<F: Json>(
     location: Location,
 ) -> Result<LeafValidator<F>, AllocError>
     requires array { view options.now ≡ array (items_view items.now) }
-    requires texts { only as_str (items_view items.now) ≡ true }
+    requires texts { only is_text (items_view items.now) ≡ true }
     ensures { IfOk result (λ v. leaf_keyword v ≡ placed (among_at location options.now)) }
 {
     match (items.len() <= STRING_ENUM_THRESHOLD, has_null(items)) {
-        (true, true) => Ok(LeafValidator::NullableSmallStringEnum(SmallStringEnumValidator::compile(
+        (true, true) => Ok(LeafValidator::NullableSmallStringEnum(TableEnumValidator::compile(
             alloc, options, items, location,
         )?)),
-        (true, false) => Ok(LeafValidator::SmallStringEnum(SmallStringEnumValidator::compile(
+        (true, false) => Ok(LeafValidator::SmallStringEnum(TableEnumValidator::compile(
             alloc, options, items, location,
         )?)),
-        (false, true) => Ok(LeafValidator::NullableBigStringEnum(BigStringEnumValidator::compile(
+        (false, true) => Ok(LeafValidator::NullableBigStringEnum(TableEnumValidator::compile(
             alloc, options, items, location,
         )?)),
-        (false, false) => Ok(LeafValidator::BigStringEnum(BigStringEnumValidator::compile(
+        (false, false) => Ok(LeafValidator::BigStringEnum(TableEnumValidator::compile(
             alloc, options, items, location,
         )?)),
     }
@@ -140,38 +139,26 @@ fn integers<F: Json>(
     location: Location,
 ) -> Result<LeafValidator<F>, AllocError>
     requires array { view options.now ≡ array (items_view items.now) }
-    requires integers { only integer_of (items_view items.now) ≡ true }
+    requires integers { only is_integer (items_view items.now) ≡ true }
     ensures { IfOk result (λ v. leaf_keyword v ≡ placed (among_at location options.now)) }
 {
     if has_null(items) {
-        Ok(LeafValidator::NullableIntegerEnum(IntegerEnumValidator::compile(
+        Ok(LeafValidator::NullableIntegerEnum(TableEnumValidator::compile(
             alloc, options, items, location,
         )?))
     } else {
-        Ok(LeafValidator::IntegerEnum(IntegerEnumValidator::compile(
+        Ok(LeafValidator::IntegerEnum(TableEnumValidator::compile(
             alloc, options, items, location,
         )?))
     }
 }
 
-// Whether each item is a string or null.
-fn are_strings(items: &[Value]) -> bool
-    ensures { result ≡ only as_str (items_view items.now) }
+// Whether each item is null or can stand in a table of the type.
+fn are_all<T: OptionTable>(items: &[Value]) -> bool
+    ensures { result ≡ only T.takes (items_view items.now) }
 {
     for item in items {
-        if !(item.as_str().is_some() || item.is_null()) {
-            return false;
-        }
-    }
-    true
-}
-
-// Whether each item is an integer from -2^63 to 2^63 - 1, or null.
-fn are_integers(items: &[Value]) -> bool
-    ensures { result ≡ only integer_of (items_view items.now) }
-{
-    for item in items {
-        if !(item.as_i64().is_some() || item.is_null()) {
+        if !(T::takes(item) || item.is_null()) {
             return false;
         }
     }
