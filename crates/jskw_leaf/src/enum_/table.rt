@@ -1,4 +1,4 @@
-//! Options that are looked up in a table, and perhaps null.
+//! Options that are looked up in a table, and perhaps null (Validation 6.1.2).
 ghost use Rattle.std.specs.Prelude.{◌≡◌, Bool, IfOk, IsSome, IsTrue, refl, true};
 ghost use Rattle.serde_json.specs.Data.{Data, array};
 ghost use Rattle.serde_json.specs.Find.{as_array};
@@ -69,21 +69,6 @@ impl<T: OptionTable, N: Nullability> Model for Listed<T, N> {
 }
 
 impl<T: OptionTable, N: Nullability> Listed<T, N> {
-    // The value's options, which are these items, each of the table's type or null. Only memory can
-    // fail.
-    fn new(alloc: Global, options: &Value, items: &[Value]) -> Result<Listed<T, N>, AllocError>
-        requires array { view options.now ≡ array (items_view items.now) }
-        requires taken { only T.takes (items_view items.now) ≡ true }
-        requires null { N.ACCEPTS_NULL ≡ has_null (items_view items.now) }
-        ensures { IfOk result (λ listed. view listed ≡ view options.now) }
-    {
-        Ok(Listed {
-            options: options.clone()?,
-            table: T::new(alloc, items)?,
-            nullability: PhantomData,
-        })
-    }
-
     // Whether the instance equals one of the options.
     fn accepts<F: Json>(&self, instance: &F::Node) -> bool
         requires { IsTrue (is_lawful (F.Node.tree instance.now)) }
@@ -111,7 +96,8 @@ pub struct TableEnumValidator<T: OptionTable, N: Nullability> {
 impl<T: OptionTable, N: Nullability> TableEnumValidator<T, N> {
     ghost use Rattle.jskw_leaf.specs.Meaning.{among_at, enum_table};
 
-    // The validator of the value's options, as `Listed::new` takes them. Only memory can fail.
+    // The validator of the value's options, which are these items, each of the table's type or null,
+    // with null among them where `N` says so. Only memory can fail.
     pub(super) fn compile(
         alloc: Global,
         options: &Value,
@@ -123,7 +109,11 @@ impl<T: OptionTable, N: Nullability> TableEnumValidator<T, N> {
         requires null { N.ACCEPTS_NULL ≡ has_null (items_view items.now) }
         ensures { IfOk result (λ v. enum_table v ≡ among_at location options.now) }
     {
-        let listed = Listed::new(alloc, options, items)?;
+        let listed = Listed {
+            options: options.clone()?,
+            table: T::new(alloc, items)?,
+            nullability: PhantomData,
+        };
         Ok(TableEnumValidator { listed, location })
     }
 }
