@@ -6,8 +6,7 @@ mod device;
 mod memory;
 mod request;
 mod service;
-mod std_sink;
-mod std_source;
+mod std_device;
 #[cfg(test)]
 mod tests;
 mod whole;
@@ -16,8 +15,7 @@ pub use device::{DeviceFault, Sink, Source};
 pub use service::{RunFault, Verdict, run, status};
 use std::io;
 use std::process::ExitCode;
-pub use std_sink::StdSink;
-pub use std_source::StdSource;
+pub use std_device::{StdSink, StdSource};
 
 fn main(rt: HostRuntime) -> ExitCode {
     let mut reader = StdSource::new(rt.reader());

@@ -10,7 +10,7 @@ ghost use Rattle.jskw_report.specs.KeywordValue.{Refusal, map_ok, of_types, wron
 ghost use Rattle.jskw_report.specs.Read.{Asserts, keyword_location, part_named};
 ghost use Rattle.jskw_report.specs.Read.{read, read_each, read_word, read_words, whole};
 ghost use Rattle.jskw_report.specs.Setting.{keywords, name_of};
-ghost use Rattle.jskw_report.specs.Sibling.{is_fused, is_handed_on};
+ghost use Rattle.jskw_report.specs.Sibling.{is_fused};
 ghost use Rattle.jskw_leaf.specs.Meaning.{leaf_keyword};
 ghost use Rattle.jskw_array.specs.Fused.{shape_keywords};
 ghost use Rattle.jskw_array.specs.Meaning.{schemas_of, validator_keyword};
@@ -64,7 +64,7 @@ fn compile_object<'a, F: Json>(
     ensures { let ms = members_view parent.now.entries in Makes (λ s. s) result
         (read (object ms) ctx.now.setting ctx.now.location) }
 {
-    let hands_on = is_handed_on(ctx, parent);
+    let hands_on = required::is_handed_on(ctx, parent);
     if array_shape_fusion(ctx, parent) {
         return compile_fused(alloc, ctx, location, hands_on, parent);
     }
@@ -136,20 +136,6 @@ fn no_schema<'a>(alloc: Global, location: &Location, value: &'a Value) -> Compil
         .insert(JsonType::Object)
         .insert(JsonType::Boolean);
     CompileFault::wrong(alloc, ValidationErrorKind::of_types(types), location, value)
-}
-
-// Whether the schema leaves its `required` to the keywords of objects.
-#[tactic(auto, using(jskw_leaf::proofs::HandedOn::not_handed_on, jskw_leaf::proofs::HandedOn::absent_not_handed_on))]
-fn is_handed_on<F: Json>(ctx: &Context<'_, F>, parent: &Map<String, Value>) -> bool
-    ensures { result ≡ is_handed_on ctx.now.setting (members_view parent.now.entries) }
-{
-    let Some(schema) = member_of(parent, "required") else {
-        return false;
-    };
-    if !KeywordName::Required.stands(ctx) {
-        return false;
-    }
-    required::is_handed_on(ctx, parent, schema)
 }
 
 // Some keywords of an object, in their order.

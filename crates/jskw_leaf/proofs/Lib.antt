@@ -1,6 +1,5 @@
 pub mod Counting
 pub mod Distinct
-pub mod HandedOn
 pub mod Lacking
 pub mod Leaves
 pub mod Lookups

@@ -1,10 +1,8 @@
 //! The compile of each keyword, by its name.
-ghost use Rattle.std.specs.Prelude.{◌≡◌, IsTrue, Some, true};
-ghost use Rattle.serde_json.specs.Find.{get_member};
+ghost use Rattle.std.specs.Prelude.{◌≡◌, true};
 ghost use Rattle.serde_json.specs.View.{view, members_view};
 ghost use Rattle.jskw_report.specs.Compile.{Compiles, reading};
 ghost use Rattle.jskw_report.specs.Read.{Asserts};
-ghost use Rattle.jskw_report.specs.Setting.{name_of, stands};
 ghost use Rattle.jskw_number.specs.Meaning.{number_keyword};
 ghost use Rattle.jskw_leaf.specs.Meaning.{leaf_keyword};
 ghost use Rattle.jskw_leaf.specs.Names.{is_leaf};
@@ -32,10 +30,11 @@ pub fn is_leaf(keyword: KeywordName) -> bool
     )
 }
 
-/// Compiles a keyword without subschemas, as [`is_leaf`] tells, which stands, by the `compile` of
-/// its module: `schema` is the value that `parent` has under its name, and `ctx` stands at the
-/// keyword location of `parent`. None exactly where the keyword asserts nothing. A value that the
-/// keyword does not take is an error at the keyword location; else only memory can fail.
+/// Compiles a keyword without subschemas, as [`is_leaf`] tells, by the `compile` of its module:
+/// `schema` is the value that `parent` has under its name, and `ctx` stands at the keyword location
+/// of `parent`. That the keyword stands under the setting is for the caller to see. None exactly
+/// where the keyword asserts nothing. A value that the keyword does not take is an error at the
+/// keyword location; else only memory can fail.
 pub fn compile<'a, F: Json>(
     alloc: Global,
     ctx: &Context<'_, F>,
@@ -43,10 +42,7 @@ pub fn compile<'a, F: Json>(
     keyword: KeywordName,
     schema: &'a Value,
 ) -> Option<CompilationResult<'a, LeafValidator<F>>>
-    requires leaf { is_leaf keyword ≡ true }
-    requires stands { IsTrue (stands ctx.now.setting keyword) }
-    requires member { get_member (name_of keyword) (members_view parent.now.entries)
-        ≡ Some (view schema.now) }
+    requires { is_leaf keyword ≡ true }
     ensures { Compiles leaf_keyword result
         (reading keyword ctx.now (members_view parent.now.entries) (view schema.now)) }
 {

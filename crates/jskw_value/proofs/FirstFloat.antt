@@ -40,6 +40,16 @@ from_step ts i t h e =
 pub from_end : (n : ℕ) (ts : List Tree) (i : ℕ) → length ts ≤ i → float_from n (drop i ts) ≡ None
 from_end n ts i h = at_drop_all (float_from n) ts i h
 
+-- the first float of an array is that of an item before which there is none
+pub found_in_item : (t u : Tree) (i : ℕ) (p q : List ℕ) → is_array t ≡ true
+    → float_from 0 (items t) ≡ float_from i (drop i (items t)) → i < length (items t) → u ≡ get_or (items t) i u
+    → Some p ≡ first_float u → q ≡ below_index i p → Some q ≡ first_float t
+found_in_item t u i p q is before below at found place =
+    let rest = float_from (i + 1) (drop (i + 1) (items t)) in
+    ap Some place
+    ∙ sym (first_in_array t is ∙ before ∙ from_step (items t) i u below at
+    ∙ ap (λ o. option_or (option_map (below_index i) o) rest) (sym found))
+
 -- ---- no float exactly where lawful
 
 -- neither of two is there

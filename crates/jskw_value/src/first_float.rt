@@ -9,8 +9,7 @@ use crate::pointer::{push_index, push_name};
 use std::alloc::{AllocError, Global};
 
 // The location of the first float in a node, as a JSON pointer from the node on.
-#[cycle(location)]
-#[tactic(auto, using(crate::proofs::FirstFloat::by_level))]
+#[tactic(auto, using(crate::proofs::FirstFloat::by_level, crate::proofs::FirstFloat::by_index, crate::proofs::Depth::height_below))]
 pub(crate) fn location_of_float<N: Node>(
     alloc: Global,
     node: &N,
@@ -18,12 +17,18 @@ pub(crate) fn location_of_float<N: Node>(
     ensures { IfOk result (λ o. option_map string_bytes o ≡ first_float (N.tree node.now)) }
 {
     if node.is_array() {
-        return location_in_array(alloc, node);
-    }
-    if node.is_object() {
-        return location_in_object(alloc, node);
-    }
-    if let Some(number) = node.as_number() {
+        for i in 0..Array::len(node) {
+            if let Some(below) = location_of_float(alloc, node.item(i))? {
+                return Ok(Some(from_array(alloc, i, below)?));
+            }
+        }
+    } else if node.is_object() {
+        for (name, member) in node.walk() {
+            if let Some(below) = location_of_float(alloc, member)? {
+                return Ok(Some(from_object(alloc, name, below)?));
+            }
+        }
+    } else if let Some(number) = node.as_number() {
         if !number.is_lawful() {
             return Ok(Some(String::new(alloc)));
         }
@@ -31,76 +36,24 @@ pub(crate) fn location_of_float<N: Node>(
     Ok(None)
 }
 
-// The location of the first float in an array, from the array on.
-#[cycle(location)]
-#[tactic(auto, using(crate::proofs::FirstFloat::by_index))]
-fn location_in_array<N: Node>(alloc: Global, node: &N) -> Result<Option<String>, AllocError>
-    requires { IsTrue (is_array (N.tree node.now)) }
-    ensures { IfOk result (λ o. option_map string_bytes o
-        ≡ float_from 0 (items (N.tree node.now))) }
+// A location in an item, from its array on.
+fn from_array(alloc: Global, index: usize, below: String) -> Result<String, AllocError>
+    ensures { IfOk result (λ location. string_bytes location
+        ≡ below_index index (string_bytes below)) }
 {
-    for i in 0..Array::len(node) {
-        if let Some(location) = location_in_item(alloc, i, node.item(i))? {
-            return Ok(Some(location));
-        }
-    }
-    Ok(None)
+    let mut location = String::new(alloc);
+    push_index(&mut location, index)?;
+    location.push_str(below.as_str())?;
+    Ok(location)
 }
 
-// The location of the first float in an object, from the object on.
-#[cycle(location)]
-#[tactic(auto, using(crate::proofs::Depth::height_below))]
-fn location_in_object<N: Node>(alloc: Global, node: &N) -> Result<Option<String>, AllocError>
-    requires { IsTrue (is_object (N.tree node.now)) }
-    ensures { IfOk result (λ o. option_map string_bytes o
-        ≡ float_among (members (N.tree node.now))) }
+// A location in a member, from its object on.
+fn from_object(alloc: Global, name: &str, below: String) -> Result<String, AllocError>
+    ensures { IfOk result (λ location. string_bytes location
+        ≡ below_name name.now (string_bytes below)) }
 {
-    for (name, member) in node.walk() {
-        if let Some(location) = location_in_member(alloc, name, member)? {
-            return Ok(Some(location));
-        }
-    }
-    Ok(None)
-}
-
-// The location of the first float in an item, from its array on.
-#[cycle(location)]
-fn location_in_item<N: Node>(
-    alloc: Global,
-    index: usize,
-    item: &N,
-) -> Result<Option<String>, AllocError>
-    ensures { IfOk result (λ o. option_map string_bytes o
-        ≡ option_map (below_index index) (first_float (N.tree item.now))) }
-{
-    match location_of_float(alloc, item)? {
-        Some(below) => {
-            let mut location = String::new(alloc);
-            push_index(&mut location, index)?;
-            location.push_str(below.as_str())?;
-            Ok(Some(location))
-        }
-        None => Ok(None),
-    }
-}
-
-// The location of the first float in a member, from its object on.
-#[cycle(location)]
-fn location_in_member<N: Node>(
-    alloc: Global,
-    name: &str,
-    member: &N,
-) -> Result<Option<String>, AllocError>
-    ensures { IfOk result (λ o. option_map string_bytes o
-        ≡ option_map (below_name name.now) (first_float (N.tree member.now))) }
-{
-    match location_of_float(alloc, member)? {
-        Some(below) => {
-            let mut location = String::new(alloc);
-            push_name(&mut location, name)?;
-            location.push_str(below.as_str())?;
-            Ok(Some(location))
-        }
-        None => Ok(None),
-    }
+    let mut location = String::new(alloc);
+    push_name(&mut location, name)?;
+    location.push_str(below.as_str())?;
+    Ok(location)
 }

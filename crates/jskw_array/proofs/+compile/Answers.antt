@@ -382,14 +382,8 @@ additional_items::compile-compile_at-requires g t c κs within = (omega (arith, 
 pub contains::compile-compile_at-compiled-requires : goal.contains::compile-compile_at-compiled-requires
 contains::compile-compile_at-compiled-requires g t c κs within = (omega (arith, c.decreases), search rules)
 
-pub compiler::compile_keyword-compile-requires-clause-leaf : goal.compiler::compile_keyword-compile-requires-clause-leaf
-compiler::compile_keyword-compile-requires-clause-leaf g t c = sym c.is_leaf.ensures ∙ c.if-is_leaf.true
-
-pub compiler::compile_keyword-compile-requires-clause-stands : goal.compiler::compile_keyword-compile-requires-clause-stands
-compiler::compile_keyword-compile-requires-clause-stands g t c = search (rules, c.stands.ensures, c.if-not-stands.false)
-
-pub compiler::compile_keyword-compile-requires-clause-member : goal.compiler::compile_keyword-compile-requires-clause-member
-compiler::compile_keyword-compile-requires-clause-member g t c = search (rules, c.as_str.ensures, c.in_ok-schema.ensures)
+pub compiler::compile_keyword-compile-requires : goal.compiler::compile_keyword-compile-requires
+compiler::compile_keyword-compile-requires g t c = sym c.is_leaf.ensures ∙ c.if-is_leaf.true
 
 pub compiler::compile_keyword-compile-requires-in-Items : goal.compiler::compile_keyword-compile-requires-in-Items
 compiler::compile_keyword-compile-requires-in-Items g t c κs within =

@@ -1,14 +1,12 @@
 //! Compiling `required`.
-ghost use Rattle.std.specs.Prelude.{◌≡◌, List, ℕ, IfOk, IsTrue, Some, codes, map, length};
+ghost use Rattle.std.specs.Prelude.{◌≡◌, List, ℕ, IfOk, Some, map, length};
 ghost use Rattle.std.specs.List.{IsDistinct};
 ghost use Rattle.std.specs.Str.{bytes_eq};
-ghost use Rattle.serde_json.specs.Find.{get_member};
 ghost use Rattle.serde_json.specs.View.{view, items_view, members_view};
 ghost use Rattle.jskw_report.specs.Compile.{Makes, Compiles, reading};
 ghost use Rattle.jskw_report.specs.KeywordValue.{map_ok, texts, distinct};
 ghost use Rattle.jskw_report.specs.Meaning.{placed};
 ghost use Rattle.jskw_report.specs.Read.{required_keyword};
-ghost use Rattle.jskw_report.specs.Setting.{stands};
 ghost use Rattle.jskw_report.specs.declared.keyword.KeywordName.TheVariants.{Required};
 ghost use Rattle.jskw_leaf.specs.Meaning.{leaf_keyword, required_at};
 ghost use Rattle.jskw_leaf.specs.Required.{name_value};
@@ -25,8 +23,8 @@ use serde_json::{Map, Value};
 use std::alloc::{AllocError, Global};
 use std::collections::BTreeSet;
 
-/// Compiles `required`, which stands. None where [`is_handed_on`](super::is_handed_on) says that it
-/// is left to the keywords of objects beside it, and its items are then not looked at. Else what
+/// Compiles `required`. None where [`is_handed_on`](super::is_handed_on) says that it is left to the
+/// keywords of objects beside it, and its items are then not looked at. Else what
 /// [`compile_with_path`] answers.
 pub fn compile<'a, F: Json>(
     alloc: Global,
@@ -34,13 +32,10 @@ pub fn compile<'a, F: Json>(
     parent: &'a Map<String, Value>,
     schema: &'a Value,
 ) -> Option<CompilationResult<'a, LeafValidator<F>>>
-    requires stands { IsTrue (stands ctx.now.setting Required) }
-    requires member { get_member (codes "required") (members_view parent.now.entries)
-        ≡ Some (view schema.now) }
     ensures { Compiles leaf_keyword result
         (reading Required ctx.now (members_view parent.now.entries) (view schema.now)) }
 {
-    if is_handed_on(ctx, parent, schema) {
+    if is_handed_on(ctx, parent) {
         return None;
     }
     match ctx.keyword_location(alloc, KeywordName::Required) {

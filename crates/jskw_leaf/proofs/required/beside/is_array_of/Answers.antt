@@ -2,7 +2,7 @@ use Rattle.std.proofs.Common.{◌==◌, ap, sym, ◌∙◌}
 use Rattle.jskw_report.specs.Sibling.{has_items}
 use Rattle.serde_json.specs.View.{view}
 use Rattle.jskw_leaf.proofs.Sizes.{item_count}
-use Rattle.jskw_leaf.proofs.required.beside.has_items.Goals as goal
+use Rattle.jskw_leaf.proofs.required.beside.is_array_of.Goals as goal
 
 pub returns-in-Array : goal.returns-in-Array
 returns-in-Array c =
