@@ -20,7 +20,7 @@ mod types;
 mod unique_items;
 
 use jskw_report::{Draft, Settings, VocabularySet};
-use jskw_value::{DecimalJson, DecimalTree, JsonType, SerdeJson};
+use jskw_value::{DecimalJson, DecimalTree, Json, JsonType, SerdeJson};
 use keywords::said;
 use serde_json::Value;
 use std::alloc::{AllocError, Global};
@@ -88,29 +88,51 @@ fn check(
     instance: &str,
     wanted: &str,
 ) -> Result<(), Fail> {
+    let row = Row {
+        settings,
+        schema,
+        name,
+        instance,
+        wanted,
+    };
     let tree = match instance.strip_prefix('#') {
         Some(decimal) => DecimalTree::Number(decimal_of(decimal)?),
         None => {
             let value = Value::from_str(alloc, instance)?;
-            let found = said::<SerdeJson>(rt, alloc, settings, schema, name, &value)?;
-            assert_eq!(rt; found.as_str(), wanted, "{schema} on {instance}");
+            check_over::<SerdeJson>(rt, alloc, row, &value, "serde_json")?;
             decimal_tree(alloc, &value)?
         }
     };
-    let found = said::<DecimalJson>(rt, alloc, settings, schema, name, &tree)?;
+    check_over::<DecimalJson>(rt, alloc, row, &tree, "decimals")?;
+    check_over::<Keys0>(rt, alloc, row, &tree, "decimals, by lookups")?;
+    check_over::<KeysMax>(rt, alloc, row, &tree, "decimals, by walks")
+}
+
+// The columns of a table's line, and the settings.
+#[derive(Clone, Copy)]
+struct Row<'r> {
+    settings: &'r Settings,
+    schema: &'r str,
+    name: &'r str,
+    instance: &'r str,
+    wanted: &'r str,
+}
+
+// A row over one representation, of which the text tells.
+fn check_over<F: Json>(
+    rt: &impl Abort,
+    alloc: Global,
+    row: Row,
+    node: &F::Node,
+    over: &str,
+) -> Result<(), Fail> {
+    let found = said::<F>(rt, alloc, row.settings, row.schema, row.name, node)?;
+    let (schema, instance) = (row.schema, row.instance);
     assert_eq!(rt;
         found.as_str(),
-        wanted,
-        "{schema} on {instance}, over decimals"
+        row.wanted,
+        "{schema} on {instance}, over {over}"
     );
-    let found = said::<Keys0>(rt, alloc, settings, schema, name, &tree)?;
-    assert_eq!(rt;
-        found.as_str(),
-        wanted,
-        "{schema} on {instance}, by lookups"
-    );
-    let found = said::<KeysMax>(rt, alloc, settings, schema, name, &tree)?;
-    assert_eq!(rt; found.as_str(), wanted, "{schema} on {instance}, by walks");
     Ok(())
 }
 

@@ -6,7 +6,8 @@ use jskw_array::SchemaNode;
 use jskw_array::compiler::compile;
 use jskw_array::laws::observers_agree;
 use jskw_report::{
-    CompileFault, Context, EvaluationNode, Fault, LazyLocation, ValidationContext, ValidationError,
+    CompileFault, Context, ErrorDescription, EvaluationNode, Fault, LazyLocation,
+    ValidationContext, ValidationError,
 };
 use jskw_value::{DecimalJson, Json, Node, SerdeJson};
 use serde_json::Value;
@@ -155,15 +156,26 @@ fn check_descriptions<F: Json>(
             break;
         };
         for description in node.errors() {
-            let error = errors.next().ok_or("a description of no error")?;
-            assert_eq!(rt; description.keyword(), error.kind().keyword());
-            assert_eq!(rt; description.message(), error.message(alloc)?.as_str());
+            check_description(rt, alloc, description, errors.next())?;
         }
         for child in node.children().iter().rev() {
             nodes.push(child)?;
         }
     }
     assert!(rt; errors.next().is_none());
+    Ok(())
+}
+
+// A description has the keyword and the message of an error, which is there.
+fn check_description<F: Json>(
+    rt: &impl Abort,
+    alloc: Global,
+    description: &ErrorDescription,
+    error: Option<&ValidationError<F>>,
+) -> Result<(), Fail> {
+    let error = error.ok_or("a description of no error")?;
+    assert_eq!(rt; description.keyword(), error.kind().keyword());
+    assert_eq!(rt; description.message(), error.message(alloc)?.as_str());
     Ok(())
 }
 

@@ -173,21 +173,39 @@ fn letter(rt: &impl Abort, number: &Decimal, divisor: u64) -> char {
     }
 }
 
+// The symbols of a decimal, one for each of `LIMITS`.
+fn symbols(rt: &impl Abort, alloc: Global, number: &Decimal) -> Result<String, Fail> {
+    let mut text = String::new(alloc);
+    for limit in LIMITS {
+        text.push(symbol(rt, number, limit.parse()?))?;
+    }
+    Ok(text)
+}
+
+// The letters of a decimal, one for each of `DIVISORS`.
+fn letters(rt: &impl Abort, alloc: Global, number: &Decimal) -> Result<String, Fail> {
+    let mut text = String::new(alloc);
+    for divisor in DIVISORS {
+        text.push(letter(rt, number, divisor.parse()?))?;
+    }
+    Ok(text)
+}
+
 #[test]
 fn decimals_compare_and_divide_exactly_at_boundaries(rt: HostRuntime) -> Result<(), Fail> {
     for line in NUMBERS.lines() {
         let (number, stands, divides) = columns(line)?;
         let number = decimal_of(number)?;
-        let mut found = String::new(rt.alloc());
-        for limit in LIMITS {
-            found.push(symbol(&rt, &number, limit.parse()?))?;
-        }
-        assert_eq!(rt; found.as_str(), stands, "{line}");
-        let mut found = String::new(rt.alloc());
-        for divisor in DIVISORS {
-            found.push(letter(&rt, &number, divisor.parse()?))?;
-        }
-        assert_eq!(rt; found.as_str(), divides, "{line}");
+        assert_eq!(rt;
+            symbols(&rt, rt.alloc(), &number)?.as_str(),
+            stands,
+            "{line}"
+        );
+        assert_eq!(rt;
+            letters(&rt, rt.alloc(), &number)?.as_str(),
+            divides,
+            "{line}"
+        );
     }
     Ok(())
 }

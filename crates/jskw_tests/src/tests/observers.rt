@@ -1,9 +1,14 @@
 // The four observers of a validator, which have to agree.
+ghost use Rattle.std.specs.Prelude.{IsTrue};
+ghost use Rattle.jskw_value.specs.Tree.{is_lawful};
+
 use super::places::at_item;
 use super::texts::{error_text, errors_text};
-use jskw_report::{EvaluationResult, Fault, Validate, ValidationContext, ValidationError};
+use jskw_report::{
+    ErrorDescription, EvaluationResult, Fault, Validate, ValidationContext, ValidationError,
+};
 use jskw_value::{Json, Node};
-use std::alloc::Global;
+use std::alloc::{AllocError, Global};
 use std::process::Abort;
 use std::test::Fail;
 
@@ -15,24 +20,85 @@ pub(super) fn observed<F: Json, V: Validate<F>>(
     instance: &F::Node,
 ) -> Result<String, Fail> {
     assert!(rt; instance.is_lawful());
-    let mut location = at_item(alloc, 7)?;
-    let mut ctx = ValidationContext::new();
-    let mut errors: Vec<ValidationError<F>> = Vec::new(alloc);
-    let is_valid = validator.is_valid(instance, &mut ctx);
-    let unit = validator.evaluate(alloc, instance, &mut location, &mut ctx)?;
-    validator.collect_errors(instance, &mut location, &mut ctx, &mut errors)?;
+    let errors = collected(alloc, validator, instance)?;
+    let is_valid = validator.is_valid(instance, &mut ValidationContext::new());
     assert_eq!(rt; is_valid, errors.is_empty());
-    check_unit(rt, alloc, &unit, &errors)?;
-    match validator.validate(instance, &mut location, &mut ctx) {
-        Ok(()) => assert!(rt; errors.is_empty()),
-        Err(Fault::Invalid(error)) => {
-            assert!(rt; !errors.is_empty());
-            let first = error_text(alloc, &error)?;
-            assert_eq!(rt; error_text(alloc, &errors[0])?.as_str(), first.as_str());
-        }
-        Err(Fault::Memory(error)) => return Err(error)?,
-    }
+    check_first(rt, alloc, validator, instance, errors.as_slice().first())?;
+    check_unit(
+        rt,
+        alloc,
+        &evaluated(alloc, validator, instance)?,
+        errors.as_slice(),
+    )?;
     errors_text(alloc, &errors)
+}
+
+// All errors.
+fn collected<'i, F: Json, V: Validate<F>>(
+    alloc: Global,
+    validator: &'i V,
+    instance: &'i F::Node,
+) -> Result<Vec<ValidationError<'i, F>>, AllocError>
+    requires { IsTrue (is_lawful (F.Node.tree instance.now)) }
+{
+    let mut location = at_item(alloc, 7)?;
+    let mut errors = Vec::new(alloc);
+    validator.collect_errors(
+        instance,
+        &mut location,
+        &mut ValidationContext::new(),
+        &mut errors,
+    )?;
+    Ok(errors)
+}
+
+// The evaluation.
+fn evaluated<F: Json, V: Validate<F>>(
+    alloc: Global,
+    validator: &V,
+    instance: &F::Node,
+) -> Result<EvaluationResult, AllocError>
+    requires { IsTrue (is_lawful (F.Node.tree instance.now)) }
+{
+    let mut location = at_item(alloc, 7)?;
+    validator.evaluate(
+        alloc,
+        instance,
+        &mut location,
+        &mut ValidationContext::new(),
+    )
+}
+
+// The first error has the text of the first of all, if there is one.
+fn check_first<F: Json, V: Validate<F>>(
+    rt: &impl Abort,
+    alloc: Global,
+    validator: &V,
+    instance: &F::Node,
+    head: Option<&ValidationError<F>>,
+) -> Result<(), Fail>
+    requires { IsTrue (is_lawful (F.Node.tree instance.now)) }
+{
+    let mut location = at_item(alloc, 7)?;
+    let answer = validator.validate(instance, &mut location, &mut ValidationContext::new());
+    match (answer, head) {
+        (Ok(()), None) => Ok(()),
+        (Err(Fault::Invalid(first)), Some(head)) => check_same(rt, alloc, &first, head),
+        (Err(Fault::Memory(error)), _) => Err(error)?,
+        _ => Err("another first error")?,
+    }
+}
+
+// Two errors have one text.
+fn check_same<F: Json>(
+    rt: &impl Abort,
+    alloc: Global,
+    one: &ValidationError<F>,
+    other: &ValidationError<F>,
+) -> Result<(), Fail> {
+    let text = error_text(alloc, one)?;
+    assert_eq!(rt; error_text(alloc, other)?.as_str(), text.as_str());
+    Ok(())
 }
 
 // The unit describes these errors, with their messages.
@@ -40,7 +106,7 @@ fn check_unit<F: Json>(
     rt: &impl Abort,
     alloc: Global,
     unit: &EvaluationResult,
-    errors: &Vec<ValidationError<F>>,
+    errors: &[ValidationError<F>],
 ) -> Result<(), Fail> {
     match unit {
         EvaluationResult::Valid { .. } => assert!(rt; errors.is_empty()),
@@ -51,10 +117,21 @@ fn check_unit<F: Json>(
             assert!(rt; !errors.is_empty());
             assert_eq!(rt; descriptions.len(), errors.len());
             for (description, error) in descriptions.iter().zip(errors) {
-                assert_eq!(rt; description.keyword(), error.kind().keyword());
-                assert_eq!(rt; description.message(), error.message(alloc)?.as_str());
+                check_description(rt, alloc, description, error)?;
             }
         }
     }
+    Ok(())
+}
+
+// The description has the keyword and the message of the error.
+fn check_description<F: Json>(
+    rt: &impl Abort,
+    alloc: Global,
+    description: &ErrorDescription,
+    error: &ValidationError<F>,
+) -> Result<(), Fail> {
+    assert_eq!(rt; description.keyword(), error.kind().keyword());
+    assert_eq!(rt; description.message(), error.message(alloc)?.as_str());
     Ok(())
 }

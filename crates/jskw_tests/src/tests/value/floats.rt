@@ -2,7 +2,7 @@
 use crate::tests::pair;
 use crate::tests::texts::written;
 use crate::tests::trees::number;
-use jskw_value::pointer::{push_index, push_name};
+use jskw_value::pointer::push_name;
 use jskw_value::{DecimalTree, Members, Node, Object};
 use serde_json::Value;
 use std::alloc::Global;
@@ -56,43 +56,61 @@ fn nested(alloc: Global, innermost: Value) -> Result<Value, Fail> {
     Ok(value)
 }
 
+// The same as a tree of decimals.
+fn nested_decimal(alloc: Global, innermost: DecimalTree) -> Result<DecimalTree, Fail> {
+    let mut tree = innermost;
+    for _ in 0..100 {
+        tree = DecimalTree::Array(Vec::from_array(alloc, [tree])?);
+    }
+    Ok(tree)
+}
+
 #[test]
 fn a_hundred_nested_arrays(rt: HostRuntime) -> Result<(), Fail> {
     let deep = nested(rt.alloc(), Value::from_str(rt.alloc(), "1")?)?;
     assert!(rt; deep.is_lawful());
-    let mut tree = number(10, 1)?;
-    for _ in 0..100 {
-        tree = DecimalTree::Array(Vec::from_array(rt.alloc(), [tree])?);
-    }
+    let tree = nested_decimal(rt.alloc(), number(10, 1)?)?;
     assert!(rt; tree.is_lawful() && tree.equals_value(&deep));
     assert_eq!(rt; written(&tree, String::new(rt.alloc()))?.len(), 203);
-    let float = nested(rt.alloc(), Value::from_str(rt.alloc(), "1.5")?)?;
-    let found = float.first_unlawful(rt.alloc())?.ok_or("no location")?;
-    let mut location = String::new(rt.alloc());
-    for _ in 0..100 {
-        push_index(&mut location, 0)?;
-    }
-    assert_eq!(rt; found.as_str(), location.as_str());
     Ok(())
 }
 
 #[test]
-fn a_name_of_a_megabyte(rt: HostRuntime) -> Result<(), Fail> {
-    let mut name = String::new(rt.alloc());
-    for _ in 0..100000 {
-        name.push_str("~name/long")?;
-    }
-    let mut location = String::new(rt.alloc());
-    push_name(&mut location, name.as_str())?;
-    assert_eq!(rt; location.len(), 1200001);
+fn a_float_in_a_hundred_nested_arrays(rt: HostRuntime) -> Result<(), Fail> {
+    let float = nested(rt.alloc(), Value::from_str(rt.alloc(), "1.5")?)?;
+    let found = float.first_unlawful(rt.alloc())?.ok_or("no location")?;
+    assert_eq!(rt; found.as_str(), "/0".repeat(rt.alloc(), 100)?.as_str());
+    Ok(())
+}
+
+// A name of a megabyte, with what is escaped in a pointer.
+fn long_name(alloc: Global) -> Result<String, Fail> {
+    Ok("~name/long".repeat(alloc, 100000)?)
+}
+
+#[test]
+fn a_float_below_a_name_of_a_megabyte(rt: HostRuntime) -> Result<(), Fail> {
+    let name = long_name(rt.alloc())?;
     let mut map = serde_json::Map::new(rt.alloc());
     map.insert(name.clone()?, Value::from_str(rt.alloc(), "1.5")?)?;
     let value = Value::Object(map);
     assert!(rt; Node::is_object(&value) && value.find(name.as_str()).is_some());
     let found = value.first_unlawful(rt.alloc())?.ok_or("no location")?;
+    let mut location = String::new(rt.alloc());
+    push_name(&mut location, name.as_str())?;
+    assert_eq!(rt; location.len(), 1200001);
     assert!(rt; found.as_str() == location.as_str());
+    Ok(())
+}
+
+#[test]
+fn a_name_of_a_megabyte_is_written(rt: HostRuntime) -> Result<(), Fail> {
     let mut members = Members::new(rt.alloc());
-    assert!(rt; members.insert(name, number(1, 0)?).is_ok());
+    assert!(rt;
+        members
+            .insert(long_name(rt.alloc())?, number(1, 0)?)
+            .is_ok()
+    );
     let text = written(&DecimalTree::Object(members), String::new(rt.alloc()))?;
     assert_eq!(rt; text.len(), 1000006);
     Ok(())

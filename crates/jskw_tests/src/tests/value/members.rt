@@ -4,12 +4,16 @@ use jskw_value::{DecimalTree, Members, Node, Object};
 use std::alloc::{AllocError, Global};
 use std::test::Fail;
 
+// The members `a`, which is 1, and no other.
+fn one_member(alloc: Global) -> Result<Members, Fail> {
+    let mut members = Members::new(alloc);
+    insert(alloc, &mut members, "a", number(1, 0)?)?;
+    Ok(members)
+}
+
 #[test]
-fn a_repeated_name_comes_back_and_the_first_member_stays(rt: HostRuntime) -> Result<(), Fail> {
-    let mut members = Members::new(rt.alloc());
-    assert!(rt; members.is_empty());
-    insert(rt.alloc(), &mut members, "a", number(1, 0)?)?;
-    assert!(rt; !members.is_empty());
+fn a_repeated_name_comes_back(rt: HostRuntime) -> Result<(), Fail> {
+    let mut members = one_member(rt.alloc())?;
     let again = String::from_str(rt.alloc(), "a")?;
     let fault = members
         .insert(again, number(2, 0)?)
@@ -19,11 +23,37 @@ fn a_repeated_name_comes_back_and_the_first_member_stays(rt: HostRuntime) -> Res
     assert!(rt; is_repeated);
     assert_eq!(rt; name.as_str(), "a");
     assert_eq!(rt; value.as_number().ok_or("a number")?.coefficient(), 2);
-    assert_eq!(rt; members.len(), 1);
+    Ok(())
+}
+
+#[test]
+fn where_a_name_is_repeated_the_first_member_stays(rt: HostRuntime) -> Result<(), Fail> {
+    assert!(rt; Members::new(rt.alloc()).is_empty());
+    let mut members = one_member(rt.alloc())?;
+    let again = String::from_str(rt.alloc(), "a")?;
+    assert!(rt; members.insert(again, number(2, 0)?).is_err());
+    assert!(rt; !members.is_empty() && members.len() == 1);
     let first = members.get("a").and_then(|tree| tree.as_number());
     assert_eq!(rt; first.ok_or("a number")?.coefficient(), 1);
     assert!(rt; members.get("b").is_none());
     Ok(())
+}
+
+// The object whose members have these names, put in one after the other and then once more.
+fn object_of(alloc: Global, names: &[&str]) -> Result<DecimalTree, Fail> {
+    let mut members = Members::new(alloc);
+    for name in names {
+        insert(alloc, &mut members, name, DecimalTree::Null)?;
+    }
+    for name in names {
+        if members
+            .insert(String::from_str(alloc, name)?, DecimalTree::Null)
+            .is_ok()
+        {
+            return Err("inserted twice")?;
+        }
+    }
+    Ok(DecimalTree::Object(members))
 }
 
 // The names of an object by their places, a comma behind each.
@@ -47,13 +77,7 @@ fn names_rise_in_whatever_order_they_come(rt: HostRuntime) -> Result<(), Fail> {
         (["é", "z", "Z"], "Z,z,é,"),
         (["10", "9", "1"], "1,10,9,"),
     ] {
-        let mut members = Members::new(rt.alloc());
-        for name in names {
-            insert(rt.alloc(), &mut members, name, DecimalTree::Null)?;
-        }
-        let again = String::from_str(rt.alloc(), names[0])?;
-        assert!(rt; members.insert(again, DecimalTree::Null).is_err());
-        let object = DecimalTree::Object(members);
+        let object = object_of(rt.alloc(), &names)?;
         assert_eq!(rt; names_of(rt.alloc(), &object)?.as_str(), wanted);
     }
     Ok(())

@@ -4,6 +4,7 @@ use crate::tests::trees::{insert, number, string};
 use jskw_value::{Array, DecimalJson, DecimalTree, Json, Members, Node, Object, SerdeJson};
 use serde_json::Value;
 use std::alloc::{AllocError, Global};
+use std::process::Abort;
 use std::test::Fail;
 
 // The questions on types that a node answers with true, one letter each.
@@ -26,6 +27,17 @@ fn kinds<N: Node>(alloc: Global, node: &N) -> Result<String, AllocError> {
     Ok(kinds)
 }
 
+// A node answers these questions with true.
+fn check_kinds<N: Node>(
+    rt: &impl Abort,
+    alloc: Global,
+    node: &N,
+    letters: &str,
+) -> Result<(), AllocError> {
+    assert_eq!(rt; kinds(alloc, node)?.as_str(), letters);
+    Ok(())
+}
+
 // Values, each with the letters of its questions.
 const KINDS: &str = r#"null|0
 1|n
@@ -42,7 +54,7 @@ fn a_node_is_of_one_kind(rt: HostRuntime) -> Result<(), Fail> {
     for line in KINDS.lines() {
         let (text, letters) = pair(line)?;
         let value = Value::from_str(rt.alloc(), text)?;
-        assert_eq!(rt; kinds(rt.alloc(), &value)?.as_str(), letters);
+        check_kinds(&rt, rt.alloc(), &value, letters)?;
     }
     for (tree, letters) in [
         (DecimalTree::Null, "0"),
@@ -53,7 +65,7 @@ fn a_node_is_of_one_kind(rt: HostRuntime) -> Result<(), Fail> {
         (DecimalTree::Bool(true), "t"),
         (DecimalTree::Bool(false), "f"),
     ] {
-        assert_eq!(rt; kinds(rt.alloc(), &tree)?.as_str(), letters);
+        check_kinds(&rt, rt.alloc(), &tree, letters)?;
     }
     Ok(())
 }
@@ -79,31 +91,36 @@ fn read_object<F: Json>(alloc: Global, object: &F::Node, name: &str) -> Result<S
     Ok(text)
 }
 
+// That is read of an object.
+fn check_object<F: Json>(
+    rt: &impl Abort,
+    alloc: Global,
+    object: &F::Node,
+    name: &str,
+    wanted: &str,
+) -> Result<(), AllocError> {
+    assert_eq!(rt; read_object::<F>(alloc, object, name)?.as_str(), wanted);
+    Ok(())
+}
+
 #[test]
-fn members_by_place_and_by_name(rt: HostRuntime) -> Result<(), Fail> {
+fn members_of_a_map_by_place_and_by_name(rt: HostRuntime) -> Result<(), Fail> {
     let value = Value::from_str(rt.alloc(), "{\"b\":[1],\"a\":2}")?;
-    assert_eq!(rt;
-        read_object::<SerdeJson>(rt.alloc(), &value, "b")?.as_str(),
-        "a2b[1]++1"
-    );
-    assert_eq!(rt;
-        read_object::<SerdeJson>(rt.alloc(), &value, "c")?.as_str(),
-        "a2b[1]--1"
-    );
+    check_object::<SerdeJson>(&rt, rt.alloc(), &value, "b", "a2b[1]++1")?;
+    check_object::<SerdeJson>(&rt, rt.alloc(), &value, "c", "a2b[1]--1")?;
+    assert_eq!(rt; SerdeJson::KEYS_PER_LOOKUP, 2);
+    Ok(())
+}
+
+#[test]
+fn members_of_a_tree_by_place_and_by_name(rt: HostRuntime) -> Result<(), Fail> {
     let mut members = Members::new(rt.alloc());
     insert(rt.alloc(), &mut members, "b", number(1, 0)?)?;
     insert(rt.alloc(), &mut members, "", DecimalTree::Null)?;
     let tree = DecimalTree::Object(members);
-    assert_eq!(rt;
-        read_object::<DecimalJson>(rt.alloc(), &tree, "")?.as_str(),
-        "nullb1++1"
-    );
+    check_object::<DecimalJson>(&rt, rt.alloc(), &tree, "", "nullb1++1")?;
     let none = DecimalTree::Object(Members::new(rt.alloc()));
-    assert_eq!(rt;
-        read_object::<DecimalJson>(rt.alloc(), &none, "")?.as_str(),
-        "--0"
-    );
-    assert_eq!(rt; SerdeJson::KEYS_PER_LOOKUP, 2);
+    check_object::<DecimalJson>(&rt, rt.alloc(), &none, "", "--0")?;
     assert_eq!(rt; DecimalJson::KEYS_PER_LOOKUP, 1);
     Ok(())
 }

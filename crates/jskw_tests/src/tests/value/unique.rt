@@ -4,6 +4,7 @@ use jskw_value::laws::equal_values_have_one_fingerprint;
 use jskw_value::{Array, Decimal, DecimalTree, Members, Node};
 use serde_json::Value;
 use std::alloc::Global;
+use std::process::Abort;
 use std::test::Fail;
 
 // The integers from 0 up to a count, and behind them one more.
@@ -24,6 +25,19 @@ fn is_unique(tree: &DecimalTree) -> Result<bool, Fail> {
     }
 }
 
+// The integers up to a count with one more behind them have no two that are equal, or have.
+fn check_integers(
+    rt: &impl Abort,
+    alloc: Global,
+    count: u64,
+    last: DecimalTree,
+    are_unique: bool,
+) -> Result<(), Fail> {
+    let tree = integers(alloc, count, last)?;
+    assert_eq!(rt; is_unique(&tree)?, are_unique, "{count}");
+    Ok(())
+}
+
 // Where each way of telling begins and ends: pairs, a sketch, and one block of it or more. The last
 // item is none of the others, or is one of them in another way to write it: the first, one in the
 // middle, the last but one.
@@ -41,8 +55,7 @@ fn many_integers(rt: HostRuntime) -> Result<(), Fail> {
             (number(middle * 1000, 3)?, false),
             (number(before * 10, 1)?, false),
         ] {
-            let tree = integers(alloc, count, last)?;
-            assert_eq!(rt; is_unique(&tree)?, are_unique, "{count}");
+            check_integers(&rt, alloc, count, last, are_unique)?;
         }
     }
     Ok(())
@@ -52,8 +65,7 @@ fn many_integers(rt: HostRuntime) -> Result<(), Fail> {
 fn seventy_thousand_integers(rt: HostRuntime) -> Result<(), Fail> {
     let alloc = rt.alloc();
     for (last, are_unique) in [(70000, true), (0, false), (32768, false), (69999, false)] {
-        let tree = integers(alloc, 70000, number(last, 0)?)?;
-        assert_eq!(rt; is_unique(&tree)?, are_unique, "{last}");
+        check_integers(&rt, alloc, 70000, number(last, 0)?, are_unique)?;
     }
     Ok(())
 }
@@ -68,8 +80,7 @@ fn more_integers_than_most_sketches_serve(rt: HostRuntime) -> Result<(), Fail> {
         (270000, 270000, true),
         (270000, 265000, false),
     ] {
-        let tree = integers(alloc, count, number(last, 0)?)?;
-        assert_eq!(rt; is_unique(&tree)?, are_unique, "{count} and {last}");
+        check_integers(&rt, alloc, count, number(last, 0)?, are_unique)?;
     }
     Ok(())
 }
@@ -125,12 +136,21 @@ fn objects_in_any_order(rt: HostRuntime) -> Result<(), Fail> {
     Ok(())
 }
 
+// An array of items that begin and end so and have 0 to 9 between, and of one more with this number.
+fn eleven_items(alloc: Global, front: &str, back: &str, last: u64) -> Result<Value, Fail> {
+    let mut text = String::from_str(alloc, "[")?;
+    for i in 0..10u64 {
+        text.push_str(format!(in alloc; "{front}{i}{back},")?.as_str())?;
+    }
+    text.push_str(format!(in alloc; "{front}{last}{back}]")?.as_str())?;
+    Ok(Value::from_str(alloc, text.as_str())?)
+}
+
 // Of arrays, objects and strings: what is alike at the front, at the end, and in all but one place
 // in the middle, further than a fingerprint looks.
 #[test]
 fn nested_and_long_items(rt: HostRuntime) -> Result<(), Fail> {
     let alloc = rt.alloc();
-    let long = "0123456789abcdef".repeat(alloc, 40)?;
     for (front, back) in [
         ("[[1,[2,{\"a\":[", "]}]]]"),
         ("[1,2,3,4,5,6,7,8,9,10,11,12,13,14,15,16,17,18,19,20,", "]"),
@@ -143,16 +163,19 @@ fn nested_and_long_items(rt: HostRuntime) -> Result<(), Fail> {
         ("\"0123456789abcdef", "0123456789abcdef\""),
     ] {
         for (last, are_unique) in [(10, true), (0, false), (5, false), (9, false)] {
-            let mut text = String::from_str(alloc, "[")?;
-            for i in 0..10u64 {
-                text.push_str(format!(in alloc; "{front}{i}{back},")?.as_str())?;
-            }
-            text.push_str(format!(in alloc; "{front}{last}{back}]")?.as_str())?;
-            let value = Value::from_str(alloc, text.as_str())?;
+            let value = eleven_items(alloc, front, back, last)?;
             assert!(rt; Node::is_array(&value));
             assert_eq!(rt; value.is_unique(), are_unique, "{front} and {last}");
         }
     }
+    Ok(())
+}
+
+// Further than a fingerprint looks.
+#[test]
+fn long_texts_that_differ_in_the_middle(rt: HostRuntime) -> Result<(), Fail> {
+    let alloc = rt.alloc();
+    let long = "0123456789abcdef".repeat(alloc, 40)?;
     let mut items = Vec::new(alloc);
     for i in 0..30u64 {
         let text = format!(in alloc; "{long}{i}{long}")?;
