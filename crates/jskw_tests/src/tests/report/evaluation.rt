@@ -108,25 +108,41 @@ fn an_invalid_unit_keeps_its_annotation_and_its_texts(rt: HostRuntime) -> Result
     Ok(())
 }
 
-#[test]
-fn a_node_has_the_parts_of_its_unit(rt: HostRuntime) -> Result<(), Fail> {
+// The node of a unit of one description, two nodes and an annotation.
+fn node_of_a_unit(alloc: Global) -> Result<EvaluationNode, AllocError> {
     let mut unit = EvaluationResult::Invalid {
-        errors: one_error(rt.alloc(), "a text")?,
-        children: two_nodes(rt.alloc(), true, false)?,
+        errors: one_error(alloc, "a text")?,
+        children: two_nodes(alloc, true, false)?,
         annotations: None,
     };
     unit.annotate(Annotations::Bool(true));
-    let place = member_location(rt.alloc(), "items")?;
-    let at = member_location(rt.alloc(), "7")?;
-    let node = EvaluationNode::new(rt.alloc(), unit, &place, &at)?;
-    assert!(rt; !node.valid());
+    let place = member_location(alloc, "items")?;
+    EvaluationNode::new(alloc, unit, &place, &member_location(alloc, "7")?)
+}
+
+#[test]
+fn a_node_has_its_locations(rt: HostRuntime) -> Result<(), Fail> {
+    let node = node_of_a_unit(rt.alloc())?;
     assert_eq!(rt; node.evaluation_path().as_str(), "/items");
     assert_eq!(rt; node.schema_location().as_str(), "/items");
     assert_eq!(rt; node.instance_location().as_str(), "/7");
+    Ok(())
+}
+
+#[test]
+fn a_node_has_the_parts_of_its_unit(rt: HostRuntime) -> Result<(), Fail> {
+    let node = node_of_a_unit(rt.alloc())?;
+    assert!(rt; !node.valid());
     assert!(rt; matches!(node.annotations(), Some(Annotations::Bool(true))));
     assert_eq!(rt; node.errors().len(), 1);
     assert_eq!(rt; node.errors()[0].keyword(), "type");
     assert_eq!(rt; node.errors()[0].message(), "a text");
+    Ok(())
+}
+
+#[test]
+fn a_node_has_the_nodes_below_in_their_order(rt: HostRuntime) -> Result<(), Fail> {
+    let node = node_of_a_unit(rt.alloc())?;
     let mut paths = node.children().iter().map(EvaluationNode::evaluation_path);
     assert!(rt; paths.next().is_some_and(|path| path.as_str() == "/first"));
     assert!(rt; paths.next().is_some_and(|path| path.as_str() == "/second"));

@@ -2,6 +2,8 @@
 use crate::tests::pair;
 use crate::tests::places::member_location;
 use jskw_report::{LazyLocation, Location, LocationSegment};
+use std::alloc::AllocError;
+use std::process::Abort;
 use std::test::Fail;
 
 // Names, each with its pointer.
@@ -46,23 +48,33 @@ fn locations_are_equal_where_their_texts_are(rt: HostRuntime) -> Result<(), Fail
     Ok(())
 }
 
+// A stack of indices is rendered as this.
+fn check_rendered(
+    rt: &impl Abort,
+    location: &LazyLocation,
+    wanted: &str,
+) -> Result<(), AllocError> {
+    assert_eq!(rt; location.render()?.as_str(), wanted);
+    Ok(())
+}
+
 #[test]
 fn a_stack_of_indices_is_rendered_from_the_outside(rt: HostRuntime) -> Result<(), Fail> {
     let mut location = LazyLocation::new(rt.alloc());
-    assert_eq!(rt; location.render()?.as_str(), "");
+    check_rendered(&rt, &location, "")?;
     location.pop();
-    assert_eq!(rt; location.render()?.as_str(), "");
+    check_rendered(&rt, &location, "")?;
     location.push(0)?;
     location.push(12)?;
     location.push(3)?;
-    assert_eq!(rt; location.render()?.as_str(), "/0/12/3");
+    check_rendered(&rt, &location, "/0/12/3")?;
     location.pop();
     location.push(usize::MAX)?;
-    assert_eq!(rt; location.render()?.as_str(), "/0/12/18446744073709551615");
+    check_rendered(&rt, &location, "/0/12/18446744073709551615")?;
     location.pop();
     location.pop();
     location.pop();
     location.pop();
-    assert_eq!(rt; location.render()?.as_str(), "");
+    check_rendered(&rt, &location, "")?;
     Ok(())
 }
