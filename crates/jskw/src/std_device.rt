@@ -18,6 +18,7 @@ pub type StdSource<R> = StdDevice<R>;
 pub type StdSink<W> = StdDevice<W>;
 
 impl<T> StdDevice<T> {
+    /// The reader or writer as a device that has not failed.
     pub fn new(device: T) -> StdDevice<T>
         ensures device { result.device ≡ device }
         ensures works { result.failed ≡ false }
@@ -28,6 +29,7 @@ impl<T> StdDevice<T> {
         }
     }
 
+    /// The reader or writer, as the device left it.
     pub fn into_inner(self) -> T
         ensures { result ≡ self.device }
     {
