@@ -5,12 +5,20 @@ ghost use Rattle.jskw_value.specs.Tree.{is_lawful};
 use super::places::at_item;
 use super::texts::{error_text, errors_text};
 use jskw_report::{
-    ErrorDescription, EvaluationResult, Fault, Validate, ValidationContext, ValidationError,
+    ErrorDescription, EvaluationResult, Fault, LazyLocation, Validate, ValidationContext,
+    ValidationError,
 };
 use jskw_value::{Json, Node};
 use std::alloc::{AllocError, Global};
 use std::process::Abort;
 use std::test::Fail;
+
+// The location and the context that one observer hands on to the next.
+#[derive(Drop)]
+struct Asked {
+    location: LazyLocation,
+    ctx: ValidationContext,
+}
 
 // The errors of the item with index 7 of some instance.
 pub(super) fn observed<F: Json, V: Validate<F>>(
@@ -20,15 +28,23 @@ pub(super) fn observed<F: Json, V: Validate<F>>(
     instance: &F::Node,
 ) -> Result<String, Fail> {
     assert!(rt; instance.is_lawful());
-    let errors = collected(alloc, validator, instance)?;
-    let is_valid = validator.is_valid(instance, &mut ValidationContext::new());
-    assert_eq!(rt; is_valid, errors.is_empty());
-    check_first(rt, alloc, validator, instance, errors.as_slice().first())?;
-    check_unit(
+    let mut at = Asked {
+        location: at_item(alloc, 7)?,
+        ctx: ValidationContext::new(),
+    };
+    let errors = collected(alloc, validator, instance, &mut at)?;
+    assert_eq!(rt;
+        validator.is_valid(instance, &mut at.ctx),
+        errors.is_empty()
+    );
+    check_evaluation(rt, alloc, validator, instance, &mut at, errors.as_slice())?;
+    check_first(
         rt,
         alloc,
-        &evaluated(alloc, validator, instance)?,
-        errors.as_slice(),
+        validator,
+        instance,
+        &mut at,
+        errors.as_slice().first(),
     )?;
     errors_text(alloc, &errors)
 }
@@ -38,35 +54,28 @@ fn collected<'i, F: Json, V: Validate<F>>(
     alloc: Global,
     validator: &'i V,
     instance: &'i F::Node,
+    at: &mut Asked,
 ) -> Result<Vec<ValidationError<'i, F>>, AllocError>
     requires { IsTrue (is_lawful (F.Node.tree instance.now)) }
 {
-    let mut location = at_item(alloc, 7)?;
     let mut errors = Vec::new(alloc);
-    validator.collect_errors(
-        instance,
-        &mut location,
-        &mut ValidationContext::new(),
-        &mut errors,
-    )?;
+    validator.collect_errors(instance, &mut at.location, &mut at.ctx, &mut errors)?;
     Ok(errors)
 }
 
-// The evaluation.
-fn evaluated<F: Json, V: Validate<F>>(
+// The evaluation describes these errors.
+fn check_evaluation<F: Json, V: Validate<F>>(
+    rt: &impl Abort,
     alloc: Global,
     validator: &V,
     instance: &F::Node,
-) -> Result<EvaluationResult, AllocError>
+    at: &mut Asked,
+    errors: &[ValidationError<F>],
+) -> Result<(), Fail>
     requires { IsTrue (is_lawful (F.Node.tree instance.now)) }
 {
-    let mut location = at_item(alloc, 7)?;
-    validator.evaluate(
-        alloc,
-        instance,
-        &mut location,
-        &mut ValidationContext::new(),
-    )
+    let unit = validator.evaluate(alloc, instance, &mut at.location, &mut at.ctx)?;
+    check_unit(rt, alloc, &unit, errors)
 }
 
 // The first error has the text of the first of all, if there is one.
@@ -75,12 +84,12 @@ fn check_first<F: Json, V: Validate<F>>(
     alloc: Global,
     validator: &V,
     instance: &F::Node,
+    at: &mut Asked,
     head: Option<&ValidationError<F>>,
 ) -> Result<(), Fail>
     requires { IsTrue (is_lawful (F.Node.tree instance.now)) }
 {
-    let mut location = at_item(alloc, 7)?;
-    let answer = validator.validate(instance, &mut location, &mut ValidationContext::new());
+    let answer = validator.validate(instance, &mut at.location, &mut at.ctx);
     match (answer, head) {
         (Ok(()), None) => Ok(()),
         (Err(Fault::Invalid(first)), Some(head)) => check_same(rt, alloc, &first, head),

@@ -2,7 +2,7 @@ use Rattle.std.proofs.Common.{rules, string_bytes}
 use Rattle.jskw_value.proofs.FirstFloat.{found_in_item}
 use Rattle.jskw_value.proofs.first_float.+location_of_float.Goals as goal
 
--- src/first_float.rt:22:17
+-- a float that was found in an item
 pub returns-in-Some : goal.returns-in-Some
 returns-in-Some g t c =
     let before = c.loop-i.invariant in
