@@ -8,7 +8,8 @@ pub mod Faults
 pub mod Fused
 pub mod FusedReading
 pub mod Keywords
-pub mod Matching
+pub mod MatchedItems
+pub mod Meant
 pub mod Meetings
 pub mod Readings
 pub mod Turns

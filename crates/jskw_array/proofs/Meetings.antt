@@ -9,10 +9,10 @@ use Rattle.jskw_value.specs.Tree.{Tree, items}
 use Rattle.jskw_report.proofs.Gathering.{drop_here}
 use Rattle.jskw_report.proofs.Pointers.{path_of_push}
 use Rattle.jskw_report.specs.Applications.{needed, pairs, each_needed, each_pairs, sum_to_failure, height, each_height}
-use Rattle.jskw_report.specs.Evaluation.{Result, evaluate_pairs, of_children, prefix_annotation, schema_count, unit}
+use Rattle.jskw_report.specs.Evaluation.{evaluate_pairs, schema_count}
 use Rattle.jskw_report.specs.Fail.{Failure, fail, each_fails, each_item}
 use Rattle.jskw_report.specs.Holds.{holds, each_holds}
-use Rattle.jskw_report.specs.Keyword.{Schema, Schemas, no_schemas, schema, prefix_items}
+use Rattle.jskw_report.specs.Keyword.{Schema, Schemas, no_schemas, schema}
 use Rattle.jskw_report.specs.Paths.{path_of}
 use Rattle.jskw_array.specs.Meaning.{schemas_of}
 
@@ -95,16 +95,7 @@ height_at [] i s within is = absurd (omega arith)
 height_at (r ∷ ss) zero s within is = let e = ap height is in omega arith
 height_at (r ∷ ss) (suc i) s within is = let below = height_at ss i s (omega arith) is in omega arith
 
--- ---- `prefixItems`
-
 -- there are as many schemas as in the list
-count_of : (ss : List Schema) → schema_count (schemas_of ss) ≡ length ss
+pub count_of : (ss : List Schema) → schema_count (schemas_of ss) ≡ length ss
 count_of [] = refl
 count_of (s ∷ ss) = ap suc (count_of ss)
-
--- the unit of so many schemas, with the nodes of each
-pub prefix_is_unit : {k : ℕ} {r : Result} {es : _} (slice ss : List Schema) (t : Tree) (p : Pointer) → slice ≡ ss
-    → r ≡ of_children (prefix_annotation k (length (items t))) es → k ≡ length ss → es ≡ evaluate_pairs (schemas_of slice) 0 (items t) p
-    → r ≡ unit (prefix_items (schemas_of ss)) t p
-prefix_is_unit slice ss t p same is count gives =
-    is ∙ ap₂ (λ k es. of_children (prefix_annotation k (length (items t))) es) (count ∙ sym (count_of ss)) (gives ∙ ap (λ rs. evaluate_pairs (schemas_of rs) 0 (items t) p) same)

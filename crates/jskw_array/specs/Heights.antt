@@ -1,5 +1,5 @@
 -- A node's subschemas are lower than its schema.
-use Rattle.std.specs.Prelude.{◌+◌, ◌≤◌, List, [], ◌∷◌, Bool, Some, None}
+use Rattle.std.specs.Prelude.{◌≡◌, ℕ, ◌+◌, ◌≤◌, List, [], ◌∷◌, Bool, true, false, Some, None, if◌then◌else◌, refl}
 use Rattle.std.proofs.Common.{arith}
 use denote.Param.Weighed.{most}
 use Rattle.jskw_value.specs.Pointer.{Pointer}
@@ -8,14 +8,16 @@ use Rattle.jskw_value.specs.declared.json.Object as object
 use Rattle.jskw_value.specs.declared.json.Rooted as rooted
 use Rattle.jskw_report.specs.Applications.{height, all_height, keyword_height, each_height}
 use Rattle.jskw_report.proofs.Appended.{height_appended}
-use Rattle.jskw_report.specs.Keyword.{Schema, keyword, no_keywords}
+use Rattle.jskw_report.specs.Keyword.{Schema, Schemas, additional_items, items_from, items_list, keyword, no_keywords, prefix_items}
 use Rattle.jskw_array.specs.Fused.{absorbed_keywords, shape_keywords}
-use Rattle.jskw_array.specs.Meaning.{schemas_of, validator_keyword}
+use Rattle.jskw_array.specs.Meaning.{each_keyword, rest_keyword, schemas_of, validator_keyword}
 use Rattle.jskw_array.specs.Node.{schema_of}
 use Rattle.jskw_array.specs.Units.{keywords_of}
+use Rattle.jskw_array.specs.declared.each.Each.{Each}
 use Rattle.jskw_array.specs.declared.items.array_shape.ArrayShapeValidator.{ArrayShapeValidator}
 use Rattle.jskw_array.specs.declared.node.Assertions.{Assertions}
 use Rattle.jskw_array.specs.declared.node.Assertions.TheVariants.{Never, Keywords}
+use Rattle.jskw_array.specs.declared.rest.Rest.{Rest}
 use Rattle.jskw_array.specs.declared.unit.Unit as unit
 use Rattle.jskw_array.specs.declared.node.SchemaNode.TheDeep.{deep-ArrayShapeValidator, deep-Assertions, deep-Unit, deep-Validator}
 use Rattle.jskw_array.specs.declared.validator.Validator.{Validator}
@@ -25,25 +27,34 @@ each_falls : (ss : List Schema) → most (λ s. height s + 1) ss ≤ each_height
 each_falls [] = omega arith
 each_falls (s ∷ ss) = omega (arith, each_falls ss)
 
+-- the keyword is as high as its schemas, whichever it is
+each_as_high : (is_prefix : Bool) (ss : Schemas) → keyword_height (if is_prefix then prefix_items ss else items_list ss) ≡ each_height ss
+each_as_high true ss = refl
+each_as_high false ss = refl
+
+rest_as_high : (is_additional : Bool) (n : ℕ) (s : Schema) → keyword_height (if is_additional then additional_items n s else items_from n s false) ≡ height s
+rest_as_high true n s = refl
+rest_as_high false n s = refl
+
+pub each_is_as_high : {F N O P : Type 0} (v : Each F N O P) → keyword_height (each_keyword v) ≡ each_height (schemas_of v.nodes.items)
+each_is_as_high v = each_as_high v.is_prefix (schemas_of v.nodes.items)
+
+pub rest_is_as_high : {F N O P : Type 0} (v : Rest F N O P) → keyword_height (rest_keyword v) ≡ height v.node
+rest_is_as_high v = rest_as_high v.is_additional v.start v.node
+
 -- F, N, O and P are the types of a representation, and r, o and j say what they are
 module _ {F N O P : Type 0} (r : rooted.Ghosts N) (o : object.Ghosts N P) (j : number.Ghosts O) where
   keyword_falls : (v : Validator F N O P) → deep-Validator F N O P r o j v ≤ keyword_height (validator_keyword v) + 1
   keyword_falls (validator.Leaf v) = omega arith
-  keyword_falls (validator.ItemsArray v) = omega (arith, each_falls v.nodes.items)
-  keyword_falls (validator.ItemsObject v) = omega arith
-  keyword_falls (validator.ItemsObjectSkipPrefix v) = omega arith
+  keyword_falls (validator.Each v) = omega (arith, each_falls v.nodes.items, each_is_as_high v)
+  keyword_falls (validator.Rest v) = omega (arith, rest_is_as_high v)
+  keyword_falls (validator.Matching v) = omega arith
   keyword_falls (validator.ItemsNumber v) = omega arith
   keyword_falls (validator.ItemsString v) = omega arith
   keyword_falls (validator.ItemsBoolean v) = omega arith
   keyword_falls (validator.ItemsInteger v) = omega arith
   keyword_falls (validator.ItemsIntegerDraft4 v) = omega arith
-  keyword_falls (validator.PrefixItems v) = omega (arith, each_falls v.nodes.items)
-  keyword_falls (validator.AdditionalItemsObject v) = omega arith
   keyword_falls (validator.AdditionalItemsBoolean v) = omega arith
-  keyword_falls (validator.Contains v) = omega arith
-  keyword_falls (validator.MinContains v) = omega arith
-  keyword_falls (validator.MaxContains v) = omega arith
-  keyword_falls (validator.MinMaxContains v) = omega arith
 
   all_fall : (us : List (unit.Unit F N O P)) → most (deep-Unit F N O P r o j) us ≤ all_height (keywords_of us) + 1
   all_fall [] = omega arith

@@ -7,18 +7,14 @@ use Rattle.jskw_report.specs.Evaluation.{Evaluation, Result, indices, invalid_un
 use Rattle.jskw_report.specs.Fail.{failing_bound}
 use Rattle.jskw_report.specs.Keyword.{Bounds}
 use Rattle.jskw_report.specs.Kind.{Contains, keyword_of}
-use Rattle.jskw_array.specs.declared.contains.Limits.{Limits}
-
-abbrev pub bounds_of : Limits → Bounds
-bounds_of l = record { lower = l.lower; upper = l.upper; few = l.few.now; many = l.many.now }
 
 -- how many matches settle whether the bounds are kept
 abbrev pub settled : ℕ → Option ℕ → ℕ
 settled lower None = lower
 settled lower (Some upper) = min (upper + 1) 18446744073709551615
 
-abbrev pub enough : Limits → ℕ
-enough l = settled l.lower l.upper
+abbrev pub enough : Bounds → ℕ
+enough b = settled b.lower b.upper
 
 -- the keyword location of a failure, if there is one
 abbrev pub failing : Option (Bor Pointer) → List Pointer

@@ -7,79 +7,23 @@ ghost use Rattle.jskw_report.specs.Keyword.{additional_items as additional_keywo
 ghost use Rattle.jskw_report.specs.Keyword.{assertion, at_most};
 ghost use Rattle.jskw_report.specs.KeywordValue.{map_ok};
 ghost use Rattle.jskw_report.specs.Kind.{AdditionalItems};
-ghost use Rattle.jskw_report.specs.Meaning.{one};
 ghost use Rattle.jskw_report.specs.Read.{Reading, keyword_location};
 ghost use Rattle.jskw_report.specs.declared.keyword.KeywordName.TheVariants as word;
-ghost use Rattle.jskw_array.specs.Meaning.{additional_items, no_additional_items};
-ghost use Rattle.jskw_array.specs.Meaning.{validator_keyword};
+ghost use Rattle.jskw_array.specs.Meaning.{no_additional_items, validator_keyword};
 
 use crate::compiler::{compile_at, schema_count};
-use crate::meeting::{collect_rest, rest_is_valid, validate_rest};
 use crate::node::SchemaNode;
+use crate::rest::Rest;
 use crate::validator::Validator;
-use jskw_report::validator::evaluate_errors;
 use jskw_report::{
-    Assertion, CompilationResult, Context, EvaluationResult, Fault, KeywordName, LazyLocation,
-    Location, Validate, ValidationContext, ValidationError, ValidationErrorKind,
+    Assertion, CompilationResult, Context, KeywordName, Location, ValidationErrorKind,
 };
 use jskw_value::{Json, Node};
 use serde_json::{Map, Value};
-use std::alloc::{AllocError, Global};
+use std::alloc::Global;
 
 /// The validator of `additionalItems` of a schema.
-#[cycle(schema)]
-#[derive(Drop)]
-pub struct AdditionalItemsObjectValidator<F: Json> {
-    pub(crate) node: SchemaNode<F>,
-    pub(crate) items_count: usize,
-}
-
-impl<F: Json> Validate<F> for AdditionalItemsObjectValidator<F> {
-    ghost meaning = { λ v. one (additional_items v) };
-
-    fn is_valid(&self, instance: &F::Node, ctx: &mut ValidationContext) -> bool {
-        let count = instance.item_count();
-        rest_is_valid(self.items_count, count, &self.node, instance, ctx)
-    }
-
-    fn validate<'i>(
-        &'i self,
-        instance: &'i F::Node,
-        location: &mut LazyLocation,
-        ctx: &mut ValidationContext,
-    ) -> Result<(), Fault<'i, F>> {
-        validate_rest(self.items_count, &self.node, instance, location, ctx)
-    }
-
-    fn collect_errors<'i>(
-        &'i self,
-        instance: &'i F::Node,
-        location: &mut LazyLocation,
-        ctx: &mut ValidationContext,
-        errors: &mut Vec<ValidationError<'i, F>>,
-    ) -> Result<(), AllocError> {
-        collect_rest(
-            self.items_count,
-            &self.node,
-            instance,
-            location,
-            ctx,
-            errors,
-        )
-    }
-
-    fn evaluate(
-        &self,
-        alloc: Global,
-        instance: &F::Node,
-        location: &mut LazyLocation,
-        ctx: &mut ValidationContext,
-    ) -> Result<EvaluationResult, AllocError> {
-        let mut errors: Vec<ValidationError<F>> = Vec::new(alloc);
-        self.collect_errors(instance, location, ctx, &mut errors)?;
-        evaluate_errors(alloc, errors.as_slice())
-    }
-}
+pub type AdditionalItemsObjectValidator<F> = Rest<F>;
 
 /// The validator of `additionalItems` of `false`: there are no such items.
 #[derive(Drop)]
@@ -163,7 +107,9 @@ fn of_schema<'a, F: Json>(
     ensures { (read : Reading) → Makes (λ s. s) compiled.entry read
         → Makes validator_keyword result (map_ok (additional_keyword items_count) read) }
 {
-    let node = compiled?;
-    let validator = AdditionalItemsObjectValidator { node, items_count };
-    Ok(Validator::AdditionalItemsObject(validator))
+    Ok(Validator::Rest(Rest {
+        start: items_count,
+        node: compiled?,
+        is_additional: true,
+    }))
 }

@@ -10,24 +10,20 @@ ghost use Rattle.jskw_report.specs.Evaluation.{flag, of_children, valid_unit};
 ghost use Rattle.jskw_report.specs.EvaluationView.{result_of};
 ghost use Rattle.jskw_report.specs.Keyword.{Schemas, items_from, items_list};
 ghost use Rattle.jskw_report.specs.KeywordValue.{Refusal, map_ok};
-ghost use Rattle.jskw_report.specs.Meaning.{one};
 ghost use Rattle.jskw_report.specs.Read.{Reading, items_start, keyword_location, read};
 ghost use Rattle.jskw_report.specs.Setting.{name_of, is_2020_12, stands};
 ghost use Rattle.jskw_report.specs.Sibling.{is_array as is_list, is_bare, is_inlined_type};
 ghost use Rattle.jskw_report.specs.Sibling.{is_items_schema, is_only_type, member_passes};
 ghost use Rattle.jskw_report.specs.declared.keyword.KeywordName.TheVariants as word;
-ghost use Rattle.jskw_array.specs.Meaning.{items_array, items_object, items_skip_prefix};
 ghost use Rattle.jskw_array.specs.Meaning.{schemas_of, validator_keyword};
 
 pub(crate) mod array_shape;
 mod item_type;
 
 use crate::compiler::{compile_at, compile_each_at, schema_count};
-use crate::meeting::{
-    collect_each, collect_rest, each_is_valid, evaluate_each, evaluate_rest, rest_is_valid,
-    validate_each, validate_rest,
-};
+use crate::each::Each;
 use crate::node::SchemaNode;
+use crate::rest::Rest;
 use crate::validator::Validator;
 pub use array_shape::{AbsorbedKeywords, ArrayShapeValidator, array_shape_fusion};
 use item_type::compile_inline;
@@ -38,155 +34,20 @@ pub use item_type::{
 use jskw_report::compiler::member_of;
 use jskw_report::{
     Annotations, CompilationResult, CompileFault, Context, Draft, EvaluationNode, EvaluationResult,
-    Fault, KeywordName, LazyLocation, Validate, ValidationContext, ValidationError,
+    KeywordName,
 };
 use jskw_value::{Json, Node};
 use serde_json::{Map, Value};
-use std::alloc::{AllocError, Global};
+use std::alloc::Global;
 
 /// The validator of `items` of an array of schemas.
-#[cycle(schema)]
-#[derive(Drop)]
-pub struct ItemsArrayValidator<F: Json> {
-    pub(crate) nodes: Vec<SchemaNode<F>>,
-}
-
-impl<F: Json> Validate<F> for ItemsArrayValidator<F> {
-    ghost meaning = { λ v. one (items_array v) };
-
-    fn is_valid(&self, instance: &F::Node, ctx: &mut ValidationContext) -> bool {
-        each_is_valid(self.nodes.as_slice(), instance, ctx)
-    }
-
-    fn validate<'i>(
-        &'i self,
-        instance: &'i F::Node,
-        location: &mut LazyLocation,
-        ctx: &mut ValidationContext,
-    ) -> Result<(), Fault<'i, F>> {
-        validate_each(self.nodes.as_slice(), instance, location, ctx)
-    }
-
-    fn collect_errors<'i>(
-        &'i self,
-        instance: &'i F::Node,
-        location: &mut LazyLocation,
-        ctx: &mut ValidationContext,
-        errors: &mut Vec<ValidationError<'i, F>>,
-    ) -> Result<(), AllocError> {
-        collect_each(self.nodes.as_slice(), instance, location, ctx, errors)
-    }
-
-    fn evaluate(
-        &self,
-        alloc: Global,
-        instance: &F::Node,
-        location: &mut LazyLocation,
-        ctx: &mut ValidationContext,
-    ) -> Result<EvaluationResult, AllocError> {
-        let nodes = evaluate_each(alloc, self.nodes.as_slice(), instance, location, ctx)?;
-        Ok(EvaluationResult::from_children(alloc, nodes))
-    }
-}
+pub type ItemsArrayValidator<F> = Each<F>;
 
 /// The validator of `items` of one schema, for every item.
-#[cycle(schema)]
-#[derive(Drop)]
-pub struct ItemsObjectValidator<F: Json> {
-    pub(crate) node: SchemaNode<F>,
-}
-
-impl<F: Json> Validate<F> for ItemsObjectValidator<F> {
-    ghost meaning = { λ v. one (items_object v) };
-
-    fn is_valid(&self, instance: &F::Node, ctx: &mut ValidationContext) -> bool {
-        rest_is_valid(0, instance.item_count(), &self.node, instance, ctx)
-    }
-
-    fn validate<'i>(
-        &'i self,
-        instance: &'i F::Node,
-        location: &mut LazyLocation,
-        ctx: &mut ValidationContext,
-    ) -> Result<(), Fault<'i, F>> {
-        validate_rest(0, &self.node, instance, location, ctx)
-    }
-
-    fn collect_errors<'i>(
-        &'i self,
-        instance: &'i F::Node,
-        location: &mut LazyLocation,
-        ctx: &mut ValidationContext,
-        errors: &mut Vec<ValidationError<'i, F>>,
-    ) -> Result<(), AllocError> {
-        collect_rest(0, &self.node, instance, location, ctx, errors)
-    }
-
-    fn evaluate(
-        &self,
-        alloc: Global,
-        instance: &F::Node,
-        location: &mut LazyLocation,
-        ctx: &mut ValidationContext,
-    ) -> Result<EvaluationResult, AllocError> {
-        let nodes = evaluate_rest(alloc, 0, &self.node, instance, location, ctx)?;
-        Ok(items_unit(alloc, 0, nodes, instance))
-    }
-}
+pub type ItemsObjectValidator<F> = Rest<F>;
 
 /// The validator of `items` of one schema, for the items behind those of `prefixItems`.
-#[cycle(schema)]
-#[derive(Drop)]
-pub struct ItemsObjectSkipPrefixValidator<F: Json> {
-    pub(crate) node: SchemaNode<F>,
-    pub(crate) skip_prefix: usize,
-}
-
-impl<F: Json> Validate<F> for ItemsObjectSkipPrefixValidator<F> {
-    ghost meaning = { λ v. one (items_skip_prefix v) };
-
-    fn is_valid(&self, instance: &F::Node, ctx: &mut ValidationContext) -> bool {
-        let count = instance.item_count();
-        rest_is_valid(self.skip_prefix, count, &self.node, instance, ctx)
-    }
-
-    fn validate<'i>(
-        &'i self,
-        instance: &'i F::Node,
-        location: &mut LazyLocation,
-        ctx: &mut ValidationContext,
-    ) -> Result<(), Fault<'i, F>> {
-        validate_rest(self.skip_prefix, &self.node, instance, location, ctx)
-    }
-
-    fn collect_errors<'i>(
-        &'i self,
-        instance: &'i F::Node,
-        location: &mut LazyLocation,
-        ctx: &mut ValidationContext,
-        errors: &mut Vec<ValidationError<'i, F>>,
-    ) -> Result<(), AllocError> {
-        collect_rest(
-            self.skip_prefix,
-            &self.node,
-            instance,
-            location,
-            ctx,
-            errors,
-        )
-    }
-
-    fn evaluate(
-        &self,
-        alloc: Global,
-        instance: &F::Node,
-        location: &mut LazyLocation,
-        ctx: &mut ValidationContext,
-    ) -> Result<EvaluationResult, AllocError> {
-        let nodes = evaluate_rest(alloc, self.skip_prefix, &self.node, instance, location, ctx)?;
-        Ok(items_unit(alloc, self.skip_prefix, nodes, instance))
-    }
-}
+pub type ItemsObjectSkipPrefixValidator<F> = Rest<F>;
 
 // The unit of `items` of one schema from `start` on, with the nodes of those items below: whether
 // there are any.
@@ -314,7 +175,10 @@ fn of_schemas<'a, F: Json>(
         → Makes (λ nodes. schemas_of nodes.items) compiled.entry read
         → Makes validator_keyword result (map_ok items_list read) }
 {
-    Ok(Validator::ItemsArray(ItemsArrayValidator { nodes: compiled? }))
+    Ok(Validator::Each(Each {
+        nodes: compiled?,
+        is_prefix: false,
+    }))
 }
 
 // The validator of one schema, from the item `start` on, where it was compiled.
@@ -325,13 +189,9 @@ fn of_schema<'a, F: Json>(
     ensures { (read : Reading) → Makes (λ s. s) compiled.entry read
         → Makes validator_keyword result (map_ok (λ sub. items_from start sub false) read) }
 {
-    let node = compiled?;
-    if start == 0 {
-        return Ok(Validator::ItemsObject(ItemsObjectValidator { node }));
-    }
-    let validator = ItemsObjectSkipPrefixValidator {
-        node,
-        skip_prefix: start,
-    };
-    Ok(Validator::ItemsObjectSkipPrefix(validator))
+    Ok(Validator::Rest(Rest {
+        start,
+        node: compiled?,
+        is_additional: false,
+    }))
 }

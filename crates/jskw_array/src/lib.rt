@@ -11,11 +11,13 @@
 pub mod additional_items;
 pub mod compiler;
 pub mod contains;
+pub mod each;
 pub mod items;
 pub mod laws;
-mod meeting;
+pub mod matching;
 pub mod node;
 pub mod prefix_items;
+pub mod rest;
 mod unit;
 pub mod validator;
 

@@ -1,6 +1,7 @@
 //! A compiled schema: the validators of its keywords, in the order in which a schema is read.
 ghost use Rattle.std.specs.Prelude.{◌≡◌, ◌+◌, ◌≤◌, [], IfOk, IfSome, IsTrue};
 ghost use Rattle.std.specs.Prelude.{is_some, min};
+ghost use Rattle.jskw_value.specs.Pointer.{item_location};
 ghost use Rattle.jskw_value.specs.Tree.{is_lawful};
 ghost use Rattle.jskw_report.specs.Applications.{needed, pairs};
 ghost use Rattle.jskw_report.specs.Evaluation.{tree};
@@ -232,6 +233,27 @@ impl<F: Json> SchemaNode<F> {
         }
     }
 
+    // What `validate` answers of the item at an index of the instance at `location`.
+    #[cycle(validate)]
+    pub(crate) fn validate_item<'i>(
+        &'i self,
+        index: usize,
+        item: &'i F::Node,
+        location: &mut LazyLocation,
+        ctx: &mut ValidationContext,
+    ) -> Result<(), Fault<'i, F>>
+        requires { IsTrue (is_lawful (F.Node.tree item.now)) }
+        ensures first { IsFirst F.Node.tree (fail self.now (F.Node.tree item.now)
+            (item_location (path_of location.old) index)) result }
+        ensures location { location.new ≡ location.old }
+        ensures counted { CountsUpTo ctx.old ctx.new (needed self.now (F.Node.tree item.now)) }
+    {
+        location.push(index)?;
+        let answer = self.validate(item, location, ctx);
+        location.pop();
+        answer
+    }
+
     /// Appends every error, in order. After want of memory the list is as it was, followed by a
     /// beginning of them. `location` is the instance's, and at every return it is as at the call.
     #[cycle(collect_errors)]
@@ -261,6 +283,29 @@ impl<F: Json> SchemaNode<F> {
                 collect_units(units, instance, location, ctx, errors)
             }
         }
+    }
+
+    // Appends the errors of the item at an index of the instance at `location`.
+    #[cycle(collect_errors)]
+    pub(crate) fn collect_item<'i>(
+        &'i self,
+        index: usize,
+        item: &'i F::Node,
+        location: &mut LazyLocation,
+        ctx: &mut ValidationContext,
+        errors: &mut Vec<ValidationError<'i, F>>,
+    ) -> Result<(), AllocError>
+        requires { IsTrue (is_lawful (F.Node.tree item.now)) }
+        ensures appended { Appends F.Node.tree errors.old.items errors.new.items
+            (fail self.now (F.Node.tree item.now) (item_location (path_of location.old) index))
+            result }
+        ensures location { location.new ≡ location.old }
+        ensures counted { CountsUpTo ctx.old ctx.new (pairs self.now (F.Node.tree item.now)) }
+    {
+        location.push(index)?;
+        let answer = self.collect_errors(item, location, ctx, errors);
+        location.pop();
+        answer
     }
 
     /// The evaluation tree of a whole instance (Core 12.3). Only memory can fail, and then there is
@@ -314,6 +359,28 @@ impl<F: Json> SchemaNode<F> {
                 EvaluationNode::new(alloc, result, &self.location, &path)
             }
         }
+    }
+
+    // The evaluation tree of the item at an index of the instance at `location`.
+    #[cycle(evaluate)]
+    pub(crate) fn evaluate_item(
+        &self,
+        alloc: Global,
+        index: usize,
+        item: &F::Node,
+        location: &mut LazyLocation,
+        ctx: &mut ValidationContext,
+    ) -> Result<EvaluationNode, AllocError>
+        requires { IsTrue (is_lawful (F.Node.tree item.now)) }
+        ensures gives { IfOk result (λ node. node ≡ tree self.now (F.Node.tree item.now)
+            (item_location (path_of location.old) index)) }
+        ensures location { location.new ≡ location.old }
+        ensures counted { CountsUpTo ctx.old ctx.new (pairs self.now (F.Node.tree item.now)) }
+    {
+        location.push(index)?;
+        let answer = self.evaluate_instance_below(alloc, item, location, ctx);
+        location.pop();
+        answer
     }
 }
 

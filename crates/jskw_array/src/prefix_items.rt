@@ -10,67 +10,24 @@ ghost use Rattle.jskw_report.specs.EvaluationParts.{annotation_of};
 ghost use Rattle.jskw_report.specs.EvaluationView.{result_of};
 ghost use Rattle.jskw_report.specs.Keyword.{Schemas, prefix_items as prefix_keyword};
 ghost use Rattle.jskw_report.specs.KeywordValue.{Refusal, map_ok, of_type, wrong};
-ghost use Rattle.jskw_report.specs.Meaning.{one};
 ghost use Rattle.jskw_report.specs.Read.{keyword_location};
 ghost use Rattle.jskw_report.specs.declared.keyword.KeywordName.TheVariants as word;
-ghost use Rattle.jskw_array.specs.Meaning.{prefix_items, schemas_of, validator_keyword};
+ghost use Rattle.jskw_array.specs.Meaning.{schemas_of, validator_keyword};
 
 use crate::compiler::compile_each_at;
-use crate::meeting::{collect_each, each_is_valid, evaluate_each, validate_each};
+use crate::each::Each;
 use crate::node::SchemaNode;
 use crate::validator::Validator;
 use jskw_report::{
-    Annotations, CompilationResult, CompileFault, Context, EvaluationNode, EvaluationResult, Fault,
-    KeywordName, LazyLocation, Validate, ValidationContext, ValidationError, ValidationErrorKind,
+    Annotations, CompilationResult, CompileFault, Context, EvaluationNode, EvaluationResult,
+    KeywordName, ValidationErrorKind,
 };
 use jskw_value::{Json, JsonType, Node};
 use serde_json::{Map, Value};
-use std::alloc::{AllocError, Global};
+use std::alloc::Global;
 
 /// The validator of `prefixItems`.
-#[cycle(schema)]
-#[derive(Drop)]
-pub struct PrefixItemsValidator<F: Json> {
-    pub(crate) nodes: Vec<SchemaNode<F>>,
-}
-
-impl<F: Json> Validate<F> for PrefixItemsValidator<F> {
-    ghost meaning = { λ v. one (prefix_items v) };
-
-    fn is_valid(&self, instance: &F::Node, ctx: &mut ValidationContext) -> bool {
-        each_is_valid(self.nodes.as_slice(), instance, ctx)
-    }
-
-    fn validate<'i>(
-        &'i self,
-        instance: &'i F::Node,
-        location: &mut LazyLocation,
-        ctx: &mut ValidationContext,
-    ) -> Result<(), Fault<'i, F>> {
-        validate_each(self.nodes.as_slice(), instance, location, ctx)
-    }
-
-    fn collect_errors<'i>(
-        &'i self,
-        instance: &'i F::Node,
-        location: &mut LazyLocation,
-        ctx: &mut ValidationContext,
-        errors: &mut Vec<ValidationError<'i, F>>,
-    ) -> Result<(), AllocError> {
-        collect_each(self.nodes.as_slice(), instance, location, ctx, errors)
-    }
-
-    fn evaluate(
-        &self,
-        alloc: Global,
-        instance: &F::Node,
-        location: &mut LazyLocation,
-        ctx: &mut ValidationContext,
-    ) -> Result<EvaluationResult, AllocError> {
-        let nodes = evaluate_each(alloc, self.nodes.as_slice(), instance, location, ctx)?;
-        Ok(prefix_unit(alloc, self.nodes.len(), nodes, instance))
-    }
-}
+pub type PrefixItemsValidator<F> = Each<F>;
 
 // The unit of so many schemas over the items of the instance, which has these nodes below.
 pub(crate) fn prefix_unit<N: Node>(
@@ -145,5 +102,8 @@ fn of_schemas<'a, F: Json>(
         → Makes (λ nodes. schemas_of nodes.items) compiled.entry read
         → Makes validator_keyword result (map_ok prefix_keyword read) }
 {
-    Ok(Validator::PrefixItems(PrefixItemsValidator { nodes: compiled? }))
+    Ok(Validator::Each(Each {
+        nodes: compiled?,
+        is_prefix: true,
+    }))
 }

@@ -77,3 +77,10 @@ pub searched_integers : (c : ℤ) (k : ℕ) (zs : List ℤ) (r : Result ℕ ℕ)
 searched_integers c k zs r sorted h e =
     searched (λ z. num_equal (exact z zero) (exact c k)) (integer_against c k) (by_value c k) zs r
     (searchable_from_sorted int_cmp_total (λ z. z *ℤ pos (10 ^ k)) zs c (sorted_scaled (10 ^ k) zs sorted)) h e
+
+-- an integer among integers, without a scale
+pub searched_words : (c : ℤ) (zs : List ℤ) (r : Result ℕ ℕ) → IsSorted int_cmp zs → IsSearchInRange r (length zs) → IsBinarySearchResult (λ z. int_cmp z c) zs r → is_ok r ≡ some_integer zs (exact c zero)
+unfolding one
+searched_words c zs r sorted h e =
+    searched (λ z. num_equal (exact z zero) (exact c zero)) (λ z. int_cmp z c) (λ z. rw (*ℤ-one z, *ℤ-one c) refl) zs r
+    (searchable_from_sorted int_cmp_total (λ z. z) zs c sorted) h e

@@ -22,6 +22,11 @@ pub stands_other : (t : Tree) (z : ℤ) → as_number t ≡ None → stands_to z
 stands_other (number x) z h = cc
 stands_other _ z h = refl
 
+-- a number stands to it as its tree does
+pub stands_as_number : (t : Tree) (n : Num) (z : ℤ) → as_number t ≡ Some n → stands_to z (number n) ≡ stands_to z t
+stands_as_number (number x) n z h = cc
+stands_as_number _ n z h = cc
+
 is_ge_of : (a b : ℤ) (x y z : Bool) → int_lt a b ≡ x → int_lt b a ≡ y → int_le b a ≡ z → is_ge (cond x Less (cond y Greater Equal)) ≡ z
 is_ge_of a b true y true p q r = absurd (omega (arith, ints))
 is_ge_of a b true y false p q r = refl
@@ -55,3 +60,6 @@ by_order Maximum z (number (exact c k)) = let m : ℤ = z *ℤ pos (10 ^ k) in s
 by_order ExclusiveMinimum z (number (exact c k)) = let m : ℤ = z *ℤ pos (10 ^ k) in sym (is_gt_of c m (int_lt c m) (int_lt m c) refl refl)
 by_order ExclusiveMaximum z (number (exact c k)) = let m : ℤ = z *ℤ pos (10 ^ k) in sym (is_lt_of c m (int_lt c m) (int_lt m c))
 by_order _ z _ = refl
+
+-- a limit's test, of a number that is an integer of its type, of any other, and of what is none
+pub ruleset holding = (by_order, stands_as_number, stands_number, stands_other)

@@ -5,7 +5,8 @@
 ghost use Rattle.std.specs.Prelude.{◌≡◌, ◌≤ℤ◌, ◌<ℤ◌, ℤ, pos, negsuc, true, refl, Some};
 ghost use Rattle.std.specs.Prelude.{IfOk, IfSome, IsTrue};
 ghost use Rattle.serde_json.specs.View.{view, members_view};
-ghost use Rattle.jskw_value.specs.Tree.{is_lawful};
+ghost use Rattle.jskw_value.specs.Number.{is_exact};
+ghost use Rattle.jskw_value.specs.Tree.{is_lawful, number as number_tree};
 ghost use Rattle.jskw_report.specs.Compile.{Compiles, Makes, reading};
 ghost use Rattle.jskw_report.specs.Errors.{kind_of};
 ghost use Rattle.jskw_report.specs.Fail.{limit_kind};
@@ -37,6 +38,13 @@ pub trait Whole: Copy + Drop {
         ensures value { result ≡ whole self }
         ensures low { negsuc 9223372036854775807 ≤ℤ result }
         ensures high { result <ℤ pos 18446744073709551616 };
+
+    /// Returns how a number stands to this one where it is written as an integer of this type, or
+    /// None, which leaves it to the decimals: words are compared faster.
+    fn order_of<N: JsonNumber>(self, number: &N) -> Option<Ordering>
+        requires { IsTrue (is_exact (N.number number.now)) }
+        ensures { IfSome result (λ o. Some o
+            ≡ stands_to (whole self) (number_tree (N.number number.now))) };
 }
 
 impl Whole for u64 {
@@ -44,6 +52,10 @@ impl Whole for u64 {
 
     fn to_i128(self) -> i128 {
         self as i128
+    }
+
+    fn order_of<N: JsonNumber>(self, number: &N) -> Option<Ordering> {
+        Some(number.as_u64()?.cmp(&self))
     }
 }
 
@@ -53,16 +65,10 @@ impl Whole for i64 {
     fn to_i128(self) -> i128 {
         self as i128
     }
-}
 
-// How a number stands to a limit, None where the instance is no number.
-#[tactic(auto, using(crate::proofs::Limits::stands_number, crate::proofs::Limits::stands_other))]
-fn compared<F: Json, T: Whole>(instance: &F::Node, limit: T) -> Option<Ordering>
-    requires { IsTrue (is_lawful (F.Node.tree instance.now)) }
-    ensures { result ≡ stands_to (T.whole limit) (F.Node.tree instance.now) }
-{
-    let number = instance.as_number()?;
-    Some(number.decimal().cmp_whole(limit.to_i128()))
+    fn order_of<N: JsonNumber>(self, number: &N) -> Option<Ordering> {
+        Some(number.as_i64()?.cmp(&self))
+    }
 }
 
 /// A relation of numbers to a limit, one of four, which is known where the code is compiled.
@@ -137,11 +143,14 @@ impl<T: Whole, R: LimitTest> Assertion for Limit<T, R> {
 
     ghost fails_once = { λ v t. refl };
 
-    #[tactic(auto, using(crate::proofs::Limits::by_order))]
+    #[tactic(auto, using(crate::proofs::Limits::holding))]
     fn holds<F: Json>(&self, instance: &F::Node) -> bool {
-        match compared::<F, T>(instance, self.limit) {
+        let Some(number) = instance.as_number() else {
+            return true;
+        };
+        match self.limit.order_of(number) {
             Some(ordering) => R::allows(ordering),
-            None => true,
+            None => R::allows(number.decimal().cmp_whole(self.limit.to_i128())),
         }
     }
 

@@ -39,9 +39,12 @@ impl Assertion for MultipleOfIntegerValidator {
     ghost fails_once = { λ v t. refl };
 
     fn holds<F: Json>(&self, instance: &F::Node) -> bool {
-        match instance.as_number() {
-            Some(number) => number.decimal().is_multiple_of(self.multiple_of.get()),
-            None => true,
+        let Some(number) = instance.as_number() else {
+            return true;
+        };
+        match number.as_u64() {
+            Some(whole) => whole % self.multiple_of.get() == 0,
+            None => number.decimal().is_multiple_of(self.multiple_of.get()),
         }
     }
 

@@ -13,11 +13,11 @@ use Rattle.jskw_value.proofs.Fingerprints.{equal_print}
 use Rattle.jskw_value.proofs.Unique.{none_passes, unique_means}
 
 -- what stands at one index is one tree
-one_tree : (ts : List Tree) (i j : ℕ) (t x : Tree) → slice_get ts i ≡ Some t → j ≡ i → slice_get ts j ≡ Some x → t ≡ x
+pub one_tree : (ts : List Tree) (i j : ℕ) (t x : Tree) → slice_get ts i ≡ Some t → j ≡ i → slice_get ts j ≡ Some x → t ≡ x
 one_tree ts i j t x e q f = same_Some t x (sym e ∙ subst (λ z. slice_get ts z ≡ Some x) q f)
 
 -- an index below the next is this one or below it
-below : (i n : ℕ) → i < n + 1 → (i ≡ n) ⊎ (i < n)
+pub below : (i n : ℕ) → i < n + 1 → (i ≡ n) ⊎ (i < n)
 below i n h = go (eqb_tells i n)
   where
     go : (((i == n) ≡ true) × (i ≡ n)) ⊎ (((i == n) ≡ false) × (i ≢ n)) → (i ≡ n) ⊎ (i < n)
@@ -150,7 +150,7 @@ told_end start end b n s ts h told = record { differ = λ i j t u k l m a c. tol
 -- ---- all blocks
 
 -- one block more
-one_block : (n m : ℕ) (ts : List Tree) → IsUniqueIn 0 n ts → IsUniqueIn n m ts → IsUniqueIn 0 m ts
+pub one_block : (n m : ℕ) (ts : List Tree) → IsUniqueIn 0 n ts → IsUniqueIn n m ts → IsUniqueIn 0 m ts
 one_block n m ts before here = record { differ = λ i j t u k l o a b. go i j t u l o a b (cases_lt i n) }
   where
     go : (i j : ℕ) (t u : Tree) → i < m → i < j → slice_get ts i ≡ Some t → slice_get ts j ≡ Some u → (i < n) ⊎ (n ≤ i) → equal t u ≡ false

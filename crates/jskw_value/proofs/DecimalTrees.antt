@@ -11,7 +11,7 @@ use Rattle.jskw_value.specs.declared.decimal_tree.DecimalTree.{DecimalTree, Arra
 use Rattle.jskw_value.specs.declared.decimal_tree.DecimalTree.TheOpen.{DecimalTree-F}
 use Rattle.jskw_value.specs.declared.decimal_tree.DecimalTree.TheFolds.{map-DecimalTree, ind-DecimalTree, fold-roll-DecimalTree}
 use Rattle.jskw_value.specs.declared.members.Member.{Member}
-use Rattle.jskw_value.specs.DecimalTree.{decimal_tree, tree_step, items_from, members_from}
+use Rattle.jskw_value.specs.DecimalTree.{decimal_tree, entry_tree, tree_step, items_from, members_from}
 use Rattle.jskw_value.specs.Members.{entries, names, get}
 use Rattle.jskw_value.specs.Tree as tree
 use Rattle.jskw_value.specs.Tree.{Tree, array, object, item_list, member_list}
@@ -21,10 +21,6 @@ use Rattle.jskw_value.proofs.Lookups.{seen_through}
 -- a member with its tree
 abbrev pub on_value : Member DecimalTree → Member Tree
 on_value m = record { name = m.name; value = decimal_tree m.value }
-
--- a member's name beside its tree
-abbrev pub entry_tree : Member DecimalTree → List ℕ × Tree
-entry_tree m = (string_bytes m.name, decimal_tree m.value)
 
 -- an array's tree
 pub tree_of_array : (v : Vec DecimalTree Global)
@@ -48,7 +44,7 @@ member_list-members_from [] = refl
 member_list-members_from (m ∷ ms) = ap (λ es. entry_tree m ∷ es) (member_list-members_from ms)
 
 -- names and trees by way of the entries
-entries_seen : (ms : List (Member DecimalTree)) → map entry_tree ms ≡ map (λ e. (e.0, decimal_tree e.1)) (entries ms)
+pub entries_seen : (ms : List (Member DecimalTree)) → map entry_tree ms ≡ map (λ e. (e.0, decimal_tree e.1)) (entries ms)
 entries_seen ms = sym (map-map (λ e. (e.0, decimal_tree e.1)) (λ m. (string_bytes m.name, m.value)) ms)
 
 -- the trees of the values

@@ -18,8 +18,10 @@ pub mod Numbers
 pub mod Places
 pub mod Pointers
 pub mod Powers
+pub mod Prints
 pub mod SameNames
 pub mod Serde
+pub mod SerdeDecimals
 pub mod Sketches
 pub mod Sums
 pub mod Texts

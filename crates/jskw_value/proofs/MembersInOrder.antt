@@ -2,20 +2,20 @@
 use Rattle.std.proofs.Common.{◌≡◌, ℕ, zero, suc, ◌+◌, ◌<◌, List, [], ◌∷◌, length, get_or, true, false, is_some, Some, None, Result, Ok, Err, IfOk, IfErr, string_bytes, refl, sym, ap, subst, ◌∙◌, inl, inr, arith}
 use Rattle.std.proofs.lemmas.Bool.{cases_lt, cond-true, cond-false}
 use Rattle.std.proofs.lemmas.Cmp.{nat_list_cmp_total, nat_list_eq_equiv}
-use Rattle.std.proofs.lemmas.List.{length-map}
-use Rattle.std.proofs.lemmas.List.Sorted.{searchable_from_sorted}
-use Rattle.std.proofs.lemmas.Map.Keys.{IsDistinct-from_apart, Less-from_sorted, sorted_tail}
+use Rattle.std.proofs.lemmas.List.{get_or_read, length-map}
+use Rattle.std.proofs.lemmas.List.Sorted.{IsPermutation-map, searchable_from_sorted}
+use Rattle.std.proofs.lemmas.Map.Keys.{IsDistinct-from_apart, IsDistinct-IsPermutation, Less-from_sorted, apart_from_distinct, sorted_from_all_adjacent, sorted_tail}
 use Rattle.std.proofs.lemmas.Map.Text.{is_eq-slice_cmp}
 use Rattle.std.proofs.lemmas.Slice.Eq.{bytes_eq-Decides}
 use Rattle.std.specs.Cmp.Lexicographic.{slice_cmp}
 use Rattle.std.specs.List.{insert, AllByRecursion, IsDistinct}
-use Rattle.std.specs.List.Sorted.{IsStrictlySortedBy, IsSearchInRange, IsBinarySearchResult, IsSortedByKey}
+use Rattle.std.specs.List.Sorted.{IsPermutation, IsStrictlySortedBy, IsSearchInRange, IsBinarySearchResult, IsSortedByKey}
 use Rattle.std.specs.Ordering.{nat_cmp, is_eq, is_gt, is_lt, ordering_reverse}
 use Rattle.std.specs.Str.{bytes_eq}
 use Rattle.std.specs.declared.cmp.Ordering.{Ordering}
 use Rattle.std.specs.declared.cmp.Ordering.TheVariants.{Less, Equal, Greater}
 use Rattle.jskw_value.specs.declared.members.Member.{Member}
-use Rattle.jskw_value.specs.Members.{names, get, has_name, against, inserted, AreSorted, IsAt, IsGap}
+use Rattle.jskw_value.specs.Members.{names, get, has_name, against, inserted, AreSorted, IsAt, IsGap, IsSortedByName, IsStep, RepeatsAt}
 use Rattle.jskw_value.proofs.MembersByPlace.{part_read, is_some_get}
 
 -- ---- names that rise
@@ -43,16 +43,23 @@ all_behind : (k x : List ℕ) (ns : List (List ℕ)) → slice_cmp nat_cmp k x �
 all_behind k x [] l a = tt
 all_behind k x (n ∷ ns) l a = (nat_list_cmp_total.trans k x n l a.0, all_behind k x ns l a.1)
 
+-- an order that is less neither way round
+neither : (o : Ordering) → is_lt o ≡ false → is_lt (ordering_reverse o) ≡ false → o ≡ Equal
+neither Less h g = cc
+neither Equal h g = refl
+neither Greater h g = cc
+
 module _ {V : Type 0} where
+  -- each member has a name
+  as_many : (ms : List (Member V)) → length (names ms) ≡ length ms
+  as_many ms = length-map _ _ ∙ length-map ms _
+
   -- a lesser place has a lesser name
   less_at : (ms : List (Member V)) (i j : ℕ) (d : Member V) → AreSorted (names ms) → i < j → j < length ms
       → slice_cmp nat_cmp (string_bytes (get_or ms i d).name) (string_bytes (get_or ms j d).name) ≡ Less
   less_at ms i j d s l h =
       rw (part_read (λ e. e.0) ms i d [] (omega (arith, l, h)), part_read (λ e. e.0) ms j d [] h)
-      (Less-from_sorted (slice_cmp nat_cmp) (names ms) i j [] s l (omega (arith, h, as_many)))
-    where
-      as_many : length (names ms) ≡ length ms
-      as_many = length-map _ _ ∙ length-map ms _
+      (Less-from_sorted (slice_cmp nat_cmp) (names ms) i j [] s l (omega (arith, h, as_many ms)))
 
   -- which is what a search by halves asks
   rising : (ms : List (Member V)) → AreSorted (names ms) → IsSortedByKey (λ m. string_bytes m.name) (slice_cmp nat_cmp) ms
@@ -144,5 +151,56 @@ module _ {V : Type 0} where
 
   pub named_in_gap : (k : List ℕ) (ms : List (Member V)) (i : ℕ) → IsGap k ms i → has_name k ms ≡ false
   named_in_gap k ms i gap = sym (is_some_get k ms) ∙ ap is_some (get_in_gap k ms i gap)
+
+  -- ---- names that are compared with the next
+
+  -- where none is less than the one before, a name that is not less than the next is the same
+  pub named_alike : (ms : List (Member V)) (i : ℕ) (d : Member V) → IsSortedByName ms → i + 1 < length ms
+      → is_lt (against (string_bytes (get_or ms (i + 1) d).name) (get_or ms i d)) ≡ false
+      → string_bytes (get_or ms i d).name ≡ string_bytes (get_or ms (i + 1) d).name
+  named_alike ms i d s l h =
+      let k : List ℕ = string_bytes (get_or ms i d).name in
+      let n : List ℕ = string_bytes (get_or ms (i + 1) d).name in
+      let back : is_lt (ordering_reverse (slice_cmp nat_cmp k n)) ≡ false = sym (ap is_lt (nat_list_cmp_total.antisymm n k)) ∙ s i d (omega arith) l in
+      sym ((bytes_eq-Decides n k).0 (same n k (neither _ h back)))
+
+  -- names each of which is less than the next rise
+  pub rising_by_steps : (ms : List (Member V)) → ((j : ℕ) → j + 1 < length ms → IsStep ms j) → AreSorted (names ms)
+  rising_by_steps [] h = sorted_none
+  rising_by_steps (m ∷ ms) h = sorted_from_all_adjacent nat_list_cmp_total (names (m ∷ ms)) [] (λ k l.
+      let within : k + 1 < length (m ∷ ms) = omega (arith, l, as_many (m ∷ ms)) in
+      rw (← part_read (λ e. e.0) (m ∷ ms) k m [] (omega (arith, within)), ← part_read (λ e. e.0) (m ∷ ms) (k + 1) m [] within) (h k within m))
+
+  -- the first member x whose name is not less than that of y, the next, has its name
+  pub repeats_at : (ms : List (Member V)) (i n : ℕ) (x y : Member V) → IsSortedByName ms → n ≡ i + 1 → n < length ms
+      → ((j : ℕ) → j + 1 < n → IsStep ms j) → x ≡ get_or ms i x → y ≡ get_or ms n y
+      → is_lt (against (string_bytes y.name) x) ≡ false → RepeatsAt ms i
+  repeats_at ms i n x y s e l steps p q h = record {
+    within = omega arith;
+    named = λ d.
+        let px : x ≡ get_or ms i d = get_or_read ms i x (omega arith) p d in
+        let py : y ≡ get_or ms (i + 1) d = rw (← e) (get_or_read ms n y l q d) in
+        named_alike ms i d s (omega arith) (rw (← px, ← py) h);
+    rising = λ j b. steps j (omega (arith, b));
+  }
+
+  -- ---- whether a name stands twice
+
+  -- names keep their difference where members change places
+  pub distinct_moved : (ms ns : List (Member V)) → IsPermutation ms ns → IsDistinct bytes_eq (names ms) → IsDistinct bytes_eq (names ns)
+  distinct_moved ms ns p = IsDistinct-IsPermutation bytes_eq nat_list_eq_equiv.symm (names ms) (names ns)
+      (IsPermutation-map _ _ _ (IsPermutation-map _ ms ns p))
+
+  -- names that stand twice do not differ
+  pub not_distinct : (ms : List (Member V)) (i : ℕ) → RepeatsAt ms i → IsDistinct bytes_eq (names ms) → ⊥
+  not_distinct [] i r d = omega (arith, r.within)
+  not_distinct (m ∷ ms) i r d =
+      let k : List ℕ = string_bytes (get_or (m ∷ ms) i m).name in
+      let n : List ℕ = string_bytes (get_or (m ∷ ms) (i + 1) m).name in
+      let apart : bytes_eq k n ≡ false =
+      rw (part_read (λ e. e.0) (m ∷ ms) i m [] (omega (arith, r.within)), part_read (λ e. e.0) (m ∷ ms) (i + 1) m [] r.within)
+      (apart_from_distinct bytes_eq (names (m ∷ ms)) i (i + 1) [] d (omega arith) (omega (arith, r.within, as_many (m ∷ ms)))) in
+      let alike : bytes_eq k n ≡ true = (bytes_eq-Decides k n).1 (r.named m) in
+      cc
 
 pub ruleset lemmas = (sorted_none, distinct_sorted)

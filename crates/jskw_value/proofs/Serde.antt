@@ -15,16 +15,12 @@ use Rattle.std.specs.Map.{keys_of, values_of, lookup}
 use Rattle.serde_json.specs.View.{items_view, members_view}
 use Rattle.serde_json.specs.declared.value.Value.{Value, Array, Object}
 use Rattle.serde_json.proofs.Views.{Entry, view-Array, view-Object}
-use Rattle.jskw_value.specs.Serde.{tree_of, items_of, members_of, value_tree}
+use Rattle.jskw_value.specs.Serde.{entry_tree, tree_of, items_of, members_of, value_tree}
 use Rattle.jskw_value.specs.Tree as tree
 use Rattle.jskw_value.specs.Tree.{Tree, array, object, Items, no_items, item, Members, no_members, member, item_list, member_list, is_lawful, items_lawful}
 use Rattle.jskw_value.proofs.Lawful.{lawful_found, lawful_members, members_lawful_list}
 use Rattle.jskw_value.proofs.Lists.{all_at}
 use Rattle.jskw_value.proofs.Lookups.{seen_through}
-
--- an entry's name beside its tree
-abbrev pub entry_tree : Entry → List ℕ × Tree
-entry_tree e = (string_bytes e.0, value_tree e.1)
 
 -- the items of an array
 item_list-items_of : (vs : List Value) → item_list (items_of (items_view vs)) ≡ map value_tree vs
@@ -37,7 +33,7 @@ member_list-members_of [] = refl
 member_list-members_of (e ∷ es) = ap (λ ms. entry_tree e ∷ ms) (member_list-members_of es)
 
 -- the names of an object's members
-keys_of_entries : (es : List Entry) → keys_of (map entry_tree es) ≡ map string_bytes (keys_of es)
+pub keys_of_entries : (es : List Entry) → keys_of (map entry_tree es) ≡ map string_bytes (keys_of es)
 keys_of_entries es = map-map (λ m. m.0) entry_tree es ∙ sym (map-map string_bytes (λ e. e.0) es)
 
 -- the values of an object's members

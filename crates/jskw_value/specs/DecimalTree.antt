@@ -1,5 +1,5 @@
 -- The tree of a `DecimalTree`.
-use Rattle.std.specs.Prelude.{List, [], ◌∷◌, string_bytes}
+use Rattle.std.specs.Prelude.{ℕ, List, [], ◌∷◌, string_bytes}
 use Rattle.jskw_value.specs.Decimal.{value}
 use Rattle.jskw_value.specs.Tree.{Tree, null, boolean, number, string, array, object, Items, no_items, item, Members, no_members, member}
 use Rattle.jskw_value.specs.declared.decimal_tree.DecimalTree.{DecimalTree, fold-DecimalTree}
@@ -28,3 +28,7 @@ tree_step (DecimalTree-F.Object ms) = object (members_from ms)
 -- the tree that a `DecimalTree` stands for
 abbrev pub decimal_tree : DecimalTree → Tree
 decimal_tree = fold-DecimalTree Tree tree_step
+
+-- a member's name beside its tree
+abbrev pub entry_tree : Member DecimalTree → List ℕ × Tree
+entry_tree m = (string_bytes m.name, decimal_tree m.value)

@@ -1,5 +1,5 @@
 -- Numbers that equal trees share: of each tree what a budget reaches, its beginning.
-use Rattle.std.specs.Prelude.{ℕ, zero, suc, ◌+◌, ◌-◌, ◌*◌, ◌/◌, ◌%◌, ◌^◌, ◌&&◌, ◌||◌, min, max, nat_le, ℤ, pos, negsuc, List, [], ◌∷◌, length, take, drop, Bool, true, not, unsigned_abs, if◌then◌else◌}
+use Rattle.std.specs.Prelude.{ℕ, zero, suc, ◌+◌, ◌-◌, ◌*◌, ◌/◌, ◌%◌, ◌^◌, ◌==◌, ◌&&◌, ◌||◌, min, max, nat_le, ℤ, pos, negsuc, List, [], ◌∷◌, length, take, drop, Bool, true, not, unsigned_abs, if◌then◌else◌}
 use Rattle.std.specs.Int.{w64, from_le_bytes}
 use Rattle.std.specs.Int.Bits.{bit_or, bit_xor}
 use Rattle.jskw_value.specs.Number.{Num, exact, float}
@@ -52,9 +52,13 @@ number_print float = 8
 
 -- ---- trees
 
+-- the budget that reaches all of a tree
+abbrev pub unlimited : ℕ
+unlimited = 2 ^ 64 - 1
+
 -- what each of so many items or members gets of a budget
 abbrev pub share : ℕ → ℕ → ℕ
-share budget count = budget / max count 2
+share budget count = if budget == unlimited then unlimited else budget / max count 2
 
 -- items in their order, the first so many of them; members in any order, all of them or none
 abbrev mutual

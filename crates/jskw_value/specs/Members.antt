@@ -1,8 +1,8 @@
 -- The members of an object as a list of pairs sorted by their names, and the code by which a proof tells such lists apart.
-use Rattle.std.specs.Prelude.{◌≡◌, ℕ, ◌<◌, ◌≤◌, List, [], ◌∷◌, length, map, cond, String, string_bytes, slice_index_or, refl, Bool, Option}
+use Rattle.std.specs.Prelude.{◌≡◌, ℕ, ◌+◌, ◌<◌, ◌≤◌, List, [], ◌∷◌, length, map, cond, String, string_bytes, slice_index_or, refl, Bool, Option}
 use Rattle.std.specs.Coded.{Coded, code_by, coded_list, coded×}
 use Rattle.std.specs.Cmp.Lexicographic.{slice_cmp}
-use Rattle.std.specs.List.Sorted.{IsStrictlySortedBy}
+use Rattle.std.specs.List.Sorted.{IsStrictlySortedBy, IsSortedByKey}
 use Rattle.std.specs.Map.{keys_of, lookup}
 use Rattle.std.specs.Ordering.{nat_cmp, is_gt}
 use Rattle.std.specs.Set.{is_member}
@@ -55,6 +55,20 @@ module _ {V : Type 0} where
     pub within : i ≤ length ms
     pub less : (j : ℕ) (d : Member V) → j < i → against k (slice_index_or ms j d) ≡ Less
     pub greater : (j : ℕ) (d : Member V) → i ≤ j → j < length ms → against k (slice_index_or ms j d) ≡ Greater
+
+  -- no name is less than the one before it
+  abbrev pub IsSortedByName : List (Member V) → Type 0
+  IsSortedByName ms = IsSortedByKey (λ m. string_bytes m.name) (slice_cmp nat_cmp) ms
+
+  -- the name at index i is less than the next
+  abbrev pub IsStep : List (Member V) → ℕ → Type 0
+  IsStep ms i = (d : Member V) → against (string_bytes (slice_index_or ms (i + 1) d).name) (slice_index_or ms i d) ≡ Less
+
+  -- the members at index i and behind it have one name, and the names up to there rise
+  pub record RepeatsAt (ms : List (Member V)) (i : ℕ) : Type 0 where
+    pub within : i + 1 < length ms
+    pub named : (d : Member V) → string_bytes (slice_index_or ms i d).name ≡ string_bytes (slice_index_or ms (i + 1) d).name
+    pub rising : (j : ℕ) → j < i → IsStep ms j
 
 -- the code of a name
 abbrev pub text_code : Coded (String Global)

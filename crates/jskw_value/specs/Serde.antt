@@ -1,5 +1,6 @@
 -- The tree of a `serde_json` value.
-use Rattle.std.specs.Prelude.{pos, zero}
+use Rattle.std.specs.Prelude.{ℕ, pos, zero, List, String, string_bytes}
+use Rattle.std.specs.declared.alloc.Global.{Global}
 use Rattle.serde_json.specs.Data as serde
 use Rattle.serde_json.specs.View.{view, number_view}
 use Rattle.serde_json.specs.declared.number.Number as numbers
@@ -40,3 +41,7 @@ value_tree v = tree_of (view v)
 -- the number that a `Number` stands for
 abbrev pub number_num : numbers.Number → Num
 number_num n = num_of (number_view n)
+
+-- a member's name beside its tree
+abbrev pub entry_tree : String Global × values.Value → List ℕ × Tree
+entry_tree e = (string_bytes e.0, value_tree e.1)

@@ -1,7 +1,8 @@
 -- Words of the search for equal items.
-use Rattle.std.specs.Prelude.{◌≡◌, ℕ, ◌<◌, ◌≤◌, List, true, false, Some, slice_get}
+use Rattle.std.specs.Prelude.{◌≡◌, ℕ, ◌+◌, ◌<◌, ◌≤◌, List, length, true, false, Some, slice_get, slice_index}
+use Rattle.std.specs.List.Sorted.{IsNonDecreasing, IsPermutation}
 use Rattle.jskw_value.specs.Equality.{equal}
-use Rattle.jskw_value.specs.Fingerprint.{print, is_distinct_within}
+use Rattle.jskw_value.specs.Fingerprint.{print, is_distinct_within, unlimited}
 use Rattle.jskw_value.specs.Sketch.{is_marked}
 use Rattle.jskw_value.specs.Tree.{Tree}
 
@@ -21,3 +22,30 @@ pub record IsToldOf (start end budget n : ℕ) (sketch : List ℕ) (ts : List Tr
   pub distinct : (i : ℕ) (t : Tree) → start ≤ i → i < n → slice_get ts i ≡ Some t → is_distinct_within budget t ≡ true
   -- none of those of the block is equal to a later one
   pub differ : (i j : ℕ) (t u : Tree) → start ≤ i → i < end → i < j → j < n → slice_get ts i ≡ Some t → slice_get ts j ≡ Some u → equal t u ≡ false
+
+-- ---- by sorted fingerprints
+
+-- none of the items from `low` up to `high` is equal to one before it of those from `start` up to `end`
+pub record AreNewIn (start end low high : ℕ) (ts : List Tree) : Type 0 where
+  pub differ : (i j : ℕ) (t u : Tree) → start ≤ i → i < end → i < j → low ≤ j → j < high → slice_get ts i ≡ Some t → slice_get ts j ≡ Some u → equal t u ≡ false
+
+-- the first n numbers are the fingerprints of the whole items from `start` on
+pub record ArePrintsFrom (start n : ℕ) (prints : List ℕ) (ts : List Tree) : Type 0 where
+  pub each : (i : ℕ) (t : Tree) → i < n → slice_get ts (start + i) ≡ Some t → slice_index prints i ≡ print unlimited t
+  -- no object in these items has a name twice
+  pub distinct : (i : ℕ) (t : Tree) → i < n → slice_get ts (start + i) ≡ Some t → is_distinct_within unlimited t ≡ true
+
+-- the numbers are the fingerprints of as many whole items from `start` on, in ascending order
+pub record AreSortedPrints (start : ℕ) (prints : List ℕ) (ts : List Tree) : Type 0 where
+  pub in_order : List ℕ
+  pub are_prints : ArePrintsFrom start (length in_order) in_order ts
+  pub permutation : IsPermutation in_order prints
+  pub sorted : IsNonDecreasing prints
+
+-- p is none of the numbers
+abbrev pub IsNotAmong : ℕ → List ℕ → Type 0
+IsNotAmong p xs = (i : ℕ) → i < length xs → slice_index xs i ≡ p → ⊥
+
+-- p is at most one of them
+abbrev pub IsOnceAtMost : ℕ → List ℕ → Type 0
+IsOnceAtMost p xs = (i j : ℕ) → i < j → j < length xs → slice_index xs i ≡ p → slice_index xs j ≡ p → ⊥

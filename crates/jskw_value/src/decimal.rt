@@ -80,7 +80,12 @@ impl Decimal {
         requires { 0 < divisor }
         ensures { result ≡ is_multiple_of self.now.coefficient self.now.scale divisor }
     {
-        self.coefficient.unsigned_abs() % (divisor as u128 * ten_to(self.scale) as u128) == 0
+        let size = self.coefficient.unsigned_abs();
+        // words are divided faster than 128 bits
+        if self.scale == 0 {
+            return size as u64 % divisor == 0;
+        }
+        size % (divisor as u128 * ten_to(self.scale) as u128) == 0
     }
 }
 
@@ -114,6 +119,9 @@ impl JsonNumber for Decimal {
     }
 
     fn is_integer(&self) -> bool {
+        if self.scale == 0 {
+            return true;
+        }
         self.coefficient.unsigned_abs() % ten_to(self.scale) as u128 == 0
     }
 

@@ -1,14 +1,18 @@
 //! JSON values whose numbers are exact decimals.
 ghost use Rattle.std.specs.Prelude.{◌≡◌, ◌<◌, length, slice_index_or, string_bytes};
+ghost use Rattle.std.specs.Prelude.{IfOk, IfSome, is_some};
 ghost use Rattle.jskw_value.specs.DecimalTree.{decimal_tree};
 ghost use Rattle.jskw_value.specs.Members.{AreSorted};
-ghost use Rattle.jskw_value.specs.Tree.{members, names};
+ghost use Rattle.jskw_value.specs.Serde.{value_tree};
+ghost use Rattle.jskw_value.specs.Tree.{members, names, is_lawful as lawful};
 
 use crate::decimal::Decimal;
 use crate::json::{Array, Json, Node, Object, Rooted};
 use crate::members::MemberList;
+use crate::serde_decimals::tree_of_value;
 use crate::types::JsonType;
 use crate::walk::Walk;
+use serde_json::Value;
 use std::alloc::{AllocError, Global};
 
 /// A JSON value whose numbers are decimals. It is always lawful.
@@ -33,6 +37,22 @@ pub type Members = MemberList<DecimalTree>;
 
 /// The representation whose nodes are trees of decimals.
 pub struct DecimalJson;
+
+impl DecimalTree {
+    /// Returns the tree of a value of `serde_json`, or None exactly if the value holds a float:
+    /// [`first_unlawful`](Node::first_unlawful) says where. Only memory can fail.
+    pub fn from_value(alloc: Global, value: &Value) -> Result<Option<DecimalTree>, AllocError>
+        ensures lawful { IfOk result (λ found. is_some found ≡ lawful (value_tree value.now)) }
+        ensures tree { IfOk result (λ found.
+            IfSome found (λ tree. decimal_tree tree ≡ value_tree value.now)) }
+    {
+        if value.is_lawful() {
+            Ok(Some(tree_of_value(alloc, value)?))
+        } else {
+            Ok(None)
+        }
+    }
+}
 
 impl Rooted for DecimalTree {
     ghost tree = { decimal_tree };

@@ -27,7 +27,9 @@ pub(crate) fn equal_nodes<N: Node, M: Node>(left: &N, right: &M) -> bool
     }
 }
 
-// Whether two arrays have as many items, equal at each index.
+// Whether two arrays have as many items, equal at each index. Out of line, so that scalars are
+// compared without the frame of the loop.
+#[inline(never)]
 #[cycle(equal)]
 #[tactic(auto, using(crate::proofs::Equal::by_index))]
 fn equal_arrays<N: Node, M: Node>(left: &N, right: &M) -> bool
@@ -47,7 +49,9 @@ fn equal_arrays<N: Node, M: Node>(left: &N, right: &M) -> bool
     true
 }
 
-// Whether two objects have as many members, each of the left equal to the right one of its name.
+// Whether two objects have as many members, each of the left equal to the right one of its name. Out
+// of line, as `equal_arrays` is.
+#[inline(never)]
 #[cycle(equal)]
 #[tactic(auto, using(crate::proofs::Depth::height_below, crate::proofs::Equal::all_members))]
 fn equal_objects<N: Node, M: Node>(left: &N, right: &M) -> bool

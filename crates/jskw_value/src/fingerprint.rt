@@ -15,6 +15,9 @@ use crate::decimal::{Decimal, ten_to};
 use crate::json::{Array, JsonNumber, Node, Object};
 use crate::property_name::{number_of, number_of_few};
 
+// The budget that reaches all of a node.
+pub(crate) const UNLIMITED: usize = usize::MAX;
+
 // The fingerprint of a node. It takes no memory, and some steps for each unit of the budget.
 #[cycle(print)]
 #[tactic(auto, using(crate::proofs::Fingerprints::by_level))]
@@ -111,6 +114,9 @@ fn of_members<N: Node>(node: &N, budget: usize) -> u64
 fn share(budget: usize, count: usize) -> usize
     ensures { result ≡ share budget count }
 {
+    if budget == UNLIMITED {
+        return UNLIMITED;
+    }
     budget / count.max(2)
 }
 

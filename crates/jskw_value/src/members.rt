@@ -1,12 +1,14 @@
 //! The members of an object as a list of pairs with distinct names, sorted by these.
 ghost use Rattle.std.specs.Prelude.{◌≡◌, ◌==◌, length, [], ◌<◌, ◌≤◌, string_bytes};
 ghost use Rattle.std.specs.Prelude.{slice_index_or, OnOk, OnErr, IfOk, IfErr, option_map, false};
+ghost use Rattle.std.specs.Prelude.{◌↔◌, IfNone, IfSome, IsOk};
 ghost use Rattle.std.specs.List.{IsDistinct};
+ghost use Rattle.std.specs.List.Sorted.{IsPermutation};
 ghost use Rattle.std.specs.Map.{values_of};
 ghost use Rattle.std.specs.Str.{bytes_eq};
 ghost use Rattle.jskw_value.specs.InsertFault.{HandsBack, is_repeated};
 ghost use Rattle.jskw_value.specs.Members.{entries, names, get, has_name, against, inserted};
-ghost use Rattle.jskw_value.specs.Members.{AreSorted, IsAt, IsGap};
+ghost use Rattle.jskw_value.specs.Members.{AreSorted, IsAt, IsGap, IsSortedByName, RepeatsAt};
 
 use std::alloc::Global;
 use std::cmp::Ordering;
@@ -46,6 +48,15 @@ pub enum InsertFault<V> {
     Memory(String, V),
 }
 
+/// Why pairs of names and values are not the members of an object: a name stands twice.
+#[derive(Drop)]
+pub struct RepeatedName<V> {
+    /// all the pairs, sorted by their names
+    pub pairs: Vec<Member<V>>,
+    /// the place of the first pair whose name the next one has too
+    pub place: usize,
+}
+
 impl<V> Model for MemberList<V> {
     ghost use Rattle.std.specs.Prelude.{List};
     ghost use Rattle.jskw_value.specs.declared.members.Member.{Member};
@@ -69,6 +80,36 @@ impl<V> MemberList<V> {
         MemberList {
             list: Vec::new(alloc),
         }
+    }
+
+    /// Returns the members of these pairs, which come in any order. They are sorted once, in place,
+    /// where [`insert`](MemberList::insert) moves those behind each time. It takes no memory.
+    ///
+    /// # Errors
+    ///
+    /// [`RepeatedName`] exactly if a name stands twice. It hands all pairs back, sorted, with the
+    /// place of the least such name.
+    pub fn from_pairs(mut pairs: Vec<Member<V>>) -> Result<MemberList<V>, RepeatedName<V>>
+        ensures members { IfOk result (λ members. IsPermutation pairs.items members) }
+        ensures rising { IfOk result (λ members. AreSorted (names members)) }
+        ensures distinct { IsOk result ↔ IsDistinct bytes_eq (names pairs.items) }
+        ensures handed_back { IfErr result (λ e. IsPermutation pairs.items e.pairs.items) }
+        ensures sorted { IfErr result (λ e. IsSortedByName e.pairs.items) }
+        ensures repeated { IfErr result (λ e. RepeatsAt e.pairs.items e.place) }
+    {
+        pairs.sort_unstable_by(|left, right| left.against(right.name.as_str()));
+        match first_repeated(&pairs) {
+            Some(place) => Err(RepeatedName { pairs, place }),
+            None => Ok(MemberList { list: pairs }),
+        }
+    }
+
+    // The members of these pairs, whose names rise.
+    pub(crate) fn of_sorted(pairs: Vec<Member<V>>) -> MemberList<V>
+        requires { AreSorted (names pairs.items) }
+        ensures { result ≡ pairs.items }
+    {
+        MemberList { list: pairs }
     }
 
     /// The number of members. Their names are distinct, and rise.
@@ -152,4 +193,20 @@ impl<V> MemberList<V> {
     {
         self.list.as_slice()
     }
+}
+
+// The place of the first pair whose name the next one has too. The pairs are sorted by name.
+#[tactic(auto, using(crate::proofs::MembersInOrder::lemmas))]
+fn first_repeated<V>(pairs: &[Member<V>]) -> Option<usize>
+    requires { IsSortedByName pairs.now }
+    ensures repeated { IfSome result (RepeatsAt pairs.now) }
+    ensures rising { IfNone result (AreSorted (names pairs.now)) }
+{
+    for next in 1..pairs.len() {
+        let place = next - 1;
+        if !pairs[place].against(pairs[next].name.as_str()).is_lt() {
+            return Some(place);
+        }
+    }
+    None
 }

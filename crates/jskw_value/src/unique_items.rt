@@ -1,7 +1,7 @@
 //! Whether the items of an array differ. It takes no memory but its frame: a sketch on the stack
 //! tells of most items that no earlier one is equal.
 ghost use Rattle.std.specs.Prelude.{◌≡◌, ◌≤◌, ◌<◌, ◌+◌, ◌^◌, drop, length, true, false};
-ghost use Rattle.std.specs.Prelude.{IsTrue, option_and_then};
+ghost use Rattle.std.specs.Prelude.{IsTrue, IfSome, Some, option_and_then};
 ghost use Rattle.std.specs.List.{list_any};
 ghost use Rattle.jskw_value.specs.Equality.{equal, unique};
 ghost use Rattle.jskw_value.specs.Number.{u64_of, whole};
@@ -12,6 +12,7 @@ use crate::equality::equal_nodes;
 use crate::fingerprint::fingerprint;
 use crate::json::{Array, JsonNumber, Node};
 use crate::sketch::{is_marked, mark};
+use crate::unique_by_prints::are_unique_by_prints;
 
 // Up to so many items are compared pair by pair.
 const FEW: usize = 8;
@@ -23,8 +24,23 @@ const MEDIUM: usize = 512;
 
 const LARGE: usize = 6144;
 
-// For arrays of more items than it has words.
-const HUGE: usize = 131072;
+// For arrays of more items than the others serve at a time.
+const HUGE: usize = 32768;
+
+// How many fingerprints are sorted at a time where a sketch tells too little: of all items, and of
+// the longest arrays as many as the sketch has words.
+const SMALL_PRINTS: usize = 2 * SMALL;
+
+const MEDIUM_PRINTS: usize = 2 * MEDIUM;
+
+const LARGE_PRINTS: usize = 2 * LARGE;
+
+// A sketch tells too little where more than so many items look equal to one before and aren't. Of
+// items whose fingerprints differ hardly one in a hundred thousand does.
+const DOUBTS: usize = 8;
+
+// So that in a long array there may be one more for each so many items.
+const ITEMS_A_DOUBT: usize = 16384;
 
 // Whether no two different indices of the array hold equal items. The first item is compared with
 // all others before any sketch is begun: what pairs find at once is found at once.
@@ -41,13 +57,29 @@ pub(crate) fn has_unique_items<N: Node>(array: &N) -> bool
         return false;
     }
     if count <= 2 * SMALL {
-        are_unique_by_sketch::<SMALL, N>(array)
+        are_many_unique::<SMALL, SMALL_PRINTS, N>(array)
     } else if count <= 2 * MEDIUM {
-        are_unique_by_sketch::<MEDIUM, N>(array)
-    } else if count <= HUGE {
-        are_unique_by_sketch::<LARGE, N>(array)
+        are_many_unique::<MEDIUM, MEDIUM_PRINTS, N>(array)
+    } else if count <= 2 * LARGE {
+        are_many_unique::<LARGE, LARGE_PRINTS, N>(array)
     } else {
-        are_unique_by_sketch::<HUGE, N>(array)
+        are_many_unique::<HUGE, HUGE, N>(array)
+    }
+}
+
+// By a sketch, and where that tells too little by sorted fingerprints.
+fn are_many_unique<const WORDS: usize, const PRINTS: usize, N: Node>(array: &N) -> bool
+    requires array { IsTrue (is_array (N.tree array.now)) }
+    requires first { IsUniqueIn 0 1 (items (N.tree array.now)) }
+    requires filled { 0 < WORDS }
+    requires short { WORDS ≤ 2 ^ 32 }
+    requires prints { 0 < PRINTS }
+    requires few_prints { PRINTS ≤ 2 ^ 32 }
+    ensures { result ≡ unique (items (N.tree array.now)) }
+{
+    match are_unique_by_sketch::<WORDS, N>(array) {
+        Some(told) => told,
+        None => are_unique_by_prints::<PRINTS, N>(array),
     }
 }
 
@@ -81,16 +113,16 @@ fn occurs_from<N: Node>(array: &N, start: usize, node: &N) -> bool
 }
 
 // By a sketch of so many words, block by block, where the first item differs from all others: the
-// items of each block beside all that come later. It is never inlined, so that a caller's frame has
-// no sketch in it.
+// items of each block beside all that come later. None where it takes too many comparisons. It is
+// never inlined, so that a caller's frame has no sketch in it.
 #[inline(never)]
 #[tactic(auto, using(crate::proofs::Blocks::next_block, crate::proofs::Blocks::last_block))]
-fn are_unique_by_sketch<const WORDS: usize, N: Node>(array: &N) -> bool
+fn are_unique_by_sketch<const WORDS: usize, N: Node>(array: &N) -> Option<bool>
     requires array { IsTrue (is_array (N.tree array.now)) }
     requires first { IsUniqueIn 0 1 (items (N.tree array.now)) }
     requires filled { 0 < WORDS }
     requires short { WORDS ≤ 2 ^ 32 }
-    ensures { result ≡ unique (items (N.tree array.now)) }
+    ensures { IfSome result (λ answer. answer ≡ unique (items (N.tree array.now))) }
 {
     let mut sketch = [0u64; WORDS];
     let count = Array::len(array);
@@ -98,37 +130,39 @@ fn are_unique_by_sketch<const WORDS: usize, N: Node>(array: &N) -> bool
     let blocks = count.saturating_sub(1) / size;
     for block in 0..blocks {
         let start = block * size + 1;
-        if !is_block_unique(array, &mut sketch, start, start + size) {
-            return false;
+        if !is_block_unique(array, &mut sketch, start, start + size)? {
+            return Some(false);
         }
         sketch.fill(0);
     }
     is_block_unique(array, &mut sketch, blocks * size + 1, count)
 }
 
-// Whether no item from one index up to another is equal to a later one. A fingerprint looks no
-// further into an item than the array is long, so that all of them take less than all pairs would.
+// Whether no item from one index up to another is equal to a later one, or None where too many of
+// them look equal to one and aren't. A fingerprint looks no further into an item than the array is
+// long, so that all of them take less than all pairs would.
 #[tactic(auto, using(crate::proofs::Blocks::told_start, crate::proofs::Blocks::told_end))]
-fn is_block_unique<N: Node>(array: &N, sketch: &mut [u64], start: usize, end: usize) -> bool
+fn is_block_unique<N: Node>(array: &N, sketch: &mut [u64], start: usize, end: usize) -> Option<bool>
     requires array { IsTrue (is_array (N.tree array.now)) }
     requires filled { 0 < length sketch.old }
     requires short { length sketch.old ≤ 2 ^ 32 }
     ensures length { length sketch.new ≡ length sketch.old }
-    ensures unique { result ≡ true → IsUniqueIn start end (items (N.tree array.now)) }
-    ensures twice { result ≡ false → unique (items (N.tree array.now)) ≡ false }
+    ensures unique { result ≡ Some true → IsUniqueIn start end (items (N.tree array.now)) }
+    ensures twice { result ≡ Some false → unique (items (N.tree array.now)) ≡ false }
 {
     let count = Array::len(array);
     let budget = count / 4;
+    let mut doubts = DOUBTS + count.saturating_sub(start) / ITEMS_A_DOUBT;
     for i in start..count {
-        if !is_new(array, i, sketch, start, end, budget) {
-            return false;
+        if !is_new(array, i, sketch, start, end, budget, &mut doubts)? {
+            return Some(false);
         }
     }
-    true
+    Some(true)
 }
 
 // Whether no earlier item of the block is equal to the one at an index: where its fingerprint isn't
-// marked, none is. Marks it, where it is of the block.
+// marked, none is. Marks it, where it is of the block. None where it is marked and no doubt is left.
 #[tactic(auto, using(crate::proofs::Blocks::told_later, crate::proofs::Blocks::told_again, crate::proofs::Blocks::told_new))]
 fn is_new<N: Node>(
     array: &N,
@@ -137,7 +171,8 @@ fn is_new<N: Node>(
     start: usize,
     end: usize,
     budget: usize,
-) -> bool
+    doubts: &mut usize,
+) -> Option<bool>
     requires array { IsTrue (is_array (N.tree array.now)) }
     requires start { start ≤ index }
     requires index { index < length (items (N.tree array.now)) }
@@ -145,26 +180,26 @@ fn is_new<N: Node>(
     requires short { length sketch.old ≤ 2 ^ 32 }
     requires told { IsToldOf start end budget index sketch.old (items (N.tree array.now)) }
     ensures length { length sketch.new ≡ length sketch.old }
-    ensures told { result ≡ true
+    ensures told { result ≡ Some true
         → IsToldOf start end budget (index + 1) sketch.new (items (N.tree array.now)) }
-    ensures twice { result ≡ false → unique (items (N.tree array.now)) ≡ false }
+    ensures twice { result ≡ Some false → unique (items (N.tree array.now)) ≡ false }
 {
     let print = fingerprint(array.item(index), budget);
     if is_marked(sketch, print) {
-        return !occurs_between(array, start, end.min(index), index);
+        *doubts = doubts.checked_sub(1)?;
+        return Some(!occurs_between(array, start, end.min(index), index));
     }
-    if end <= index {
-        return true;
+    if index < end {
+        mark(sketch, print);
     }
-    mark(sketch, print);
-    true
+    Some(true)
 }
 
 // Whether an item from one index up to another is equal to a later one. It is seldom asked, and
 // never inlined, so that the loop over all items keeps its registers.
 #[inline(never)]
 #[tactic(auto, using(crate::proofs::Blocks::new_start, crate::proofs::Blocks::new_step, crate::proofs::Blocks::is_twice))]
-fn occurs_between<N: Node>(array: &N, start: usize, end: usize, index: usize) -> bool
+pub(crate) fn occurs_between<N: Node>(array: &N, start: usize, end: usize, index: usize) -> bool
     requires array { IsTrue (is_array (N.tree array.now)) }
     requires end { end ≤ index }
     requires index { index < length (items (N.tree array.now)) }

@@ -69,6 +69,8 @@ impl<'a, V: Node> Iterator for Walk<'a, V> {
 
     ghost remaining = { item_count (left V.tree) };
 
+    // in line, a loop over a walk tells the kinds of walks apart once, and not at each member
+    #[inline(always)]
     fn next(&mut self) -> Option<(&'a str, &'a V)> {
         match &mut self.rest {
             Rest::Sorted(entries) => {

@@ -1,140 +1,163 @@
 use Rattle.std.proofs.Common.{rules, ◌≡◌, ◌∙◌, ◌++◌, drop, ap, sym, subst, refl, append-nil, arith}
 use Rattle.std.proofs.lemmas.Grind.{common_steps}
+use Rattle.jskw_value.specs.Pointer.{item_location}
 use Rattle.jskw_value.specs.Tree.{items}
 use Rattle.jskw_report.proofs.Appended.{fail_appended}
 use Rattle.jskw_report.proofs.Appending.{appends_before, appends_begun, appends_behind, collects_all, collects_more, collects_nothing, collects_part, collects_stopped}
 use Rattle.jskw_report.specs.Applications.{pairs}
 use Rattle.jskw_report.specs.Errors.{failures_of}
-use Rattle.jskw_report.specs.Fail.{all_fail, each_fails, each_item, fail, keyword_fail}
+use Rattle.jskw_report.specs.Fail.{all_fail, fail, keyword_fail}
 use Rattle.jskw_report.specs.Observe.{Appends, AppendsBeginning, Collects}
 use Rattle.jskw_report.specs.Paths.{path_of}
 use Rattle.jskw_report.specs.Keyword.{no_keywords}
 use Rattle.jskw_array.specs.Fused.{absorbed_keywords, shape_keywords}
-use Rattle.jskw_array.specs.Meaning.{schemas_of, validator_keyword}
+use Rattle.jskw_array.specs.Heights.{each_is_as_high, rest_is_as_high}
+use Rattle.jskw_array.specs.Meaning.{each_keyword, rest_keyword, schemas_of, validator_keyword}
 use Rattle.jskw_array.specs.Node.{fused_keywords}
 use Rattle.jskw_array.specs.Units.{keywords_of}
 use Rattle.jskw_array.proofs.Keywords.{fail_at, items_height, items_keywords, keywords_end, lower_shape, lower_units, pairs_at, schema_fails, schema_pairs, unit_height}
+use Rattle.jskw_array.proofs.Meant.{absurd-of, each_fails_of, each_meets, each_no_assertion, rest_fails_of, rest_meets, rest_no_assertion}
 use Rattle.jskw_array.proofs.Meetings.{each_fails_at, each_fails_end, each_pairs_at, entered, fails_at, height_at, sum_at}
 use Rattle.jskw_array.proofs.+collect_errors.Goals as goal
 
+-- ---- an item
+
+pub node::SchemaNode::collect_item-returns-in_err-push-clause-appended : goal.node::SchemaNode::collect_item-returns-in_err-push-clause-appended
+node::SchemaNode::collect_item-returns-in_err-push-clause-appended g t c =
+    appends_begun g.F.Node.Rooted.tree _ _ _ _ _ c.from_residual.ensures.1 (collects_stopped (collects_nothing _ _))
+
+pub node::SchemaNode::collect_item-returns-clause-appended : goal.node::SchemaNode::collect_item-returns-clause-appended
+node::SchemaNode::collect_item-returns-clause-appended g t c =
+    let tree = g.F.Node.Rooted.tree in
+    subst (λ q. Appends tree c.args.errors.now.items c.collect_errors-answer.new.errors.items (fail c.args.self.now (tree c.args.item.now) q) c.collect_errors-answer.result)
+    (entered c.args.index c.in_ok-push.ensures.pushed refl) c.collect_errors-answer.ensures.appended
+
 -- ---- a schema for each item
 
-pub meeting::collect_each-loop-index-init : goal.meeting::collect_each-loop-index-init
-meeting::collect_each-loop-index-init g t c =
+pub each::EachValidate::collect_errors-loop-index-init : goal.each::EachValidate::collect_errors-loop-index-init
+each::EachValidate::collect_errors-loop-index-init g t c =
+    let v = c.args.self.now in
+    let instance = g.F.Node.Rooted.tree c.args.instance.now in
+    let errors = failures_of g.F.Node.Rooted.tree c.args.errors.now.items in
     record {
       last = omega arith;
-      collects = collects_nothing _ _;
+      collects = subst (λ fs. Collects errors errors fs (keyword_fail (each_keyword v) instance (path_of c.args.location.now))) (each_fails_of v instance (path_of c.args.location.now)) (collects_nothing _ _);
       location = refl;
       counted_from = omega arith;
-      counted_to = omega arith;
+      counted_to = omega (arith, each_meets v instance);
     }
 
-pub meeting::collect_each-collect_errors-answer-requires : goal.meeting::collect_each-collect_errors-answer-requires
-meeting::collect_each-collect_errors-answer-requires g t c κs within =
-    let below = height_at c.args.nodes.now c.loop-index.index c.index-nodes-index.result (omega arith) c.index-nodes-index.is in
-    (omega (arith, below, c.decreases), search rules)
+pub each::EachValidate::collect_errors-collect_item-requires : goal.each::EachValidate::collect_errors-collect_item-requires
+each::EachValidate::collect_errors-collect_item-requires g t c κs within =
+    let v = c.args.self.now in
+    let below = height_at v.nodes.items c.loop-index.index c.index.result.now (omega arith) c.index.ensures in
+    (omega (arith, below, each_is_as_high v, c.decreases), search rules)
 
-pub meeting::collect_each-returns-in_err-push-clause-appended : goal.meeting::collect_each-returns-in_err-push-clause-appended
-meeting::collect_each-returns-in_err-push-clause-appended g t c =
-    appends_begun g.F.Node.Rooted.tree _ _ _ _ _ c.from_residual.ensures.1 (collects_stopped c.loop-index.invariant.collects)
+pub each::EachValidate::collect_errors-returns-in_err-collect_item-clause-quiet : goal.each::EachValidate::collect_errors-returns-in_err-collect_item-clause-quiet
+each::EachValidate::collect_errors-returns-in_err-collect_item-clause-quiet g t c assertion = absurd-of (each_no_assertion c.args.self.now) assertion
 
-pub meeting::collect_each-returns-in_err-answer-clause-appended : goal.meeting::collect_each-returns-in_err-answer-clause-appended
-meeting::collect_each-returns-in_err-answer-clause-appended g t c =
+pub each::EachValidate::collect_errors-returns-in_err-collect_item-clause-appended : goal.each::EachValidate::collect_errors-returns-in_err-collect_item-clause-appended
+each::EachValidate::collect_errors-returns-in_err-collect_item-clause-appended g t c =
     let l = c.loop-index in
     let tree = g.F.Node.Rooted.tree in
     let ts = items (tree c.args.instance.now) in
     let p = path_of c.args.location.now in
     let old = failures_of tree c.args.errors.now.items in
-    let ss = c.args.nodes.now in
-    let s = c.index-nodes-index.result in
+    let ss = c.args.self.now.nodes.items in
+    let s = c.index.result.now in
     let u = tree c.item.result.now in
     let now = failures_of tree l.errors.items in
-    let new = failures_of tree c.collect_errors-answer.new.errors.items in
-    let here = each_fails_at ss ts l.index s u (omega arith) (omega arith) c.index-nodes-index.is c.item.ensures.value p in
-    let left = subst (λ fs. Collects old now fs (each_fails (schemas_of ss) 0 ts p)) here l.invariant.collects in
-    let begun = subst (λ q. AppendsBeginning now new (fail s u q)) (entered l.index c.in_ok-push.ensures.pushed l.invariant.location) c.in_err-answer.ensures.appended in
-    appends_begun tree _ _ _ _ _ c.from_residual-in_err-answer.ensures.1 (collects_part _ _ left begun)
+    let new = failures_of tree c.collect_item.new.errors.items in
+    let here = each_fails_at ss ts l.index s u (omega arith) (omega arith) c.index.ensures c.item.ensures.value p in
+    let left = subst (λ fs. Collects old now fs (keyword_fail (each_keyword c.args.self.now) (tree c.args.instance.now) p)) here l.invariant.collects in
+    let begun = subst (λ q. AppendsBeginning now new (fail s u (item_location (path_of q) l.index))) l.invariant.location c.in_err-collect_item.ensures.appended in
+    appends_begun tree _ _ _ _ _ c.from_residual.ensures.1 (collects_part _ _ left begun)
 
-pub meeting::collect_each-loop-index-preserved : goal.meeting::collect_each-loop-index-preserved
-meeting::collect_each-loop-index-preserved g t c =
+pub each::EachValidate::collect_errors-loop-index-preserved : goal.each::EachValidate::collect_errors-loop-index-preserved
+each::EachValidate::collect_errors-loop-index-preserved g t c =
     let l = c.loop-index in
     let tree = g.F.Node.Rooted.tree in
     let ts = items (tree c.args.instance.now) in
     let p = path_of c.args.location.now in
     let old = failures_of tree c.args.errors.now.items in
-    let ss = c.args.nodes.now in
-    let s = c.index-nodes-index.result in
+    let ss = c.args.self.now.nodes.items in
+    let s = c.index.result.now in
     let u = tree c.item.result.now in
     let now = failures_of tree l.errors.items in
-    let new = failures_of tree c.collect_errors-answer.new.errors.items in
-    let here = each_fails_at ss ts l.index s u (omega arith) (omega arith) c.index-nodes-index.is c.item.ensures.value p in
-    let left = subst (λ fs. Collects old now fs (each_fails (schemas_of ss) 0 ts p)) here l.invariant.collects in
-    let cost = each_pairs_at ss ts l.index s u (omega arith) (omega arith) c.index-nodes-index.is c.item.ensures.value in
-    let appended = subst (λ q. new ≡ now ++ fail s u q) (entered l.index c.in_ok-push.ensures.pushed l.invariant.location) c.in_ok-answer.ensures.appended in
+    let new = failures_of tree c.collect_item.new.errors.items in
+    let here = each_fails_at ss ts l.index s u (omega arith) (omega arith) c.index.ensures c.item.ensures.value p in
+    let left = subst (λ fs. Collects old now fs (keyword_fail (each_keyword c.args.self.now) (tree c.args.instance.now) p)) here l.invariant.collects in
+    let cost = each_pairs_at ss ts l.index s u (omega arith) (omega arith) c.index.ensures c.item.ensures.value in
+    let appended = subst (λ q. new ≡ now ++ fail s u (item_location (path_of q) l.index)) l.invariant.location c.in_ok-collect_item.ensures.appended in
     record {
       last = l.invariant.last;
       collects = collects_more _ _ left appended;
-      location = grind (arith, common_steps);
+      location = c.in_ok-collect_item.ensures.location ∙ l.invariant.location;
       counted_from = grind (arith, common_steps);
       counted_to = grind (arith, common_steps);
     }
 
-pub meeting::collect_each-returns-clause-appended : goal.meeting::collect_each-returns-clause-appended
-meeting::collect_each-returns-clause-appended g t c =
+pub each::EachValidate::collect_errors-returns-clause-appended : goal.each::EachValidate::collect_errors-returns-clause-appended
+each::EachValidate::collect_errors-returns-clause-appended g t c =
     let l = c.loop-index in
-    collects_all l.invariant.collects (each_fails_end c.args.nodes.now (items (g.F.Node.Rooted.tree c.args.instance.now)) l.index (omega arith) (path_of c.args.location.now))
+    collects_all l.invariant.collects (each_fails_end c.args.self.now.nodes.items (items (g.F.Node.Rooted.tree c.args.instance.now)) l.index (omega arith) (path_of c.args.location.now))
 
 -- ---- one schema for the items from an index on
 
-pub meeting::collect_rest-loop-index-init : goal.meeting::collect_rest-loop-index-init
-meeting::collect_rest-loop-index-init g t c =
+pub rest::RestValidate::collect_errors-loop-index-init : goal.rest::RestValidate::collect_errors-loop-index-init
+rest::RestValidate::collect_errors-loop-index-init g t c =
+    let v = c.args.self.now in
+    let instance = g.F.Node.Rooted.tree c.args.instance.now in
+    let errors = failures_of g.F.Node.Rooted.tree c.args.errors.now.items in
     record {
       last = omega arith;
-      collects = collects_nothing _ _;
+      collects = subst (λ fs. Collects errors errors fs (keyword_fail (rest_keyword v) instance (path_of c.args.location.now))) (rest_fails_of v instance (path_of c.args.location.now)) (collects_nothing _ _);
       location = refl;
       counted_from = omega arith;
-      counted_to = omega arith;
+      counted_to = omega (arith, rest_meets v instance);
     }
 
-pub meeting::collect_rest-returns-in_err-push-clause-appended : goal.meeting::collect_rest-returns-in_err-push-clause-appended
-meeting::collect_rest-returns-in_err-push-clause-appended g t c =
-    appends_begun g.F.Node.Rooted.tree _ _ _ _ _ c.from_residual.ensures.1 (collects_stopped c.loop-index.invariant.collects)
+pub rest::RestValidate::collect_errors-collect_item-requires : goal.rest::RestValidate::collect_errors-collect_item-requires
+rest::RestValidate::collect_errors-collect_item-requires g t c κs within = (omega (arith, rest_is_as_high c.args.self.now, c.decreases), search rules)
 
-pub meeting::collect_rest-returns-in_err-answer-clause-appended : goal.meeting::collect_rest-returns-in_err-answer-clause-appended
-meeting::collect_rest-returns-in_err-answer-clause-appended g t c =
+pub rest::RestValidate::collect_errors-returns-in_err-collect_item-clause-quiet : goal.rest::RestValidate::collect_errors-returns-in_err-collect_item-clause-quiet
+rest::RestValidate::collect_errors-returns-in_err-collect_item-clause-quiet g t c assertion = absurd-of (rest_no_assertion c.args.self.now) assertion
+
+pub rest::RestValidate::collect_errors-returns-in_err-collect_item-clause-appended : goal.rest::RestValidate::collect_errors-returns-in_err-collect_item-clause-appended
+rest::RestValidate::collect_errors-returns-in_err-collect_item-clause-appended g t c =
     let l = c.loop-index in
     let tree = g.F.Node.Rooted.tree in
     let ts = items (tree c.args.instance.now) in
     let p = path_of c.args.location.now in
     let old = failures_of tree c.args.errors.now.items in
-    let s = c.args.node.now in
+    let s = c.args.self.now.node in
     let u = tree c.item.result.now in
     let now = failures_of tree l.errors.items in
-    let new = failures_of tree c.collect_errors-answer.new.errors.items in
+    let new = failures_of tree c.collect_item.new.errors.items in
     let here = fails_at ts l.index u (omega arith) c.item.ensures.value (fail s) p in
-    let left = subst (λ fs. Collects old now fs (each_item (fail s) c.args.start (drop c.args.start ts) p)) here l.invariant.collects in
-    let begun = subst (λ q. AppendsBeginning now new (fail s u q)) (entered l.index c.in_ok-push.ensures.pushed l.invariant.location) c.in_err-answer.ensures.appended in
-    appends_begun tree _ _ _ _ _ c.from_residual-in_err-answer.ensures.1 (collects_part _ _ left begun)
+    let left = subst (λ fs. Collects old now fs (keyword_fail (rest_keyword c.args.self.now) (tree c.args.instance.now) p)) here l.invariant.collects in
+    let begun = subst (λ q. AppendsBeginning now new (fail s u (item_location (path_of q) l.index))) l.invariant.location c.in_err-collect_item.ensures.appended in
+    appends_begun tree _ _ _ _ _ c.from_residual.ensures.1 (collects_part _ _ left begun)
 
-pub meeting::collect_rest-loop-index-preserved : goal.meeting::collect_rest-loop-index-preserved
-meeting::collect_rest-loop-index-preserved g t c =
+pub rest::RestValidate::collect_errors-loop-index-preserved : goal.rest::RestValidate::collect_errors-loop-index-preserved
+rest::RestValidate::collect_errors-loop-index-preserved g t c =
     let l = c.loop-index in
     let tree = g.F.Node.Rooted.tree in
     let ts = items (tree c.args.instance.now) in
     let p = path_of c.args.location.now in
     let old = failures_of tree c.args.errors.now.items in
-    let s = c.args.node.now in
+    let s = c.args.self.now.node in
     let u = tree c.item.result.now in
     let now = failures_of tree l.errors.items in
-    let new = failures_of tree c.collect_errors-answer.new.errors.items in
+    let new = failures_of tree c.collect_item.new.errors.items in
     let here = fails_at ts l.index u (omega arith) c.item.ensures.value (fail s) p in
-    let left = subst (λ fs. Collects old now fs (each_item (fail s) c.args.start (drop c.args.start ts) p)) here l.invariant.collects in
+    let left = subst (λ fs. Collects old now fs (keyword_fail (rest_keyword c.args.self.now) (tree c.args.instance.now) p)) here l.invariant.collects in
     let cost = sum_at ts l.index u (omega arith) c.item.ensures.value (pairs s) in
-    let appended = subst (λ q. new ≡ now ++ fail s u q) (entered l.index c.in_ok-push.ensures.pushed l.invariant.location) c.in_ok-answer.ensures.appended in
+    let appended = subst (λ q. new ≡ now ++ fail s u (item_location (path_of q) l.index)) l.invariant.location c.in_ok-collect_item.ensures.appended in
     record {
       last = l.invariant.last;
       collects = collects_more _ _ left appended;
-      location = grind (arith, common_steps);
+      location = c.in_ok-collect_item.ensures.location ∙ l.invariant.location;
       counted_from = grind (arith, common_steps);
       counted_to = grind (arith, common_steps);
     }

@@ -12,7 +12,7 @@ use Rattle.jskw_report.specs.Setting.{keywords, name_of, stands}
 use Rattle.jskw_report.specs.Sibling.{is_items_schema}
 use Rattle.jskw_report.specs.declared.keyword.KeywordName.TheVariants as word
 use Rattle.jskw_array.specs.Fused.{absorbed_keywords, fused_words, shape_keywords}
-use Rattle.jskw_array.specs.Meaning.{any_bounds, schemas_of, validator_keyword}
+use Rattle.jskw_array.specs.Meaning.{bounds_of, schemas_of, validator_keyword}
 use Rattle.jskw_array.specs.Node.{boolean_schema}
 use Rattle.jskw_array.specs.Units.{keywords_of}
 use Rattle.jskw_array.specs.Siblings.{schema_count}
@@ -358,8 +358,8 @@ contains::compile-returns-in-Ok g t c =
     let keyword_of = validator_keyword {F = g.row.F.Denot} {N = g.row.F-Node.Denot} {O = g.row.F-Node-Number.Denot} {P = g.row.F-Node-PreparedKey.Denot} in
     let ms = members_view c.args.parent.now.entries in
     let d = view c.args.schema.now in
-    let made : Makes any_bounds (Ok c.in-Ok.bounds) (read_bounds c.args.ctx.now.setting c.args.ctx.now.location ms) = subst (λ r. Makes any_bounds r (read_bounds c.args.ctx.now.setting c.args.ctx.now.location ms)) c.in-Ok.is c.bounds_beside.ensures in
-    compiles_as keyword_of (Some c.of_schema.result) _ _ (contains_of_schema c.args.ctx.now ms d (any_bounds c.in-Ok.bounds) made) (c.of_schema.ensures _ c.compile_at-compiled.ensures)
+    let made : Makes bounds_of (Ok c.in-Ok.bounds) (read_bounds c.args.ctx.now.setting c.args.ctx.now.location ms) = subst (λ r. Makes bounds_of r (read_bounds c.args.ctx.now.setting c.args.ctx.now.location ms)) c.in-Ok.is c.bounds_beside.ensures in
+    compiles_as keyword_of (Some c.of_schema.result) _ _ (contains_of_schema c.args.ctx.now ms d (bounds_of c.in-Ok.bounds) made) (c.of_schema.ensures _ c.compile_at-compiled.ensures)
 
 pub contains::compile-returns-in-Err : goal.contains::compile-returns-in-Err
 contains::compile-returns-in-Err g t c =
@@ -367,9 +367,9 @@ contains::compile-returns-in-Err g t c =
     let ms = members_view c.args.parent.now.entries in
     let d = view c.args.schema.now in
     let bounds = read_bounds c.args.ctx.now.setting c.args.ctx.now.location ms in
-    let made : Makes any_bounds (Err c.in-Err.fault) bounds = subst (λ r. Makes any_bounds r bounds) c.in-Err.is c.bounds_beside.ensures in
+    let made : Makes bounds_of (Err c.in-Err.fault) bounds = subst (λ r. Makes bounds_of r bounds) c.in-Err.is c.bounds_beside.ensures in
     let sub = read d c.args.ctx.now.setting (keyword_location c.args.ctx.now.location word.Contains) in
-    compiles_as keyword_of (Some (Err c.in-Err.fault)) _ _ (contains_read c.args.ctx.now ms d) (refused_whole any_bounds keyword_of c.in-Err.fault bounds _ made (λ r e. ap (λ b. join_ok (λ b s. contains s b) b sub) e))
+    compiles_as keyword_of (Some (Err c.in-Err.fault)) _ _ (contains_read c.args.ctx.now ms d) (refused_whole bounds_of keyword_of c.in-Err.fault bounds _ made (λ r e. ap (λ b. join_ok (λ b s. contains s b) b sub) e))
 
 -- ---- the calls go down
 

@@ -1,12 +1,13 @@
 use Rattle.std.proofs.Common.{rules, ◌≡◌, ◌∙◌, ◌++◌, [], ◌∷◌, length, true, false, None, ap, ap₂, sym, subst, refl, append_assoc, IfOk, arith}
 use Rattle.std.proofs.Math.Nat.{le_trans}
 use Rattle.std.proofs.lemmas.Grind.{common_steps}
+use Rattle.jskw_value.specs.Pointer.{item_location}
 use Rattle.jskw_value.specs.Tree.{items}
 use Rattle.jskw_report.proofs.Appended.{units_appended}
 use Rattle.jskw_report.proofs.Gathering.{gathered_all, index_end, index_passed, index_taken, node_end, node_passed, node_taken}
 use Rattle.jskw_report.proofs.Valid.{tree_valid}
 use Rattle.jskw_report.specs.Applications.{all_pairs, pairs}
-use Rattle.jskw_report.specs.Evaluation.{is_valid, node_at, of_children, tree, unit, units}
+use Rattle.jskw_report.specs.Evaluation.{evaluate_pairs, is_valid, node_at, of_children, prefix_annotation, tree, unit, units}
 use Rattle.jskw_report.specs.EvaluationView.{result_of}
 use Rattle.jskw_report.specs.Fail.{fail}
 use Rattle.jskw_report.specs.Holds.{holds}
@@ -14,83 +15,117 @@ use Rattle.jskw_report.specs.Keyword.{false_schema}
 use Rattle.jskw_report.specs.Observe.{CountsUpTo}
 use Rattle.jskw_report.specs.Paths.{path_of}
 use Rattle.jskw_array.specs.Fused.{absorbed_keywords, shape_keywords}
-use Rattle.jskw_array.specs.Limits.{bounds_of, fault_of, matching_result}
-use Rattle.jskw_array.specs.Meaning.{validator_keyword}
+use Rattle.jskw_array.specs.Limits.{fault_of, matching_result}
+use Rattle.jskw_array.specs.Heights.{each_is_as_high, rest_is_as_high}
+use Rattle.jskw_array.specs.Meaning.{bounds_of, schemas_of, validator_keyword}
 use Rattle.jskw_array.specs.Node.{fused_keywords, schema_of}
 use Rattle.jskw_array.specs.Units.{keywords_of}
 use Rattle.jskw_array.proofs.Keywords.{items_keywords, keywords_end, lower_shape, lower_units, one_pair, pairs_at, refused_tree, schema_pairs, schema_tree, unit_height, unit_taken}
-use Rattle.jskw_array.proofs.Matching.{matching_is_unit}
-use Rattle.jskw_array.proofs.Meetings.{each_units_end, entered, height_at, prefix_is_unit, sum_at}
+use Rattle.jskw_array.proofs.MatchedItems.{matching_is_unit}
+use Rattle.jskw_array.proofs.Meant.{each_meets, items_unit_is, prefix_unit_is}
+use Rattle.jskw_array.proofs.Meetings.{each_units_end, height_at, sum_at}
 use Rattle.jskw_array.proofs.+evaluate.Goals as goal
 
 -- ---- a schema for each item
 
-pub meeting::evaluate_each-evaluate_instance_below-answer-requires : goal.meeting::evaluate_each-evaluate_instance_below-answer-requires
-meeting::evaluate_each-evaluate_instance_below-answer-requires g t c κs within =
-    let below = height_at c.args.nodes.now c.loop-index.index c.index-nodes-index.result (omega arith) c.index-nodes-index.is in
-    (omega (arith, below, c.decreases), search rules)
+pub each::EachValidate::evaluate-loop-index-init : goal.each::EachValidate::evaluate-loop-index-init
+each::EachValidate::evaluate-loop-index-init g t c =
+    let v = c.args.self.now in
+    let instance = g.F.Node.Rooted.tree c.args.instance.now in
+    record {
+      last = omega arith;
+      gathered = ap (λ es. es ++ evaluate_pairs (schemas_of v.nodes.items) 0 (items instance) (path_of c.args.location.now)) c.new-children.ensures.items;
+      location = refl;
+      counted_from = omega arith;
+      counted_to = omega (arith, each_meets v instance);
+    }
 
-pub meeting::evaluate_each-returns-clause-gives : goal.meeting::evaluate_each-returns-clause-gives
-meeting::evaluate_each-returns-clause-gives g t c =
+pub each::EachValidate::evaluate-evaluate_item-requires : goal.each::EachValidate::evaluate-evaluate_item-requires
+each::EachValidate::evaluate-evaluate_item-requires g t c κs within =
+    let v = c.args.self.now in
+    let below = height_at v.nodes.items c.loop-index.index c.index.result.now (omega arith) c.index.ensures in
+    (omega (arith, below, each_is_as_high v, c.decreases), search rules)
+
+pub each::EachValidate::evaluate-returns-then-not-self-clause-gives : goal.each::EachValidate::evaluate-returns-then-not-self-clause-gives
+each::EachValidate::evaluate-returns-then-not-self-clause-gives g t c =
     let l = c.loop-index in
-    gathered_all _ _ _ (each_units_end c.args.nodes.now (items (g.F.Node.Rooted.tree c.args.instance.now)) l.index (omega arith) (path_of c.args.location.now)) l.invariant.gathered
+    let v = c.args.self.now in
+    let instance = g.F.Node.Rooted.tree c.args.instance.now in
+    let p = path_of c.args.location.now in
+    let made = gathered_all _ _ _ (each_units_end v.nodes.items (items instance) l.index (omega arith) p) l.invariant.gathered in
+    c.from_children.ensures ∙ ap (of_children None) made ∙ sym (items_unit_is v (search (rules, c.if-not-self.true)) instance p)
+
+pub each::EachValidate::evaluate-returns-clause-gives : goal.each::EachValidate::evaluate-returns-clause-gives
+each::EachValidate::evaluate-returns-clause-gives g t c =
+    let l = c.loop-index in
+    let v = c.args.self.now in
+    let instance = g.F.Node.Rooted.tree c.args.instance.now in
+    let p = path_of c.args.location.now in
+    let made = gathered_all _ _ _ (each_units_end v.nodes.items (items instance) l.index (omega arith) p) l.invariant.gathered in
+    c.prefix_unit.ensures ∙ ap₂ (λ k es. of_children (prefix_annotation k (length (items instance))) es) (c.len-schemas.ensures ∙ v.nodes.ok.0) made
+    ∙ sym (prefix_unit_is v (search (rules, c.if-not-self.false)) instance p)
+
+-- ---- one schema for the items from an index on
+
+pub rest::RestValidate::evaluate-evaluate_item-requires : goal.rest::RestValidate::evaluate-evaluate_item-requires
+rest::RestValidate::evaluate-evaluate_item-requires g t c κs within = (omega (arith, rest_is_as_high c.args.self.now, c.decreases), search rules)
 
 -- ---- the items that match
 
-pub meeting::evaluate_matches-loop-index-preserved-then-not-valid : goal.meeting::evaluate_matches-loop-index-preserved-then-not-valid
-meeting::evaluate_matches-loop-index-preserved-then-not-valid g t c =
+pub matching::MatchingValidate::evaluate-loop-index-preserved-then-not-valid : goal.matching::MatchingValidate::evaluate-loop-index-preserved-then-not-valid
+matching::MatchingValidate::evaluate-loop-index-preserved-then-not-valid g t c =
     let l = c.loop-index in
     let ts = items (g.F.Node.Rooted.tree c.args.instance.now) in
-    let s = c.args.node.now in
-    let u = g.F.Node.Rooted.tree c.item.result.now in
+    let s = c.args.self.now.node in
+    let u = g.F.Node.Rooted.tree c.item-item.result.now in
     let p = path_of c.args.location.now in
     let is : c.valid.result ≡ holds s u = c.valid.ensures ∙ ap is_valid c.in_ok-child.ensures.gives ∙ tree_valid s u _ in
     let invalid : c.valid.result ≡ false = search (rules, c.if-not-valid.true) in
     let fails = sym is ∙ invalid in
-    let cost = sum_at ts l.index u (omega arith) c.item.ensures.value (pairs s) in
+    let cost = sum_at ts l.index u (omega arith) c.item-item.ensures.value (pairs s) in
     record {
       last = l.invariant.last;
-      gathered = node_passed ts l.index u (omega arith) c.item.ensures.value (holds s) (tree s) p fails _ _ l.invariant.gathered;
-      matching = index_passed ts l.index u (omega arith) c.item.ensures.value (holds s) fails _ _ l.invariant.matching;
-      location = grind (arith, common_steps);
+      gathered = node_passed ts l.index u (omega arith) c.item-item.ensures.value (holds s) (tree s) p fails _ _ l.invariant.gathered;
+      matching = index_passed ts l.index u (omega arith) c.item-item.ensures.value (holds s) fails _ _ l.invariant.matching;
+      location = c.in_ok-child.ensures.location ∙ l.invariant.location;
       counted_from = grind (arith, common_steps);
       counted_to = grind (arith, common_steps);
     }
 
-pub meeting::evaluate_matches-loop-index-preserved : goal.meeting::evaluate_matches-loop-index-preserved
-meeting::evaluate_matches-loop-index-preserved g t c =
+pub matching::MatchingValidate::evaluate-loop-index-preserved : goal.matching::MatchingValidate::evaluate-loop-index-preserved
+matching::MatchingValidate::evaluate-loop-index-preserved g t c =
     let l = c.loop-index in
     let ts = items (g.F.Node.Rooted.tree c.args.instance.now) in
-    let s = c.args.node.now in
-    let u = g.F.Node.Rooted.tree c.item.result.now in
+    let s = c.args.self.now.node in
+    let u = g.F.Node.Rooted.tree c.item-item.result.now in
     let p = path_of c.args.location.now in
     let is : c.valid.result ≡ holds s u = c.valid.ensures ∙ ap is_valid c.in_ok-child.ensures.gives ∙ tree_valid s u _ in
     let valid : c.valid.result ≡ true = search (rules, c.if-not-valid.false) in
     let matches = sym is ∙ valid in
-    let made = c.in_ok-child.ensures.gives ∙ ap (tree s u) (entered l.index c.in_ok-push.ensures.pushed l.invariant.location) in
-    let more = c.in_ok-push-2.ensures.items ∙ ap (λ e. l.children.items ++ e ∷ []) made in
-    let cost = sum_at ts l.index u (omega arith) c.item.ensures.value (pairs s) in
+    let made = c.in_ok-child.ensures.gives ∙ ap (λ q. tree s u (item_location (path_of q) l.index)) l.invariant.location in
+    let more = c.in_ok-push.ensures.items ∙ ap (λ e. l.children.items ++ e ∷ []) made in
+    let cost = sum_at ts l.index u (omega arith) c.item-item.ensures.value (pairs s) in
     record {
       last = l.invariant.last;
-      gathered = node_taken ts l.index u (omega arith) c.item.ensures.value (holds s) (tree s) p matches _ _ _ more l.invariant.gathered;
-      matching = index_taken ts l.index u (omega arith) c.item.ensures.value (holds s) matches _ _ _ c.in_ok-push-3.ensures.items l.invariant.matching;
-      location = grind (arith, common_steps);
+      gathered = node_taken ts l.index u (omega arith) c.item-item.ensures.value (holds s) (tree s) p matches _ _ _ more l.invariant.gathered;
+      matching = index_taken ts l.index u (omega arith) c.item-item.ensures.value (holds s) matches _ _ _ c.in_ok-push-2.ensures.items l.invariant.matching;
+      location = c.in_ok-child.ensures.location ∙ l.invariant.location;
       counted_from = grind (arith, common_steps);
       counted_to = grind (arith, common_steps);
     }
 
-pub meeting::evaluate_matches-returns-clause-gives : goal.meeting::evaluate_matches-returns-clause-gives
-meeting::evaluate_matches-returns-clause-gives g t c =
+pub matching::MatchingValidate::evaluate-returns-clause-gives : goal.matching::MatchingValidate::evaluate-returns-clause-gives
+matching::MatchingValidate::evaluate-returns-clause-gives g t c =
     let l = c.loop-index in
     let instance = g.F.Node.Rooted.tree c.args.instance.now in
     let ts = items instance in
-    let s = c.args.node.now in
+    let s = c.args.self.now.node in
     let p = path_of c.args.location.now in
     let nodes = gathered_all _ _ _ (node_end ts l.index (omega arith) (holds s) (tree s) p) l.invariant.gathered in
     let indices = gathered_all _ _ _ (index_end ts l.index (omega arith) (holds s)) l.invariant.matching in
-    let b = bounds_of c.args.limits in
+    let b = bounds_of c.args.self.now.bounds in
     let is = ap₂ (λ is es. matching_result (fault_of b (length is) instance) is es) indices nodes ∙ matching_is_unit s b instance p in
-    subst (λ x. IfOk c.matching_unit.result (λ r. result_of r ≡ x)) is c.matching_unit.ensures
+    subst (λ x. IfOk c.unit.result (λ r. result_of r ≡ x)) is c.unit.ensures
 
 -- ---- the keywords
 
@@ -276,12 +311,3 @@ node::SchemaNode::evaluate_instance_below-returns-in-Never-clause-gives g t c =
     let is = ap (λ q. node_at n.location q (result_of c.in_ok-result-in-Never.result)) c.in_ok-path.ensures ∙ ap (node_at n.location p) result
     ∙ refused_tree n.location instance p ∙ ap (λ s. tree s instance p) (sym schema) in
     subst (λ x. IfOk c.new.result (λ node. node ≡ x)) is c.new.ensures
-
--- ---- `prefixItems`
-
-pub validator::ValidatorValidate::evaluate-returns-in_ok-nodes-in-PrefixItems-clause-gives : goal.validator::ValidatorValidate::evaluate-returns-in_ok-nodes-in-PrefixItems-clause-gives
-validator::ValidatorValidate::evaluate-returns-in_ok-nodes-in-PrefixItems-clause-gives g t c =
-    let instance = g.F.Node.Rooted.tree c.args.instance.now in
-    let p = path_of c.args.location.now in
-    prefix_is_unit _ _ instance p c.as_slice-in-PrefixItems.ensures.value c.prefix_unit.ensures (c.len.ensures ∙ c.in-PrefixItems.v.nodes.ok.0) c.in_ok-nodes-in-PrefixItems.ensures.gives
-    ∙ ap (λ v. unit (validator_keyword v) instance p) (sym c.in-PrefixItems.is)

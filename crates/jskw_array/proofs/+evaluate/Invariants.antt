@@ -1,73 +1,79 @@
 use Rattle.std.proofs.Common.{◌≡◌, ◌+◌, ◌*◌, ◌≤◌, ◌++◌, min, length, drop, sum_by}
 use Rattle.jskw_value.specs.Tree.{items}
-use Rattle.jskw_report.specs.Applications.{pairs, each_pairs, all_pairs, height, all_height, each_height, keyword_height}
+use Rattle.jskw_report.specs.Applications.{pairs, each_pairs, all_pairs, keyword_pairs, height, all_height, keyword_height}
 use Rattle.jskw_report.specs.Evaluation.{evaluate_each, evaluate_matching, evaluate_pairs, matching_indices, tree, units}
 use Rattle.jskw_report.specs.Holds.{holds}
 use Rattle.jskw_report.specs.Paths.{path_of}
-use Rattle.jskw_array.specs.Meaning.{schemas_of, validator_keyword}
+use Rattle.jskw_array.specs.Meaning.{each_keyword, rest_keyword, schemas_of, validator_keyword}
 use Rattle.jskw_array.specs.Node.{fused_keywords}
 use Rattle.jskw_array.specs.Units.{keywords_of}
 use Rattle.jskw_array.proofs.+evaluate.Given as goal
 
 abbrev pub decreases-node::SchemaNode::evaluate_instance_below : goal.decreases-node::SchemaNode::evaluate_instance_below
-decreases-node::SchemaNode::evaluate_instance_below g l = 5 * height l.self.now
+decreases-node::SchemaNode::evaluate_instance_below g l = 10 * height l.self.now
+
+abbrev pub decreases-node::SchemaNode::evaluate_item : goal.decreases-node::SchemaNode::evaluate_item
+decreases-node::SchemaNode::evaluate_item g l = 10 * height l.self.now + 1
 
 abbrev pub decreases-unit::evaluate_units : goal.decreases-unit::evaluate_units
-decreases-unit::evaluate_units g l = 5 * all_height (keywords_of l.units.now) + 3
+decreases-unit::evaluate_units g l = 10 * all_height (keywords_of l.units.now) + 7
 
 abbrev pub decreases-items::array_shape::ArrayShapeValidatorValidate::evaluate : goal.decreases-items::array_shape::ArrayShapeValidatorValidate::evaluate
-decreases-items::array_shape::ArrayShapeValidatorValidate::evaluate g l = 5 * keyword_height (validator_keyword l.self.now.items.validator) + 3
+decreases-items::array_shape::ArrayShapeValidatorValidate::evaluate g l = 10 * keyword_height (validator_keyword l.self.now.items.validator) + 5
 
 abbrev pub decreases-items::array_shape::evaluate_shape : goal.decreases-items::array_shape::evaluate_shape
-decreases-items::array_shape::evaluate_shape g l = 5 * all_height (fused_keywords l.shape.now) + 4
+decreases-items::array_shape::evaluate_shape g l = 10 * all_height (fused_keywords l.shape.now) + 6
 
 abbrev pub decreases-validator::ValidatorValidate::evaluate : goal.decreases-validator::ValidatorValidate::evaluate
-decreases-validator::ValidatorValidate::evaluate g l = 5 * keyword_height (validator_keyword l.self.now) + 2
+decreases-validator::ValidatorValidate::evaluate g l = 10 * keyword_height (validator_keyword l.self.now) + 3
 
-abbrev pub decreases-meeting::evaluate_each : goal.decreases-meeting::evaluate_each
-decreases-meeting::evaluate_each g l = 5 * each_height (schemas_of l.nodes.now) + 1
+abbrev pub decreases-each::EachValidate::evaluate : goal.decreases-each::EachValidate::evaluate
+decreases-each::EachValidate::evaluate g l = 10 * keyword_height (each_keyword l.self.now) + 2
 
-abbrev pub decreases-meeting::evaluate_rest : goal.decreases-meeting::evaluate_rest
-decreases-meeting::evaluate_rest g l = 5 * height l.node.now + 1
+abbrev pub decreases-rest::RestValidate::evaluate : goal.decreases-rest::RestValidate::evaluate
+decreases-rest::RestValidate::evaluate g l = 10 * keyword_height (rest_keyword l.self.now) + 2
 
-abbrev pub decreases-meeting::evaluate_matches : goal.decreases-meeting::evaluate_matches
-decreases-meeting::evaluate_matches g l = 5 * height l.node.now + 1
+abbrev pub decreases-matching::MatchingValidate::evaluate : goal.decreases-matching::MatchingValidate::evaluate
+decreases-matching::MatchingValidate::evaluate g l = 10 * height l.self.now.node + 2
 
-abbrev pub invariant-meeting::evaluate_each-loop-index : goal.invariant-meeting::evaluate_each-loop-index
-invariant-meeting::evaluate_each-loop-index g l =
-    let ts = items (g.F.Node.Rooted.tree l.instance) in
+abbrev pub invariant-each::EachValidate::evaluate-loop-index : goal.invariant-each::EachValidate::evaluate-loop-index
+invariant-each::EachValidate::evaluate-loop-index g l =
+    let t = g.F.Node.Rooted.tree l.instance in
     let p = path_of l.initial.location in
+    let ss = l.self.nodes.items in
     record {
-      last : l.index-end ≡ min (length ts) (length l.nodes);
-      gathered : l.children.items ++ evaluate_pairs (schemas_of (drop l.index l.nodes)) l.index (drop l.index ts) p ≡ evaluate_pairs (schemas_of l.nodes) 0 ts p;
+      last : l.index-end ≡ min (length (items t)) (length ss);
+      gathered : l.children.items ++ evaluate_pairs (schemas_of (drop l.index ss)) l.index (drop l.index (items t)) p ≡ evaluate_pairs (schemas_of ss) 0 (items t) p;
       location : l.location ≡ l.initial.location;
       counted_from : l.initial.ctx ≤ l.ctx;
-      counted_to : l.ctx + each_pairs (schemas_of (drop l.index l.nodes)) (drop l.index ts) ≤ l.initial.ctx + each_pairs (schemas_of l.nodes) ts;
+      counted_to : l.ctx + each_pairs (schemas_of (drop l.index ss)) (drop l.index (items t)) ≤ l.initial.ctx + keyword_pairs (each_keyword l.self) t;
     }
 
-abbrev pub invariant-meeting::evaluate_rest-loop-index : goal.invariant-meeting::evaluate_rest-loop-index
-invariant-meeting::evaluate_rest-loop-index g l =
-    let ts = items (g.F.Node.Rooted.tree l.instance) in
+abbrev pub invariant-rest::RestValidate::evaluate-loop-index : goal.invariant-rest::RestValidate::evaluate-loop-index
+invariant-rest::RestValidate::evaluate-loop-index g l =
+    let t = g.F.Node.Rooted.tree l.instance in
     let p = path_of l.initial.location in
+    let s = l.self.node in
     record {
-      last : l.index-end ≡ length ts;
-      gathered : l.children.items ++ evaluate_each (tree l.node) l.index (drop l.index ts) p ≡ evaluate_each (tree l.node) l.start (drop l.start ts) p;
+      last : l.index-end ≡ length (items t);
+      gathered : l.children.items ++ evaluate_each (tree s) l.index (drop l.index (items t)) p ≡ evaluate_each (tree s) l.self.start (drop l.self.start (items t)) p;
       location : l.location ≡ l.initial.location;
       counted_from : l.initial.ctx ≤ l.ctx;
-      counted_to : l.ctx + sum_by (pairs l.node) (drop l.index ts) ≤ l.initial.ctx + sum_by (pairs l.node) (drop l.start ts);
+      counted_to : l.ctx + sum_by (pairs s) (drop l.index (items t)) ≤ l.initial.ctx + keyword_pairs (rest_keyword l.self) t;
     }
 
-abbrev pub invariant-meeting::evaluate_matches-loop-index : goal.invariant-meeting::evaluate_matches-loop-index
-invariant-meeting::evaluate_matches-loop-index g l =
+abbrev pub invariant-matching::MatchingValidate::evaluate-loop-index : goal.invariant-matching::MatchingValidate::evaluate-loop-index
+invariant-matching::MatchingValidate::evaluate-loop-index g l =
     let ts = items (g.F.Node.Rooted.tree l.instance) in
     let p = path_of l.initial.location in
+    let s = l.self.node in
     record {
       last : l.index-end ≡ length ts;
-      gathered : l.children.items ++ evaluate_matching (holds l.node) (tree l.node) l.index (drop l.index ts) p ≡ evaluate_matching (holds l.node) (tree l.node) 0 ts p;
-      matching : l.matches.items ++ matching_indices (holds l.node) l.index (drop l.index ts) ≡ matching_indices (holds l.node) 0 ts;
+      gathered : l.children.items ++ evaluate_matching (holds s) (tree s) l.index (drop l.index ts) p ≡ evaluate_matching (holds s) (tree s) 0 ts p;
+      matching : l.matches.items ++ matching_indices (holds s) l.index (drop l.index ts) ≡ matching_indices (holds s) 0 ts;
       location : l.location ≡ l.initial.location;
       counted_from : l.initial.ctx ≤ l.ctx;
-      counted_to : l.ctx + sum_by (pairs l.node) (drop l.index ts) ≤ l.initial.ctx + sum_by (pairs l.node) ts;
+      counted_to : l.ctx + sum_by (pairs s) (drop l.index ts) ≤ l.initial.ctx + sum_by (pairs s) ts;
     }
 
 abbrev pub invariant-unit::evaluate_units-loop-unit : goal.invariant-unit::evaluate_units-loop-unit

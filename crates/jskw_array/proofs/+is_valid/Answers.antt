@@ -4,24 +4,55 @@ use Rattle.jskw_report.specs.Applications.{all_needed, keyword_needed, needed}
 use Rattle.jskw_report.specs.Holds.{all_hold, keyword_holds}
 use Rattle.jskw_report.specs.Keyword.{no_keywords}
 use Rattle.jskw_array.specs.Fused.{shape_keywords}
+use Rattle.jskw_array.specs.Heights.{each_is_as_high, rest_is_as_high}
 use Rattle.jskw_array.specs.Meaning.{validator_keyword}
 use Rattle.jskw_array.specs.Node.{OfOnly, fused_keywords}
 use Rattle.jskw_array.specs.Units.{keywords_of}
 use Rattle.jskw_array.proofs.Keywords.{hold_at, items_height, lower_shape, lower_units, needed_at, only_holds, only_lower, only_needs, schema_holds, schema_needs, unit_height}
+use Rattle.jskw_array.proofs.Meant.{each_holds_of, each_needs, rest_holds_of, rest_needs}
 use Rattle.jskw_array.proofs.Meetings.{each_holds_end, height_at}
 use Rattle.jskw_array.proofs.+is_valid.Goals as goal
 
-pub meeting::each_is_valid-is_valid-requires : goal.meeting::each_is_valid-is_valid-requires
-meeting::each_is_valid-is_valid-requires g t c κs within =
-    let below = height_at c.args.nodes.now c.loop-index.index c.index-nodes-index.result (omega arith) c.index-nodes-index.is in
-    (omega (arith, below, c.decreases), search rules)
+-- ---- a schema for each item
 
-pub meeting::each_is_valid-returns-clause-answer : goal.meeting::each_is_valid-returns-clause-answer
-meeting::each_is_valid-returns-clause-answer g t c =
+pub each::EachValidate::is_valid-loop-index-init : goal.each::EachValidate::is_valid-loop-index-init
+each::EachValidate::is_valid-loop-index-init g t c =
+    let v = c.args.self.now in
+    let instance = g.F.Node.Rooted.tree c.args.instance.now in
+    record {
+      last = omega arith;
+      answer = each_holds_of v instance;
+      counted_from = omega arith;
+      counted_to = omega (arith, each_needs v instance);
+    }
+
+pub each::EachValidate::is_valid-is_valid-requires : goal.each::EachValidate::is_valid-is_valid-requires
+each::EachValidate::is_valid-is_valid-requires g t c κs within =
+    let v = c.args.self.now in
+    let below = height_at v.nodes.items c.loop-index.index c.index.result.now (omega arith) c.index.ensures in
+    (omega (arith, below, each_is_as_high v, c.decreases), search rules)
+
+pub each::EachValidate::is_valid-returns-clause-answer : goal.each::EachValidate::is_valid-returns-clause-answer
+each::EachValidate::is_valid-returns-clause-answer g t c =
     let l = c.loop-index in
-    let none = each_holds_end c.args.nodes.now (items (g.F.Node.Rooted.tree c.args.instance.now)) l.index (omega arith) in
+    let none = each_holds_end c.args.self.now.nodes.items (items (g.F.Node.Rooted.tree c.args.instance.now)) l.index (omega arith) in
     let left = l.invariant.answer in
     cc
+
+-- ---- one schema for the items from an index on
+
+pub rest::Rest::holds_of-loop-index-init : goal.rest::Rest::holds_of-loop-index-init
+rest::Rest::holds_of-loop-index-init g t c =
+    let v = c.args.self.now in
+    let instance = g.F.Node.Rooted.tree c.args.instance.now in
+    record {
+      answer = rest_holds_of v instance;
+      counted_from = omega arith;
+      counted_to = omega (arith, rest_needs v instance);
+    }
+
+pub rest::Rest::holds_of-is_valid-requires : goal.rest::Rest::holds_of-is_valid-requires
+rest::Rest::holds_of-is_valid-requires g t c κs within = (omega (arith, rest_is_as_high c.args.self.now, c.decreases), search rules)
 
 -- ---- the keywords
 

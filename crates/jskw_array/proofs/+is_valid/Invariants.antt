@@ -1,65 +1,74 @@
 use Rattle.std.proofs.Common.{◌≡◌, ◌+◌, ◌*◌, ◌≤◌, min, length, drop, sum_by, count_by}
 use Rattle.std.specs.List.{list_all}
 use Rattle.jskw_value.specs.Tree.{items}
-use Rattle.jskw_report.specs.Applications.{needed, each_needed, all_needed, sum_to_failure, height, all_height, each_height, keyword_height}
-use Rattle.jskw_report.specs.Holds.{holds, each_holds, all_hold}
-use Rattle.jskw_array.specs.Meaning.{schemas_of, validator_keyword}
+use Rattle.jskw_report.specs.Applications.{needed, each_needed, all_needed, keyword_needed, sum_to_failure, height, all_height, keyword_height}
+use Rattle.jskw_report.specs.Holds.{holds, each_holds, all_hold, keyword_holds}
+use Rattle.jskw_array.specs.Meaning.{each_keyword, rest_keyword, schemas_of, validator_keyword}
 use Rattle.jskw_array.specs.Units.{keywords_of}
 use Rattle.jskw_array.proofs.+is_valid.Given as goal
 
 abbrev pub decreases-node::SchemaNode::is_valid : goal.decreases-node::SchemaNode::is_valid
-decreases-node::SchemaNode::is_valid g l = 5 * height l.self.now
+decreases-node::SchemaNode::is_valid g l = 10 * height l.self.now
 
 abbrev pub decreases-unit::units_are_valid : goal.decreases-unit::units_are_valid
-decreases-unit::units_are_valid g l = 5 * all_height (keywords_of l.units.now) + 4
+decreases-unit::units_are_valid g l = 10 * all_height (keywords_of l.units.now) + 7
 
 abbrev pub decreases-items::array_shape::ArrayShapeValidatorValidate::is_valid : goal.decreases-items::array_shape::ArrayShapeValidatorValidate::is_valid
-decreases-items::array_shape::ArrayShapeValidatorValidate::is_valid g l = 5 * keyword_height (validator_keyword l.self.now.items.validator) + 4
+decreases-items::array_shape::ArrayShapeValidatorValidate::is_valid g l = 10 * keyword_height (validator_keyword l.self.now.items.validator) + 5
 
 abbrev pub decreases-validator::Validator::holds_of : goal.decreases-validator::Validator::holds_of
-decreases-validator::Validator::holds_of g l = 5 * keyword_height (validator_keyword l.self.now) + 3
+decreases-validator::Validator::holds_of g l = 10 * keyword_height (validator_keyword l.self.now) + 4
 
 abbrev pub decreases-validator::ValidatorValidate::is_valid : goal.decreases-validator::ValidatorValidate::is_valid
-decreases-validator::ValidatorValidate::is_valid g l = 5 * keyword_height (validator_keyword l.self.now) + 2
+decreases-validator::ValidatorValidate::is_valid g l = 10 * keyword_height (validator_keyword l.self.now) + 3
 
-abbrev pub decreases-meeting::each_is_valid : goal.decreases-meeting::each_is_valid
-decreases-meeting::each_is_valid g l = 5 * each_height (schemas_of l.nodes.now) + 1
+abbrev pub decreases-each::EachValidate::is_valid : goal.decreases-each::EachValidate::is_valid
+decreases-each::EachValidate::is_valid g l = 10 * keyword_height (each_keyword l.self.now) + 1
 
-abbrev pub decreases-meeting::rest_is_valid : goal.decreases-meeting::rest_is_valid
-decreases-meeting::rest_is_valid g l = 5 * height l.node.now + 1
+abbrev pub decreases-rest::RestValidate::is_valid : goal.decreases-rest::RestValidate::is_valid
+decreases-rest::RestValidate::is_valid g l = 10 * keyword_height (rest_keyword l.self.now) + 2
 
-abbrev pub decreases-meeting::contains_fault : goal.decreases-meeting::contains_fault
-decreases-meeting::contains_fault g l = 5 * height l.node.now + 1
+abbrev pub decreases-rest::Rest::holds_of : goal.decreases-rest::Rest::holds_of
+decreases-rest::Rest::holds_of g l = 10 * keyword_height (rest_keyword l.self.now) + 1
 
-abbrev pub invariant-meeting::each_is_valid-loop-index : goal.invariant-meeting::each_is_valid-loop-index
-invariant-meeting::each_is_valid-loop-index g l =
-    let ts = items (g.F.Node.Rooted.tree l.instance) in
+abbrev pub decreases-matching::MatchingValidate::is_valid : goal.decreases-matching::MatchingValidate::is_valid
+decreases-matching::MatchingValidate::is_valid g l = 10 * height l.self.now.node + 2
+
+abbrev pub decreases-matching::Matching::fault : goal.decreases-matching::Matching::fault
+decreases-matching::Matching::fault g l = 10 * height l.self.now.node + 1
+
+abbrev pub invariant-each::EachValidate::is_valid-loop-index : goal.invariant-each::EachValidate::is_valid-loop-index
+invariant-each::EachValidate::is_valid-loop-index g l =
+    let t = g.F.Node.Rooted.tree l.instance in
+    let ss = l.self.nodes.items in
     record {
-      last : l.index-end ≡ min (length ts) (length l.nodes);
-      answer : each_holds (schemas_of l.nodes) ts ≡ each_holds (schemas_of (drop l.index l.nodes)) (drop l.index ts);
+      last : l.index-end ≡ min (length (items t)) (length ss);
+      answer : keyword_holds (each_keyword l.self) t ≡ each_holds (schemas_of (drop l.index ss)) (drop l.index (items t));
       counted_from : l.initial.ctx ≤ l.ctx;
-      counted_to : l.ctx + each_needed (schemas_of (drop l.index l.nodes)) (drop l.index ts) ≤ l.initial.ctx + each_needed (schemas_of l.nodes) ts;
+      counted_to : l.ctx + each_needed (schemas_of (drop l.index ss)) (drop l.index (items t)) ≤ l.initial.ctx + keyword_needed (each_keyword l.self) t;
     }
 
-abbrev pub invariant-meeting::rest_is_valid-loop-index : goal.invariant-meeting::rest_is_valid-loop-index
-invariant-meeting::rest_is_valid-loop-index g l =
-    let ts = items (g.F.Node.Rooted.tree l.instance) in
+abbrev pub invariant-rest::Rest::holds_of-loop-index : goal.invariant-rest::Rest::holds_of-loop-index
+invariant-rest::Rest::holds_of-loop-index g l =
+    let t = g.F.Node.Rooted.tree l.instance in
+    let s = l.self.node in
     record {
-      answer : list_all (holds l.node) (drop l.start ts) ≡ list_all (holds l.node) (drop l.index ts);
+      answer : keyword_holds (rest_keyword l.self) t ≡ list_all (holds s) (drop l.index (items t));
       counted_from : l.initial.ctx ≤ l.ctx;
-      counted_to : l.ctx + sum_to_failure (holds l.node) (needed l.node) (drop l.index ts) ≤ l.initial.ctx + sum_to_failure (holds l.node) (needed l.node) (drop l.start ts);
+      counted_to : l.ctx + sum_to_failure (holds s) (needed s) (drop l.index (items t)) ≤ l.initial.ctx + keyword_needed (rest_keyword l.self) t;
     }
 
-abbrev pub invariant-meeting::contains_fault-loop-index : goal.invariant-meeting::contains_fault-loop-index
-invariant-meeting::contains_fault-loop-index g l =
+abbrev pub invariant-matching::Matching::fault-loop-index : goal.invariant-matching::Matching::fault-loop-index
+invariant-matching::Matching::fault-loop-index g l =
     let ts = items (g.F.Node.Rooted.tree l.instance) in
+    let s = l.self.node in
     record {
       last : l.index-end ≡ length ts;
       few : l.matches ≤ l.index;
       enough : l.matches ≤ l.enough;
-      counted : l.matches + count_by (holds l.node) (drop l.index ts) ≡ count_by (holds l.node) ts;
+      counted : l.matches + count_by (holds s) (drop l.index ts) ≡ count_by (holds s) ts;
       counted_from : l.initial.ctx ≤ l.ctx;
-      counted_to : l.ctx + sum_by (needed l.node) (drop l.index ts) ≤ l.initial.ctx + sum_by (needed l.node) ts;
+      counted_to : l.ctx + sum_by (needed s) (drop l.index ts) ≤ l.initial.ctx + sum_by (needed s) ts;
     }
 
 abbrev pub invariant-unit::units_are_valid-loop-unit : goal.invariant-unit::units_are_valid-loop-unit

@@ -12,94 +12,130 @@ use Rattle.jskw_report.specs.Observe.{IsFirst}
 use Rattle.jskw_report.specs.Paths.{path_of}
 use Rattle.jskw_report.specs.Keyword.{no_keywords}
 use Rattle.jskw_array.specs.Fused.{absorbed_keywords, shape_keywords}
+use Rattle.jskw_array.specs.Heights.{each_is_as_high, rest_is_as_high}
 use Rattle.jskw_array.specs.Meaning.{schemas_of, validator_keyword}
 use Rattle.jskw_array.specs.Node.{fused_keywords}
 use Rattle.jskw_array.specs.Units.{keywords_of}
 use Rattle.jskw_array.proofs.Keywords.{fail_at, items_height, items_keywords, keywords_end, lower_shape, lower_units, needed_at, schema_fails, schema_needs, unit_height}
-use Rattle.jskw_array.proofs.Meetings.{each_fails_at, each_fails_end, each_needed_at, entered, fails_at, height_at, until_at}
+use Rattle.jskw_array.proofs.Meant.{absurd-of, each_fails_of, each_needs, each_no_assertion, rest_fails_of, rest_needs, rest_no_assertion}
+use Rattle.jskw_array.proofs.Meetings.{each_fails_at, each_fails_end, each_needed_at, fails_at, height_at, until_at}
 use Rattle.jskw_array.proofs.+validate.Goals as goal
 
 -- ---- a schema for each item
 
-pub meeting::validate_each-validate-answer-requires : goal.meeting::validate_each-validate-answer-requires
-meeting::validate_each-validate-answer-requires g t c κs within =
-    let below = height_at c.args.nodes.now c.loop-index.index c.index-nodes-index.result (omega arith) c.index-nodes-index.is in
-    (omega (arith, below, c.decreases), search rules)
+pub each::EachValidate::validate-loop-index-init : goal.each::EachValidate::validate-loop-index-init
+each::EachValidate::validate-loop-index-init g t c =
+    let v = c.args.self.now in
+    let instance = g.F.Node.Rooted.tree c.args.instance.now in
+    record {
+      last = omega arith;
+      left = sym (each_fails_of v instance (path_of c.args.location.now));
+      location = refl;
+      counted_from = omega arith;
+      counted_to = omega (arith, each_needs v instance);
+    }
 
-pub meeting::validate_each-returns-in_err-answer-clause-first : goal.meeting::validate_each-returns-in_err-answer-clause-first
-meeting::validate_each-returns-in_err-answer-clause-first g t c =
+pub each::EachValidate::validate-validate_item-requires : goal.each::EachValidate::validate-validate_item-requires
+each::EachValidate::validate-validate_item-requires g t c κs within =
+    let v = c.args.self.now in
+    let below = height_at v.nodes.items c.loop-index.index c.index.result.now (omega arith) c.index.ensures in
+    (omega (arith, below, each_is_as_high v, c.decreases), search rules)
+
+pub each::EachValidate::validate-returns-in_err-validate_item-clause-quiet : goal.each::EachValidate::validate-returns-in_err-validate_item-clause-quiet
+each::EachValidate::validate-returns-in_err-validate_item-clause-quiet g t c assertion = absurd-of (each_no_assertion c.args.self.now) assertion
+
+pub each::EachValidate::validate-returns-in_err-validate_item-clause-first : goal.each::EachValidate::validate-returns-in_err-validate_item-clause-first
+each::EachValidate::validate-returns-in_err-validate_item-clause-first g t c =
     let l = c.loop-index in
     let tree = g.F.Node.Rooted.tree in
     let ts = items (tree c.args.instance.now) in
-    let ss = c.args.nodes.now in
+    let ss = c.args.self.now.nodes.items in
     let p = path_of c.args.location.now in
-    let s = c.index-nodes-index.result in
+    let s = c.index.result.now in
     let u = tree c.item.result.now in
-    let e = c.in_err-answer.field-0.0 in
-    let here = each_fails_at ss ts l.index s u (omega arith) (omega arith) c.index-nodes-index.is c.item.ensures.value p in
-    let first = subst (λ q. IsFirst tree (fail s u q) (Err e)) (entered l.index c.in_ok-push.ensures.pushed l.invariant.location) c.in_err-answer.ensures.first in
+    let e = c.in_err-validate_item.field-0.0 in
+    let here = each_fails_at ss ts l.index s u (omega arith) (omega arith) c.index.ensures c.item.ensures.value p in
+    let first = subst (λ q. IsFirst tree (fail s u (item_location (path_of q) l.index)) (Err e)) l.invariant.location c.in_err-validate_item.ensures.first in
     let rest = each_fails (schemas_of (drop (l.index + 1) ss)) (l.index + 1) (drop (l.index + 1) ts) p in
-    first_before tree _ e (fail s u (item_location p l.index)) rest _ c.from_residual-in_err-answer.ensures.1 first (sym here ∙ l.invariant.left)
+    first_before tree _ e (fail s u (item_location p l.index)) rest _ c.from_residual.ensures.1 first (sym here ∙ l.invariant.left)
 
-pub meeting::validate_each-loop-index-preserved : goal.meeting::validate_each-loop-index-preserved
-meeting::validate_each-loop-index-preserved g t c =
+pub each::EachValidate::validate-loop-index-preserved : goal.each::EachValidate::validate-loop-index-preserved
+each::EachValidate::validate-loop-index-preserved g t c =
     let l = c.loop-index in
     let tree = g.F.Node.Rooted.tree in
     let ts = items (tree c.args.instance.now) in
-    let ss = c.args.nodes.now in
+    let ss = c.args.self.now.nodes.items in
     let p = path_of c.args.location.now in
-    let s = c.index-nodes-index.result in
+    let s = c.index.result.now in
     let u = tree c.item.result.now in
-    let none = subst (λ q. fail s u q ≡ []) (entered l.index c.in_ok-push.ensures.pushed l.invariant.location) c.in_ok-answer.ensures.first in
+    let none = subst (λ q. fail s u (item_location (path_of q) l.index) ≡ []) l.invariant.location c.in_ok-validate_item.ensures.first in
     let holds_here = holds_empty s u (item_location p l.index) ∙ ap is_empty none in
-    let here = each_fails_at ss ts l.index s u (omega arith) (omega arith) c.index-nodes-index.is c.item.ensures.value p in
-    let cost = each_needed_at ss ts l.index s u (omega arith) (omega arith) c.index-nodes-index.is c.item.ensures.value in
+    let here = each_fails_at ss ts l.index s u (omega arith) (omega arith) c.index.ensures c.item.ensures.value p in
+    let cost = each_needed_at ss ts l.index s u (omega arith) (omega arith) c.index.ensures c.item.ensures.value in
     let rest = each_fails (schemas_of (drop (l.index + 1) ss)) (l.index + 1) (drop (l.index + 1) ts) p in
     record {
       last = l.invariant.last;
       left = sym (here ∙ ap (λ fs. fs ++ rest) none) ∙ l.invariant.left;
-      location = grind (arith, common_steps);
+      location = c.in_ok-validate_item.ensures.location ∙ l.invariant.location;
       counted_from = grind (arith, common_steps);
       counted_to = grind (arith, common_steps);
     }
 
-pub meeting::validate_each-returns-clause-first : goal.meeting::validate_each-returns-clause-first
-meeting::validate_each-returns-clause-first g t c =
+pub each::EachValidate::validate-returns-clause-first : goal.each::EachValidate::validate-returns-clause-first
+each::EachValidate::validate-returns-clause-first g t c =
     let l = c.loop-index in
-    sym l.invariant.left ∙ each_fails_end c.args.nodes.now (items (g.F.Node.Rooted.tree c.args.instance.now)) l.index (omega arith) (path_of c.args.location.now)
+    sym l.invariant.left ∙ each_fails_end c.args.self.now.nodes.items (items (g.F.Node.Rooted.tree c.args.instance.now)) l.index (omega arith) (path_of c.args.location.now)
 
 -- ---- one schema for the items from an index on
 
-pub meeting::validate_rest-returns-in_err-answer-clause-first : goal.meeting::validate_rest-returns-in_err-answer-clause-first
-meeting::validate_rest-returns-in_err-answer-clause-first g t c =
-    let l = c.loop-index in
-    let tree = g.F.Node.Rooted.tree in
-    let ts = items (tree c.args.instance.now) in
-    let s = c.args.node.now in
-    let p = path_of c.args.location.now in
-    let u = tree c.item.result.now in
-    let e = c.in_err-answer.field-0.0 in
-    let here = fails_at ts l.index u (omega arith) c.item.ensures.value (fail s) p in
-    let first = subst (λ q. IsFirst tree (fail s u q) (Err e)) (entered l.index c.in_ok-push.ensures.pushed l.invariant.location) c.in_err-answer.ensures.first in
-    let rest = each_item (fail s) (l.index + 1) (drop (l.index + 1) ts) p in
-    first_before tree _ e (fail s u (item_location p l.index)) rest _ c.from_residual-in_err-answer.ensures.1 first (sym here ∙ l.invariant.left)
+pub rest::RestValidate::validate-loop-index-init : goal.rest::RestValidate::validate-loop-index-init
+rest::RestValidate::validate-loop-index-init g t c =
+    let v = c.args.self.now in
+    let instance = g.F.Node.Rooted.tree c.args.instance.now in
+    record {
+      last = omega arith;
+      left = sym (rest_fails_of v instance (path_of c.args.location.now));
+      location = refl;
+      counted_from = omega arith;
+      counted_to = omega (arith, rest_needs v instance);
+    }
 
-pub meeting::validate_rest-loop-index-preserved : goal.meeting::validate_rest-loop-index-preserved
-meeting::validate_rest-loop-index-preserved g t c =
+pub rest::RestValidate::validate-validate_item-requires : goal.rest::RestValidate::validate-validate_item-requires
+rest::RestValidate::validate-validate_item-requires g t c κs within = (omega (arith, rest_is_as_high c.args.self.now, c.decreases), search rules)
+
+pub rest::RestValidate::validate-returns-in_err-validate_item-clause-quiet : goal.rest::RestValidate::validate-returns-in_err-validate_item-clause-quiet
+rest::RestValidate::validate-returns-in_err-validate_item-clause-quiet g t c assertion = absurd-of (rest_no_assertion c.args.self.now) assertion
+
+pub rest::RestValidate::validate-returns-in_err-validate_item-clause-first : goal.rest::RestValidate::validate-returns-in_err-validate_item-clause-first
+rest::RestValidate::validate-returns-in_err-validate_item-clause-first g t c =
     let l = c.loop-index in
     let tree = g.F.Node.Rooted.tree in
     let ts = items (tree c.args.instance.now) in
-    let s = c.args.node.now in
+    let s = c.args.self.now.node in
     let p = path_of c.args.location.now in
     let u = tree c.item.result.now in
-    let none = subst (λ q. fail s u q ≡ []) (entered l.index c.in_ok-push.ensures.pushed l.invariant.location) c.in_ok-answer.ensures.first in
+    let e = c.in_err-validate_item.field-0.0 in
+    let here = fails_at ts l.index u (omega arith) c.item.ensures.value (fail s) p in
+    let first = subst (λ q. IsFirst tree (fail s u (item_location (path_of q) l.index)) (Err e)) l.invariant.location c.in_err-validate_item.ensures.first in
+    let rest = each_item (fail s) (l.index + 1) (drop (l.index + 1) ts) p in
+    first_before tree _ e (fail s u (item_location p l.index)) rest _ c.from_residual.ensures.1 first (sym here ∙ l.invariant.left)
+
+pub rest::RestValidate::validate-loop-index-preserved : goal.rest::RestValidate::validate-loop-index-preserved
+rest::RestValidate::validate-loop-index-preserved g t c =
+    let l = c.loop-index in
+    let tree = g.F.Node.Rooted.tree in
+    let ts = items (tree c.args.instance.now) in
+    let s = c.args.self.now.node in
+    let p = path_of c.args.location.now in
+    let u = tree c.item.result.now in
+    let none = subst (λ q. fail s u (item_location (path_of q) l.index) ≡ []) l.invariant.location c.in_ok-validate_item.ensures.first in
     let holds_here = holds_empty s u (item_location p l.index) ∙ ap is_empty none in
     let here = fails_at ts l.index u (omega arith) c.item.ensures.value (fail s) p in
     let cost = until_at ts l.index u (omega arith) c.item.ensures.value (holds s) (needed s) in
     record {
       last = l.invariant.last;
       left = sym (here ∙ ap (λ fs. fs ++ each_item (fail s) (l.index + 1) (drop (l.index + 1) ts) p) none) ∙ l.invariant.left;
-      location = grind (arith, common_steps);
+      location = c.in_ok-validate_item.ensures.location ∙ l.invariant.location;
       counted_from = grind (arith, common_steps);
       counted_to = grind (arith, common_steps);
     }

@@ -1,9 +1,10 @@
 //! Options that are integers of 64 bits with a sign.
-ghost use Rattle.std.specs.Prelude.{◌≡◌, IfOk};
+ghost use Rattle.std.specs.Prelude.{◌≡◌, IfOk, zero};
 ghost use Rattle.std.specs.List.Sorted.{IsSorted, IsPermutation};
 ghost use Rattle.std.specs.Ordering.{int_cmp};
 ghost use Rattle.serde_json.specs.View.{items_view};
 ghost use Rattle.jskw_value.specs.Decimal.{value};
+ghost use Rattle.jskw_value.specs.Number.{exact};
 ghost use Rattle.jskw_leaf.specs.Options.{has_integer, integer_against, integer_of, is_integer};
 ghost use Rattle.jskw_leaf.specs.Options.{picked, some_integer};
 
@@ -40,11 +41,23 @@ impl OptionTable for SortedIntegers {
     }
 
     fn has<F: Json>(&self, instance: &F::Node) -> bool {
-        match instance.as_number() {
-            Some(number) => is_in_table(&self.integers, &number.decimal()),
-            None => false,
+        let Some(number) = instance.as_number() else {
+            return false;
+        };
+        match number.as_i64() {
+            Some(integer) => has_word(&self.integers, &integer),
+            None => is_in_table(&self.integers, &number.decimal()),
         }
     }
+}
+
+// Whether the integer is one of the sorted ones: words are compared faster than decimals.
+#[inline(never)]
+fn has_word(table: &[i64], integer: &i64) -> bool
+    requires { IsSorted int_cmp table.now }
+    ensures { result ≡ some_integer table.now (exact integer.now zero) }
+{
+    table.binary_search(integer).is_ok()
 }
 
 // Whether the number is one of the sorted integers, by its value.

@@ -136,10 +136,17 @@ fn objects_in_any_order(rt: HostRuntime) -> Result<(), Fail> {
     Ok(())
 }
 
-// An array of items that begin and end so and have 0 to 9 between, and of one more with this number.
-fn eleven_items(alloc: Global, front: &str, back: &str, last: u64) -> Result<Value, Fail> {
+// An array of so many items that begin and end so and have a number from 0 on between, and of one
+// more with this number.
+fn alike_items(
+    alloc: Global,
+    count: u64,
+    front: &str,
+    back: &str,
+    last: u64,
+) -> Result<Value, Fail> {
     let mut text = String::from_str(alloc, "[")?;
-    for i in 0..10u64 {
+    for i in 0..count {
         text.push_str(format!(in alloc; "{front}{i}{back},")?.as_str())?;
     }
     text.push_str(format!(in alloc; "{front}{last}{back}]")?.as_str())?;
@@ -163,10 +170,89 @@ fn nested_and_long_items(rt: HostRuntime) -> Result<(), Fail> {
         ("\"0123456789abcdef", "0123456789abcdef\""),
     ] {
         for (last, are_unique) in [(10, true), (0, false), (5, false), (9, false)] {
-            let value = eleven_items(alloc, front, back, last)?;
+            let value = alike_items(alloc, 10, front, back, last)?;
             assert!(rt; Node::is_array(&value));
             assert_eq!(rt; value.is_unique(), are_unique, "{front} and {last}");
         }
+    }
+    Ok(())
+}
+
+// So many items that are alike further than the fingerprints of a sketch look, and one more.
+fn check_alike_items(
+    rt: &impl Abort,
+    alloc: Global,
+    count: u64,
+    front: &str,
+    back: &str,
+) -> Result<(), Fail> {
+    for (last, are_unique) in [
+        (count, true),
+        (0, false),
+        (count / 2, false),
+        (count.saturating_sub(1), false),
+    ] {
+        let value = alike_items(alloc, count, front, back, last)?;
+        assert!(rt; Node::is_array(&value));
+        assert_eq!(rt;
+            value.is_unique(),
+            are_unique,
+            "{front}, {count} and {last}"
+        );
+    }
+    Ok(())
+}
+
+// Where the fingerprints of whole items tell.
+#[test]
+fn many_items_that_differ_deep_down_or_late(rt: HostRuntime) -> Result<(), Fail> {
+    let alloc = rt.alloc();
+    let (open, close) = ("[".repeat(alloc, 20)?, "]".repeat(alloc, 20)?);
+    for count in [127u64, 128, 1023, 1024] {
+        check_alike_items(&rt, alloc, count, open.as_str(), close.as_str())?;
+    }
+    let zeros = format!(in alloc; "[{}", "0,".repeat(alloc, 700)?.as_str())?;
+    check_alike_items(&rt, alloc, 200, zeros.as_str(), "]")?;
+    let object = "{\"a\":1,\"b\":".repeat(alloc, 9)?;
+    check_alike_items(&rt, alloc, 200, object.as_str(), "}}}}}}}}}")?;
+    Ok(())
+}
+
+// Members of which either two have one sum of fingerprints.
+const SAME_SUMS: [[&str; 2]; 4] = [
+    [
+        "\"a00\":358168,\"b00\":2909806",
+        "\"a00\":2328621,\"b00\":1236977",
+    ],
+    [
+        "\"a01\":815659,\"b01\":2685690",
+        "\"a01\":371278,\"b01\":3191975",
+    ],
+    [
+        "\"a02\":4106677,\"b02\":3538951",
+        "\"a02\":1993735,\"b02\":963625",
+    ],
+    [
+        "\"a03\":1611501,\"b03\":2850619",
+        "\"a03\":3531808,\"b03\":2780635",
+    ],
+];
+
+// Items with one whole fingerprint that differ, and one of them again.
+#[test]
+fn objects_of_one_fingerprint(rt: HostRuntime) -> Result<(), Fail> {
+    let alloc = rt.alloc();
+    for (count, are_unique) in [(16usize, true), (17, false)] {
+        let mut text = String::from_str(alloc, "[")?;
+        for i in 0..count {
+            let [a, b, c, d] = SAME_SUMS;
+            let (a, b, c, d) = (a[i % 2], b[i / 2 % 2], c[i / 4 % 2], d[i / 8 % 2]);
+            text.push_str(format!(in alloc; "{{{a},{b},{c},{d}}},")?.as_str())?;
+        }
+        text.push_str("0]")?;
+        let value = Value::from_str(alloc, text.as_str())?;
+        assert!(rt; Node::is_array(&value));
+        assert_eq!(rt; value.is_unique(), are_unique, "{count}");
     }
     Ok(())
 }

@@ -1,7 +1,0 @@
-use Rattle.std.proofs.Common.{◌≡◌, ◌∙◌, true, sym, is_none, rules}
-use Rattle.jskw.proofs.service.reply_to_request.Goals as goal
-
-pub collect_errors-requires : goal.collect_errors-requires
-collect_errors-requires c =
-    let none : is_none c.in_ok-location.field-0 ≡ true = search (rules, c.in_default.is) in
-    sym c.in_ok-location.ensures.lawful ∙ none

@@ -1,0 +1,83 @@
+//! A schema for each item: `prefixItems` (Core 10.3.1.1), and `items` of an array of schemas (Draft 7
+//! Validation 6.4.1). What is no array has no items.
+ghost use Rattle.jskw_report.specs.Meaning.{one};
+ghost use Rattle.jskw_array.specs.Meaning.{each_keyword};
+
+use crate::node::SchemaNode;
+use crate::prefix_items::prefix_unit;
+use jskw_report::{
+    EvaluationResult, Fault, LazyLocation, Validate, ValidationContext, ValidationError,
+};
+use jskw_value::{Array, Json, Node};
+use std::alloc::{AllocError, Global};
+
+/// The validator of a schema for each item, as far as both go.
+#[cycle(schema)]
+#[derive(Drop)]
+pub struct Each<F: Json> {
+    pub(crate) nodes: Vec<SchemaNode<F>>,
+    // of `prefixItems`, whose unit is annotated; else of `items`
+    pub(crate) is_prefix: bool,
+}
+
+impl<F: Json> Validate<F> for Each<F> {
+    ghost meaning = { λ v. one (each_keyword v) };
+
+    #[inline(never)]
+    #[cycle(is_valid)]
+    fn is_valid(&self, instance: &F::Node, ctx: &mut ValidationContext) -> bool {
+        for index in 0..instance.item_count().min(self.nodes.len()) {
+            if !self.nodes[index].is_valid(instance.item(index), ctx) {
+                return false;
+            }
+        }
+        true
+    }
+
+    #[cycle(validate)]
+    fn validate<'i>(
+        &'i self,
+        instance: &'i F::Node,
+        location: &mut LazyLocation,
+        ctx: &mut ValidationContext,
+    ) -> Result<(), Fault<'i, F>> {
+        for index in 0..instance.item_count().min(self.nodes.len()) {
+            self.nodes[index].validate_item(index, instance.item(index), location, ctx)?;
+        }
+        Ok(())
+    }
+
+    #[cycle(collect_errors)]
+    fn collect_errors<'i>(
+        &'i self,
+        instance: &'i F::Node,
+        location: &mut LazyLocation,
+        ctx: &mut ValidationContext,
+        errors: &mut Vec<ValidationError<'i, F>>,
+    ) -> Result<(), AllocError> {
+        for index in 0..instance.item_count().min(self.nodes.len()) {
+            self.nodes[index].collect_item(index, instance.item(index), location, ctx, errors)?;
+        }
+        Ok(())
+    }
+
+    #[cycle(evaluate)]
+    fn evaluate(
+        &self,
+        alloc: Global,
+        instance: &F::Node,
+        location: &mut LazyLocation,
+        ctx: &mut ValidationContext,
+    ) -> Result<EvaluationResult, AllocError> {
+        let mut children = Vec::new(alloc);
+        let schemas = self.nodes.len();
+        for index in 0..instance.item_count().min(schemas) {
+            let item = instance.item(index);
+            children.push(self.nodes[index].evaluate_item(alloc, index, item, location, ctx)?)?;
+        }
+        if !self.is_prefix {
+            return Ok(EvaluationResult::from_children(alloc, children));
+        }
+        Ok(prefix_unit(alloc, schemas, children, instance))
+    }
+}

@@ -1,0 +1,187 @@
+//! The items that match one schema: `contains` (Core 10.3.1.3) with `minContains` and `maxContains`
+//! (Validation 6.4.4, 6.4.5). What is no array passes.
+ghost use Rattle.std.specs.Prelude.{◌≡◌, IfOk, IsTrue, count_by, length, sum_by};
+ghost use Rattle.jskw_value.specs.Tree.{is_lawful, items};
+ghost use Rattle.jskw_report.specs.Applications.{needed};
+ghost use Rattle.jskw_report.specs.EvaluationView.{result_of};
+ghost use Rattle.jskw_report.specs.Fail.{failing_bound};
+ghost use Rattle.jskw_report.specs.Holds.{holds};
+ghost use Rattle.jskw_report.specs.Meaning.{one};
+ghost use Rattle.jskw_report.specs.Observe.{CountsUpTo};
+ghost use Rattle.jskw_array.specs.Limits.{enough, failing, fault_of, matching_result};
+ghost use Rattle.jskw_array.specs.Meaning.{bounds_of, matching_keyword};
+
+use crate::node::SchemaNode;
+use jskw_report::validator::append_first;
+use jskw_report::{
+    Annotations, ErrorDescription, EvaluationNode, EvaluationResult, Fault, LazyLocation, Location,
+    Validate, ValidationContext, ValidationError, ValidationErrorKind,
+};
+use jskw_value::{Array, Json, Node};
+use std::alloc::{AllocError, Global};
+
+/// How many items are to match, and where `contains` fails with too few and with too many.
+#[derive(Drop)]
+pub struct ItemBounds {
+    pub(crate) lower: u64,
+    pub(crate) upper: Option<u64>,
+    pub(crate) few: Location,
+    // None where it is the same location
+    pub(crate) many: Option<Location>,
+}
+
+impl ItemBounds {
+    // How many matches settle the answer: one more than the upper bound, else the lower one.
+    fn enough(&self) -> u64
+        ensures { result ≡ enough (bounds_of self.now) }
+    {
+        match self.upper {
+            Some(upper) => upper.saturating_add(1),
+            None => self.lower,
+        }
+    }
+
+    // Where `contains` fails if so many items match.
+    fn fault(&self, matches: u64) -> Option<&Location>
+        ensures { failing result ≡ failing_bound (bounds_of self.now) matches }
+    {
+        if let Some(upper) = self.upper
+            && matches > upper
+        {
+            return match &self.many {
+                Some(many) => Some(many),
+                None => Some(&self.few),
+            };
+        }
+        if matches >= self.lower {
+            None
+        } else {
+            Some(&self.few)
+        }
+    }
+}
+
+/// The validator of `contains`: of a schema, and of how many items are to match it.
+#[cycle(schema)]
+#[derive(Drop)]
+pub struct Matching<F: Json> {
+    pub(crate) node: SchemaNode<F>,
+    pub(crate) bounds: ItemBounds,
+}
+
+impl<F: Json> Matching<F> {
+    // Where `contains` fails, None where it holds. No item is asked once the answer is settled.
+    #[inline(never)]
+    #[cycle(is_valid)]
+    fn fault(&self, instance: &F::Node, ctx: &mut ValidationContext) -> Option<&Location>
+        requires { IsTrue (is_lawful (F.Node.tree instance.now)) }
+        ensures answer { let t = F.Node.tree instance.now in failing result
+            ≡ fault_of (bounds_of self.now.bounds) (count_by (holds self.now.node) (items t)) t }
+        ensures counted { CountsUpTo ctx.old ctx.new
+            (sum_by (needed self.now.node) (items (F.Node.tree instance.now))) }
+    {
+        if !instance.is_array() {
+            return None;
+        }
+        let enough = self.bounds.enough();
+        let mut matches = 0;
+        for index in 0..instance.item_count() {
+            if matches == enough {
+                return self.bounds.fault(matches);
+            }
+            if self.node.is_valid(instance.item(index), ctx) {
+                matches += 1;
+            }
+        }
+        self.bounds.fault(matches)
+    }
+
+    // The unit of an instance of which these items match, with their nodes; what is no array has
+    // none.
+    fn unit<'i>(
+        &'i self,
+        alloc: Global,
+        children: Vec<EvaluationNode>,
+        matches: Vec<usize>,
+        instance: &'i F::Node,
+        location: &LazyLocation,
+    ) -> Result<EvaluationResult, AllocError>
+        ensures { IfOk result (λ r. result_of r ≡ matching_result
+            (fault_of (bounds_of self.now.bounds) (length matches.items) (F.Node.tree instance.now))
+            matches.items children.items) }
+    {
+        if instance.is_array()
+            && let Some(schema_path) = self.bounds.fault(matches.len() as u64)
+        {
+            let kind = ValidationErrorKind::Contains;
+            let error: ValidationError<F> = ValidationError::new(
+                kind,
+                location.render()?,
+                schema_path,
+                instance,
+            );
+            let mut errors = Vec::new(alloc);
+            errors.push(ErrorDescription::from_validation_error::<F>(alloc, &error)?)?;
+            return Ok(EvaluationResult::invalid_empty(alloc, errors));
+        }
+        Ok(EvaluationResult::Valid {
+            annotations: Some(Annotations::Indices(matches)),
+            children,
+        })
+    }
+}
+
+impl<F: Json> Validate<F> for Matching<F> {
+    ghost meaning = { λ v. one (matching_keyword v) };
+
+    #[cycle(is_valid)]
+    fn is_valid(&self, instance: &F::Node, ctx: &mut ValidationContext) -> bool {
+        self.fault(instance, ctx).is_none()
+    }
+
+    fn validate<'i>(
+        &'i self,
+        instance: &'i F::Node,
+        location: &mut LazyLocation,
+        ctx: &mut ValidationContext,
+    ) -> Result<(), Fault<'i, F>> {
+        let Some(schema_path) = self.fault(instance, ctx) else {
+            return Ok(());
+        };
+        let kind = ValidationErrorKind::Contains;
+        let instance_path = location.render()?;
+        Err(Fault::Invalid(ValidationError::new(kind, instance_path, schema_path, instance)))
+    }
+
+    fn collect_errors<'i>(
+        &'i self,
+        instance: &'i F::Node,
+        location: &mut LazyLocation,
+        ctx: &mut ValidationContext,
+        errors: &mut Vec<ValidationError<'i, F>>,
+    ) -> Result<(), AllocError> {
+        append_first(self.validate(instance, location, ctx), errors)
+    }
+
+    #[cycle(evaluate)]
+    fn evaluate(
+        &self,
+        alloc: Global,
+        instance: &F::Node,
+        location: &mut LazyLocation,
+        ctx: &mut ValidationContext,
+    ) -> Result<EvaluationResult, AllocError> {
+        let mut children = Vec::new(alloc);
+        let mut matches = Vec::new(alloc);
+        for index in 0..instance.item_count() {
+            let item = instance.item(index);
+            let child = self.node.evaluate_item(alloc, index, item, location, ctx)?;
+            if !child.valid() {
+                continue;
+            }
+            children.push(child)?;
+            matches.push(index)?;
+        }
+        self.unit(alloc, children, matches, instance, location)
+    }
+}

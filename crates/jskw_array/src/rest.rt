@@ -1,0 +1,134 @@
+//! One schema for the items from an index on: `items` (Core 10.3.1.2), and `additionalItems` (Draft 7
+//! Validation 6.4.2). What is no array has no items.
+ghost use Rattle.std.specs.Prelude.{◌≡◌, IfOk, IsTrue, drop, length, sum_by};
+ghost use Rattle.jskw_value.specs.Tree.{is_lawful, items};
+ghost use Rattle.jskw_report.specs.Applications.{keyword_needed, keyword_pairs, pairs};
+ghost use Rattle.jskw_report.specs.Evaluation.{of_errors};
+ghost use Rattle.jskw_report.specs.EvaluationView.{result_of};
+ghost use Rattle.jskw_report.specs.Fail.{keyword_fail};
+ghost use Rattle.jskw_report.specs.Holds.{keyword_holds};
+ghost use Rattle.jskw_report.specs.Meaning.{one};
+ghost use Rattle.jskw_report.specs.Observe.{CountsUpTo};
+ghost use Rattle.jskw_report.specs.Paths.{path_of};
+ghost use Rattle.jskw_array.specs.Meaning.{rest_keyword};
+
+use crate::items::items_unit;
+use crate::node::SchemaNode;
+use jskw_report::validator::evaluate_errors;
+use jskw_report::{
+    EvaluationResult, Fault, LazyLocation, Validate, ValidationContext, ValidationError,
+};
+use jskw_value::{Array, Json, Node};
+use std::alloc::{AllocError, Global};
+
+/// The validator of one schema for the items from an index on.
+#[cycle(schema)]
+#[derive(Drop)]
+pub struct Rest<F: Json> {
+    pub(crate) start: usize,
+    pub(crate) node: SchemaNode<F>,
+    // of `additionalItems`, whose unit has the errors and no nodes below; else of `items`
+    pub(crate) is_additional: bool,
+}
+
+impl<F: Json> Rest<F> {
+    // What `is_valid` answers of an array of `count` items.
+    #[inline(never)]
+    #[cycle(is_valid)]
+    pub(crate) fn holds_of(
+        &self,
+        count: usize,
+        instance: &F::Node,
+        ctx: &mut ValidationContext,
+    ) -> bool
+        requires lawful { IsTrue (is_lawful (F.Node.tree instance.now)) }
+        requires count { count ≡ length (items (F.Node.tree instance.now)) }
+        ensures answer { result ≡ keyword_holds (rest_keyword self.now) (F.Node.tree instance.now) }
+        ensures counted { CountsUpTo ctx.old ctx.new
+            (keyword_needed (rest_keyword self.now) (F.Node.tree instance.now)) }
+    {
+        for index in self.start..count {
+            if !self.node.is_valid(instance.item(index), ctx) {
+                return false;
+            }
+        }
+        true
+    }
+
+    // The unit of `additionalItems`.
+    fn evaluate_as_errors(
+        &self,
+        alloc: Global,
+        instance: &F::Node,
+        location: &mut LazyLocation,
+        ctx: &mut ValidationContext,
+    ) -> Result<EvaluationResult, AllocError>
+        requires { IsTrue (is_lawful (F.Node.tree instance.now)) }
+        ensures gives { IfOk result (λ r. result_of r ≡ of_errors (keyword_fail
+            (rest_keyword self.now) (F.Node.tree instance.now) (path_of location.old))) }
+        ensures location { location.new ≡ location.old }
+        ensures counted { CountsUpTo ctx.old ctx.new
+            (keyword_pairs (rest_keyword self.now) (F.Node.tree instance.now)) }
+    {
+        let mut errors: Vec<ValidationError<F>> = Vec::new(alloc);
+        self.collect_errors(instance, location, ctx, &mut errors)?;
+        evaluate_errors(alloc, errors.as_slice())
+    }
+}
+
+impl<F: Json> Validate<F> for Rest<F> {
+    ghost meaning = { λ v. one (rest_keyword v) };
+
+    #[cycle(is_valid)]
+    fn is_valid(&self, instance: &F::Node, ctx: &mut ValidationContext) -> bool {
+        self.holds_of(instance.item_count(), instance, ctx)
+    }
+
+    #[cycle(validate)]
+    fn validate<'i>(
+        &'i self,
+        instance: &'i F::Node,
+        location: &mut LazyLocation,
+        ctx: &mut ValidationContext,
+    ) -> Result<(), Fault<'i, F>> {
+        for index in self.start..instance.item_count() {
+            self.node
+                .validate_item(index, instance.item(index), location, ctx)?;
+        }
+        Ok(())
+    }
+
+    #[cycle(collect_errors)]
+    fn collect_errors<'i>(
+        &'i self,
+        instance: &'i F::Node,
+        location: &mut LazyLocation,
+        ctx: &mut ValidationContext,
+        errors: &mut Vec<ValidationError<'i, F>>,
+    ) -> Result<(), AllocError> {
+        for index in self.start..instance.item_count() {
+            self.node
+                .collect_item(index, instance.item(index), location, ctx, errors)?;
+        }
+        Ok(())
+    }
+
+    #[cycle(evaluate)]
+    fn evaluate(
+        &self,
+        alloc: Global,
+        instance: &F::Node,
+        location: &mut LazyLocation,
+        ctx: &mut ValidationContext,
+    ) -> Result<EvaluationResult, AllocError> {
+        if self.is_additional {
+            return self.evaluate_as_errors(alloc, instance, location, ctx);
+        }
+        let mut children = Vec::new(alloc);
+        for index in self.start..instance.item_count() {
+            let item = instance.item(index);
+            children.push(self.node.evaluate_item(alloc, index, item, location, ctx)?)?;
+        }
+        Ok(items_unit(alloc, self.start, children, instance))
+    }
+}

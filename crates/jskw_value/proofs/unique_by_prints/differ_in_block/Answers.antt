@@ -1,0 +1,29 @@
+use Rattle.std.proofs.Common.{◌≤◌, ◌<◌, arith}
+use Rattle.jskw_value.specs.Tree.{items}
+use Rattle.jskw_value.proofs.Prints.{all_new, next_new, next_once, rising_new}
+use Rattle.jskw_value.proofs.unique_by_prints.differ_in_block.Goals as goal
+use Rattle.jskw_value.proofs.unique_by_prints.differ_in_block.Goals.{else-is_repeated-via-then-is_repeated+else-occurs_between, else-is_repeated-via-else-is_repeated}
+
+pub returns-then-rises-clause-new : goal.returns-then-rises-clause-new
+returns-then-rises-clause-new g c h =
+    rising_new c.args.start c.args.end c.args.prints.now (items (g.N.Rooted.tree c.args.array.now)) c.requires.prints c.requires.room
+    (c.rises.ensures c.if-rises.true)
+
+pub loop-i-preserved : goal.loop-i-preserved
+loop-i-preserved g c =
+    let start = c.args.start in
+    let end = c.args.end in
+    let all = items (g.N.Rooted.tree c.args.array.now) in
+    let i = c.loop-i.i in
+    let within : i < end = omega arith in
+    elim c.else-is_repeated.branch [
+      | else-is_repeated-via-then-is_repeated+else-occurs_between w ↦ next_new start end start i i all (omega arith) (w.occurs_between.ensures.new w.if-occurs_between.false) c.loop-i.invariant
+      | else-is_repeated-via-else-is_repeated w ↦ next_once start end i c.fingerprint.result c.args.prints.now all (g.N.Rooted.tree c.item.result.now)
+          c.requires.prints c.requires.room within c.requires.end c.item.ensures.value c.fingerprint.ensures.value
+          (c.is_repeated.ensures w.if-is_repeated.false) c.loop-i.invariant
+    ]
+
+pub returns-clause-new : goal.returns-clause-new
+returns-clause-new g c h =
+    let behind : c.args.end ≤ c.loop-i.i = omega arith in
+    all_new c.args.start c.args.end c.args.start c.loop-i.i c.args.end (items (g.N.Rooted.tree c.args.array.now)) behind c.loop-i.invariant

@@ -1,0 +1,146 @@
+//! Whether the items of an array differ, by the fingerprints of whole items: where items differ
+//! only deep down or late, those of their beginnings tell too little.
+ghost use Rattle.std.specs.Prelude.{◌≡◌, ◌≤◌, ◌<◌, ◌+◌, ◌^◌, length, true, false, IsTrue};
+ghost use Rattle.std.specs.List.Sorted.{IsNonDecreasing, IsStrictlyIncreasing};
+ghost use Rattle.jskw_value.specs.Equality.{unique};
+ghost use Rattle.jskw_value.specs.Tree.{is_array, items};
+ghost use Rattle.jskw_value.specs.Unique.{AreNewIn, ArePrintsFrom, AreSortedPrints, IsNotAmong};
+ghost use Rattle.jskw_value.specs.Unique.{IsOnceAtMost, IsUniqueIn};
+
+use crate::fingerprint::{UNLIMITED, fingerprint};
+use crate::json::{Array, Node};
+use crate::unique_items::occurs_between;
+
+// Whether no two different indices of the array hold equal items, block by block: the sorted
+// fingerprints of so many items beside those of all that come later. It is never inlined, so that a
+// caller's frame has no fingerprints in it.
+#[inline(never)]
+#[tactic(auto, using(crate::proofs::Blocks::last_block, crate::proofs::Blocks::one_block, crate::proofs::Prints::no_block))]
+pub(crate) fn are_unique_by_prints<const SIZE: usize, N: Node>(array: &N) -> bool
+    requires array { IsTrue (is_array (N.tree array.now)) }
+    requires filled { 0 < SIZE }
+    requires short { SIZE ≤ 2 ^ 32 }
+    ensures { result ≡ unique (items (N.tree array.now)) }
+{
+    let mut prints = [0u64; SIZE];
+    let count = Array::len(array);
+    let mut start = 0;
+    while SIZE < count - start {
+        if !is_block_unique(array, &mut prints, start, start + SIZE) {
+            return false;
+        }
+        start += SIZE;
+    }
+    is_block_unique(array, &mut prints[..count - start], start, count)
+}
+
+// Whether no item from one index up to another is equal to a later one, with room for as many
+// fingerprints.
+#[tactic(auto, using(crate::proofs::Prints::sorted_prints, crate::proofs::Prints::unique_block))]
+fn is_block_unique<N: Node>(array: &N, prints: &mut [u64], start: usize, end: usize) -> bool
+    requires array { IsTrue (is_array (N.tree array.now)) }
+    requires room { end ≡ start + length prints.old }
+    requires end { end ≤ length (items (N.tree array.now)) }
+    ensures length { length prints.new ≡ length prints.old }
+    ensures unique { result ≡ true → IsUniqueIn start end (items (N.tree array.now)) }
+    ensures twice { result ≡ false → unique (items (N.tree array.now)) ≡ false }
+{
+    write_prints(array, prints, start, end);
+    prints.sort_unstable();
+    differ_in_block(array, prints, start, end) && differ_from_later(array, prints, start, end)
+}
+
+// Writes the fingerprints of the whole items from one index up to another.
+#[tactic(auto, using(crate::proofs::Prints::no_print))]
+fn write_prints<N: Node>(array: &N, prints: &mut [u64], start: usize, end: usize)
+    requires array { IsTrue (is_array (N.tree array.now)) }
+    requires room { end ≡ start + length prints.old }
+    requires end { end ≤ length (items (N.tree array.now)) }
+    ensures length { length prints.new ≡ length prints.old }
+    ensures prints { ArePrintsFrom start (length prints.new) prints.new (items (N.tree array.now)) }
+{
+    for (i, print) in prints.iter_mut().enumerate() {
+        *print = fingerprint(array.item(start + i), UNLIMITED);
+    }
+}
+
+// Whether no two of the items that have these fingerprints are equal. Most often no two of the
+// fingerprints are the same.
+#[tactic(auto, using(crate::proofs::Prints::none_new))]
+fn differ_in_block<N: Node>(array: &N, prints: &[u64], start: usize, end: usize) -> bool
+    requires array { IsTrue (is_array (N.tree array.now)) }
+    requires room { end ≡ start + length prints.now }
+    requires end { end ≤ length (items (N.tree array.now)) }
+    requires prints { AreSortedPrints start prints.now (items (N.tree array.now)) }
+    ensures new { result ≡ true → AreNewIn start end start end (items (N.tree array.now)) }
+    ensures twice { result ≡ false → unique (items (N.tree array.now)) ≡ false }
+{
+    if rises(prints) {
+        return true;
+    }
+    for i in start..end {
+        if is_repeated(prints, fingerprint(array.item(i), UNLIMITED))
+            && occurs_between(array, start, i, i)
+        {
+            return false;
+        }
+    }
+    true
+}
+
+// Whether no item behind those that have these fingerprints is equal to one of them.
+#[tactic(auto, using(crate::proofs::Prints::none_new))]
+fn differ_from_later<N: Node>(array: &N, prints: &[u64], start: usize, end: usize) -> bool
+    requires array { IsTrue (is_array (N.tree array.now)) }
+    requires room { end ≡ start + length prints.now }
+    requires end { end ≤ length (items (N.tree array.now)) }
+    requires prints { AreSortedPrints start prints.now (items (N.tree array.now)) }
+    ensures new { result ≡ true → let all = items (N.tree array.now) in
+        AreNewIn start end end (length all) all }
+    ensures twice { result ≡ false → unique (items (N.tree array.now)) ≡ false }
+{
+    for i in end..Array::len(array) {
+        if is_among(prints, fingerprint(array.item(i), UNLIMITED))
+            && occurs_between(array, start, end, i)
+        {
+            return false;
+        }
+    }
+    true
+}
+
+// Whether each number is less than the next.
+fn rises(numbers: &[u64]) -> bool
+    ensures { result ≡ true → IsStrictlyIncreasing numbers.now }
+{
+    for i in 1..numbers.len() {
+        if numbers[i] <= numbers[i - 1] {
+            return false;
+        }
+    }
+    true
+}
+
+// Whether a number is one of sorted ones.
+#[tactic(auto, using(crate::proofs::Prints::not_found))]
+fn is_among(sorted: &[u64], number: u64) -> bool
+    requires { IsNonDecreasing sorted.now }
+    ensures { result ≡ false → IsNotAmong number sorted.now }
+{
+    sorted.binary_search(&number).is_ok()
+}
+
+// Whether a number stands at two places of sorted ones.
+#[tactic(auto, using(crate::proofs::Prints::not_found, crate::proofs::Prints::found_once))]
+fn is_repeated(sorted: &[u64], number: u64) -> bool
+    requires { IsNonDecreasing sorted.now }
+    ensures { result ≡ false → IsOnceAtMost number sorted.now }
+{
+    match sorted.binary_search(&number) {
+        Ok(at) => {
+            (0 < at && sorted[at - 1] == number)
+                || (at + 1 < sorted.len() && sorted[at + 1] == number)
+        }
+        Err(_) => false,
+    }
+}
