@@ -1,4 +1,6 @@
-//! Keywords without subschemas that fail at most once (Core 7.6): all but `required`.
+//! The trait of validators that give at most one error: those of the keywords without subschemas
+//! (JSON Schema Core 7.6) other than `required`, of the schema `false`, and of `additionalItems`
+//! with `false`.
 ghost use Rattle.std.specs.Prelude.{◌≡◌, IsTrue};
 ghost use Rattle.jskw_value.specs.Tree.{Tree, is_lawful};
 ghost use Rattle.jskw_report.specs.Errors.{kind_of};
@@ -14,30 +16,32 @@ use crate::validator::{Validate, ValidationContext, append_first, evaluate_first
 use jskw_value::Json;
 use std::alloc::{AllocError, Global};
 
-/// A validator of one keyword that fails at most once: whether it holds of an instance, and of what
-/// kind and at which keyword location its error is where it does not. Its four observers are those
-/// of [`Validate`], over every representation.
+/// A validator that gives at most one error for an instance. It says whether it holds, and the kind
+/// and the keyword location of its error. From these it gets the four observers of [`Validate`],
+/// for every representation.
 pub trait Assertion {
-    /// What it asserts, and where.
+    /// What is asserted, and the keyword location of the error.
     ghost asserts: { Self → Placed };
 
-    /// The kind of its error.
+    /// The kind of the error.
     ghost error: { Self → ErrorKind };
 
-    /// Whether it holds of the instance, which is lawful. It takes no memory.
+    /// Returns whether the assertion holds for `instance`. The instance must be lawful: it contains
+    /// no float. Allocates nothing.
     fn holds<F: Json>(&self, instance: &F::Node) -> bool
         requires { IsTrue (is_lawful (F.Node.tree instance.now)) }
         ensures { result ≡ assertion_holds (asserts self.now).claim (F.Node.tree instance.now) };
 
-    /// The kind of its error, with what the keyword asks for.
+    /// Returns the kind of the error, with what the keyword expects.
     fn kind(&self) -> ValidationErrorKind<'_>
         ensures { kind_of result ≡ error self.now };
 
-    /// The keyword location of its error (Core 12.3.1).
+    /// Returns the keyword location of the error (JSON Schema Core 12.3.1).
     fn location(&self) -> &Location
         ensures { result.now ≡ (asserts self.now).location };
 
-    /// It has one error of that kind where it does not hold, and none where it does.
+    /// The law of an assertion: it has one error, of the kind `error`, if it does not hold, and
+    /// none if it does.
     ghost fails_once: { (a : Self) (t : Tree) → error_kinds (asserts a).claim t
         ≡ unless (assertion_holds (asserts a).claim t) (error a) };
 }

@@ -1,4 +1,4 @@
-//! Where a keyword is compiled.
+//! The context in which a schema is compiled.
 ghost use Rattle.std.specs.Prelude.{◌≡◌, [], IfOk, option_map, true};
 ghost use Rattle.serde_json.specs.Find.{get_member};
 ghost use Rattle.serde_json.specs.View.{view, members_view};
@@ -14,8 +14,8 @@ use serde_json::{Map, Value};
 use std::alloc::{AllocError, Global};
 use std::marker::{Model, PhantomData};
 
-/// Where a schema or keyword is compiled: the setting, and the keyword location. `F` is the
-/// representation that the compiled validators will look at.
+/// The settings and the keyword location under which a schema or a keyword is compiled. `F` is the
+/// representation of the instances that the compiled validators take.
 #[derive(Drop)]
 pub struct Context<'s, F: Json> {
     settings: &'s Settings,
@@ -36,8 +36,8 @@ impl<'s, F: Json> Model for Context<'s, F> {
 }
 
 impl<'s, F: Json> Context<'s, F> {
-    /// The context of a whole schema, with an object layer: the keyword location is the empty
-    /// pointer.
+    /// Creates the context of a whole schema: the keyword location is the empty pointer. It has an
+    /// object layer.
     pub fn new(alloc: Global, settings: &'s Settings) -> Context<'s, F>
         ensures { result ≡ record {
           setting = with_object_layer true settings.now;
@@ -52,9 +52,12 @@ impl<'s, F: Json> Context<'s, F> {
         }
     }
 
-    /// The context with an object layer, or without one. The keywords of objects are asserted by
-    /// the object layer, which other code has, and a `required` beside them may be left to it.
-    /// Without one nothing is left to it.
+    /// Returns the context with an object layer, or without one.
+    ///
+    /// An object layer is other code that asserts the keywords of objects, such as `properties`.
+    /// With one, a `required` beside certain keywords of objects is handed on to it: no validator
+    /// is made of it (`jskw_leaf::required::is_handed_on` has the rule). Without one, this library
+    /// asserts every active `required`.
     #[must_use]
     pub fn with_object_layer(self, object_layer: bool) -> Context<'s, F>
         ensures { result ≡ record {
@@ -68,29 +71,29 @@ impl<'s, F: Json> Context<'s, F> {
         }
     }
 
-    /// Whether there is an object layer.
+    /// Returns whether the context has an object layer.
     pub fn object_layer(&self) -> bool
         ensures { result ≡ self.now.setting.object_layer }
     {
         self.object_layer
     }
 
-    /// The draft.
+    /// Returns the draft.
     pub fn draft(&self) -> Draft
         ensures { result ≡ self.now.setting.draft }
     {
         self.settings.draft()
     }
 
-    /// The keyword location.
+    /// Returns the keyword location (JSON Schema Core 12.3.1).
     pub fn location(&self) -> &Location
         ensures { result.now ≡ self.now.location }
     {
         &self.location
     }
 
-    /// The context one step further down in the schema, under the same setting. Only memory can
-    /// fail.
+    /// Returns the context of a schema one step further down, with the same settings and object
+    /// layer. The keyword location has `segment` added.
     pub fn new_at_location(
         &self,
         alloc: Global,
@@ -109,8 +112,8 @@ impl<'s, F: Json> Context<'s, F> {
         })
     }
 
-    /// The keyword location of a keyword of the schema that stands here (Core 12.3.1). Only memory
-    /// can fail.
+    /// Returns the keyword location of `keyword` in the schema that is compiled here: the location
+    /// of the schema and the name of the keyword (JSON Schema Core 12.3.1).
     pub fn keyword_location(
         &self,
         alloc: Global,
@@ -123,8 +126,8 @@ impl<'s, F: Json> Context<'s, F> {
             .join(alloc, LocationSegment::Name(keyword.as_str()))
     }
 
-    /// Whether the vocabulary is present: always in Drafts 4, 6 and 7, else where the setting has
-    /// it (Core 8.1.2).
+    /// Returns whether the vocabulary is present: always in Drafts 4, 6 and 7, else if the settings
+    /// have it (JSON Schema Core 8.1.2).
     pub fn has_vocabulary(&self, vocabulary: Vocabulary) -> bool
         ensures { result ≡ has_vocabulary self.now.setting vocabulary }
     {
@@ -139,8 +142,8 @@ impl<'s, F: Json> Context<'s, F> {
     }
 }
 
-/// The value that a schema's object has at a name, None where it has none. A map of `serde_json`
-/// has each name once.
+/// Returns the value of the member `name` of a schema object, or `None` if it has no such member. A
+/// map of `serde_json` has each name once.
 pub fn member_of<'v>(parent: &'v Map<String, Value>, name: &str) -> Option<&'v Value>
     ensures { option_map (λ x. view x.now) result
         ≡ get_member name.now (members_view parent.now.entries) }

@@ -1,4 +1,4 @@
-//! Errors: what is wrong with an instance, or with a schema.
+//! The errors of an instance, and those of a schema that does not compile.
 ghost use Rattle.std.specs.Prelude.{◌≡◌, [], alloc_error};
 ghost use Rattle.jskw_report.specs.Kind.{keyword_of, Single, Multiple, WrongType};
 ghost use Rattle.jskw_report.specs.KeywordValue.{not_whole};
@@ -15,70 +15,75 @@ use jskw_value::{Json, SerdeJson};
 use serde_json::Value;
 use std::alloc::{AllocError, AllocFailed, Global};
 
-/// The types that an instance was to be of.
+/// The types that were expected.
 #[derive(Clone, Copy)]
 pub enum TypeKind {
-    /// One, where `type` is a name or an array of one name.
+    /// One type. For `type`: the value is a name, or an array of one name.
     Single(JsonType),
-    /// One of a set, which may be empty.
+    /// Any type of a set, which may be empty. For `type`: the value is an array of any other
+    /// length.
     Multiple(JsonTypeSet),
 }
 
-/// The options that an instance was to be one of.
+/// The options that were expected.
 #[derive(Clone, Copy)]
 pub enum EnumOptions<'i> {
-    /// Those of the array that `enum` has. A value that isn't an array has no options.
+    /// The items of this array, the value of `enum`. A value that is not an array has no options.
     Listed(&'i Value),
-    /// The names of the seven types of JSON Schema, as `type` takes them.
+    /// The names of the seven types of JSON Schema, which `type` accepts.
     TypeNames,
 }
 
-/// What an error is about, with what the keyword asked for. Limits are whole numbers from -2^63 to
-/// 2^64-1, bounds on sizes whole numbers from 0 to 2^64-1, divisors whole numbers from 1 to 2^64-1.
+/// What an error is about, with what the keyword expected.
+///
+/// A limit is an integer from -2^63 to 2^64-1, a bound on a size an integer from 0 to 2^64-1, and a
+/// divisor an integer from 1 to 2^64-1. A compile error is of the kind `CompileError`, `Enum`,
+/// `ExclusiveMinimum`, `Minimum` or `WrongType`, and is about a value of the schema.
 #[derive(Clone, Copy)]
 pub enum ValidationErrorKind<'i> {
-    /// The array has more items than `items` has schemas, that is `limit`, and `additionalItems` is
-    /// `false` (Draft 7 Validation 6.4.2).
+    /// The array has more than `limit` items, the number of schemas in `items`, and
+    /// `additionalItems` is `false` (Draft 7 Validation 6.4.2).
     AdditionalItems { limit: usize },
-    /// The schema has a number that is no whole number of 64 bits, or names an unknown type:
-    /// `message` says which.
+    /// The schema has a float in `const`, `enum`, a limit or a divisor, or `type` has an unknown
+    /// name and no other. `message` says which.
     CompileError { message: &'static str },
-    /// The instance isn't the value of `const` (Validation 6.1.3).
+    /// The instance does not equal the value of `const` (JSON Schema Validation 6.1.3).
     Constant { expected_value: &'i Value },
-    /// Too few or too many items match `contains` (Core 10.3.1.3, Validation 6.4.4, 6.4.5).
+    /// Too few or too many items match the schema of `contains` (JSON Schema Core 10.3.1.3,
+    /// Validation 6.4.4, 6.4.5).
     Contains,
-    /// The instance is none of the options (Validation 6.1.2).
+    /// The instance equals none of the options (JSON Schema Validation 6.1.2).
     Enum { options: EnumOptions<'i> },
-    /// The number isn't below the limit (Validation 6.2.3).
+    /// The number is not below the limit (JSON Schema Validation 6.2.3).
     ExclusiveMaximum { limit: i128 },
-    /// The number isn't above the limit (Validation 6.2.5).
+    /// The number is not above the limit (JSON Schema Validation 6.2.5).
     ExclusiveMinimum { limit: i128 },
-    /// The schema is `false`, which no instance is valid against (Core 4.3.2).
+    /// The schema is `false`, which accepts no instance (JSON Schema Core 4.3.2).
     FalseSchema,
-    /// The array has more items than the limit (Validation 6.4.1).
+    /// The array has more than `limit` items (JSON Schema Validation 6.4.1).
     MaxItems { limit: u64 },
-    /// The number is above the limit (Validation 6.2.2).
+    /// The number is above the limit (JSON Schema Validation 6.2.2).
     Maximum { limit: i128 },
-    /// The object has more members than the limit (Validation 6.5.1).
+    /// The object has more than `limit` members (JSON Schema Validation 6.5.1).
     MaxProperties { limit: u64 },
-    /// The array has fewer items than the limit (Validation 6.4.2).
+    /// The array has fewer than `limit` items (JSON Schema Validation 6.4.2).
     MinItems { limit: u64 },
-    /// The number is below the limit (Validation 6.2.4).
+    /// The number is below the limit (JSON Schema Validation 6.2.4).
     Minimum { limit: i128 },
-    /// The object has fewer members than the limit (Validation 6.5.2).
+    /// The object has fewer than `limit` members (JSON Schema Validation 6.5.2).
     MinProperties { limit: u64 },
-    /// The number isn't a whole number of times the divisor (Validation 6.2.1).
+    /// The number is not an integer multiple of the divisor (JSON Schema Validation 6.2.1).
     MultipleOf { multiple_of: u64 },
-    /// The object has no member of the name (Validation 6.5.3).
+    /// The object has no member with the name `property` (JSON Schema Validation 6.5.3).
     Required { property: &'i str },
-    /// The instance is of no type that was asked for (Validation 6.1.1).
+    /// The instance has none of the expected types (JSON Schema Validation 6.1.1).
     WrongType { kind: TypeKind },
-    /// Two items of the array are equal (Validation 6.4.3).
+    /// Two items of the array are equal (JSON Schema Validation 6.4.3).
     UniqueItems,
 }
 
 impl<'i> ValidationErrorKind<'i> {
-    /// The kind where a value was to be of one type.
+    /// Returns the kind for a value that does not have the type.
     pub fn of_type(json_type: JsonType) -> ValidationErrorKind<'i>
         ensures { kind_of result ≡ WrongType (Single json_type) }
     {
@@ -87,7 +92,7 @@ impl<'i> ValidationErrorKind<'i> {
         }
     }
 
-    /// The kind where a value was to be of one of the types.
+    /// Returns the kind for a value that has none of the types.
     pub fn of_types(types: JsonTypeSet) -> ValidationErrorKind<'i>
         ensures { kind_of result ≡ WrongType (Multiple types) }
     {
@@ -96,7 +101,9 @@ impl<'i> ValidationErrorKind<'i> {
         }
     }
 
-    /// The kind where a schema has a number that is no whole number from -2^63 to 2^64-1.
+    /// Returns the kind for a float in a schema, which `const`, `enum`, limits and divisors don't
+    /// accept: a number that `serde_json` holds neither as a `u64` nor as an `i64`, such as `1.5`,
+    /// `2.0` or `1e30`. It is a `CompileError` with the message `Not a whole number of 64 bits`.
     pub fn not_whole() -> ValidationErrorKind<'i>
         ensures { kind_of result ≡ not_whole }
     {
@@ -105,8 +112,8 @@ impl<'i> ValidationErrorKind<'i> {
         }
     }
 
-    /// The name of the keyword that the kind is told by; `falseSchema` for the schema `false`, and
-    /// `compileError` for a value of the schema that no keyword of its own speaks of.
+    /// Returns the name of the keyword that the kind is reported as: `falseSchema` for the schema
+    /// `false`, `compileError` for `CompileError`, and `contains` also if one of its bounds fails.
     pub fn keyword(&self) -> &'static str
         ensures { result.now ≡ keyword_of (kind_of self.now) }
     {
@@ -133,17 +140,19 @@ impl<'i> ValidationErrorKind<'i> {
     }
 }
 
-/// A keyword location: a validator's, or a compile error's own.
+/// A keyword location: borrowed from a validator, or owned by a compile error.
 #[derive(Drop)]
 enum SchemaPath<'i> {
     Lent(&'i Location),
     Owned(Location),
 }
 
-/// Why an instance is invalid, or why a schema does not compile. It lends the node at fault from
-/// the instance, and from the validator what the keyword asked for and where it stands; all that it
-/// owns is the instance location. Of a compile error the node is the schema's value at fault, and
-/// the instance location is that of the whole value.
+/// Why an instance is invalid, or why a schema does not compile.
+///
+/// The error of an instance borrows the node at fault from the instance, and what was expected and
+/// the keyword location from the validator; it owns the instance location. A compile error borrows
+/// the value at fault from the schema and owns its keyword location; its instance location is the
+/// empty pointer.
 #[derive(Drop)]
 pub struct ValidationError<'i, F: Json> {
     kind: ValidationErrorKind<'i>,
@@ -153,7 +162,7 @@ pub struct ValidationError<'i, F: Json> {
 }
 
 impl<'i, F: Json> ValidationError<'i, F> {
-    /// The error of an instance: the getters give these four.
+    /// Creates the error of an instance. The getters return these four values.
     pub fn new(
         kind: ValidationErrorKind<'i>,
         instance_path: Location,
@@ -175,21 +184,22 @@ impl<'i, F: Json> ValidationError<'i, F> {
         }
     }
 
-    /// What the error is about, with what the keyword asked for.
+    /// Returns what the error is about, with what the keyword expected.
     pub fn kind(&self) -> &ValidationErrorKind<'i>
         ensures { kind_of result.now ≡ (failure_of F.Node.tree self.now).kind }
     {
         &self.kind
     }
 
-    /// The instance location (Core 12.3.3); of a compile error the empty pointer.
+    /// Returns the instance location (JSON Schema Core 12.3.3): the empty pointer for a compile
+    /// error.
     pub fn instance_path(&self) -> &Location
         ensures { result.now ≡ (failure_of F.Node.tree self.now).instance_location }
     {
         &self.instance_path
     }
 
-    /// The keyword location (Core 12.3.1).
+    /// Returns the keyword location (JSON Schema Core 12.3.1).
     pub fn schema_path(&self) -> &Location
         ensures { result.now ≡ (failure_of F.Node.tree self.now).keyword_location }
     {
@@ -199,15 +209,16 @@ impl<'i, F: Json> ValidationError<'i, F> {
         }
     }
 
-    /// The keyword location by the way that the evaluation took. No keyword here refers to another
-    /// schema, so it is `schema_path`.
+    /// Returns the keyword location along the path that the evaluation took. It is the same as
+    /// `schema_path`, since no keyword of this library refers to another schema.
     pub fn evaluation_path(&self) -> &Location
         ensures { result.now ≡ (failure_of F.Node.tree self.now).keyword_location }
     {
         self.schema_path()
     }
 
-    /// The node at fault: the instance's at the instance location, or the schema's value at fault.
+    /// Returns the node at fault: that at the instance location, or the value of the schema for a
+    /// compile error.
     pub fn instance(&self) -> &'i F::Node
         ensures { F.Node.tree result.now ≡ (failure_of F.Node.tree self.now).tree }
     {
@@ -216,8 +227,8 @@ impl<'i, F: Json> ValidationError<'i, F> {
 }
 
 impl<'a> ValidationError<'a, SerdeJson> {
-    /// The compile error of a schema's value, at a keyword location: its instance location is the
-    /// empty pointer.
+    /// Creates the compile error for a value of a schema that its keyword does not accept.
+    /// `schema_path` is the keyword location; the instance location is the empty pointer.
     pub fn refused(
         alloc: Global,
         kind: ValidationErrorKind<'a>,
@@ -240,27 +251,29 @@ impl<'a> ValidationError<'a, SerdeJson> {
     }
 }
 
-/// Why `validate` isn't Ok.
+/// Why [`validate`](crate::Validate::validate) did not return `Ok`.
 #[derive(Drop)]
 pub enum Fault<'i, F: Json> {
-    /// The keyword fails, and this is its first error.
+    /// The instance is invalid, and this is the first error.
     Invalid(ValidationError<'i, F>),
-    /// Memory was wanting; nothing is said of the instance.
+    /// Memory ran out. This says nothing about the instance.
     Memory(AllocError),
 }
 
-/// Why nothing was compiled.
+/// Why a schema or a keyword was not compiled.
 #[derive(Drop)]
 pub enum CompileFault<'a> {
-    /// The schema has a value that its keyword does not take, and this is the first.
+    /// The schema or a subschema is neither a boolean nor an object, or has a value that its
+    /// keyword does not accept. This is the error of the first such value.
     Bad(ValidationError<'a, SerdeJson>),
-    /// Memory was wanting; nothing is said of the schema.
+    /// Memory ran out. This says nothing about the schema.
     Memory(AllocError),
 }
 
 impl<'a> CompileFault<'a> {
-    /// A schema's value that its keyword does not take: the error of the kind, at the keyword
-    /// location. It is want of memory where the location could not be copied.
+    /// Returns the fault for a value of a schema that its keyword does not accept: `Bad` with an
+    /// error of the kind at the keyword location, or `Memory` if memory runs out when the location
+    /// is copied.
     pub fn wrong(
         alloc: Global,
         kind: ValidationErrorKind<'a>,
@@ -282,7 +295,7 @@ impl<'a> CompileFault<'a> {
     }
 }
 
-/// What a compile gives: a validator, or why there is none.
+/// The result of a compile: what was compiled, such as a validator, or why nothing was.
 pub type CompilationResult<'a, V> = Result<V, CompileFault<'a>>;
 
 impl From<AllocError> for CompileFault<'_> {

@@ -1,4 +1,5 @@
-//! Evaluation: what a keyword or a schema reports of an instance, beside its verdict.
+//! Evaluations: what keywords and schemas report of an instance, besides whether it is valid (JSON
+//! Schema Core 12.3).
 ghost use Rattle.std.specs.Prelude.{◌≡◌, IfOk, None, Some, string_bytes};
 ghost use Rattle.std.specs.List.{list_all};
 ghost use Rattle.jskw_report.specs.Kind.{keyword_of};
@@ -15,7 +16,7 @@ pub use node::EvaluationNode;
 use std::alloc::{AllocError, Global};
 use std::marker::Model;
 
-/// What an invalid unit says of one error: its keyword and its message.
+/// The description of one error: the keyword that failed, and a message.
 #[derive(Drop)]
 pub struct ErrorDescription {
     keyword: &'static str,
@@ -32,14 +33,15 @@ impl Model for ErrorDescription {
 }
 
 impl ErrorDescription {
-    /// The description of these two.
+    /// Creates a description of this keyword and message.
     pub fn new(keyword: &'static str, message: String) -> ErrorDescription
         ensures { result ≡ record { keyword = keyword.now; message = string_bytes message } }
     {
         ErrorDescription { keyword, message }
     }
 
-    /// The keyword of an error's kind, and its message. Only memory can fail.
+    /// Returns the description of an error: the [`keyword`](crate::ValidationErrorKind::keyword) of
+    /// its kind and its message.
     pub fn from_validation_error<F: Json>(
         alloc: Global,
         error: &ValidationError<F>,
@@ -53,14 +55,14 @@ impl ErrorDescription {
         })
     }
 
-    /// The name of the keyword that failed.
+    /// Returns the name of the keyword that failed.
     pub fn keyword(&self) -> &'static str
         ensures { result.now ≡ self.now.keyword }
     {
         self.keyword
     }
 
-    /// The text for a reader.
+    /// Returns the message, a text for people.
     pub fn message(&self) -> &str
         ensures { result.now ≡ self.now.message }
     {
@@ -68,43 +70,45 @@ impl ErrorDescription {
     }
 }
 
-/// The annotation of a unit: what a keyword tells of an array besides its verdict (Core 7.7).
+/// The annotation of a keyword: what it reports of an array besides whether it is valid (JSON
+/// Schema Core 7.7).
 #[derive(Drop)]
 pub enum Annotations {
-    /// Of `items`: whether it was applied to any item (Core 10.3.1.2). Of `prefixItems`: true,
-    /// where every item has a schema (Core 10.3.1.1).
+    /// For `items` with one schema: whether it was applied to any item (JSON Schema Core 10.3.1.2).
+    /// For `prefixItems`: `true` if every item has a schema (JSON Schema Core 10.3.1.1).
     Bool(bool),
-    /// Of `prefixItems`: the largest index that has a schema, where not every item has one (Core
-    /// 10.3.1.1).
+    /// For `prefixItems`: the largest index that has a schema, if not every item has one (JSON
+    /// Schema Core 10.3.1.1).
     Index(usize),
-    /// Of `contains`: the indices of the items that match, in order (Core 10.3.1.3).
+    /// For `contains`: the indices of the items that match, in order (JSON Schema Core 10.3.1.3).
     Indices(Vec<usize>),
 }
 
-/// What one keyword gives of an instance (Core 12.3): a unit of the evaluation, without its
-/// locations, which are those of the [`EvaluationNode`] that it becomes.
+/// What one keyword reports of an instance: a unit of the evaluation (JSON Schema Core 12.3),
+/// without its locations. An [`EvaluationNode`] adds them.
 #[derive(Drop)]
 pub enum EvaluationResult {
-    /// The keyword holds.
+    /// The keyword accepts the instance.
     Valid {
-        /// What it tells of the instance, if anything.
+        /// The annotation, if the keyword has one.
         annotations: Option<Annotations>,
-        /// The nodes below, in order (Core 12.3.5).
+        /// The nodes below, in order (JSON Schema Core 12.3.5).
         children: Vec<EvaluationNode>,
     },
-    /// The keyword fails.
+    /// The keyword does not accept the instance.
     Invalid {
-        /// A description for each of its own errors, in order (Core 12.3.4).
+        /// The descriptions of the errors that the keyword itself reports, in order (JSON Schema
+        /// Core 12.3.4).
         errors: Vec<ErrorDescription>,
-        /// The nodes below, in order (Core 12.3.5).
+        /// The nodes below, in order (JSON Schema Core 12.3.5).
         children: Vec<EvaluationNode>,
-        /// What it tells of the instance, if anything.
+        /// The annotation, if the keyword has one.
         annotations: Option<Annotations>,
     },
 }
 
 impl EvaluationResult {
-    /// A valid unit without anything else.
+    /// Returns a valid unit with no annotation and no nodes.
     pub fn valid_empty(alloc: Global) -> EvaluationResult
         ensures { result_of result ≡ valid_unit }
     {
@@ -114,7 +118,7 @@ impl EvaluationResult {
         }
     }
 
-    /// An invalid unit with these descriptions and nothing else.
+    /// Returns an invalid unit with these descriptions, no annotation and no nodes.
     pub fn invalid_empty(alloc: Global, errors: Vec<ErrorDescription>) -> EvaluationResult
         ensures unit { result_of result ≡ invalid_unit (keywords_of errors.items) }
         ensures descriptions { descriptions_of result ≡ errors.items }
@@ -126,8 +130,8 @@ impl EvaluationResult {
         }
     }
 
-    /// A unit with these nodes below and nothing else (Core 12.3.5): valid where every one of them
-    /// is, and so where there are none.
+    /// Returns a unit with these nodes below it (JSON Schema Core 12.3.5), no annotation and no
+    /// descriptions. It is valid if all of them are, and so if there are none.
     pub fn from_children(alloc: Global, children: Vec<EvaluationNode>) -> EvaluationResult
         ensures { result_of result ≡ of_children None children.items }
     {
@@ -145,8 +149,8 @@ impl EvaluationResult {
         }
     }
 
-    /// Sets the annotation, in place of one that was there. All else stays, and so does whether the
-    /// unit is valid.
+    /// Sets the annotation, or replaces it. All else is unchanged: a valid unit stays valid, an
+    /// invalid one invalid.
     pub fn annotate(&mut self, annotations: Annotations)
         ensures unit { result_of self.new
             ≡ record (result_of self.old) { annotation = Some (annotation_of annotations) } }
@@ -165,7 +169,6 @@ impl EvaluationResult {
     }
 }
 
-// Whether every node is valid.
 fn all_valid(nodes: &[EvaluationNode]) -> bool
     ensures { result ≡ list_all is_valid nodes.now }
 {

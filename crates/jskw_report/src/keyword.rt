@@ -1,4 +1,4 @@
-//! The keywords by name, and when one is read.
+//! The keywords by name, and which of them are active under given settings.
 ghost use Rattle.std.specs.Prelude.{◌≡◌};
 ghost use Rattle.jskw_report.specs.Setting.{is_in, name_of, stands, vocabulary_of};
 
@@ -6,51 +6,56 @@ use crate::compiler::Context;
 use crate::settings::{Draft, Vocabulary};
 use jskw_value::Json;
 
-/// A keyword of this library. They stand in the order in which a schema is read, which is that of
-/// errors too. `minContains` and `maxContains` are read with `contains` and are none of their own.
+/// A keyword of this library.
+///
+/// The variants are in the order in which the keywords of a schema are compiled; errors and
+/// evaluation nodes are in the same order. `minContains` and `maxContains` have no variant: they
+/// are part of `contains`.
 #[derive(Clone, Copy)]
 pub enum KeywordName {
-    /// `type` (Validation 6.1.1)
+    /// `type` (JSON Schema Validation 6.1.1). `Type` alone is a reserved word in contracts.
     TypeKeyword,
-    /// `minItems` (Validation 6.4.2)
+    /// `minItems` (JSON Schema Validation 6.4.2).
     MinItems,
-    /// `maxItems` (Validation 6.4.1)
+    /// `maxItems` (JSON Schema Validation 6.4.1).
     MaxItems,
-    /// `items` (Core 10.3.1.2; of an array of schemas Draft 7 Validation 6.4.1, by this library's
-    /// own rule in 2020-12 too)
+    /// `items`: one schema for the items (JSON Schema Core 10.3.1.2), or an array of schemas, one
+    /// for each index (Draft 7 Validation 6.4.1; in 2020-12 by this library's own rule).
     Items,
-    /// `prefixItems` (Core 10.3.1.1)
+    /// `prefixItems` (JSON Schema Core 10.3.1.1). In Draft 2020-12 only.
     PrefixItems,
-    /// `additionalItems` (Draft 7 Validation 6.4.2)
+    /// `additionalItems` (Draft 7 Validation 6.4.2). In all drafts before 2020-12.
     AdditionalItems,
-    /// `contains` (Core 10.3.1.3)
+    /// `contains` (JSON Schema Core 10.3.1.3). Not in Draft 4.
     Contains,
-    /// `uniqueItems` (Validation 6.4.3)
+    /// `uniqueItems` (JSON Schema Validation 6.4.3).
     UniqueItems,
-    /// `const` (Validation 6.1.3)
+    /// `const` (JSON Schema Validation 6.1.3). Not in Draft 4.
     Const,
-    /// `enum` (Validation 6.1.2)
+    /// `enum` (JSON Schema Validation 6.1.2).
     Enum,
-    /// `minimum` (Validation 6.2.4)
+    /// `minimum` (JSON Schema Validation 6.2.4).
     Minimum,
-    /// `maximum` (Validation 6.2.2)
+    /// `maximum` (JSON Schema Validation 6.2.2).
     Maximum,
-    /// `exclusiveMinimum` (Validation 6.2.5; in Draft 4 no keyword of its own)
+    /// `exclusiveMinimum` (JSON Schema Validation 6.2.5). In Draft 4 it is not a keyword by itself
+    /// but a part of `minimum`.
     ExclusiveMinimum,
-    /// `exclusiveMaximum` (Validation 6.2.3; in Draft 4 no keyword of its own)
+    /// `exclusiveMaximum` (JSON Schema Validation 6.2.3). In Draft 4 it is not a keyword by itself
+    /// but a part of `maximum`.
     ExclusiveMaximum,
-    /// `multipleOf` (Validation 6.2.1)
+    /// `multipleOf` (JSON Schema Validation 6.2.1).
     MultipleOf,
-    /// `minProperties` (Validation 6.5.2)
+    /// `minProperties` (JSON Schema Validation 6.5.2).
     MinProperties,
-    /// `maxProperties` (Validation 6.5.1)
+    /// `maxProperties` (JSON Schema Validation 6.5.1).
     MaxProperties,
-    /// `required` (Validation 6.5.3)
+    /// `required` (JSON Schema Validation 6.5.3).
     Required,
 }
 
 impl KeywordName {
-    /// Every keyword, in the order in which a schema is read.
+    /// All keywords, in the order in which the keywords of a schema are compiled.
     pub const ALL: [KeywordName; 18] = [
         KeywordName::TypeKeyword,
         KeywordName::MinItems,
@@ -72,7 +77,7 @@ impl KeywordName {
         KeywordName::Required,
     ];
 
-    /// The name that the keyword has in a schema.
+    /// Returns the name of the keyword in a schema, such as `minItems`.
     pub fn as_str(self) -> &'static str
         ensures { result.now ≡ name_of self }
     {
@@ -98,8 +103,21 @@ impl KeywordName {
         }
     }
 
-    /// Whether the keyword is read at all: the draft has it, its vocabulary is present, and its
-    /// name isn't overridden.
+    /// Returns whether the keyword is active: the draft of `ctx` defines it, its vocabulary is
+    /// present (JSON Schema Core 8.1.2), and its name is not overridden.
+    ///
+    /// A keyword that is not active asserts nothing, and its value is not checked. Other keywords
+    /// still read the value of such a name:
+    ///
+    /// - `items` reads `prefixItems` (in 2020-12), to know the index where it starts.
+    /// - `additionalItems` reads `items`, for the same reason.
+    /// - `contains` reads `minContains` and `maxContains` (from 2019-09 on, if the validation
+    ///   vocabulary is present). An overridden `minContains` still bounds `contains`, and is still
+    ///   refused if it is malformed.
+    /// - In Draft 4, `minimum` reads `exclusiveMinimum` and `maximum` reads `exclusiveMaximum`.
+    /// - `required` reads `properties`, `patternProperties` and `additionalProperties`, to know
+    ///   whether it is handed on to an object layer (see
+    ///   [`with_object_layer`](Context::with_object_layer)).
     pub fn stands<F: Json>(self, ctx: &Context<'_, F>) -> bool
         ensures { result ≡ stands ctx.now.setting self }
     {
@@ -123,8 +141,8 @@ impl KeywordName {
         }
     }
 
-    // The vocabulary that defines the keyword: that of applicators for the keywords with subschemas
-    // (Core 10.3.1), and that of validation for the others (Validation 6).
+    // Returns the vocabulary that defines the keyword: that of applicators for a keyword with
+    // subschemas (Core 10.3.1), that of validation for any other (Validation 6).
     fn vocabulary(self) -> Vocabulary
         ensures { result ≡ vocabulary_of self }
     {

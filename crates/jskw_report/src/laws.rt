@@ -1,4 +1,4 @@
-//! Laws of the definitions: what holds of every schema and every instance. Each is the contract of
+//! Laws that the definitions obey for every schema and every instance. Each law is the contract of
 //! a function that does nothing.
 ghost use Rattle.std.specs.Prelude.{IsTrue};
 ghost use Rattle.jskw_value.specs.Equality.{same};
@@ -11,9 +11,9 @@ ghost use Rattle.jskw_report.specs.Laws.{PairsMeetAtOneDepth, SameTreesAreOne, C
 use jskw_value::json::Node;
 use jskw_value::names::names_are_distinct;
 
-/// A schema holds of an instance exactly where it has no errors, wherever the instance stands, and
-/// so does a keyword. The evaluation tree is valid exactly where the schema holds, and a keyword's
-/// node exactly where the keyword holds.
+/// A schema accepts an instance exactly if the instance has no errors, whatever its location; the
+/// same is true of a keyword. The evaluation tree is valid exactly if the schema accepts the
+/// instance, and the unit of a keyword exactly if the keyword does.
 pub fn verdicts_agree()
     ensures errors { HoldsWhereNothingFails }
     ensures keyword_errors { KeywordHoldsWhereNothingFails }
@@ -21,52 +21,56 @@ pub fn verdicts_agree()
     ensures units { UnitIsValidWhereHolds }
 {}
 
-/// The errors of an instance that stands at another location differ in the beginnings of their
-/// instance locations alone.
+/// If an instance is moved to another location, only the beginnings of the instance locations of
+/// its errors change.
 pub fn locations_are_beginnings()
     ensures { FailsAlikeBelow }
 {}
 
-/// A keyword that concerns numbers, arrays or objects holds of every instance of another type (Core
-/// 7.6.1).
+/// A keyword that is about numbers, arrays or objects accepts every instance of another type (JSON
+/// Schema Core 7.6.1).
 pub fn keywords_hold_elsewhere()
     ensures { HoldsElsewhere }
 {}
 
-/// `const` and an `enum` of that one value accept the same instances, wherever they stand and
-/// whatever stands beside them. Where both stand, and each is alone in its schema, both schemas can
-/// be read or neither can (Validation 6.1.2, 6.1.3).
+/// `const` with a value accepts the same instances as `enum` with that value alone, wherever the
+/// two are and whatever is beside them. If both are active and each is alone in its schema, both
+/// schemas compile or neither does (JSON Schema Validation 6.1.2, 6.1.3).
 pub fn const_is_one_option()
     ensures { ConstIsOneOption }
 {}
 
-/// A `contains` beside `minContains` 0 and no `maxContains` holds of every instance. Without a
-/// `minContains` that is read it needs a match in every array, and without `maxContains` no more
-/// than that (Core 10.3.1.3, Validation 6.4.4, 6.4.5).
+/// `contains` accepts every instance if `minContains` is 0 and there is no `maxContains`. Without
+/// `minContains` it needs a match in every array; with neither bound it needs no more than that
+/// match (JSON Schema Core 10.3.1.3, Validation 6.4.4, 6.4.5). A bound that `contains` does not
+/// read counts as absent.
 pub fn contains_needs_matches()
     ensures { ContainsMatches }
 {}
 
-/// The float for which `const` or `enum` is refused is the one whose location a value's tree gives:
-/// the first, depth first, items by index and members in the order in which they stand.
+/// The float for which `const` or `enum` refuses a value is the one that
+/// [`first_unlawful`](jskw_value::Node::first_unlawful) finds in it: the first one depth first,
+/// items by index and members in their order.
 pub fn first_float_is_one()
     ensures { FirstFloatIsOne }
 {}
 
-/// What is needed up to the first failure is part of the pairs of a schema and a tree. Each pair
-/// lies at one depth, and at each depth lie no more than schemas times trees.
+/// No more subschema applications are needed up to the first failure than there are pairs of a
+/// schema and a node in all. Each pair is at one depth, and at each depth there are at most as many
+/// pairs as schemas times nodes.
 pub fn applications_are_bounded()
     ensures needed { NeedsSomePairs }
     ensures depths { PairsMeetAtOneDepth }
 {}
 
-/// Trees that are the same, up to the order of members, get the same verdicts, errors, evaluations
-/// and counts.
+/// Two trees that differ at most in the order of members get the same verdicts, errors, evaluations
+/// and counts from every schema. In each object the names must be distinct.
 pub fn same_trees_are_one()
     ensures { SameTreesAreOne }
 {}
 
-/// So do nodes of any two representations whose trees are the same.
+/// Two nodes, whatever their representations, get the same verdicts, errors, evaluations and counts
+/// from every schema. Their trees must be the same but for the order of members.
 pub fn same_nodes_are_one<N: Node, M: Node>(left: &N, right: &M)
     requires { IsTrue (same (N.tree left.now) (M.tree right.now)) }
     ensures { CannotBeToldApart (N.tree left.now) (M.tree right.now) }

@@ -1,11 +1,26 @@
-//! What the value and array keywords of JSON Schema mean, and what their errors and evaluations
-//! report.
+//! The parts that all keyword validators share: settings, errors, evaluations, and the traits
+//! [`Validate`] and [`Assertion`].
 //!
-//! [`Settings`] say under which draft and vocabularies a schema is read, a [`Context`] where in it
-//! a keyword is compiled. A validator implements [`Validate`], the four observers of one keyword,
-//! whose contract speaks of the definitions in `specs/`; one that fails at most once implements
-//! [`Assertion`], and has the observers from there. Sections of the standard are those of JSON
-//! Schema Core and Validation 2020-12, unless a draft is named.
+//! The prefix `jskw` is short for "JSON Schema keywords". This crate covers the keywords on values
+//! and arrays of Drafts 4, 6, 7, 2019-09 and 2020-12, which [`KeywordName`] lists.
+//!
+//! - [`Settings`] hold the draft, the vocabularies and the overridden keywords. A [`Context`] adds
+//!   the keyword location at which a schema or a keyword is compiled.
+//! - [`Validate`] has the four observers of a validator: `is_valid`, `validate`, `collect_errors`
+//!   and `evaluate`. Their contracts refer to the definitions in `specs/`. A validator that gives
+//!   at most one error for an instance implements [`Assertion`], and gets the observers from it.
+//! - A [`ValidationError`] says what is wrong with an instance or with a schema, an
+//!   [`EvaluationNode`] what each schema and keyword reports of an instance.
+//!
+//! # Memory
+//!
+//! A call that returns a `Result` with `AllocError` fails only if memory runs out.
+//! [`Fault::Memory`] and [`CompileFault::Memory`] report the same.
+//!
+//! # Sections of the standard
+//!
+//! Section numbers are those of JSON Schema Core and JSON Schema Validation, Draft 2020-12, unless
+//! another draft is named.
 #![tactic(auto)]
 
 pub mod assertion;

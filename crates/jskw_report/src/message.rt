@@ -1,4 +1,4 @@
-//! The texts of errors. No clause says what they are: tests do.
+//! The messages of errors. Tests say what they are, not contracts.
 
 use crate::error::{EnumOptions, TypeKind, ValidationError, ValidationErrorKind};
 use jskw_value::types::{JsonType, JsonTypeSet};
@@ -6,7 +6,7 @@ use jskw_value::{Json, Node};
 use serde_json::Value;
 use std::alloc::{AllocError, Global};
 
-// The types in the order in which a text names those of a set.
+// The order in which a message names the types of a set.
 const TYPES: [JsonType; 7] = [
     JsonType::Null,
     JsonType::Boolean,
@@ -17,7 +17,7 @@ const TYPES: [JsonType; 7] = [
     JsonType::Object,
 ];
 
-// The types in the order of their names.
+// The types in alphabetical order of their names.
 const TYPES_BY_NAME: [JsonType; 7] = [
     JsonType::Array,
     JsonType::Boolean,
@@ -29,9 +29,10 @@ const TYPES_BY_NAME: [JsonType; 7] = [
 ];
 
 impl<F: Json> ValidationError<'_, F> {
-    /// The text for a reader, in English: what the kind says of the node at fault. Nodes, names and
-    /// values of the schema are written as compact JSON, as [`Node::write_json`] does. Only memory
-    /// can fail. A text may change from one version to the next: a program looks at
+    /// Returns the message of the error, in English. It describes the node at fault; nodes, names
+    /// and values of the schema are written as compact JSON, as [`Node::write_json`] does.
+    ///
+    /// Messages may change from one version to the next. A program should look at
     /// [`kind`](ValidationError::kind).
     pub fn message(&self, alloc: Global) -> Result<String, AllocError> {
         let mut text = String::new(alloc);
@@ -40,7 +41,7 @@ impl<F: Json> ValidationError<'_, F> {
         Ok(text)
     }
 
-    // Appends what the text begins with: the node at fault, where the kind speaks of nothing else.
+    // Appends what the message begins with: for most kinds the node at fault.
     fn write_subject(&self, alloc: Global, text: &mut String) -> Result<(), AllocError> {
         match self.kind() {
             ValidationErrorKind::AdditionalItems { .. }
@@ -62,7 +63,7 @@ impl<F: Json> ValidationError<'_, F> {
     }
 }
 
-// Appends what the text says of what it begins with.
+// Appends the rest of the message.
 fn write_predicate(kind: &ValidationErrorKind, text: &mut String) -> Result<(), AllocError> {
     match kind {
         ValidationErrorKind::AdditionalItems { limit } => {
@@ -102,8 +103,8 @@ fn write_predicate(kind: &ValidationErrorKind, text: &mut String) -> Result<(), 
     }
 }
 
-// Appends what a text says of a value that is none of the options: up to three are named, of more
-// the first two.
+// Appends that a value is not one of the options. Of more than three, the first two are named and
+// the others are counted.
 fn write_options(options: &EnumOptions, text: &mut String) -> Result<(), AllocError> {
     text.push_str(" is not one of ")?;
     let count = option_count(options);
@@ -130,7 +131,7 @@ fn option_count(options: &EnumOptions) -> usize {
     }
 }
 
-// Appends the option of an index, where there is one.
+// Appends the option at the index, if there is one.
 fn write_option(options: &EnumOptions, index: usize, text: &mut String) -> Result<(), AllocError> {
     match options {
         EnumOptions::Listed(value) => match value.get(index) {
@@ -144,7 +145,7 @@ fn write_option(options: &EnumOptions, index: usize, text: &mut String) -> Resul
     }
 }
 
-// Appends what a text says of a value of another type.
+// Appends that a value does not have the expected types.
 fn write_types(kind: TypeKind, text: &mut String) -> Result<(), AllocError> {
     match kind {
         TypeKind::Single(json_type) => {
@@ -161,7 +162,7 @@ fn write_types(kind: TypeKind, text: &mut String) -> Result<(), AllocError> {
     }
 }
 
-// Appends the names of the types of a set.
+// Appends the names of the types, with commas between them.
 fn write_type_set(types: JsonTypeSet, text: &mut String) -> Result<(), AllocError> {
     let mut is_first = true;
     for json_type in TYPES {
@@ -176,7 +177,7 @@ fn write_type_set(types: JsonTypeSet, text: &mut String) -> Result<(), AllocErro
     Ok(())
 }
 
-// Appends a type's name between quotes.
+// Appends the name of the type in quotes.
 fn write_type(json_type: JsonType, text: &mut String) -> Result<(), AllocError> {
     let name = match json_type {
         JsonType::Array => "array",

@@ -11,14 +11,14 @@ use std::marker::Model;
 /// its index.
 #[derive(Clone, Copy, Debug)]
 pub enum LocationSegment<'s> {
-    /// The member of this name.
+    /// The member with this name.
     Name(&'s str),
-    /// The item of this index, counted from 0.
+    /// The item at this index, counted from 0.
     Index(usize),
 }
 
-/// A location as a JSON pointer (RFC 6901): the empty text for the whole value. Two are equal where
-/// their texts are.
+/// A location in a JSON value, as a JSON pointer (RFC 6901). The empty text is the location of the
+/// whole value. Two locations are equal if their texts are.
 #[derive(Debug, Drop)]
 pub struct Location {
     text: String,
@@ -34,7 +34,7 @@ impl Model for Location {
 }
 
 impl Location {
-    /// The location of the whole value.
+    /// Returns the location of the whole value: the empty pointer.
     pub fn new(alloc: Global) -> Location
         ensures { result ≡ [] }
     {
@@ -43,16 +43,16 @@ impl Location {
         }
     }
 
-    /// The pointer as text.
+    /// Returns the pointer as text.
     pub fn as_str(&self) -> &str
         ensures { result.now ≡ self.now }
     {
         self.text.as_str()
     }
 
-    /// The location one step further down: this one's text, a slash, and the name or the index. In
-    /// a name `~` is written `~0` and `/` is written `~1` (RFC 6901, section 3). Only memory can
-    /// fail.
+    /// Returns the location one step further down: the text of this one, a slash, and the name or
+    /// index of `segment`. In a name, `~` is written `~0` and `/` is written `~1` (RFC 6901,
+    /// section 3).
     pub fn join(&self, alloc: Global, segment: LocationSegment) -> Result<Location, AllocError>
         ensures { IfOk result (λ l. l ≡ segment_location self.now segment.entry) }
     {
@@ -64,7 +64,7 @@ impl Location {
         Ok(Location { text })
     }
 
-    /// The same location once more. Only memory can fail.
+    /// Returns a copy of the location.
     pub fn copy(&self, alloc: Global) -> Result<Location, AllocError>
         ensures { IfOk result (λ l. l ≡ self.now) }
     {
@@ -95,9 +95,11 @@ impl Eq for Location {
     ghost laws = { Prim.search (comparing, rules) };
 }
 
-/// The instance location of the item that is looked at, as a stack of indices that is written out
-/// for an error alone: the keywords with subschemas go down into items, and never into members. It
-/// keeps the allocator that it was made with.
+/// The instance location of the item that is being validated, as a stack of indices.
+///
+/// The text of the pointer is built only if an error or a node of an evaluation needs it. The stack
+/// has no names: the keywords of this library apply subschemas to items, never to members. It keeps
+/// the allocator that it was created with.
 #[derive(Drop)]
 pub struct LazyLocation {
     indices: Vec<usize>,
@@ -112,7 +114,7 @@ impl Model for LazyLocation {
 }
 
 impl LazyLocation {
-    /// The location of the whole instance.
+    /// Returns the location of the whole instance.
     pub fn new(alloc: Global) -> LazyLocation
         ensures { result ≡ [] }
     {
@@ -121,7 +123,7 @@ impl LazyLocation {
         }
     }
 
-    /// Goes down to the item of an index. Only memory can fail, and then the location is as it was.
+    /// Adds an index: goes down to that item. If memory runs out, the location is unchanged.
     pub fn push(&mut self, index: usize) -> Result<(), AllocError>
         ensures pushed { OnOk result (self.new ≡ self.old ++ index ∷ []) }
         ensures unchanged { OnErr result (self.new ≡ self.old) }
@@ -130,15 +132,14 @@ impl LazyLocation {
         Ok(())
     }
 
-    /// Goes up from the item that was entered last. At the whole instance it does nothing.
+    /// Removes the last index: goes back up from the item. Does nothing at the whole instance.
     pub fn pop(&mut self)
         ensures { self.new ≡ take (length self.old - 1) self.old }
     {
         let _ = self.indices.pop();
     }
 
-    /// The location as a JSON pointer, the indices from the outermost item on. Only memory can
-    /// fail.
+    /// Returns the location as a JSON pointer, the index of the outermost array first.
     #[tactic(auto, using(crate::proofs::Pointers::path_of_push))]
     pub fn render(&self) -> Result<Location, AllocError>
         ensures { IfOk result (λ l. l ≡ path_of self.now) }

@@ -1,4 +1,4 @@
-//! What every validator answers of an instance.
+//! The trait of validators, with its four observers, and steps of which observers are made.
 ghost use Rattle.std.specs.Prelude.{◌≡◌, ◌≤◌, ◌+◌, min, length, IfOk, IsOk, List, IsTrue};
 ghost use Rattle.jskw_value.specs.Tree.{is_lawful};
 ghost use Rattle.jskw_report.specs.Errors.{kind_of, failures_of};
@@ -17,8 +17,8 @@ use jskw_value::Json;
 use std::alloc::{AllocError, Global};
 use std::marker::Model;
 
-/// What goes with an instance through the validators: the number of subschemas that were applied to
-/// a part of it.
+/// A count that is passed along with an instance: how many times a schema or a subschema was
+/// applied.
 #[derive(Drop)]
 pub struct ValidationContext {
     applications: u64,
@@ -33,14 +33,14 @@ impl Model for ValidationContext {
 }
 
 impl ValidationContext {
-    /// The context of a new instance: nothing was applied.
+    /// Creates the context for an instance: nothing was applied yet.
     pub fn new() -> ValidationContext
         ensures { result ≡ 0 }
     {
         ValidationContext { applications: 0 }
     }
 
-    /// Counts one application more. Where the count is 2^64-1 it stays.
+    /// Counts one more application. A count of 2^64-1 is unchanged.
     pub fn count_one(&mut self)
         ensures applied { min (self.old + 1) u64.MAX ≤ self.new }
         ensures counted { CountsUpTo self.old self.new 1 }
@@ -48,8 +48,8 @@ impl ValidationContext {
         self.applications = self.applications.saturating_add(1);
     }
 
-    /// The number of subschema applications so far: how often a schema or subschema was applied to
-    /// the instance or an item. It stays at 2^64-1 once there.
+    /// Returns how many times a schema or a subschema was applied to the instance or to one of its
+    /// items. The count stops at 2^64-1.
     pub fn applications(&self) -> u64
         ensures { result ≡ self.now }
     {
@@ -57,25 +57,33 @@ impl ValidationContext {
     }
 }
 
-/// What a validator answers of an instance over the representation `F`: the four observers, which
-/// agree. Each asks that the instance be lawful, that is, hold no float; `Node::is_lawful` tells.
-/// The count that goes along grows by the number of subschemas that were applied, which is at most
-/// the number of pairs of a subschema and an item that meet. `location` is the instance's (Core
-/// 12.3.3), and at every return it is as at the call.
+/// A validator over the representation `F`, with four observers that agree with each other.
+///
+/// Each observer requires a lawful instance: one that contains no float, as
+/// [`is_lawful`](jskw_value::Node::is_lawful) checks. `location` is the instance location (JSON
+/// Schema Core 12.3.3); whatever the observer returns, it is unchanged afterwards.
+///
+/// `ctx` counts the applications of subschemas to items, at all levels. `collect_errors` and
+/// `evaluate` add at most one for each pair of a subschema and an item that it is for; `is_valid`
+/// and `validate` at most one for each such pair up to the first failure.
 pub trait Validate<F: Json> {
-    /// What the validator stands for.
+    /// The keyword that the validator checks, or the several keywords that it checks together.
     ghost meaning: { Self → Meaning };
 
-    /// Whether it holds of the instance. It takes no memory, and looks no further than the first
-    /// failure.
+    /// Returns whether the instance is valid. Stops at the first failure and allocates nothing.
     fn is_valid(&self, instance: &F::Node, ctx: &mut ValidationContext) -> bool
         requires { IsTrue (is_lawful (F.Node.tree instance.now)) }
         ensures answer { result ≡ meaning_holds (meaning self.now) (F.Node.tree instance.now) }
         ensures counted { CountsUpTo ctx.old ctx.new
             (meaning_needed (meaning self.now) (F.Node.tree instance.now)) };
 
-    /// Ok where it holds, and else its first error; want of memory says nothing of the instance. A
-    /// keyword without subschemas takes no memory where it holds.
+    /// Returns `Ok` if the instance is valid. Stops at the first failure. A keyword without
+    /// subschemas allocates nothing if the instance is valid.
+    ///
+    /// # Errors
+    ///
+    /// - [`Fault::Invalid`] with the first error, if the instance is invalid.
+    /// - [`Fault::Memory`] if memory runs out. This says nothing about the instance.
     fn validate<'i>(
         &'i self,
         instance: &'i F::Node,
@@ -93,8 +101,9 @@ pub trait Validate<F: Json> {
         ensures counted { CountsUpTo ctx.old ctx.new
             (meaning_needed (meaning self.now) (F.Node.tree instance.now)) };
 
-    /// Appends every error, in order. After want of memory the list is as it was, followed by a
-    /// beginning of them. A keyword without subschemas takes no memory where it holds.
+    /// Appends all errors of the instance to `errors`, in order. If memory runs out, `errors` keeps
+    /// what it held, and a beginning of the new errors, possibly none, follows. A keyword without
+    /// subschemas allocates nothing if the instance is valid.
     fn collect_errors<'i>(
         &'i self,
         instance: &'i F::Node,
@@ -113,7 +122,8 @@ pub trait Validate<F: Json> {
         ensures counted { CountsUpTo ctx.old ctx.new
             (meaning_pairs (meaning self.now) (F.Node.tree instance.now)) };
 
-    /// Its unit of the evaluation tree (Core 12.3). Only memory can fail.
+    /// Returns what the keyword reports of the instance: its unit of the evaluation tree (JSON
+    /// Schema Core 12.3).
     fn evaluate(
         &self,
         alloc: Global,
@@ -129,8 +139,8 @@ pub trait Validate<F: Json> {
             (meaning_pairs (meaning self.now) (F.Node.tree instance.now)) };
 }
 
-/// Ok where the assertion holds, which takes no memory, and else its one error: what `validate`
-/// answers of an assertion that fails at most once.
+/// Returns `Ok` if `holds`, and otherwise the error made of the other arguments. This is `validate`
+/// for a validator that gives at most one error. Allocates nothing if `holds`.
 pub fn fail_unless<'i, F: Json>(
     holds: bool,
     kind: ValidationErrorKind<'i>,
@@ -149,9 +159,9 @@ pub fn fail_unless<'i, F: Json>(
     Err(Fault::Invalid(ValidationError::new(kind, instance_path, schema_path, instance)))
 }
 
-/// Appends the error of `validate`'s answer: what `collect_errors` does of a keyword that fails at
-/// most once. Only memory can fail, in `validate` or here, and where the keyword holds it isn't
-/// asked for.
+/// Appends the error in the result of `validate`, if it has one. This is `collect_errors` for a
+/// validator that gives at most one error. Fails if memory ran out in `validate` or runs out here;
+/// never if `answer` is `Ok`.
 #[tactic(auto, using(crate::proofs::Appending::appends_nothing))]
 pub fn append_first<'i, F: Json>(
     answer: Result<(), Fault<'i, F>>,
@@ -171,8 +181,9 @@ pub fn append_first<'i, F: Json>(
     }
 }
 
-/// The unit of `validate`'s answer: what `evaluate` gives of a keyword that fails at most once.
-/// Only memory can fail, in `validate` or here, and where the keyword holds it isn't asked for.
+/// Returns the unit for the result of `validate`. This is `evaluate` for a validator that gives at
+/// most one error. Fails if memory ran out in `validate` or runs out here; never if `answer` is
+/// `Ok`.
 #[tactic(auto, unfolding(crate::specs::Evaluation::of_errors))]
 pub fn evaluate_first<F: Json>(
     alloc: Global,
@@ -193,9 +204,9 @@ pub fn evaluate_first<F: Json>(
     }
 }
 
-/// The unit of errors that were collected: what `evaluate` gives of a keyword that may fail more
-/// than once and has no nodes below. It is valid where there are none, which takes no memory, and
-/// else invalid with a description for each. Only memory can fail.
+/// Returns the unit for collected errors. This is `evaluate` for a validator that may give several
+/// errors and has no nodes below. Without errors the unit is valid and nothing is allocated; else
+/// it is invalid, with a description of each error.
 pub fn evaluate_errors<F: Json>(
     alloc: Global,
     errors: &[ValidationError<'_, F>],

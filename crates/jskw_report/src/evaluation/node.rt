@@ -1,4 +1,4 @@
-//! A node of the evaluation tree, with the nodes below it.
+//! The nodes of an evaluation tree.
 ghost use Rattle.std.specs.Prelude.{◌≡◌, IfOk, option_map};
 ghost use Rattle.jskw_report.specs.Evaluation.{annotation_at, children_at, evaluations};
 ghost use Rattle.jskw_report.specs.Evaluation.{instance_location_at, is_valid};
@@ -11,10 +11,13 @@ use crate::paths::Location;
 use std::alloc::{AllocError, Global};
 use std::marker::Model;
 
-/// A node of the evaluation tree: what a keyword or a schema gives of an instance, with the
-/// locations of both (Core 12.3). A schema's node has one below for each of its keywords, a
-/// keyword's one for each subschema that it applied to an item, as far as they are told (Core
-/// 12.3.5).
+/// A node of the evaluation tree: what a keyword or a schema reports of an instance, with the
+/// locations of both (JSON Schema Core 12.3).
+///
+/// The node of a schema has a node below it for each keyword that asserts something. The node of a
+/// keyword has one for each item that it checks against a subschema (JSON Schema Core 12.3.5), with
+/// two exceptions: `contains` has them for the items that match, and none if it fails;
+/// `additionalItems` has none.
 #[derive(Drop)]
 pub struct EvaluationNode {
     evaluation_path: Location,
@@ -47,8 +50,8 @@ impl Model for EvaluationNode {
 }
 
 impl EvaluationNode {
-    /// The node of the unit's parts, at copies of these locations: that of the keyword and that of
-    /// the instance. Only memory can fail, and the unit is dropped then.
+    /// Creates the node of a unit. `place` is the location of the keyword or schema; both locations
+    /// are copied. If memory runs out, the unit is dropped.
     pub fn new(
         alloc: Global,
         unit: EvaluationResult,
@@ -79,52 +82,55 @@ impl EvaluationNode {
         })
     }
 
-    /// Whether the keyword or the schema holds.
+    /// Returns whether the keyword or schema accepts the instance.
     pub fn valid(&self) -> bool
         ensures { result ≡ is_valid self.now }
     {
         self.valid
     }
 
-    /// The location of the keyword or the schema, by way of the schemas that were applied (Core
-    /// 12.3.1).
+    /// Returns the location of the keyword or schema, along the path of the schemas that were
+    /// applied (JSON Schema Core 12.3.1).
     pub fn evaluation_path(&self) -> &Location
         ensures { result.now ≡ keyword_location_at self.now }
     {
         &self.evaluation_path
     }
 
-    /// Its location in the schema that it is written in (Core 12.3.2): the evaluation path, since
-    /// no keyword refers to another schema.
+    /// Returns the location of the keyword or schema in the schema document (JSON Schema Core
+    /// 12.3.2). It is the same as `evaluation_path`, since no keyword of this library refers to
+    /// another schema.
     pub fn schema_location(&self) -> &Location
         ensures { result.now ≡ keyword_location_at self.now }
     {
         &self.evaluation_path
     }
 
-    /// The location of the instance (Core 12.3.3).
+    /// Returns the instance location (JSON Schema Core 12.3.3).
     pub fn instance_location(&self) -> &Location
         ensures { result.now ≡ instance_location_at self.now }
     {
         &self.instance_location
     }
 
-    /// What the keyword tells of the instance (Core 7.7). An invalid node keeps it, by this
-    /// library's own rule: the standard drops it there (Core 7.7.1.2).
+    /// Returns the annotation of the keyword, if it has one (JSON Schema Core 7.7). An invalid node
+    /// keeps its annotation by this library's own rule: the standard drops it (JSON Schema Core
+    /// 7.7.1.2).
     pub fn annotations(&self) -> Option<&Annotations>
         ensures { option_map (λ a. annotation_of a.now) result ≡ annotation_at self.now }
     {
         self.annotations.as_ref()
     }
 
-    /// A description for each error of the keyword's or the schema's own, in order (Core 12.3.4).
+    /// Returns the descriptions of the errors that the keyword or schema itself reports, in order
+    /// (JSON Schema Core 12.3.4).
     pub fn errors(&self) -> &[ErrorDescription]
         ensures { keywords_of result.now ≡ keywords_at self.now }
     {
         self.errors.as_slice()
     }
 
-    /// The nodes below, in order (Core 12.3.5).
+    /// Returns the nodes below, in order (JSON Schema Core 12.3.5).
     pub fn children(&self) -> &[EvaluationNode]
         ensures { evaluations result.now ≡ children_at self.now }
     {
