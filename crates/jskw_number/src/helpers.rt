@@ -1,4 +1,4 @@
-//! The bounds and limits that a schema has.
+//! Reads bounds on sizes, limits and divisors from a schema.
 ghost use Rattle.std.specs.Prelude.{◌≡◌, ◌≢◌, [], None, Err, IfOk, option_map, alloc_error};
 ghost use Rattle.std.specs.Result.{result_ok};
 ghost use Rattle.serde_json.specs.Find.{get_member};
@@ -21,17 +21,22 @@ use jskw_value::{Json, JsonType};
 use serde_json::{Map, Value};
 use std::alloc::Global;
 
-/// The bound on a size that a value of a schema is: Some exactly for a whole number from 0 to
-/// 2^64-1 (Validation 6.4, 6.5).
+/// Returns the bound on a size that `value` is, or `None` if it is none. A bound is a number that
+/// `serde_json` holds as a `u64`: an integer from 0 to 2^64-1, written without a fraction or an
+/// exponent (JSON Schema Validation 6.4, 6.5). `2.0` is not a bound, in any draft.
 pub fn size_limit(value: &Value) -> Option<u64>
     ensures { result ≡ result_ok (size_value [] (view value.now)) }
 {
     value.as_u64()
 }
 
-/// The bound that `parent` has under a name, None where the name is absent. `ctx` stands at the
-/// keyword location of `parent`. A value that is no bound is an error at the keyword location of
-/// its name, as in [`fail_on_non_positive_integer`]. The other error is want of memory.
+/// Returns the bound on a size that `parent` has as its member `name`, or `None` if it has no such
+/// member. `ctx` has the keyword location of `parent`.
+///
+/// # Errors
+///
+/// Fails if the member is not a bound, as [`fail_on_non_positive_integer`] says, at the location of
+/// the member, or if memory runs out.
 pub fn map_get_u64<'a, F: Json>(
     alloc: Global,
     parent: &'a Map<String, Value>,
@@ -46,7 +51,8 @@ pub fn map_get_u64<'a, F: Json>(
     Some(bound(alloc, ctx.location(), name, value))
 }
 
-// The bound that the value of a member is, or the value's fault.
+// Reads the bound that the member `name` has as its value. Refuses any other value at the member's
+// location.
 fn bound<'a>(
     alloc: Global,
     parent: &Location,
@@ -63,9 +69,11 @@ fn bound<'a>(
     Err(fail_on_non_positive_integer(alloc, value, location))
 }
 
-/// The compile error of a value that is no bound on a size, as [`size_limit`] tells, at its keyword
-/// location: the kind is `Minimum` with the limit 0 where the value is a whole number below 0, and
-/// else that of the type integer. It takes no memory.
+/// Returns the compile error for a value that is not a bound on a size: [`size_limit`] of `value`
+/// must be `None`. `location` is the keyword location.
+///
+/// The kind is `Minimum` with the limit 0 if the value is a negative integer, and `WrongType` with
+/// the type integer for any other value. The fault is always `Bad`: nothing is allocated.
 pub fn fail_on_non_positive_integer<'a>(
     alloc: Global,
     value: &'a Value,
@@ -83,8 +91,8 @@ pub fn fail_on_non_positive_integer<'a>(
     CompileFault::Bad(ValidationError::refused(alloc, kind, location, value))
 }
 
-// The bound on a size that a value of a schema is, with the location of its keyword, or the value's
-// fault there.
+// Reads the bound on a size that `value` is, and returns it with the keyword location. Refuses any
+// other value at that location.
 pub(crate) fn bound_at<'a, F: Json>(
     alloc: Global,
     ctx: &Context<'_, F>,
@@ -103,16 +111,16 @@ pub(crate) fn bound_at<'a, F: Json>(
     }
 }
 
-// A whole number of a schema.
+// An integer in a schema.
 #[derive(Clone, Copy)]
 pub(crate) enum WholeNumber {
-    // from 0 to 2^64-1
+    // From 0 to 2^64-1.
     Unsigned(u64),
-    // from -2^63 to 2^63-1
+    // From -2^63 to 2^63-1.
     Signed(i64),
 }
 
-// The whole number that a value of a schema is, or its fault at the location.
+// Reads an integer from -2^63 to 2^64-1. Refuses any other value at `location`.
 pub(crate) fn whole_number<'a>(
     alloc: Global,
     location: &Location,
@@ -133,7 +141,7 @@ pub(crate) fn whole_number<'a>(
     Err(CompileFault::wrong(alloc, ValidationErrorKind::not_whole(), location, value))
 }
 
-// Whether `parent` has `true` at the keyword.
+// Returns whether `parent` has the keyword with the value `true`.
 pub(crate) fn has_true(parent: &Map<String, Value>, keyword: KeywordName) -> bool
     ensures { result ≡ member_passes is_true (name_of keyword) (members_view parent.now.entries) }
 {

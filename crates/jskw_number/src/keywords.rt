@@ -1,4 +1,4 @@
-//! The keywords of this crate, by name.
+//! Compiles the keywords of this crate by their names.
 ghost use Rattle.std.specs.Prelude.{◌≡◌, true};
 ghost use Rattle.serde_json.specs.View.{view, members_view};
 ghost use Rattle.jskw_report.specs.Compile.{Compiles, reading};
@@ -13,7 +13,10 @@ use jskw_value::Json;
 use serde_json::{Map, Value};
 use std::alloc::Global;
 
-/// Compiles a bound on a size, a limit or a divisor, by the keyword's name and the draft.
+/// Compiles a bound on a size, a limit or a divisor, by the keyword's name and the draft of `ctx`.
+///
+/// `keyword` must be one of the nine keywords of this crate. The [crate's documentation](crate) has
+/// the other arguments and the errors.
 pub fn compile<'a, F: Json>(
     alloc: Global,
     ctx: &Context<'_, F>,

@@ -1,24 +1,40 @@
-//! The keywords on numbers and on sizes: `minimum`, `maximum`, `exclusiveMinimum`,
+//! Validators for the keywords on numbers and sizes: `minimum`, `maximum`, `exclusiveMinimum`,
 //! `exclusiveMaximum`, `multipleOf`, `minItems`, `maxItems`, `minProperties` and `maxProperties`.
 //!
-//! [`compile`] makes the validator of such a keyword, a [`NumberValidator`]. It is an
-//! [`Assertion`](jskw_report::Assertion), and so [`Validate`](jskw_report::Validate) has its four
-//! observers, over every representation. Each keyword's module has its own validator and `compile`.
+//! [`compile`] turns such a keyword of a schema into a [`NumberValidator`]. A `NumberValidator` is
+//! an [`Assertion`](jskw_report::Assertion), and so [`Validate`](jskw_report::Validate) gives it
+//! four observers, over every representation. Each keyword's module has its own validator and its
+//! own `compile`.
 //!
-//! A `compile` is given an object of the schema as `parent`, the value of its keyword as `schema`,
-//! and as `ctx` where `parent` stands. That the keyword is there, and that it stands under the
-//! setting, is for the caller to see. The answer is always Some. A value that the keyword does not
-//! take is an error at the keyword location of the keyword; its kind stands at the keyword's
-//! module, and that of bounds on sizes at [`helpers::fail_on_non_positive_integer`]. The other
-//! error is want of memory.
+//! # Arguments
+//!
+//! Each `compile` takes an object of the schema as `parent`, the value that the keyword has in it
+//! as `schema`, and the context of `parent` as `ctx`. The caller checks that the keyword is active,
+//! by [`stands`](jskw_report::KeywordName::stands). Only Draft 4's `minimum` and `maximum` read
+//! `parent`; the others take it to have the same signature.
 //!
 //! ```rust
+//! let keyword = KeywordName::MinItems;
 //! let schema = member_of(parent, keyword.as_str())?;
 //! if !keyword.stands(ctx) {
 //!     return None;
 //! }
 //! jskw_number::compile(alloc, ctx, parent, keyword, schema)
 //! ```
+//!
+//! The result is always `Some`, since each of these keywords asserts something.
+//!
+//! # Errors
+//!
+//! A `compile` fails with [`CompileFault::Memory`](jskw_report::CompileFault::Memory) if memory
+//! runs out, and with [`CompileFault::Bad`](jskw_report::CompileFault::Bad) if the keyword does not
+//! accept the value. That error is at the location of the keyword, with one exception: for a Draft
+//! 4 `minimum` that is exclusive it is at `exclusiveMinimum`, and for such a `maximum` at
+//! `exclusiveMaximum`. Its kind is:
+//!
+//! - for a bound on a size: see [`helpers::fail_on_non_positive_integer`];
+//! - for a limit: see [`minmax`];
+//! - for a divisor: see [`multiple_of`].
 #![tactic(auto)]
 
 pub mod helpers;

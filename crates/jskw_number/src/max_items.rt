@@ -1,4 +1,4 @@
-//! `maxItems` (Validation 6.4.1): an array has at most as many items as the bound.
+//! `maxItems` (JSON Schema Validation 6.4.1): the number of items of an array is at most the bound.
 ghost use Rattle.std.specs.Prelude.{◌≡◌, IsTrue, length, refl};
 ghost use Rattle.serde_json.specs.View.{view, members_view};
 ghost use Rattle.jskw_value.specs.Tree.{Tree, is_array, items};
@@ -20,8 +20,8 @@ use jskw_value::{Array, Json, Node};
 use serde_json::{Map, Value};
 use std::alloc::Global;
 
-/// The validator of `maxItems`: it holds of an array that has at most as many items as the bound,
-/// and of whatever is no array.
+/// The validator of `maxItems`. It accepts an array with at most as many items as the bound, and
+/// every non-array.
 #[derive(Drop)]
 pub struct MaxItemsValidator {
     limit: u64,
@@ -29,8 +29,14 @@ pub struct MaxItemsValidator {
 }
 
 impl MaxItemsValidator {
-    /// Compiles the value of `maxItems`, which is a bound on a size or the error; else only memory
-    /// can fail.
+    /// Compiles the value of `maxItems` into this validator. `ctx` is the context of the schema
+    /// that has it.
+    ///
+    /// # Errors
+    ///
+    /// Fails if `schema` is not an integer from 0 to 2^64-1, as
+    /// [`fail_on_non_positive_integer`](crate::helpers::fail_on_non_positive_integer) says, or if
+    /// memory runs out.
     pub fn compile<'a, F: Json>(
         alloc: Global,
         ctx: &Context<'_, F>,
@@ -43,7 +49,7 @@ impl MaxItemsValidator {
         Ok(MaxItemsValidator { limit, location })
     }
 
-    /// Whether an array of so many items is within the bound.
+    /// Returns whether an array of `count` items is within the bound.
     pub fn accepts(&self, count: u64) -> bool
         ensures { (t : Tree) → IsTrue (is_array t) → length (items t) ≡ count
             → result ≡ assertion_holds (max_items self.now).claim t }
@@ -72,7 +78,13 @@ impl Assertion for MaxItemsValidator {
     }
 }
 
-/// Compiles `maxItems`.
+/// Compiles `maxItems`. Always returns `Some`.
+///
+/// # Errors
+///
+/// Fails if `schema` is not an integer from 0 to 2^64-1, as
+/// [`fail_on_non_positive_integer`](crate::helpers::fail_on_non_positive_integer) says, or if
+/// memory runs out.
 #[tactic(auto, unfolding(jskw_report::specs::Read::asserted))]
 pub fn compile<'a, F: Json>(
     alloc: Global,

@@ -1,4 +1,5 @@
-//! `maxProperties` (Validation 6.5.1): an object has at most as many members as the bound.
+//! `maxProperties` (JSON Schema Validation 6.5.1): the number of members of an object is at most
+//! the bound.
 ghost use Rattle.std.specs.Prelude.{refl};
 ghost use Rattle.serde_json.specs.View.{view, members_view};
 ghost use Rattle.jskw_report.specs.Compile.{Compiles, reading};
@@ -15,8 +16,8 @@ use jskw_value::{Json, Node, Object};
 use serde_json::{Map, Value};
 use std::alloc::Global;
 
-/// The validator of `maxProperties`: it holds of an object that has at most as many members as the
-/// bound, and of whatever is no object.
+/// The validator of `maxProperties`. It accepts an object with at most as many members as the
+/// bound, and every non-object.
 #[derive(Drop)]
 pub struct MaxPropertiesValidator {
     limit: u64,
@@ -43,7 +44,13 @@ impl Assertion for MaxPropertiesValidator {
     }
 }
 
-/// Compiles `maxProperties`.
+/// Compiles `maxProperties`. Always returns `Some`.
+///
+/// # Errors
+///
+/// Fails if `schema` is not an integer from 0 to 2^64-1, as
+/// [`fail_on_non_positive_integer`](crate::helpers::fail_on_non_positive_integer) says, or if
+/// memory runs out.
 #[tactic(auto, unfolding(jskw_report::specs::Read::asserted))]
 pub fn compile<'a, F: Json>(
     alloc: Global,

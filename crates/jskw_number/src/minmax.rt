@@ -1,7 +1,12 @@
-//! Limits on numbers (Validation 6.2.2 to 6.2.5): `minimum`, `maximum`, `exclusiveMinimum` and
-//! `exclusiveMaximum`. Numbers are compared exactly, however they are written. A limit is a whole
-//! number from -2^63 to 2^64-1. The error of any other number is of the kind `CompileError`, and
-//! that of any other value of the type number.
+//! Limits on numbers (JSON Schema Validation 6.2.2 to 6.2.5): `minimum`, `maximum`,
+//! `exclusiveMinimum` and `exclusiveMaximum`. Numbers are compared by their exact values, however
+//! they are written.
+//!
+//! A limit is a number that `serde_json` holds as a `u64` or an `i64`: an integer from -2^63 to
+//! 2^64-1, written without a fraction or an exponent. Other values are refused:
+//!
+//! - any other number, such as `1.5`, `2.0` or `-0`, with the kind `CompileError`;
+//! - any other value with the kind `WrongType` and the type number.
 ghost use Rattle.std.specs.Prelude.{◌≡◌, ◌≤ℤ◌, ◌<ℤ◌, ℤ, pos, negsuc, true, refl, Some};
 ghost use Rattle.std.specs.Prelude.{IfOk, IfSome, IsTrue};
 ghost use Rattle.serde_json.specs.View.{view, members_view};
@@ -29,18 +34,20 @@ use std::alloc::Global;
 use std::cmp::Ordering;
 use std::marker::PhantomData;
 
-/// The type of a limit: a whole number from -2^63 to 2^64-1.
+/// An integer type that holds limits: `u64` or `i64`.
 pub trait Whole: Copy + Drop {
+    /// The integer.
     ghost whole: { Self → ℤ };
 
-    /// The number.
+    /// Returns the integer, which is from -2^63 to 2^64-1.
     fn to_i128(self) -> i128
         ensures value { result ≡ whole self }
         ensures low { negsuc 9223372036854775807 ≤ℤ result }
         ensures high { result <ℤ pos 18446744073709551616 };
 
-    /// Returns how a number stands to this one where it is written as an integer of this type, or
-    /// None, which leaves it to the decimals: words are compared faster.
+    /// Returns how `number` compares to this limit if it is written as an integer of this type,
+    /// else `None`: the caller then compares decimals, which is slower. The number must be a
+    /// decimal, not a float.
     fn order_of<N: JsonNumber>(self, number: &N) -> Option<Ordering>
         requires { IsTrue (is_exact (N.number number.now)) }
         ensures { IfSome result (λ o. Some o
@@ -71,38 +78,38 @@ impl Whole for i64 {
     }
 }
 
-/// A relation of numbers to a limit, one of four, which is known where the code is compiled.
+/// One of the four relations of a number to a limit, as a type.
 pub trait LimitTest {
     /// The relation.
     ghost relation: { Relation };
 
-    /// The keyword of the relation.
+    /// Returns the keyword of the relation.
     fn keyword() -> KeywordName
         ensures { result ≡ limit_word relation };
 
-    /// Whether a number that stands so to the limit is within it.
+    /// Returns whether a number is within the limit if it compares to the limit as `ordering` says.
     fn allows(ordering: Ordering) -> bool
         ensures { result ≡ allows relation ordering };
 
-    /// The kind of the error of a number that is not.
+    /// Returns the kind of error for a number that is not within the limit.
     fn kind<'k>(limit: i128) -> ValidationErrorKind<'k>
         ensures { kind_of result ≡ limit_kind relation limit };
 
-    /// The validator of a limit that is a `u64`, with its value in the schema, which fails at the
-    /// location.
+    /// Creates the validator of a limit that is a `u64`. `value` is the limit as the schema has it,
+    /// `location` the keyword location of the error.
     fn of_u64(limit: u64, value: Value, location: Location) -> NumberValidator
         ensures assertion { number_assertion result ≡ placed_limit relation (pos limit) location }
         ensures value { limit_of result ≡ Some (view value) };
 
-    /// The validator of a limit that is an `i64`, with its value in the schema, which fails at the
-    /// location.
+    /// Creates the validator of a limit that is an `i64`. `value` is the limit as the schema has
+    /// it, `location` the keyword location of the error.
     fn of_i64(limit: i64, value: Value, location: Location) -> NumberValidator
         ensures assertion { number_assertion result ≡ placed_limit relation limit location }
         ensures value { limit_of result ≡ Some (view value) };
 }
 
-/// The validator of a limit: it holds of a number that stands to the limit as `R` asks for, and of
-/// whatever is no number.
+/// The validator of a limit. It accepts a number that is in the relation `R` to the limit, and
+/// every non-number.
 #[derive(Drop)]
 pub struct Limit<T, R> {
     limit: T,
@@ -111,7 +118,7 @@ pub struct Limit<T, R> {
     relation: PhantomData<R>,
 }
 
-/// From the limit, its value in the schema and the keyword location.
+/// Creates the validator from the limit, the limit as the schema has it, and the keyword location.
 impl<T, R> From<(T, Value, Location)> for Limit<T, R> {
     ghost from_gives = { λ parts v. (v.limit ≡ parts.0) × (v.limit_value ≡ parts.1)
         × (v.location ≡ parts.2) };
@@ -128,7 +135,7 @@ impl<T, R> From<(T, Value, Location)> for Limit<T, R> {
 }
 
 impl<T, R> Limit<T, R> {
-    /// The limit as the schema has it.
+    /// Returns the limit as the schema has it.
     pub fn limit_value(&self) -> &Value
         ensures { result.now ≡ self.now.limit_value }
     {
@@ -163,7 +170,7 @@ impl<T: Whole, R: LimitTest> Assertion for Limit<T, R> {
     }
 }
 
-/// At least the limit.
+/// The relation of `minimum`: the number is at least the limit.
 #[derive(Drop)]
 pub struct AtLeast;
 
@@ -191,11 +198,11 @@ impl LimitTest for AtLeast {
     }
 }
 
-/// The validator of `minimum` (Validation 6.2.4): it holds of a number that is at least the limit,
-/// and of whatever is no number.
+/// The validator of `minimum` (JSON Schema Validation 6.2.4). It accepts a number that is at least
+/// the limit, and every non-number.
 pub type Minimum<T> = Limit<T, AtLeast>;
 
-/// At most the limit.
+/// The relation of `maximum`: the number is at most the limit.
 #[derive(Drop)]
 pub struct AtMost;
 
@@ -223,11 +230,11 @@ impl LimitTest for AtMost {
     }
 }
 
-/// The validator of `maximum` (Validation 6.2.2): it holds of a number that is at most the limit,
-/// and of whatever is no number.
+/// The validator of `maximum` (JSON Schema Validation 6.2.2). It accepts a number that is at most
+/// the limit, and every non-number.
 pub type Maximum<T> = Limit<T, AtMost>;
 
-/// Above the limit.
+/// The relation of `exclusiveMinimum`: the number is above the limit.
 #[derive(Drop)]
 pub struct Above;
 
@@ -255,11 +262,11 @@ impl LimitTest for Above {
     }
 }
 
-/// The validator of `exclusiveMinimum` (Validation 6.2.5): it holds of a number that is above the
-/// limit, and of whatever is no number.
+/// The validator of `exclusiveMinimum` (JSON Schema Validation 6.2.5). It accepts a number that is
+/// above the limit, and every non-number.
 pub type ExclusiveMinimum<T> = Limit<T, Above>;
 
-/// Below the limit.
+/// The relation of `exclusiveMaximum`: the number is below the limit.
 #[derive(Drop)]
 pub struct Below;
 
@@ -287,11 +294,12 @@ impl LimitTest for Below {
     }
 }
 
-/// The validator of `exclusiveMaximum` (Validation 6.2.3): it holds of a number that is below the
-/// limit, and of whatever is no number.
+/// The validator of `exclusiveMaximum` (JSON Schema Validation 6.2.3). It accepts a number that is
+/// below the limit, and every non-number.
 pub type ExclusiveMaximum<T> = Limit<T, Below>;
 
-// The validator of a value at the keyword of a relation, or the value's fault there.
+// Compiles the limit `schema` of the relation `R`. The error of the validator and a refusal are
+// both at the keyword of `R`.
 pub(crate) fn make<'a, F: Json, R: LimitTest>(
     alloc: Global,
     ctx: &Context<'_, F>,
@@ -310,9 +318,14 @@ pub(crate) fn make<'a, F: Json, R: LimitTest>(
     })
 }
 
-/// Compiles `minimum` of the drafts after Draft 4, in which
-/// [`minimum_draft_4`](crate::legacy::minimum_draft_4) reads a sibling too. The limit keeps the
-/// value of the schema.
+/// Compiles `minimum` for the drafts after Draft 4: the draft of `ctx` must not be Draft 4, which
+/// has a [`compile`](crate::legacy::minimum_draft_4::compile) of its own. Always returns `Some`.
+/// The validator keeps `schema`: [`limit_value`](Limit::limit_value) returns it.
+///
+/// # Errors
+///
+/// Fails if `schema` is not a limit, as the [module's documentation](self) says, or if memory runs
+/// out.
 #[tactic(auto, unfolding(jskw_report::specs::Read::asserted))]
 pub fn compile_minimum<'a, F: Json>(
     alloc: Global,
@@ -329,9 +342,14 @@ pub fn compile_minimum<'a, F: Json>(
     Some(make::<F, AtLeast>(alloc, ctx, schema))
 }
 
-/// Compiles `maximum` of the drafts after Draft 4, in which
-/// [`maximum_draft_4`](crate::legacy::maximum_draft_4) reads a sibling too. The limit keeps the
-/// value of the schema.
+/// Compiles `maximum` for the drafts after Draft 4: the draft of `ctx` must not be Draft 4, which
+/// has a [`compile`](crate::legacy::maximum_draft_4::compile) of its own. Always returns `Some`.
+/// The validator keeps `schema`: [`limit_value`](Limit::limit_value) returns it.
+///
+/// # Errors
+///
+/// Fails if `schema` is not a limit, as the [module's documentation](self) says, or if memory runs
+/// out.
 #[tactic(auto, unfolding(jskw_report::specs::Read::asserted))]
 pub fn compile_maximum<'a, F: Json>(
     alloc: Global,
@@ -348,8 +366,13 @@ pub fn compile_maximum<'a, F: Json>(
     Some(make::<F, AtMost>(alloc, ctx, schema))
 }
 
-/// Compiles `exclusiveMinimum`, in Draft 4 no keyword of its own. The limit keeps the value of the
-/// schema.
+/// Compiles `exclusiveMinimum`, which is not a keyword by itself in Draft 4. Always returns `Some`.
+/// The validator keeps `schema`: [`limit_value`](Limit::limit_value) returns it.
+///
+/// # Errors
+///
+/// Fails if `schema` is not a limit, as the [module's documentation](self) says, or if memory runs
+/// out.
 #[tactic(auto, unfolding(jskw_report::specs::Read::asserted))]
 pub fn compile_exclusive_minimum<'a, F: Json>(
     alloc: Global,
@@ -366,8 +389,13 @@ pub fn compile_exclusive_minimum<'a, F: Json>(
     Some(make::<F, Above>(alloc, ctx, schema))
 }
 
-/// Compiles `exclusiveMaximum`, in Draft 4 no keyword of its own. The limit keeps the value of the
-/// schema.
+/// Compiles `exclusiveMaximum`, which is not a keyword by itself in Draft 4. Always returns `Some`.
+/// The validator keeps `schema`: [`limit_value`](Limit::limit_value) returns it.
+///
+/// # Errors
+///
+/// Fails if `schema` is not a limit, as the [module's documentation](self) says, or if memory runs
+/// out.
 #[tactic(auto, unfolding(jskw_report::specs::Read::asserted))]
 pub fn compile_exclusive_maximum<'a, F: Json>(
     alloc: Global,

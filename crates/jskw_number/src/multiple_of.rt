@@ -1,7 +1,12 @@
-//! `multipleOf` (Validation 6.2.1): division of a number by the divisor gives an integer. Numbers
-//! are divided exactly, however they are written. A divisor is a whole number from 1 to 2^64-1. The
-//! error of a whole number at or below 0 is of the kind `ExclusiveMinimum` with the limit 0, that
-//! of any other number of the kind `CompileError`, and that of any other value of the type number.
+//! `multipleOf` (JSON Schema Validation 6.2.1): the number divided by the divisor is an integer.
+//! The division is exact for every decimal.
+//!
+//! A divisor is a number above 0 that `serde_json` holds as a `u64`: an integer from 1 to 2^64-1,
+//! written without a fraction or an exponent. Other values are refused:
+//!
+//! - an integer of 0 or less with the kind `ExclusiveMinimum` and the limit 0;
+//! - any other number, such as `0.5`, `2.0` or `-0`, with the kind `CompileError`;
+//! - any other value with the kind `WrongType` and the type number.
 ghost use Rattle.std.specs.Int.NonZero.{non_zero_u64_get};
 ghost use Rattle.std.specs.Prelude.{refl};
 ghost use Rattle.serde_json.specs.View.{view, members_view};
@@ -22,8 +27,8 @@ use serde_json::{Map, Value};
 use std::alloc::Global;
 use std::num::NonZeroU64;
 
-/// The validator of `multipleOf`: it holds of a number that is the divisor times an integer, and of
-/// whatever is no number.
+/// The validator of `multipleOf`. It accepts a number that is the divisor times an integer, and
+/// every non-number.
 #[derive(Drop)]
 pub struct MultipleOfIntegerValidator {
     multiple_of: NonZeroU64,
@@ -58,7 +63,12 @@ impl Assertion for MultipleOfIntegerValidator {
     }
 }
 
-/// Compiles `multipleOf`.
+/// Compiles `multipleOf`. Always returns `Some`.
+///
+/// # Errors
+///
+/// Fails if `schema` is not a divisor, as the [module's documentation](self) says, or if memory
+/// runs out.
 #[tactic(auto, unfolding(jskw_report::specs::Read::asserted))]
 pub fn compile<'a, F: Json>(
     alloc: Global,
@@ -73,7 +83,6 @@ pub fn compile<'a, F: Json>(
     Some(make(alloc, ctx, schema))
 }
 
-// The validator of a value, or the value's fault.
 fn make<'a, F: Json>(
     alloc: Global,
     ctx: &Context<'_, F>,
@@ -90,7 +99,7 @@ fn make<'a, F: Json>(
     }))
 }
 
-// The divisor that a value of a schema is, or its fault at the location.
+// Reads the divisor that `value` is. Refuses any other value at `location`.
 #[tactic(auto, using(crate::proofs::Divisors::divisors))]
 fn divisor<'a>(
     alloc: Global,

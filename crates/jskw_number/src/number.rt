@@ -1,4 +1,4 @@
-//! The validators of the keywords on numbers and sizes, as one type.
+//! The validators of this crate as one type.
 ghost use Rattle.jskw_number.specs.Meaning.{number_assertion, number_error, number_fails_once};
 
 use crate::max_items::MaxItemsValidator;
@@ -10,38 +10,40 @@ use crate::multiple_of::MultipleOfIntegerValidator;
 use jskw_report::{Assertion, Location, ValidationErrorKind};
 use jskw_value::Json;
 
-/// A validator of one keyword on numbers or sizes.
+/// The validator of one keyword on numbers or sizes.
 #[derive(Drop)]
 pub enum NumberValidator {
-    /// `minItems` (Validation 6.4.2).
+    /// `minItems` (JSON Schema Validation 6.4.2).
     MinItems(MinItemsValidator),
-    /// `maxItems` (Validation 6.4.1).
+    /// `maxItems` (JSON Schema Validation 6.4.1).
     MaxItems(MaxItemsValidator),
-    /// `minProperties` (Validation 6.5.2).
+    /// `minProperties` (JSON Schema Validation 6.5.2).
     MinProperties(MinPropertiesValidator),
-    /// `maxProperties` (Validation 6.5.1).
+    /// `maxProperties` (JSON Schema Validation 6.5.1).
     MaxProperties(MaxPropertiesValidator),
-    /// `minimum` (Validation 6.2.4), the limit a `u64`.
+    /// `minimum` (JSON Schema Validation 6.2.4) with a `u64`: for a limit of 0 or more.
     MinimumU64(Minimum<u64>),
-    /// `minimum`, the limit an `i64`.
+    /// `minimum` with an `i64`: for a negative limit.
     MinimumI64(Minimum<i64>),
-    /// `maximum` (Validation 6.2.2), the limit a `u64`.
+    /// `maximum` (JSON Schema Validation 6.2.2) with a `u64`: for a limit of 0 or more.
     MaximumU64(Maximum<u64>),
-    /// `maximum`, the limit an `i64`.
+    /// `maximum` with an `i64`: for a negative limit.
     MaximumI64(Maximum<i64>),
-    /// `exclusiveMinimum` (Validation 6.2.5), the limit a `u64`.
+    /// `exclusiveMinimum` (JSON Schema Validation 6.2.5), or an exclusive `minimum` of Draft 4,
+    /// with a `u64`: for a limit of 0 or more.
     ExclusiveMinimumU64(ExclusiveMinimum<u64>),
-    /// `exclusiveMinimum`, the limit an `i64`.
+    /// The same with an `i64`: for a negative limit.
     ExclusiveMinimumI64(ExclusiveMinimum<i64>),
-    /// `exclusiveMaximum` (Validation 6.2.3), the limit a `u64`.
+    /// `exclusiveMaximum` (JSON Schema Validation 6.2.3), or an exclusive `maximum` of Draft 4,
+    /// with a `u64`: for a limit of 0 or more.
     ExclusiveMaximumU64(ExclusiveMaximum<u64>),
-    /// `exclusiveMaximum`, the limit an `i64`.
+    /// The same with an `i64`: for a negative limit.
     ExclusiveMaximumI64(ExclusiveMaximum<i64>),
-    /// `multipleOf` (Validation 6.2.1).
+    /// `multipleOf` (JSON Schema Validation 6.2.1).
     MultipleOfInteger(MultipleOfIntegerValidator),
 }
 
-// What is said of the validator, whichever it is.
+// Evaluates `$answer` with `$validator` as the validator in the variant, whichever it is.
 macro_rules! whichever {
     ($number:expr, $validator:ident => $answer:expr) => {
         whichever!(

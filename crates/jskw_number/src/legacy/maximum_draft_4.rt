@@ -1,5 +1,5 @@
-//! `maximum` in Draft 4 (Validation 5.1.2): where `exclusiveMaximum` beside it is `true`, a number
-//! has to be below the limit.
+//! `maximum` in Draft 4 (Draft 4 Validation 5.1.2): if `exclusiveMaximum` beside it is `true`, a
+//! number must be below the limit.
 ghost use Rattle.std.specs.Prelude.{◌≡◌, false, IfOk, IfSome};
 ghost use Rattle.serde_json.specs.View.{view, members_view};
 ghost use Rattle.jskw_report.specs.Compile.{Compiles, reading};
@@ -15,9 +15,15 @@ use jskw_value::Json;
 use serde_json::{Map, Value};
 use std::alloc::Global;
 
-/// Compiles `maximum` of Draft 4. Where `parent` has `exclusiveMaximum` with the value `true` the
-/// limit is exclusive, and errors stand at `exclusiveMaximum`; every other value of it is as good
-/// as none. The limit keeps the value of the schema.
+/// Compiles `maximum` for Draft 4, which must be the draft of `ctx`. Always returns `Some`.
+///
+/// If `parent` has an `exclusiveMaximum` of `true`, the limit is exclusive, and its errors are at
+/// the location of `exclusiveMaximum`. Any other value of `exclusiveMaximum` is ignored. The
+/// validator keeps `schema`: [`limit_value`](crate::minmax::Limit::limit_value) returns it.
+///
+/// # Errors
+///
+/// Fails if `schema` is not a limit, as [`minmax`](crate::minmax) says, or if memory runs out.
 #[tactic(auto, unfolding(jskw_report::specs::Read::asserted))]
 pub fn compile<'a, F: Json>(
     alloc: Global,
