@@ -1,4 +1,4 @@
-//! The schema `false` (Core 4.3.2).
+//! The schema `false` (JSON Schema Core 4.3.2).
 ghost use Rattle.std.specs.Prelude.{◌≡◌, refl};
 ghost use Rattle.jskw_report.specs.Kind as kind;
 ghost use Rattle.jskw_leaf.specs.Meaning.{false_at, false_schema};
@@ -6,14 +6,14 @@ ghost use Rattle.jskw_leaf.specs.Meaning.{false_at, false_schema};
 use jskw_report::{Assertion, Location, ValidationErrorKind};
 use jskw_value::Json;
 
-/// The validator of `false`: it holds of nothing.
+/// The validator of the schema `false`. It accepts no instance.
 #[derive(Drop)]
 pub struct FalseValidator {
     location: Location,
 }
 
 impl FalseValidator {
-    /// The validator that fails at the location.
+    /// Creates the validator. `location` is the keyword location of its error.
     pub fn new(location: Location) -> FalseValidator
         ensures { false_schema result ≡ false_at location }
     {

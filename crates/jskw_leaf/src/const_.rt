@@ -1,4 +1,4 @@
-//! `const` (Validation 6.1.3): the instance equals the schema's value.
+//! `const` (JSON Schema Validation 6.1.3): the instance equals the value of the schema.
 ghost use Rattle.std.specs.Prelude.{◌≡◌, IsSome, refl};
 ghost use Rattle.serde_json.specs.Find.{as_bool, as_null, as_str};
 ghost use Rattle.serde_json.specs.View.{view};
@@ -11,7 +11,8 @@ use jskw_value::{Json, Node};
 pub use make::compile;
 use serde_json::Value;
 
-/// The validator of a value that is compared as a whole: an array, a number or an object.
+/// The validator of `const` with an array, a number or an object. It accepts an instance that
+/// equals the value as a whole.
 #[derive(Drop)]
 pub struct ConstValueValidator {
     value: Value,
@@ -42,18 +43,19 @@ impl Assertion for ConstValueValidator {
     }
 }
 
-/// The validator of an array.
+/// The validator of `const` with an array.
 pub type ConstArrayValidator = ConstValueValidator;
 
-/// The validator of a number.
+/// The validator of `const` with a number.
 pub type ConstNumberValidator = ConstValueValidator;
 
-/// The validator of an object.
+/// The validator of `const` with an object.
 pub type ConstObjectValidator = ConstValueValidator;
 
-/// The validator of a boolean.
+/// The validator of `const` with a boolean.
 #[derive(Drop)]
 pub struct ConstBooleanValidator {
+    // A `Value`, since errors borrow it.
     value: Value,
     location: Location,
     ghost is_boolean: { IsSome (as_bool (view value)) },
@@ -82,9 +84,10 @@ impl Assertion for ConstBooleanValidator {
     }
 }
 
-/// The validator of null.
+/// The validator of `const` with null.
 #[derive(Drop)]
 pub struct ConstNullValidator {
+    // A `Value`, since errors borrow it.
     value: Value,
     location: Location,
     ghost is_null: { IsSome (as_null (view value)) },
@@ -113,9 +116,10 @@ impl Assertion for ConstNullValidator {
     }
 }
 
-/// The validator of a string.
+/// The validator of `const` with a string.
 #[derive(Drop)]
 pub struct ConstStringValidator {
+    // A `Value`, since errors borrow it.
     value: Value,
     location: Location,
     ghost is_string: { IsSome (as_str (view value)) },

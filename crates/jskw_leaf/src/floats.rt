@@ -1,4 +1,4 @@
-//! Floats in a schema's value, which an expected value or an option may not hold.
+//! Floats in the value of `const` or `enum`, which must contain none.
 ghost use Rattle.std.specs.Prelude.{◌≡◌, option_map};
 ghost use Rattle.serde_json.specs.View.{view, items_view, members_view};
 ghost use Rattle.jskw_report.specs.Compile.{Makes};
@@ -9,8 +9,8 @@ use jskw_report::{CompilationResult, CompileFault, Location, ValidationErrorKind
 use serde_json::{Map, Value};
 use std::alloc::Global;
 
-// The first float of a value: depth first, items by index, members in the order of their names'
-// bytes.
+// Returns the first float of a value: depth first, items by index, members in the order of the
+// bytes of their names.
 #[cycle(first_float)]
 pub(crate) fn first_float(value: &Value) -> Option<&Value>
     ensures { option_map (λ v. view v.now) result ≡ first_float (view value.now) }
@@ -48,8 +48,8 @@ fn float_in_members(members: &Map<String, Value>) -> Option<&Value>
     None
 }
 
-// Ok where the value, that of the keyword at the location, holds no float, and else the compile
-// error of the first one.
+// Refuses a value that contains a float, at the location of its keyword. The value at fault is the
+// first float.
 pub(crate) fn refuse_floats<'a>(
     alloc: Global,
     location: &Location,

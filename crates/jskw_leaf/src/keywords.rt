@@ -1,4 +1,4 @@
-//! The compile of each keyword, by its name.
+//! Compiles the keywords without subschemas by their names.
 ghost use Rattle.std.specs.Prelude.{◌≡◌, true};
 ghost use Rattle.serde_json.specs.View.{view, members_view};
 ghost use Rattle.jskw_report.specs.Compile.{Compiles, reading};
@@ -16,8 +16,8 @@ use jskw_value::Json;
 use serde_json::{Map, Value};
 use std::alloc::Global;
 
-/// Whether the keyword is without subschemas, and so [`compile`] takes it: all are but `items`,
-/// `prefixItems`, `additionalItems` and `contains` (Core 10.3.1).
+/// Returns whether the keyword has no subschemas, so that [`compile`] takes it: true for all but
+/// `items`, `prefixItems`, `additionalItems` and `contains` (JSON Schema Core 10.3.1).
 pub fn is_leaf(keyword: KeywordName) -> bool
     ensures { result ≡ is_leaf keyword }
 {
@@ -30,11 +30,12 @@ pub fn is_leaf(keyword: KeywordName) -> bool
     )
 }
 
-/// Compiles a keyword without subschemas, as [`is_leaf`] tells, by the `compile` of its module:
-/// `schema` is the value that `parent` has under its name, and `ctx` stands at the keyword location
-/// of `parent`. That the keyword stands under the setting is for the caller to see. None exactly
-/// where the keyword asserts nothing. A value that the keyword does not take is an error at the
-/// keyword location; else only memory can fail.
+/// Compiles a keyword without subschemas, by its name and the draft of `ctx`. [`is_leaf`] of
+/// `keyword` must be true.
+///
+/// Returns `None` exactly if the keyword asserts nothing: for `uniqueItems` with any value but
+/// `true`, and for a `required` that is [handed on](crate::required::is_handed_on). The
+/// [crate's documentation](crate) has the other arguments and the errors.
 pub fn compile<'a, F: Json>(
     alloc: Global,
     ctx: &Context<'_, F>,
@@ -59,7 +60,7 @@ pub fn compile<'a, F: Json>(
     }
 }
 
-// A validator of a number or size as one of any keyword without subschemas.
+// Wraps the validator in a `LeafValidator`.
 fn of_number<'a, F: Json>(
     compiled: Option<CompilationResult<'a, NumberValidator>>,
 ) -> Option<CompilationResult<'a, LeafValidator<F>>>

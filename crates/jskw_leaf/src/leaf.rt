@@ -1,4 +1,4 @@
-//! The validators of the keywords without subschemas, as one type.
+//! The validators of the keywords without subschemas as one type.
 ghost use Rattle.jskw_report.specs.Meaning.{one};
 ghost use Rattle.jskw_leaf.specs.Meaning.{leaf_keyword};
 
@@ -27,46 +27,78 @@ use jskw_report::{
 use jskw_value::{Json, NotNullable, Nullable};
 use std::alloc::{AllocError, Global};
 
-/// A validator of one keyword without subschemas, over the representation `F`. [`compile`] makes
-/// one of each but `False`, which is for the schema that is `false`.
+/// The validator of one keyword without subschemas, over the representation `F`.
+///
+/// [`compile`] returns every variant but `False`, which is for the schema `false`.
 ///
 /// [`compile`]: crate::compile
 #[derive(Drop)]
 pub enum LeafValidator<F: Json> {
+    /// The schema `false` (JSON Schema Core 4.3.2).
     False(FalseValidator),
+    /// A limit, a divisor or a bound on a size: one of the nine keywords of `jskw_number`.
     Number(NumberValidator),
+    /// `type` with an array of no name or of several, after Draft 4 (JSON Schema Validation 6.1.1).
     MultipleTypes(MultipleTypesValidator),
+    /// `type` with `array`.
     ArrayType(ArrayTypeValidator),
+    /// `type` with `boolean`.
     BooleanType(BooleanTypeValidator),
+    /// `type` with `integer`, after Draft 4.
     IntegerType(IntegerTypeValidator),
+    /// `type` with `null`.
     NullType(NullTypeValidator),
+    /// `type` with `number`.
     NumberType(NumberTypeValidator),
+    /// `type` with `object`.
     ObjectType(ObjectTypeValidator),
+    /// `type` with `string`.
     StringType(StringTypeValidator),
+    /// `type` with an array of no name or of several, in Draft 4 (Draft 4 Validation 5.5.2).
     MultipleTypesDraft4(type_draft_4::MultipleTypesValidator),
+    /// `type` with `integer`, in Draft 4.
     IntegerTypeDraft4(type_draft_4::IntegerTypeValidator),
+    /// `const` with an array (JSON Schema Validation 6.1.3).
     ConstArray(ConstArrayValidator),
+    /// `const` with a boolean.
     ConstBoolean(ConstBooleanValidator),
+    /// `const` with null.
     ConstNull(ConstNullValidator),
+    /// `const` with a number.
     ConstNumber(ConstNumberValidator),
+    /// `const` with an object.
     ConstObject(ConstObjectValidator),
+    /// `const` with a string.
     ConstString(ConstStringValidator),
+    /// `enum` with options that no other variant is for (JSON Schema Validation 6.1.2).
     Enum(EnumValidator),
+    /// `enum` with one option.
     SingleValueEnum(SingleValueEnumValidator),
+    /// `enum` with at most 10 options, all of them strings, or with none.
     SmallStringEnum(SmallStringEnumValidator<NotNullable>),
+    /// `enum` with at most 10 options, strings or null, with null among them.
     NullableSmallStringEnum(SmallStringEnumValidator<Nullable>),
+    /// `enum` with more than 10 options, all of them strings.
     BigStringEnum(BigStringEnumValidator<NotNullable>),
+    /// `enum` with more than 10 options, strings or null, with null among them.
     NullableBigStringEnum(BigStringEnumValidator<Nullable>),
+    /// `enum` with options that are all integers from -2^63 to 2^63-1.
     IntegerEnum(IntegerEnumValidator<NotNullable>),
+    /// `enum` with integers from -2^63 to 2^63-1 or null, with null among them.
     NullableIntegerEnum(IntegerEnumValidator<Nullable>),
+    /// `uniqueItems` with `true` (JSON Schema Validation 6.4.3).
     UniqueItems(UniqueItemsValidator),
+    /// `required` with no name or more than three (JSON Schema Validation 6.5.3).
     Required(RequiredValidator<F>),
+    /// `required` with one name.
     SingleItemRequired(SingleItemRequiredValidator<F>),
+    /// `required` with two names.
     Required2(Required2Validator<F>),
+    /// `required` with three names.
     Required3(Required3Validator<F>),
 }
 
-// What is said of the validator, whichever it is.
+// Evaluates `$answer` with `$validator` as the validator in the variant, whichever it is.
 macro_rules! whichever {
     ($leaf:expr, $validator:ident => $answer:expr) => {
         whichever!(@ $leaf, $validator => $answer;

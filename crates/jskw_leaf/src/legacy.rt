@@ -1,2 +1,2 @@
-//! Keywords as Draft 4 has them.
+//! The keywords that Draft 4 defines differently.
 pub mod type_draft_4;

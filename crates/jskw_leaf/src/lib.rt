@@ -1,11 +1,18 @@
-//! The keywords without subschemas (Core 7.6, Validation 6), and the enum of their validators.
+//! Validators for the keywords without subschemas (JSON Schema Core 7.6, Validation 6), and the
+//! enum [`LeafValidator`] of them all. The validators of the keywords on numbers and sizes come
+//! from `jskw_number`.
 //!
-//! Each keyword has a module with its validators and a `compile`; [`compile`](crate::compile) takes
-//! the one of a keyword's name. All take the object of the schema as `parent`, the keyword's value
-//! there as `schema`, and a [`Context`](jskw_report::Context) at the keyword location of `parent`.
-//! They answer None where the keyword asserts nothing, the error of a value that the keyword does
-//! not take, or want of memory; else a validator, whose four observers are those of
-//! [`Validate`](jskw_report::Validate).
+//! [`compile`](crate::compile) turns such a keyword of a schema into a `LeafValidator`, whose four
+//! observers are those of [`Validate`](jskw_report::Validate). They require a lawful instance: one
+//! that contains no float, as [`is_lawful`](jskw_value::Node::is_lawful) checks. Each keyword's
+//! module has its own validators and its own `compile`.
+//!
+//! # Arguments
+//!
+//! Each `compile` takes an object of the schema as `parent`, the value that the keyword has in it
+//! as `schema`, and the context of `parent` as `ctx`. The caller checks that the keyword is active,
+//! by [`stands`](jskw_report::KeywordName::stands). Only `required` and Draft 4's `minimum` and
+//! `maximum` read `parent`; the others take it to have the same signature.
 //!
 //! ```rust
 //! let schema = member_of(parent, keyword.as_str())?;
@@ -15,7 +22,17 @@
 //! jskw_leaf::compile(alloc, ctx, parent, keyword, schema)
 //! ```
 //!
-//! The validator is asked of an instance that is lawful: it holds no float, as `is_lawful` tells.
+//! A `compile` returns `None` exactly if the keyword asserts nothing: for `uniqueItems` with any
+//! value but `true`, and for a `required` that is [handed on](required::is_handed_on).
+//!
+//! # Errors
+//!
+//! A `compile` fails with [`CompileFault::Memory`](jskw_report::CompileFault::Memory) if memory
+//! runs out, and with [`CompileFault::Bad`](jskw_report::CompileFault::Bad) if the keyword does not
+//! accept the value. That error is at the location of the keyword, with one exception: for a Draft
+//! 4 `minimum` that is exclusive it is at `exclusiveMinimum`, and for such a `maximum` at
+//! `exclusiveMaximum`. The module of the keyword says which values are refused, and with which kind
+//! of error.
 #![tactic(auto)]
 
 pub mod boolean;

@@ -1,4 +1,4 @@
-//! `required` (Validation 6.5.3): an object has a member of each name.
+//! `required` (JSON Schema Validation 6.5.3): the object has a member of each name.
 ghost use Rattle.std.specs.Prelude.{◌≡◌};
 ghost use Rattle.jskw_report.specs.Meaning.{one, placed};
 ghost use Rattle.jskw_leaf.specs.Meaning.{required_names};
@@ -23,8 +23,9 @@ use names::{NameList, Names, OneName, ThreeNames, TwoNames};
 use std::alloc::{AllocError, Global};
 use std::marker::PhantomData;
 
-/// The validator of the names that `L` holds, each once, over the representation `F`. It fails once
-/// for each name that an object lacks.
+/// The validator of `required`, over the representation `F`. `L` holds the names, each once. It
+/// accepts an object with all of them, and every non-object; otherwise it gives an error for each
+/// name that is missing.
 #[derive(Drop)]
 pub struct RequiredNames<F: Json, L> {
     names: L,
@@ -33,7 +34,7 @@ pub struct RequiredNames<F: Json, L> {
 }
 
 impl<F: Json, L> RequiredNames<F, L> {
-    // The validator that fails at the location.
+    // Creates the validator. `location` is the keyword location of its errors.
     fn new(names: L, location: Location) -> RequiredNames<F, L>
         ensures names { result.names ≡ names }
         ensures location { result.location ≡ location }
@@ -46,16 +47,16 @@ impl<F: Json, L> RequiredNames<F, L> {
     }
 }
 
-/// The validator of any number of names.
+/// The validator of `required` with any number of names.
 pub type RequiredValidator<F> = RequiredNames<F, NameList<F>>;
 
-/// The validator of one name.
+/// The validator of `required` with one name.
 pub type SingleItemRequiredValidator<F> = RequiredNames<F, OneName<F>>;
 
-/// The validator of two names.
+/// The validator of `required` with two names.
 pub type Required2Validator<F> = RequiredNames<F, TwoNames<F>>;
 
-/// The validator of three names.
+/// The validator of `required` with three names.
 pub type Required3Validator<F> = RequiredNames<F, ThreeNames<F>>;
 
 impl<F: Json, L: Names<F>> Validate<F> for RequiredNames<F, L> {

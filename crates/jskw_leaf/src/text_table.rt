@@ -1,11 +1,11 @@
-//! Sorted tables of texts, in which one is looked up by halves.
+//! Sorted tables of strings, for a binary search.
 ghost use Rattle.std.specs.Prelude.{◌≡◌, map, string_bytes, string_cmp};
 ghost use Rattle.std.specs.List.Sorted.{IsSorted, IsPermutation};
 ghost use Rattle.jskw_leaf.specs.Options.{some_text, text_against};
 
 use std::cmp::Ordering;
 
-// The texts in rising order. It takes no memory.
+// Sorts the strings by their bytes. Allocates nothing.
 pub(crate) fn sorted(mut texts: Vec<String>) -> Vec<String>
     ensures sorted { IsSorted string_cmp result.items }
     ensures same { IsPermutation (map string_bytes texts.items) (map string_bytes result.items) }
@@ -14,7 +14,7 @@ pub(crate) fn sorted(mut texts: Vec<String>) -> Vec<String>
     texts
 }
 
-// Whether the text is one of the sorted ones.
+// Returns whether the sorted table has the string.
 #[inline(never)]
 pub(crate) fn is_in_table(table: &[String], text: &str) -> bool
     requires { IsSorted string_cmp table.now }

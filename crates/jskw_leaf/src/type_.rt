@@ -1,5 +1,5 @@
-//! `type` (Validation 6.1.1): the instance is of one of the types that the schema names. A number
-//! with a zero fractional part is an integer, however it is written.
+//! `type` (JSON Schema Validation 6.1.1): the instance is of one of the types that the schema
+//! names. A number whose fractional part is zero is an integer, however it is written.
 ghost use Rattle.std.specs.Prelude.{◌≡◌, IsTrue, refl, true};
 ghost use Rattle.serde_json.specs.View.{view, items_view, members_view};
 ghost use Rattle.jskw_value.specs.Number.{is_exact, is_integer};
@@ -33,7 +33,7 @@ use std::alloc::Global;
 use std::marker::PhantomData;
 use std::str::FromStr;
 
-/// The validator of a set of types, that of an array of names.
+/// The validator of `type` with an array of no name or of several.
 #[derive(Drop)]
 pub struct MultipleTypesValidator {
     types: JsonTypeSet,
@@ -60,26 +60,27 @@ impl Assertion for MultipleTypesValidator {
     }
 }
 
-/// One type, as a test of instances that is known where the code is compiled.
+/// A type of JSON Schema as a Rust type, which tests instances.
 pub trait TypeTest {
     /// The type.
     ghost json_type: { JsonType };
 
-    /// How it tells integers.
+    /// Which numbers are integers: by their value or by how they are written.
     ghost rule: { Integers };
 
-    /// The type.
+    /// Returns the type.
     fn json_type() -> JsonType
         ensures { result ≡ json_type };
 
-    /// Whether the instance, which is lawful, is of the type. It takes no memory.
+    /// Returns whether the instance is of the type. The instance must be lawful: it contains no
+    /// float. Allocates nothing.
     fn matches<F: Json>(instance: &F::Node) -> bool
         requires { IsTrue (is_lawful (F.Node.tree instance.now)) }
         ensures { result
             ≡ assertion_holds (type_is (Single json_type) rule) (F.Node.tree instance.now) };
 }
 
-/// The validator of the one type that `T` tells.
+/// The validator of `type` with the one type that `T` tests for.
 #[derive(Drop)]
 pub struct SingleTypeValidator<T: TypeTest> {
     location: Location,
@@ -87,7 +88,7 @@ pub struct SingleTypeValidator<T: TypeTest> {
 }
 
 impl<T: TypeTest> SingleTypeValidator<T> {
-    /// The validator that fails at the location.
+    /// Creates the validator. `location` is the keyword location of its error.
     pub fn new(location: Location) -> SingleTypeValidator<T>
         ensures { single_type T.json_type T.rule result ≡ type_at T.json_type T.rule location }
     {
@@ -116,7 +117,7 @@ impl<T: TypeTest> Assertion for SingleTypeValidator<T> {
     }
 }
 
-/// The type null.
+/// The type `null`.
 #[derive(Drop)]
 pub struct NullType;
 
@@ -134,10 +135,10 @@ impl TypeTest for NullType {
     }
 }
 
-/// The validator of the type null.
+/// The validator of the type `null`.
 pub type NullTypeValidator = SingleTypeValidator<NullType>;
 
-/// The type boolean.
+/// The type `boolean`.
 #[derive(Drop)]
 pub struct BooleanType;
 
@@ -155,10 +156,10 @@ impl TypeTest for BooleanType {
     }
 }
 
-/// The validator of the type boolean.
+/// The validator of the type `boolean`.
 pub type BooleanTypeValidator = SingleTypeValidator<BooleanType>;
 
-/// The type integer: a number with a zero fraction is one.
+/// The type `integer`: a number whose fractional part is zero, such as `1` and `1.0`.
 #[derive(Drop)]
 pub struct IntegerType;
 
@@ -179,10 +180,10 @@ impl TypeTest for IntegerType {
     }
 }
 
-/// The validator of the type integer.
+/// The validator of the type `integer`.
 pub type IntegerTypeValidator = SingleTypeValidator<IntegerType>;
 
-/// The type number.
+/// The type `number`.
 #[derive(Drop)]
 pub struct NumberType;
 
@@ -200,10 +201,10 @@ impl TypeTest for NumberType {
     }
 }
 
-/// The validator of the type number.
+/// The validator of the type `number`.
 pub type NumberTypeValidator = SingleTypeValidator<NumberType>;
 
-/// The type string.
+/// The type `string`.
 #[derive(Drop)]
 pub struct StringType;
 
@@ -221,10 +222,10 @@ impl TypeTest for StringType {
     }
 }
 
-/// The validator of the type string.
+/// The validator of the type `string`.
 pub type StringTypeValidator = SingleTypeValidator<StringType>;
 
-/// The type array.
+/// The type `array`.
 #[derive(Drop)]
 pub struct ArrayType;
 
@@ -242,10 +243,10 @@ impl TypeTest for ArrayType {
     }
 }
 
-/// The validator of the type array.
+/// The validator of the type `array`.
 pub type ArrayTypeValidator = SingleTypeValidator<ArrayType>;
 
-/// The type object.
+/// The type `object`.
 #[derive(Drop)]
 pub struct ObjectType;
 
@@ -263,10 +264,11 @@ impl TypeTest for ObjectType {
     }
 }
 
-/// The validator of the type object.
+/// The validator of the type `object`.
 pub type ObjectTypeValidator = SingleTypeValidator<ObjectType>;
 
-/// What the number's `is_integer` answers. The number is a decimal.
+/// Returns [`is_integer`](JsonNumber::is_integer) of the number: whether its fractional part is
+/// zero. The number must be a decimal, not a float.
 pub fn is_integer<N: JsonNumber>(number: &N) -> bool
     requires { IsTrue (is_exact (N.number number.now)) }
     ensures { result ≡ is_integer (N.number number.now) }
@@ -274,9 +276,22 @@ pub fn is_integer<N: JsonNumber>(number: &N) -> bool
     number.is_integer()
 }
 
-/// Compiles `type` of the drafts after Draft 4. Always Some. The value is a name or an array of
-/// names. A name by itself that no type has is a compile error with the message `Unexpected type`;
-/// one among others is an error of the options `TypeNames`.
+/// Compiles `type` for the drafts after Draft 4: the draft of `ctx` must not be Draft 4, which has
+/// a [`compile`](crate::legacy::type_draft_4::compile) of its own. Always returns `Some`.
+///
+/// # Errors
+///
+/// Fails if memory runs out, or if the value is not the name of a type or an array of such names:
+///
+/// - If the value is neither a string nor an array, the kind is `WrongType` with the types array
+///   and string.
+/// - If a string, or the only item of an array, is an unknown name, the kind is `CompileError` with
+///   the message `Unexpected type`.
+/// - If an item of any other array is an unknown name, the kind is `Enum` with the options
+///   `TypeNames`.
+/// - If an item of an array is not a string, the kind is `WrongType` with the type string.
+///
+/// In an array, the value at fault is the first such item.
 #[tactic(auto, using(jskw_report::proofs::TypeReading::type_after_draft_4), unfolding(jskw_report::specs::Read::asserted))]
 pub fn compile<'a, F: Json>(
     alloc: Global,
@@ -310,7 +325,7 @@ fn type_validator<'a, F: Json>(
     }
 }
 
-// The validator of one type, by the rule of the drafts after Draft 4.
+// Returns the validator of one type, in the drafts after Draft 4.
 pub(crate) fn single_validator<F: Json>(json_type: JsonType, location: Location) -> LeafValidator<F>
     ensures { leaf_keyword result ≡ placed (type_at json_type by_value location) }
 {
@@ -325,7 +340,7 @@ pub(crate) fn single_validator<F: Json>(json_type: JsonType, location: Location)
     }
 }
 
-// The types that the value of `type` names, or its refusal.
+// Reads the value of `type`. Refuses it at `location` if it names no types.
 pub(crate) fn type_kind<'a>(
     alloc: Global,
     location: &Location,
@@ -346,7 +361,7 @@ pub(crate) fn type_kind<'a>(
     }
 }
 
-// The types that an array names; one name is as good without the array.
+// Reads an array of names. An array of one name means the same as the name.
 #[tactic(auto, using(crate::proofs::Types::array_of_one, crate::proofs::Types::array_of_others))]
 fn array_types<'a>(
     alloc: Global,
@@ -361,7 +376,7 @@ fn array_types<'a>(
     Ok(TypeKind::Multiple(type_set(alloc, location, items)?))
 }
 
-// The one type that a value names.
+// Reads the name of the only type.
 fn one_type<'a>(
     alloc: Global,
     location: &Location,
@@ -375,7 +390,7 @@ fn one_type<'a>(
     Ok(TypeKind::Single(named_type(alloc, unknown, location, value)?))
 }
 
-// The types that the items name.
+// Reads the names of a set of types.
 #[tactic(auto, using(crate::proofs::Types::next_type, crate::proofs::Types::with_no_types))]
 fn type_set<'a>(
     alloc: Global,
@@ -394,7 +409,7 @@ fn type_set<'a>(
     Ok(types)
 }
 
-// The type that the value names, or its refusal, of the kind `unknown` where no type has the name.
+// Reads the name of a type. If it is unknown, the error has the kind `unknown`.
 fn named_type<'a>(
     alloc: Global,
     unknown: ValidationErrorKind<'a>,

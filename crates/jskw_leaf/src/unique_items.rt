@@ -1,4 +1,4 @@
-//! `uniqueItems` (Validation 6.4.3): no two items of an array are equal.
+//! `uniqueItems` (JSON Schema Validation 6.4.3): no two items of the array are equal.
 ghost use Rattle.std.specs.Prelude.{refl};
 ghost use Rattle.serde_json.specs.View.{view, members_view};
 ghost use Rattle.jskw_report.specs.Compile.{Compiles, reading};
@@ -14,7 +14,8 @@ use jskw_value::{Array, Json, Node};
 use serde_json::{Map, Value};
 use std::alloc::Global;
 
-/// The validator of `uniqueItems` where it is `true`. What is no array has no items.
+/// The validator of `uniqueItems` with `true`. It accepts an array without equal items, and every
+/// non-array.
 #[derive(Drop)]
 pub struct UniqueItemsValidator {
     location: Location,
@@ -42,8 +43,12 @@ impl Assertion for UniqueItemsValidator {
     }
 }
 
-/// Compiles `uniqueItems`. There is a validator where the value is `true`, and every other value
-/// asserts nothing. Only memory can fail.
+/// Compiles `uniqueItems`. Returns `None` if the value is anything but `true`: it asserts nothing
+/// then.
+///
+/// # Errors
+///
+/// Fails only if memory runs out.
 #[tactic(auto, unfolding(jskw_report::specs::Read::asserted))]
 pub fn compile<'a, F: Json>(
     alloc: Global,

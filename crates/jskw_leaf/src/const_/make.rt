@@ -1,4 +1,4 @@
-//! The validator of an expected value.
+//! Compiles `const`.
 ghost use Rattle.std.specs.Prelude.{◌≡◌};
 ghost use Rattle.serde_json.specs.View.{view, members_view};
 ghost use Rattle.jskw_report.specs.Compile.{Makes, Compiles, reading};
@@ -18,9 +18,12 @@ use jskw_value::Json;
 use serde_json::{Map, Value};
 use std::alloc::Global;
 
-/// Compiles `const`. Always Some: any value is taken that holds no float, and the validator is
-/// chosen by its type. A value that holds a float is a compile error with the message `Not a whole
-/// number of 64 bits`, whose value at fault is the first float.
+/// Compiles `const`. Always returns `Some`. The validator depends on the type of the value.
+///
+/// # Errors
+///
+/// Fails if memory runs out, or if the value contains a float: with a `CompileError` whose message
+/// is `Not a whole number of 64 bits`. The value at fault is the first float, depth first.
 #[tactic(auto, unfolding(jskw_report::specs::Read::asserted))]
 pub fn compile<'a, F: Json>(
     alloc: Global,
@@ -48,7 +51,7 @@ fn const_validator<'a, F: Json>(
     Ok(validator_of(schema.clone()?, location))
 }
 
-// The validator of a value, by its type.
+// Returns the validator for the type of the value.
 fn validator_of<F: Json>(value: Value, location: Location) -> LeafValidator<F>
     ensures { leaf_keyword result ≡ placed (constant_at location value) }
 {

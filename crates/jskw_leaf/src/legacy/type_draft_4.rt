@@ -1,5 +1,5 @@
-//! `type` in Draft 4 (Validation 5.5.2): a number is an integer where it is written without a
-//! fraction, so 1.0 is none.
+//! `type` in Draft 4 (Draft 4 Validation 5.5.2): a number is an integer if it is written without a
+//! fraction, so `1.0` is not.
 ghost use Rattle.std.specs.Prelude.{◌≡◌, IsTrue, refl, false};
 ghost use Rattle.serde_json.specs.View.{view, members_view};
 ghost use Rattle.jskw_value.specs.Number.{is_exact, is_written_as_integer};
@@ -23,7 +23,7 @@ use jskw_value::{Json, JsonNumber, JsonType, JsonTypeSet, Node};
 use serde_json::{Map, Value};
 use std::alloc::Global;
 
-/// The validator of a set of types, that of an array of names.
+/// The validator of `type` with an array of no name or of several.
 #[derive(Drop)]
 pub struct MultipleTypesValidator {
     types: JsonTypeSet,
@@ -56,7 +56,7 @@ impl Assertion for MultipleTypesValidator {
     }
 }
 
-/// The type integer: a number that is written without a fraction is one.
+/// The type `integer`: a number that is written without a fraction.
 #[derive(Drop)]
 pub struct IntegerType;
 
@@ -77,10 +77,11 @@ impl TypeTest for IntegerType {
     }
 }
 
-/// The validator of the type integer.
+/// The validator of the type `integer`.
 pub type IntegerTypeValidator = SingleTypeValidator<IntegerType>;
 
-/// What the number's `is_written_as_integer` answers. The number is a decimal.
+/// Returns [`is_written_as_integer`](JsonNumber::is_written_as_integer) of the number: whether it
+/// is written without a fraction. The number must be a decimal, not a float.
 pub fn is_integer<N: JsonNumber>(number: &N) -> bool
     requires { IsTrue (is_exact (N.number number.now)) }
     ensures { result ≡ is_written_as_integer (N.number number.now) }
@@ -88,8 +89,11 @@ pub fn is_integer<N: JsonNumber>(number: &N) -> bool
     number.is_written_as_integer()
 }
 
-/// Compiles `type` of Draft 4, as [`type_::compile`](crate::type_::compile) does that of later
-/// drafts.
+/// Compiles `type` for Draft 4, which must be the draft of `ctx`. Always returns `Some`.
+///
+/// # Errors
+///
+/// As [`type_::compile`](crate::type_::compile) for later drafts.
 #[tactic(auto, using(jskw_report::proofs::TypeReading::type_in_draft_4), unfolding(jskw_report::specs::Read::asserted))]
 pub fn compile<'a, F: Json>(
     alloc: Global,

@@ -1,4 +1,4 @@
-//! What stands beside `required`, which may leave it to the keywords of objects.
+//! When the keywords beside `required` let it be handed on to the object layer.
 ghost use Rattle.std.specs.Prelude.{◌≡◌, not};
 ghost use Rattle.serde_json.specs.View.{view, members_view};
 ghost use Rattle.jskw_report.specs.Sibling.{has_few_members, has_items, is_absent, is_false};
@@ -10,15 +10,21 @@ use jskw_report::{Context, KeywordName, Vocabulary};
 use jskw_value::Json;
 use serde_json::{Map, Value};
 
-// The number of members of `properties` from which on two required names are not handed on.
+// With this many members of `properties` or more, two required names are not handed on.
 const HASHMAP_THRESHOLD: usize = 15;
 
-/// Whether `parent` has a `required` that stands and is left to the keywords of objects beside it:
-/// then [`compile`](super::compile) makes nothing of it. Where there is an object layer, that is so
-/// under the applicator vocabulary without `patternProperties`, of one item beside `properties` and
-/// an `additionalProperties` of `false` that isn't overridden, and of two items beside `properties`
-/// of fewer than 15 members that aren't overridden, where `additionalProperties` is neither `false`
-/// nor an object. Items count as they are written.
+/// Returns whether the `required` of `parent` is active and is handed on to the object layer. Then
+/// [`compile`](super::compile) makes no validator of it, and does not check its value.
+///
+/// It is handed on if the context has an object layer, the applicator vocabulary is present,
+/// `parent` has no `patternProperties`, and one of these two cases is given:
+///
+/// - `required` is an array of one item, `parent` has `properties`, and its `additionalProperties`
+///   is `false` and not overridden.
+/// - `required` is an array of two items, `properties` is an object of fewer than 15 members and
+///   not overridden, and `additionalProperties` is neither `false` nor an object, or is absent.
+///
+/// The items are counted as they are written: a repeated name counts twice.
 #[tactic(auto, unfolding(jskw_report::specs::Sibling::is_handed_on))]
 pub fn is_handed_on<F: Json>(ctx: &Context<'_, F>, parent: &Map<String, Value>) -> bool
     ensures { result ≡ is_handed_on ctx.now.setting (members_view parent.now.entries) }
@@ -30,8 +36,8 @@ pub fn is_handed_on<F: Json>(ctx: &Context<'_, F>, parent: &Map<String, Value>) 
         && (requires_one_of_properties(ctx, parent) || requires_two_of_properties(ctx, parent))
 }
 
-// Whether `required` has one item, there are `properties`, and no other members are allowed by an
-// `additionalProperties` that isn't overridden.
+// One required name: no members but those of `properties` are allowed, by an `additionalProperties`
+// that is not overridden.
 fn requires_one_of_properties<F: Json>(ctx: &Context<'_, F>, parent: &Map<String, Value>) -> bool
     ensures { result
         ≡ requires_one_of_properties ctx.now.setting (members_view parent.now.entries) }
@@ -42,7 +48,7 @@ fn requires_one_of_properties<F: Json>(ctx: &Context<'_, F>, parent: &Map<String
         && !ctx.is_keyword_overridden("additionalProperties")
 }
 
-// Whether `required` has two items, there are few `properties`, which aren't overridden, and
+// Two required names: `properties` has few members and is not overridden, and
 // `additionalProperties` is neither `false` nor an object.
 fn requires_two_of_properties<F: Json>(ctx: &Context<'_, F>, parent: &Map<String, Value>) -> bool
     ensures { result
@@ -55,7 +61,6 @@ fn requires_two_of_properties<F: Json>(ctx: &Context<'_, F>, parent: &Map<String
         && !has_object(parent, "additionalProperties")
 }
 
-// Whether `parent` has an array of so many items under a name.
 fn has_items(parent: &Map<String, Value>, name: &str, count: usize) -> bool
     ensures { result
         ≡ member_passes (has_items count) name.now (members_view parent.now.entries) }
@@ -66,7 +71,6 @@ fn has_items(parent: &Map<String, Value>, name: &str, count: usize) -> bool
     }
 }
 
-// Whether the value is an array of so many items.
 fn is_array_of(value: &Value, count: usize) -> bool
     ensures { result ≡ has_items count (view value.now) }
 {
@@ -76,28 +80,24 @@ fn is_array_of(value: &Value, count: usize) -> bool
     }
 }
 
-// Whether `parent` has the name.
 fn has_member(parent: &Map<String, Value>, name: &str) -> bool
     ensures { result ≡ not (is_absent name.now (members_view parent.now.entries)) }
 {
     member_of(parent, name).is_some()
 }
 
-// Whether `parent` has `false` under a name.
 fn has_false(parent: &Map<String, Value>, name: &str) -> bool
     ensures { result ≡ member_passes is_false name.now (members_view parent.now.entries) }
 {
     matches!(member_of(parent, name), Some(Value::Bool(false)))
 }
 
-// Whether `parent` has an object under a name.
 fn has_object(parent: &Map<String, Value>, name: &str) -> bool
     ensures { result ≡ member_passes is_object name.now (members_view parent.now.entries) }
 {
     matches!(member_of(parent, name), Some(Value::Object(_)))
 }
 
-// Whether `parent` has an object of few members under a name.
 fn has_small_object(parent: &Map<String, Value>, name: &str) -> bool
     ensures { result ≡ member_passes has_few_members name.now (members_view parent.now.entries) }
 {
@@ -107,7 +107,6 @@ fn has_small_object(parent: &Map<String, Value>, name: &str) -> bool
     }
 }
 
-// Whether the value is an object of few members.
 fn has_few_members(value: &Value) -> bool
     ensures { result ≡ has_few_members (view value.now) }
 {

@@ -1,5 +1,6 @@
-//! Which of some names an object has. They are looked for in one walk over an object of not too many
-//! members, of which only a few are told apart by it; else each is looked up by its key.
+//! Which of the required names an object has. An object of at most `KEYS_PER_LOOKUP` members for
+//! each name is walked over once; in a larger one each name is looked up. The walk that tells which
+//! names are missing is for at most 16 names.
 ghost use Rattle.std.specs.Prelude.{◌≡◌, ◌<◌, ◌≤◌, ◌==◌, ◌^◌, [], IfSome, Some, IsTrue, is_some};
 ghost use Rattle.std.specs.Prelude.{not, length, slice_get, slice_index_or};
 ghost use Rattle.std.specs.Int.{bit_at};
@@ -10,10 +11,12 @@ ghost use Rattle.jskw_leaf.specs.Required.{is_among, Marks};
 use super::names::Names;
 use jskw_value::{Json, KeyHead, Object};
 
-// The most names that one walk tells apart: it compares a member with each, and marks it by a bit.
+// The largest number of names for the walk that tells them apart: it compares each member with
+// every name, and marks a name by a bit.
 const MAX_SCANNED_REQUIRED: usize = 16;
 
-// Whether the object has every name. A walk over it is taken where it is no longer than look-ups.
+// Returns whether the object has all names. Walks over it if that takes no longer than the
+// look-ups.
 #[inline(never)]
 #[tactic(auto, using(crate::proofs::Counting::too_few))]
 pub(crate) fn has_all<F: Json, L: Names<F>>(names: &L, object: &F::Node) -> bool
@@ -31,8 +34,8 @@ pub(crate) fn has_all<F: Json, L: Names<F>>(names: &L, object: &F::Node) -> bool
     }
 }
 
-// Counts the names that a walk meets, and stops where none is left to be met: both the names and
-// those of the members are distinct.
+// Counts the members whose names are required, until all names are found. The required names are
+// distinct, and so are those of the members: none is counted twice.
 #[tactic(auto, using(crate::proofs::Counting::found_at_most, crate::proofs::Counting::all_found, crate::proofs::Counting::not_all_found))]
 fn walk_finds_all<F: Json, L: Names<F>>(names: &L, object: &F::Node) -> bool
     requires { IsTrue (is_object (F.Node.tree object.now)) }
@@ -64,7 +67,7 @@ fn lookups_find_all<F: Json, L: Names<F>>(names: &L, object: &F::Node) -> bool
     true
 }
 
-// The index of the text among the names.
+// Returns the index of the text among the names.
 #[tactic(auto, using(crate::proofs::Marking::place_hit, crate::proofs::Marking::place_miss, crate::proofs::Marking::place_end, crate::proofs::Marking::place_found))]
 fn place_of<F: Json, L: Names<F>>(names: &L, text: &str) -> Option<usize>
     ensures place { IfSome result (λ i. (i < length (L.names names.now))
@@ -80,8 +83,8 @@ fn place_of<F: Json, L: Names<F>>(names: &L, text: &str) -> Option<usize>
     None
 }
 
-// The names that one walk finds, a bit for each by its index; None where the names are to be looked
-// up.
+// Returns the names that one walk finds, as a mask with a bit for the index of each, or `None` if
+// the names are better looked up.
 pub(crate) fn scanned<F: Json, L: Names<F>>(names: &L, object: &F::Node) -> Option<u32>
     requires { IsTrue (is_object (F.Node.tree object.now)) }
     ensures few { IfSome result (λ _. length (L.names names.now) ≤ 16) }
@@ -97,7 +100,8 @@ pub(crate) fn scanned<F: Json, L: Names<F>>(names: &L, object: &F::Node) -> Opti
     }
 }
 
-// Whether the object lacks the name at an index. `found` is the answer of [`scanned`].
+// Returns whether the object lacks the name at the index. `found` is the result of [`scanned`] for
+// these names and this object.
 pub(crate) fn is_missing<F: Json, L: Names<F>>(
     names: &L,
     index: usize,
@@ -118,7 +122,7 @@ pub(crate) fn is_missing<F: Json, L: Names<F>>(
     }
 }
 
-// Marks the names that a walk meets, and stops where all are marked.
+// Marks the names that a walk finds. Stops once all are marked.
 fn found_by_walk<F: Json, L: Names<F>>(names: &L, object: &F::Node) -> u32
     requires object { IsTrue (is_object (F.Node.tree object.now)) }
     requires few { length (L.names names.now) ≤ 16 }

@@ -1,4 +1,4 @@
-//! Compiling `required`.
+//! Compiles `required`.
 ghost use Rattle.std.specs.Prelude.{◌≡◌, List, ℕ, IfOk, Some, map, length};
 ghost use Rattle.std.specs.List.{IsDistinct};
 ghost use Rattle.std.specs.Str.{bytes_eq};
@@ -23,9 +23,8 @@ use serde_json::{Map, Value};
 use std::alloc::{AllocError, Global};
 use std::collections::BTreeSet;
 
-/// Compiles `required`. None where [`is_handed_on`](super::is_handed_on) says that it is left to the
-/// keywords of objects beside it, and its items are then not looked at. Else what
-/// [`compile_with_path`] answers.
+/// Compiles `required`. Returns `None` if it is handed on, as [`is_handed_on`](super::is_handed_on)
+/// says: its value is not checked then. Otherwise returns what [`compile_with_path`] does.
 pub fn compile<'a, F: Json>(
     alloc: Global,
     ctx: &Context<'_, F>,
@@ -44,10 +43,16 @@ pub fn compile<'a, F: Json>(
     }
 }
 
-/// Compiles a value of `required` that stands at a location, whatever stands beside it. Always
-/// Some. The validator asks for each name once. A value that is no array is an error of the type
-/// array; an item that is no string is one of the type string, and the value at fault is the first
-/// such item. Else only memory can fail.
+/// Compiles a value of `required`, whatever is beside it. `location` is the keyword location.
+/// Always returns `Some`. The validator checks each name once, however often the value repeats it.
+///
+/// # Errors
+///
+/// Fails if memory runs out, or if the value is not an array of strings:
+///
+/// - If it is not an array, the kind is `WrongType` with the type array.
+/// - If an item is not a string, the kind is `WrongType` with the type string, and the value at
+///   fault is the first such item.
 pub fn compile_with_path<'a, F: Json>(
     alloc: Global,
     schema: &'a Value,
@@ -73,7 +78,7 @@ fn required_validator<'a, F: Json>(
     Ok(validator_of(alloc, names.as_slice(), location)?)
 }
 
-// The validator of distinct names, in the form for their number. Only memory can fail.
+// Returns the validator for the number of names. The names must be distinct.
 fn validator_of<F: Json>(
     alloc: Global,
     names: &[&str],
@@ -103,7 +108,7 @@ fn validator_of<F: Json>(
     }
 }
 
-// The names that the items are, each at its first place.
+// Reads the items as names, and drops each that was there before.
 #[tactic(auto, using(crate::proofs::Distinct::next_fault, crate::proofs::Distinct::none_after))]
 fn distinct_names<'a>(
     alloc: Global,
@@ -124,7 +129,7 @@ fn distinct_names<'a>(
     Ok(names)
 }
 
-// The name that an item is, or its fault.
+// Reads an item as a name.
 fn name_of<'a>(
     alloc: Global,
     location: &Location,

@@ -1,5 +1,4 @@
-//! What is wrong with an object that lacks required names: one error for each, in the order of the
-//! names.
+//! The errors of an object that lacks required names: one for each, in the order of the names.
 ghost use Rattle.std.specs.Prelude.{◌≡◌, ◌++◌, [], ◌∷◌, IfOk, OnOk, OnErr, MatchOption, IsTrue};
 ghost use Rattle.std.specs.Prelude.{IsOk, List};
 ghost use Rattle.jskw_report.specs.Errors.{failure_of, failures_of};
@@ -16,7 +15,8 @@ use jskw_report::{Fault, LazyLocation, Location, ValidationError, ValidationErro
 use jskw_value::{Json, Node};
 use std::alloc::AllocError;
 
-// Ok where nothing is missing, which takes no memory, and else the error of the first name that is.
+// Returns the error of the first missing name, or `Ok` if none is missing. Allocates nothing if it
+// is `Ok`.
 pub(crate) fn fail_first<'i, F: Json + 'i, L: Names<F>>(
     names: &'i L,
     schema_path: &'i Location,
@@ -38,7 +38,7 @@ pub(crate) fn fail_first<'i, F: Json + 'i, L: Names<F>>(
     }
 }
 
-// The first name that an object lacks.
+// Returns the first name that the instance lacks. A non-object lacks none.
 fn first_missing<'n, F: Json + 'n, L: Names<F>>(names: &'n L, instance: &F::Node) -> Option<&'n str>
     ensures { let kinds = missing (L.names names.now) (F.Node.tree instance.now) in
         MatchOption result (kinds ≡ [])
@@ -56,7 +56,7 @@ fn first_missing<'n, F: Json + 'n, L: Names<F>>(names: &'n L, instance: &F::Node
     None
 }
 
-// Appends an error for each missing name. Where none is missing it takes no memory.
+// Appends an error for each missing name. Allocates nothing if none is missing.
 pub(crate) fn append_missing<'i, F: Json + 'i, L: Names<F>>(
     names: &'i L,
     schema_path: &'i Location,
@@ -83,7 +83,7 @@ pub(crate) fn append_missing<'i, F: Json + 'i, L: Names<F>>(
     Ok(())
 }
 
-// Appends the error of a missing name. Only memory can fail, and the list is then as it was.
+// Appends the error of a missing name. If memory runs out, the list is unchanged.
 fn append_error<'i, F: Json>(
     property: &'i str,
     schema_path: &'i Location,
@@ -102,7 +102,7 @@ fn append_error<'i, F: Json>(
     Ok(())
 }
 
-// The error of a missing name. Only memory can fail.
+// Returns the error of a missing name.
 fn missing_error<'i, F: Json>(
     property: &'i str,
     schema_path: &'i Location,

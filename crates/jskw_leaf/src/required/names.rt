@@ -1,4 +1,4 @@
-//! Lists of required names, each once.
+//! Lists of required names, each name once.
 ghost use Rattle.std.specs.Prelude.{◌≡◌, ◌<◌, ℕ, List, [], ◌∷◌, IfOk, length, map, slice_index_or};
 ghost use Rattle.std.specs.Prelude.{string_bytes};
 ghost use Rattle.std.specs.List.{IsDistinct};
@@ -11,26 +11,27 @@ use jskw_value::Json;
 use std::alloc::{AllocError, Global};
 use std::marker::Model;
 
-/// Distinct names, in their order.
+/// A list of distinct names.
 pub trait Names<F: Json> {
+    /// The names, in order.
     ghost names: { Self → List (List ℕ) };
 
-    /// How many there are.
+    /// Returns the number of names.
     fn len(&self) -> usize
         ensures count { result ≡ length (names self.now) }
         ensures distinct { IsDistinct bytes_eq (names self.now) };
 
-    /// The name at an index below that.
+    /// Returns the name at `index`, which must be less than [`len`](Names::len).
     fn at(&self, index: usize) -> &PreparedName<F>
         requires { index < length (names self.now) }
         ensures { result.now ≡ slice_index_or (names self.now) index result.now };
 
-    /// Whether a text is one of them.
+    /// Returns whether `text` is one of the names.
     fn contains(&self, text: &str) -> bool
         ensures { result ≡ is_among (names self.now) text.now };
 }
 
-/// Any number of names, beside a table of them in which a text is looked up. Contracts see a list.
+/// A list of names with a sorted copy for lookups. Contracts see the list.
 #[derive(Drop)]
 pub struct NameList<F: Json> {
     names: Vec<PreparedName<F>>,
@@ -55,7 +56,7 @@ impl<F: Json> Model for NameList<F> {
 }
 
 impl<F: Json> NameList<F> {
-    // The names of these texts, which differ. Only memory can fail.
+    // Creates the list of these names, which must be distinct.
     pub(crate) fn new(alloc: Global, texts: &[&str]) -> Result<NameList<F>, AllocError>
         requires { IsDistinct bytes_eq (map (λ text. text.now) texts.now) }
         ensures { IfOk result (λ names. names ≡ map (λ text. text.now) texts.now) }
@@ -69,7 +70,7 @@ impl<F: Json> NameList<F> {
     }
 }
 
-// The texts as strings. Only memory can fail.
+// Copies the texts.
 fn strings_of(alloc: Global, texts: &[&str]) -> Result<Vec<String>, AllocError>
     ensures { IfOk result (λ v. map string_bytes v.items ≡ map (λ text. text.now) texts.now) }
 {
@@ -115,7 +116,7 @@ impl<F: Json> Model for OneName<F> {
 }
 
 impl<F: Json> OneName<F> {
-    // The name of this text. Only memory can fail.
+    // Creates the list of this name.
     #[tactic(auto, using(crate::proofs::Distinct::one_once))]
     pub(crate) fn new(alloc: Global, name: &str) -> Result<OneName<F>, AllocError>
         ensures { IfOk result (λ names. names ≡ name.now ∷ []) }
@@ -130,6 +131,7 @@ impl<F: Json> Names<F> for OneName<F> {
     ghost names = { λ names. names };
 
     fn len(&self) -> usize {
+        // Using a field tells the proof the model's invariant: the names are distinct.
         let _ = &self.name;
         1
     }
@@ -144,7 +146,7 @@ impl<F: Json> Names<F> for OneName<F> {
     }
 }
 
-/// Two names, held in place. Contracts see a list.
+/// Two names without a vector. Contracts see a list.
 #[derive(Drop)]
 pub struct TwoNames<F: Json> {
     first: PreparedName<F>,
@@ -164,7 +166,7 @@ impl<F: Json> Model for TwoNames<F> {
 }
 
 impl<F: Json> TwoNames<F> {
-    // The names of these texts, which differ. Only memory can fail.
+    // Creates the list of these names, which must be distinct.
     pub(crate) fn new(alloc: Global, first: &str, second: &str) -> Result<TwoNames<F>, AllocError>
         requires { IsDistinct bytes_eq (first.now ∷ second.now ∷ []) }
         ensures { IfOk result (λ names. names ≡ first.now ∷ second.now ∷ []) }
@@ -180,6 +182,7 @@ impl<F: Json> Names<F> for TwoNames<F> {
     ghost names = { λ names. names };
 
     fn len(&self) -> usize {
+        // As for `OneName`: opens the invariant.
         let _ = &self.first;
         2
     }
@@ -196,7 +199,7 @@ impl<F: Json> Names<F> for TwoNames<F> {
     }
 }
 
-/// Three names, held in place. Contracts see a list.
+/// Three names without a vector. Contracts see a list.
 #[derive(Drop)]
 pub struct ThreeNames<F: Json> {
     first: PreparedName<F>,
@@ -217,7 +220,7 @@ impl<F: Json> Model for ThreeNames<F> {
 }
 
 impl<F: Json> ThreeNames<F> {
-    // The names of these texts, each of which differs from the others. Only memory can fail.
+    // Creates the list of these names, which must be distinct.
     pub(crate) fn new(
         alloc: Global,
         first: &str,
@@ -239,6 +242,7 @@ impl<F: Json> Names<F> for ThreeNames<F> {
     ghost names = { λ names. names };
 
     fn len(&self) -> usize {
+        // As for `OneName`: opens the invariant.
         let _ = &self.first;
         3
     }

@@ -1,4 +1,4 @@
-//! A required name, made ready to be compared with others and to be looked up.
+//! A required name, prepared for comparisons and lookups.
 ghost use Rattle.std.specs.Prelude.{◌≡◌, IfOk, IsTrue};
 ghost use Rattle.std.specs.Str.{bytes_eq};
 ghost use Rattle.jskw_value.specs.PropertyName.{head_of};
@@ -8,7 +8,7 @@ use jskw_value::{Json, KeyHead, Node, Object, PropertyName};
 use std::alloc::{AllocError, Global};
 use std::marker::Model;
 
-/// A required name, with the key that it is looked up by. Contracts see the name.
+/// A required name with the key for its lookup. Contracts see the name.
 #[derive(Drop)]
 pub struct PreparedName<F: Json> {
     name: PropertyName,
@@ -26,7 +26,7 @@ impl<F: Json> Model for PreparedName<F> {
 }
 
 impl<F: Json> PreparedName<F> {
-    // The name of this text. Only memory can fail.
+    // Prepares a name.
     pub(crate) fn new(alloc: Global, text: &str) -> Result<PreparedName<F>, AllocError>
         ensures { IfOk result (λ p. p ≡ text.now) }
     {
@@ -36,21 +36,21 @@ impl<F: Json> PreparedName<F> {
         })
     }
 
-    // The name as text.
     pub(crate) fn as_str(&self) -> &str
         ensures { result.now ≡ self.now }
     {
         self.name.as_str()
     }
 
-    // Whether the name is this text.
+    // Returns whether the name is this text.
     pub(crate) fn is(&self, text: &str) -> bool
         ensures { result ≡ bytes_eq self.now text.now }
     {
         self.as_str() == text
     }
 
-    // Whether the name is this text, whose head the caller has, as who compares many names does.
+    // Returns whether the name is this text. `head` must be the head of the text: a caller that
+    // compares it with many names computes the head once.
     pub(crate) fn matches(&self, head: KeyHead, text: &str) -> bool
         requires { head ≡ head_of text.now }
         ensures { result ≡ bytes_eq self.now text.now }
@@ -58,7 +58,7 @@ impl<F: Json> PreparedName<F> {
         self.name.matches(head, text)
     }
 
-    // Whether the object has a member of the name, which is looked up by the key.
+    // Returns whether the object has a member with this name. Looks it up by the key.
     pub(crate) fn is_in(&self, object: &F::Node) -> bool
         requires { IsTrue (is_object (F.Node.tree object.now)) }
         ensures { result ≡ has_name (F.Node.tree object.now) self.now }
