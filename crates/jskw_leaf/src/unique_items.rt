@@ -14,8 +14,8 @@ use jskw_value::{Array, Json, Node};
 use serde_json::{Map, Value};
 use std::alloc::Global;
 
-/// The validator of `uniqueItems` with `true`. It accepts an array without equal items, and every
-/// non-array.
+/// The validator of `uniqueItems` with `true`. It accepts an array in which no two items are equal,
+/// and every non-array.
 #[derive(Drop)]
 pub struct UniqueItemsValidator {
     location: Location,

@@ -1,4 +1,5 @@
-//! The trait of validators, with its four observers, and steps of which observers are made.
+//! The trait of validators, with its four observers, and the steps that their implementations
+//! share.
 ghost use Rattle.std.specs.Prelude.{◌≡◌, ◌≤◌, ◌+◌, min, length, IfOk, IsOk, List, IsTrue};
 ghost use Rattle.jskw_value.specs.Tree.{is_lawful};
 ghost use Rattle.jskw_report.specs.Errors.{kind_of, failures_of};

@@ -1,4 +1,4 @@
-//! What the input asks for.
+//! Requests: reads a schema, an instance and settings from a JSON value.
 ghost use Rattle.std.specs.Prelude.{◌≡◌, IfOk, option_map, map, string_bytes};
 ghost use Rattle.serde_json.specs.View.{view, items_view, members_view};
 ghost use Rattle.jskw_service.specs.Request.{draft_of, draft_named, overridden_of, request_of, setting_of};
@@ -11,7 +11,7 @@ use jskw_report::{Draft, Settings, Vocabulary, VocabularySet};
 use serde_json::{Map, Value};
 use std::alloc::{AllocError, Global};
 
-// A schema, an instance and a setting.
+// A schema, an instance and the settings of the schema.
 #[derive(Drop)]
 pub(crate) struct Request<'v> {
     pub(crate) schema: &'v Value,
@@ -19,8 +19,9 @@ pub(crate) struct Request<'v> {
     pub(crate) settings: Settings,
 }
 
-// The request that the value is, if it is one: an object with the members `schema` and `instance`,
-// and none of `draft`, `vocabularies` and `overridden` that is not as it is to be.
+// Returns the request that the value is, or `None`: the value is not an object, `schema` or
+// `instance` is missing, or `draft`, `vocabularies` or `overridden` has a value that it does not
+// take.
 pub(crate) fn request_of<'v>(
     alloc: Global,
     value: &'v Value,
@@ -46,7 +47,7 @@ pub(crate) fn request_of<'v>(
     }))
 }
 
-// The setting, where none of its members is wrong.
+// Returns the settings, or `None` if the value of a member is wrong.
 fn settings_of(alloc: Global, members: &Map<String, Value>) -> Result<Option<Settings>, AllocError>
     ensures { IfOk result (λ s. s ≡ setting_of (members_view members.now.entries)) }
 {
@@ -62,6 +63,7 @@ fn settings_of(alloc: Global, members: &Map<String, Value>) -> Result<Option<Set
     Ok(Some(Settings::new(draft, vocabularies, overridden)))
 }
 
+// The default is Draft 2020-12.
 fn draft_of(member: Option<&Value>) -> Option<Draft>
     ensures { result ≡ draft_of (option_map (λ x. view x.now) member.entry) }
 {
@@ -85,6 +87,7 @@ fn draft_named(name: &str) -> Option<Draft>
     }
 }
 
+// The default is all vocabularies.
 fn vocabularies_of(member: Option<&Value>) -> Option<VocabularySet>
     ensures { result ≡ vocabularies_of (option_map (λ x. view x.now) member.entry) }
 {
@@ -125,7 +128,8 @@ fn vocabulary_named(name: &str) -> Option<Vocabulary>
     }
 }
 
-/// The names that are overridden, where the member is an array of texts, or is not there.
+/// Returns the names of the overridden keywords: the items of `member`, or no names if there is no
+/// member. Returns `None` if the member is not an array of strings.
 pub fn overridden_of(
     alloc: Global,
     member: Option<&Value>,

@@ -1,4 +1,4 @@
-//! From the bytes of a request to the bytes of its answer.
+//! Answers requests.
 ghost use Rattle.std.specs.Prelude.{◌≡◌, ◌++◌, [], ◌∷◌, IfOk, OnOk, OnErr, IsErrOf, Some, false};
 ghost use Rattle.std.specs.Prelude.{true, option_map, string_bytes};
 ghost use Rattle.serde_json.specs.View.{view};
@@ -22,15 +22,15 @@ use jskw_value::{Node, SerdeJson};
 use serde_json::Value;
 use std::alloc::{AllocError, Global};
 
-/// What a run says of a request.
+/// The verdict on a request.
 #[derive(Clone, Copy, Debug, PartialEq, Eq)]
 pub enum Verdict {
     /// The instance is valid.
     Valid,
     /// The instance has errors.
     Invalid,
-    /// There is no verdict: the input is no request, the schema does not compile, the instance
-    /// holds a float, or memory was wanting.
+    /// There is no verdict on the instance: the input is not a request, the schema does not
+    /// compile, the instance contains a float, or memory ran out.
     Refused,
 }
 
@@ -39,16 +39,19 @@ pub enum Verdict {
 pub enum RunFault {
     /// The reader failed, and nothing was written.
     Read,
-    /// The writer failed, and a beginning of the output was written.
+    /// The writer failed, and a beginning of the answer was written, possibly nothing.
     Write,
 }
 
-/// Reads a request to its end, and writes the answer to it and nothing else. The request is one
-/// JSON object with the members `schema` and `instance`; `draft` (`"4"`, `"6"`, `"7"`, `"2019-09"`
-/// or `"2020-12"`, the default), `vocabularies` (an array of `"core"`, `"applicator"` and
-/// `"validation"`; all by default) and `overridden` (an array of names; none by default) may be
-/// there. There is no object layer, to which a `required` could be left. All output is built before
-/// the first write. Neither device has failed yet.
+/// Reads a request to its end, writes the answer and nothing else, and returns the verdict. The
+/// [crate's documentation](crate) describes requests and answers. The whole answer is built before
+/// the first write. Neither device may have failed before the call.
+///
+/// If memory runs out, the answer is `refused: memory`; the end of the request may then be unread.
+///
+/// # Errors
+///
+/// Fails if a device does.
 pub fn run<R: Source, W: Sink>(
     alloc: Global,
     reader: &mut R,
@@ -57,13 +60,13 @@ pub fn run<R: Source, W: Sink>(
     requires reader_works { R.has_failed reader.old ≡ false }
     requires writer_works { W.has_failed writer.old ≡ false }
 
-    // All was read and its answer is written, or memory was wanting and the line that says so is.
+    // Everything was read and its answer is written, or memory ran out and the answer says so.
     ensures answers { IfOk result (λ said. Writes said (R.remaining reader.old)
         (R.remaining reader.new) (W.contents writer.old) (W.contents writer.new)) }
     ensures reader_still_works { OnOk result (R.has_failed reader.new ≡ false) }
     ensures writer_still_works { OnOk result (W.has_failed writer.new ≡ false) }
 
-    // A fault has its cause in a device.
+    // A fault comes from a device that failed.
     ensures read_failed { IsErrOf result RunFault.Read → R.has_failed reader.new ≡ true }
     ensures untouched { IsErrOf result RunFault.Read → writer.new ≡ writer.old }
     ensures write_failed { IsErrOf result RunFault.Write → W.has_failed writer.new ≡ true }
@@ -79,8 +82,8 @@ pub fn run<R: Source, W: Sink>(
     Ok(reply.verdict())
 }
 
-/// The status that the program ends with: 0 where the instance is valid, 1 where it has errors,
-/// else 2.
+/// Returns the exit status of the program: 0 if the instance is valid, 1 if it has errors, 2
+/// otherwise.
 pub fn status(outcome: &Result<Verdict, RunFault>) -> u8
     ensures { result ≡ status_of outcome.now }
 {
@@ -91,17 +94,17 @@ pub fn status(outcome: &Result<Verdict, RunFault>) -> u8
     }
 }
 
-/// A verdict, and all that is written for it.
+/// A verdict and the text of its answer.
 #[derive(Drop)]
 pub enum Reply {
-    /// What is answered.
+    /// The answer to a request.
     Answer(Verdict, String),
-    /// There was no memory for an answer.
+    /// Memory ran out, so the answer could not be built.
     NoMemory,
 }
 
 impl Reply {
-    /// The verdict.
+    /// Returns the verdict: `Refused` for `NoMemory`.
     pub fn verdict(&self) -> Verdict
         ensures { result ≡ verdict_in self.now }
     {
@@ -111,7 +114,7 @@ impl Reply {
         }
     }
 
-    /// What is written.
+    /// Returns the text of the answer.
     pub fn text(&self) -> &[u8]
         ensures { result.now ≡ text_in self.now }
     {
@@ -122,7 +125,7 @@ impl Reply {
     }
 }
 
-// The reply to all that the reader gives.
+// Returns the reply to everything that the reader gives.
 fn reply_to_all<R: Source>(alloc: Global, reader: &mut R) -> Result<Reply, DeviceFault>
     requires { R.has_failed reader.old ≡ false }
     ensures output { IfOk result (λ reply. IsOutput (verdict_in reply) (text_in reply)
@@ -140,7 +143,7 @@ fn reply_to_all<R: Source>(alloc: Global, reader: &mut R) -> Result<Reply, Devic
     }
 }
 
-/// The reply to a request that is in memory.
+/// Returns the reply to a request that is in memory.
 pub fn reply_to(alloc: Global, input: &[u8]) -> Result<Reply, AllocError>
     ensures verdict { IfOk result (λ reply. verdict_in reply ≡ verdict input.now) }
     ensures text { IfOk result (λ reply. text_in reply ≡ output input.now) }
@@ -154,7 +157,7 @@ pub fn reply_to(alloc: Global, input: &[u8]) -> Result<Reply, AllocError>
     reply_to_request(alloc, &request)
 }
 
-/// What these bytes are, where they are JSON.
+/// Parses the bytes as JSON. Returns `None` if they are not JSON.
 pub fn read_value(alloc: Global, bytes: &[u8]) -> Result<Option<Value>, AllocError>
     ensures { IfOk result (λ value. option_map view value ≡ value_of bytes.now) }
 {
@@ -165,6 +168,7 @@ pub fn read_value(alloc: Global, bytes: &[u8]) -> Result<Option<Value>, AllocErr
     }
 }
 
+// Returns the reply to an input that is not a request.
 fn refuse_request(alloc: Global) -> Result<Reply, AllocError>
     ensures verdict { IfOk result (λ reply. verdict_in reply ≡ verdict_of no_request) }
     ensures text { IfOk result (λ reply. text_in reply ≡ output_of no_request) }
@@ -173,7 +177,7 @@ fn refuse_request(alloc: Global) -> Result<Reply, AllocError>
     Ok(Reply::Answer(Verdict::Refused, text))
 }
 
-// The schema first, without an object layer, then the instance.
+// Compiles the schema, then validates the instance. There is no object layer.
 fn reply_to_request(alloc: Global, request: &Request<'_>) -> Result<Reply, AllocError>
     ensures verdict { IfOk result
         (λ reply. verdict_in reply ≡ verdict_of (answer (Some (request_view request.now)))) }
@@ -189,8 +193,8 @@ fn reply_to_request(alloc: Global, request: &Request<'_>) -> Result<Reply, Alloc
     }
 }
 
-/// The reply to an instance under a schema that compiled: to its first float, and else to its
-/// errors.
+/// Returns the reply to an instance under a compiled schema: the location of its first float, if it
+/// contains one, else its errors.
 pub fn reply_to_instance(
     alloc: Global,
     schema: &SchemaNode<SerdeJson>,
@@ -212,7 +216,7 @@ pub fn reply_to_instance(
     reply_of_errors(alloc, errors.as_slice())
 }
 
-// The reply to a schema that does not compile.
+// Returns the reply to a schema that does not compile.
 fn refuse_schema(alloc: Global, error: &ValidationError<'_, SerdeJson>) -> Result<Reply, AllocError>
     ensures verdict { IfOk result (λ reply. verdict_in reply
         ≡ verdict_of (bad_schema (refusal_of error.now))) }
@@ -225,7 +229,7 @@ fn refuse_schema(alloc: Global, error: &ValidationError<'_, SerdeJson>) -> Resul
     Ok(Reply::Answer(Verdict::Refused, text))
 }
 
-// The reply with a line for each error.
+// Returns the reply with a line for each error, or `valid` if there is none.
 fn reply_of_errors(
     alloc: Global,
     found: &[ValidationError<'_, SerdeJson>],

@@ -1,4 +1,4 @@
-//! The readers of `std` as sources, and its writers as sinks.
+//! The readers and writers of `std` as sources and sinks.
 ghost use Rattle.std.specs.Prelude.{◌≡◌, false};
 
 use crate::device::{DeviceFault, Sink, Source};
@@ -11,14 +11,16 @@ pub struct StdDevice<T> {
     failed: bool,
 }
 
-/// A reader of `std`. Each of its errors is a fault, one that could be tried again too.
+/// A reader of `std` as a [`Source`]. Every error of the reader is a fault, even if the read could
+/// be tried again.
 pub type StdSource<R> = StdDevice<R>;
 
-/// A writer of `std`. Each of its errors is a fault, and so is a write that takes nothing.
+/// A writer of `std` as a [`Sink`]. Every error of the writer is a fault, and so is a write of some
+/// bytes that takes none of them.
 pub type StdSink<W> = StdDevice<W>;
 
 impl<T> StdDevice<T> {
-    /// The reader or writer as a device that has not failed.
+    /// Creates a device from a reader or a writer. It has not failed yet.
     pub fn new(device: T) -> StdDevice<T>
         ensures device { result.device ≡ device }
         ensures works { result.failed ≡ false }
@@ -29,7 +31,7 @@ impl<T> StdDevice<T> {
         }
     }
 
-    /// The reader or writer, as the device left it.
+    /// Returns the reader or the writer.
     pub fn into_inner(self) -> T
         ensures { result ≡ self.device }
     {

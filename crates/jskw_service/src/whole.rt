@@ -1,4 +1,4 @@
-//! Reading all there is, and writing all of a text.
+//! Reads all bytes of a source, and writes all of some bytes to a sink.
 ghost use Rattle.std.specs.Prelude.{◌≡◌, ℕ, ◌||◌, false, true, length, take, is_err, OnOk, OnErr};
 ghost use Rattle.std.specs.Prelude.{IfOk, IsErrOf};
 ghost use Rattle.std.specs.Io.KnownBytes.{Consumes, Appends, IsAtEnd};
@@ -7,9 +7,10 @@ ghost use Rattle.jskw_service.specs.declared.whole.ReadFault.TheVariants.{Memory
 use crate::device::{DeviceFault, Sink, Source};
 use std::alloc::{AllocError, Global};
 
+// The number of bytes that one read can return at most.
 const BLOCK: usize = 65536;
 
-// Why not all was read.
+// Why reading stopped before the end.
 #[derive(Clone, Copy, Debug, PartialEq, Eq)]
 pub(crate) enum ReadFault {
     Memory,
@@ -53,7 +54,7 @@ pub(crate) fn read_all<R: Source>(alloc: Global, reader: &mut R) -> Result<Vec<u
     }
 }
 
-// Writes all of the bytes.
+// Writes the bytes, in as many writes as it takes.
 pub(crate) fn write_all<W: Sink>(writer: &mut W, bytes: &[u8]) -> Result<(), DeviceFault>
     requires { W.has_failed writer.old ≡ false }
     ensures ok { OnOk result (Appends (W.contents writer.old) (W.contents writer.new) bytes.now) }

@@ -31,7 +31,7 @@ pub trait Names<F: Json> {
         ensures { result ≡ is_among (names self.now) text.now };
 }
 
-/// A list of names with a sorted copy for lookups. Contracts see the list.
+/// A list of names with a sorted copy for lookups. In contracts it is the list.
 #[derive(Drop)]
 pub struct NameList<F: Json> {
     names: Vec<PreparedName<F>>,
@@ -97,7 +97,7 @@ impl<F: Json> Names<F> for NameList<F> {
     }
 }
 
-/// One name. Contracts see a list.
+/// One name. In contracts it is a list.
 #[derive(Drop)]
 pub struct OneName<F: Json> {
     name: PreparedName<F>,
@@ -146,7 +146,7 @@ impl<F: Json> Names<F> for OneName<F> {
     }
 }
 
-/// Two names without a vector. Contracts see a list.
+/// Two names, without a vector. In contracts it is a list.
 #[derive(Drop)]
 pub struct TwoNames<F: Json> {
     first: PreparedName<F>,
@@ -199,7 +199,7 @@ impl<F: Json> Names<F> for TwoNames<F> {
     }
 }
 
-/// Three names without a vector. Contracts see a list.
+/// Three names, without a vector. In contracts it is a list.
 #[derive(Drop)]
 pub struct ThreeNames<F: Json> {
     first: PreparedName<F>,

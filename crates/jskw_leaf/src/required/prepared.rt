@@ -8,7 +8,7 @@ use jskw_value::{Json, KeyHead, Node, Object, PropertyName};
 use std::alloc::{AllocError, Global};
 use std::marker::Model;
 
-/// A required name with the key for its lookup. Contracts see the name.
+/// A required name with the key for its lookup. In contracts it is the name.
 #[derive(Drop)]
 pub struct PreparedName<F: Json> {
     name: PropertyName,
