@@ -17,7 +17,10 @@
 //! A call that returns a `Result` with `AllocError` fails only if memory runs out.
 //! [`Fault::Memory`] and [`CompileFault::Memory`] report the same.
 //!
-//! # Sections of the standard
+//! # Words and sections
+//!
+//! `docs/GLOSSARY.md` explains the words that this project uses in a sense of its own, such as
+//! lawful, unit and handed on.
 //!
 //! Section numbers are those of JSON Schema Core and JSON Schema Validation, Draft 2020-12, unless
 //! another draft is named.

@@ -36,8 +36,7 @@ pub fn is_handed_on<F: Json>(ctx: &Context<'_, F>, parent: &Map<String, Value>) 
         && (requires_one_of_properties(ctx, parent) || requires_two_of_properties(ctx, parent))
 }
 
-// One required name: no members but those of `properties` are allowed, by an `additionalProperties`
-// that is not overridden.
+// Returns whether the first case of [`is_handed_on`] is given.
 fn requires_one_of_properties<F: Json>(ctx: &Context<'_, F>, parent: &Map<String, Value>) -> bool
     ensures { result
         ≡ requires_one_of_properties ctx.now.setting (members_view parent.now.entries) }
@@ -48,8 +47,7 @@ fn requires_one_of_properties<F: Json>(ctx: &Context<'_, F>, parent: &Map<String
         && !ctx.is_keyword_overridden("additionalProperties")
 }
 
-// Two required names: `properties` has few members and is not overridden, and
-// `additionalProperties` is neither `false` nor an object.
+// Returns whether the second case of [`is_handed_on`] is given.
 fn requires_two_of_properties<F: Json>(ctx: &Context<'_, F>, parent: &Map<String, Value>) -> bool
     ensures { result
         ≡ requires_two_of_properties ctx.now.setting (members_view parent.now.entries) }
