@@ -17,7 +17,7 @@ const HASHMAP_THRESHOLD: usize = 15;
 /// [`compile`](super::compile) makes no validator of it, and does not check its value.
 ///
 /// It is handed on if the context has an object layer, the applicator vocabulary is present,
-/// `parent` has no `patternProperties`, and one of these two cases is given:
+/// `parent` has no `patternProperties`, and one of these cases applies:
 ///
 /// - `required` is an array of one item, `parent` has `properties`, and its `additionalProperties`
 ///   is `false` and not overridden.
@@ -36,7 +36,7 @@ pub fn is_handed_on<F: Json>(ctx: &Context<'_, F>, parent: &Map<String, Value>) 
         && (requires_one_of_properties(ctx, parent) || requires_two_of_properties(ctx, parent))
 }
 
-// Returns whether the first case of [`is_handed_on`] is given.
+// Returns whether the first case of [`is_handed_on`] applies.
 fn requires_one_of_properties<F: Json>(ctx: &Context<'_, F>, parent: &Map<String, Value>) -> bool
     ensures { result
         ≡ requires_one_of_properties ctx.now.setting (members_view parent.now.entries) }
@@ -47,7 +47,7 @@ fn requires_one_of_properties<F: Json>(ctx: &Context<'_, F>, parent: &Map<String
         && !ctx.is_keyword_overridden("additionalProperties")
 }
 
-// Returns whether the second case of [`is_handed_on`] is given.
+// Returns whether the second case of [`is_handed_on`] applies.
 fn requires_two_of_properties<F: Json>(ctx: &Context<'_, F>, parent: &Map<String, Value>) -> bool
     ensures { result
         ≡ requires_two_of_properties ctx.now.setting (members_view parent.now.entries) }

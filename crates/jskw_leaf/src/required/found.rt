@@ -1,5 +1,5 @@
 //! Which of the required names an object has. An object of at most `KEYS_PER_LOOKUP` members for
-//! each name is walked over once; in a larger one each name is looked up. The walk that tells which
+//! each name is walked over once; in a larger one each name is looked up. The walk that finds which
 //! names are missing is for at most 16 names.
 ghost use Rattle.std.specs.Prelude.{◌≡◌, ◌<◌, ◌≤◌, ◌==◌, ◌^◌, [], IfSome, Some, IsTrue, is_some};
 ghost use Rattle.std.specs.Prelude.{not, length, slice_get, slice_index_or};
@@ -11,12 +11,12 @@ ghost use Rattle.jskw_leaf.specs.Required.{is_among, Marks};
 use super::names::Names;
 use jskw_value::{Json, KeyHead, Object};
 
-// The largest number of names for the walk that tells them apart: it compares each member with
+// The largest number of names for the walk that distinguishes them: it compares each member with
 // every name, and marks a name by a bit.
 const MAX_SCANNED_REQUIRED: usize = 16;
 
-// Returns whether the object has all names. Walks over it if that takes no longer than the
-// look-ups.
+// Returns whether the object has all names. Walks over it if that is not slower than the lookups,
+// which `KEYS_PER_LOOKUP` estimates.
 #[inline(never)]
 #[tactic(auto, using(crate::proofs::Counting::too_few))]
 pub(crate) fn has_all<F: Json, L: Names<F>>(names: &L, object: &F::Node) -> bool

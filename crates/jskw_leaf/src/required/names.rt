@@ -131,7 +131,7 @@ impl<F: Json> Names<F> for OneName<F> {
     ghost names = { λ names. names };
 
     fn len(&self) -> usize {
-        // Using a field tells the proof the model's invariant: the names are distinct.
+        // Using a field opens the model's invariant for the proof: the names are distinct.
         let _ = &self.name;
         1
     }
