@@ -89,7 +89,7 @@ told_start start end budget s ts = record {
 
 -- one item on, where it is marked if it is of the block, nothing marked is lost, and no earlier one of the block is equal to it
 told_step : (start end b n : ℕ) (s r : List ℕ) (ts : List Tree) (t : Tree) → slice_get ts n ≡ Some t
-    → is_distinct_within b t ≡ true → (n < end → is_marked r (print b t) ≡ true)
+    → is_distinct_within b t ≡ true → (n < end → is_marked r (print 0 b t) ≡ true)
     → ((p : ℕ) → is_marked s p ≡ true → is_marked r p ≡ true)
     → ((i : ℕ) (x : Tree) → start ≤ i → i < end → i < n → slice_get ts i ≡ Some x → equal x t ≡ false)
     → IsToldOf start end b n s ts → IsToldOf start end b (n + 1) r ts
@@ -99,9 +99,9 @@ told_step start end b n s r ts t e d m kept new told = record {
   differ = λ i j x y k l o p a c. differ i j x y k l o a c (below j n p);
 }
   where
-    marked : (i : ℕ) (x : Tree) → start ≤ i → i < end → slice_get ts i ≡ Some x → (i ≡ n) ⊎ (i < n) → is_marked r (print b x) ≡ true
-    marked i x k l a (inl q) = subst (λ z. is_marked r (print b z) ≡ true) (one_tree ts n i t x e q a) (m (subst (λ z. z < end) q l))
-    marked i x k l a (inr q) = kept (print b x) (told.marked i x k l q a)
+    marked : (i : ℕ) (x : Tree) → start ≤ i → i < end → slice_get ts i ≡ Some x → (i ≡ n) ⊎ (i < n) → is_marked r (print 0 b x) ≡ true
+    marked i x k l a (inl q) = subst (λ z. is_marked r (print 0 b z) ≡ true) (one_tree ts n i t x e q a) (m (subst (λ z. z < end) q l))
+    marked i x k l a (inr q) = kept (print 0 b x) (told.marked i x k l q a)
 
     distinct : (i : ℕ) (x : Tree) → start ≤ i → slice_get ts i ≡ Some x → (i ≡ n) ⊎ (i < n) → is_distinct_within b x ≡ true
     distinct i x k a (inl q) = subst (λ z. is_distinct_within b z ≡ true) (one_tree ts n i t x e q a) d
@@ -113,7 +113,7 @@ told_step start end b n s r ts t e d m kept new told = record {
 
 -- an item that is marked, and that none of the block is equal to
 pub told_again : (start end b n : ℕ) (s : List ℕ) (ts : List Tree) (t : Tree) → n < length ts → t ≡ get_or ts n t
-    → is_distinct_within b t ≡ true → is_marked s (print b t) ≡ true → IsNewAt start (min end n) n ts
+    → is_distinct_within b t ≡ true → is_marked s (print 0 b t) ≡ true → IsNewAt start (min end n) n ts
     → IsToldOf start end b n s ts → IsToldOf start end b (n + 1) s ts
 told_again start end b n s ts t h e d m new told =
     let at = slice_get_read ts (length ts) n t refl h e in
@@ -121,15 +121,15 @@ told_again start end b n s ts t h e d m new told =
 
 -- an earlier one of the block that is equal would have marked an item
 unmarked_new : (start end b n : ℕ) (s : List ℕ) (ts : List Tree) (t : Tree) → is_distinct_within b t ≡ true
-    → is_marked s (print b t) ≡ false → IsToldOf start end b n s ts
+    → is_marked s (print 0 b t) ≡ false → IsToldOf start end b n s ts
     → (i : ℕ) (x : Tree) → start ≤ i → i < end → i < n → slice_get ts i ≡ Some x → equal x t ≡ false
 unmarked_new start end b n s ts t d unmarked told i x k l o a = false_from_ne_true (equal x t) (λ h.
-    both_ways (is_marked s (print b t)) unmarked
-    (subst (λ p. is_marked s p ≡ true) (equal_print b x t (told.distinct i x k o a) d h) (told.marked i x k l o a)))
+    both_ways (is_marked s (print 0 b t)) unmarked
+    (subst (λ p. is_marked s p ≡ true) (equal_print 0 b x t (told.distinct i x k o a) d h) (told.marked i x k l o a)))
 
 -- an item that wasn't marked, and is now
 pub told_new : (start end b n : ℕ) (s r : List ℕ) (ts : List Tree) (t : Tree) → n < length ts → t ≡ get_or ts n t
-    → is_distinct_within b t ≡ true → is_marked s (print b t) ≡ false → is_marked r (print b t) ≡ true
+    → is_distinct_within b t ≡ true → is_marked s (print 0 b t) ≡ false → is_marked r (print 0 b t) ≡ true
     → ((p : ℕ) → is_marked s p ≡ true → is_marked r p ≡ true)
     → IsToldOf start end b n s ts → IsToldOf start end b (n + 1) r ts
 told_new start end b n s r ts t h e d unmarked now kept told =
@@ -137,7 +137,7 @@ told_new start end b n s r ts t h e d unmarked now kept told =
 
 -- an item behind the block that isn't marked
 pub told_later : (start end b n : ℕ) (s : List ℕ) (ts : List Tree) (t : Tree) → n < length ts → t ≡ get_or ts n t
-    → is_distinct_within b t ≡ true → is_marked s (print b t) ≡ false → end ≤ n
+    → is_distinct_within b t ≡ true → is_marked s (print 0 b t) ≡ false → end ≤ n
     → IsToldOf start end b n s ts → IsToldOf start end b (n + 1) s ts
 told_later start end b n s ts t h e d unmarked l told =
     told_step start end b n s s ts t (slice_get_read ts (length ts) n t refl h e) d (λ w. absurd (omega (arith, w, l))) (λ p w. w) (unmarked_new start end b n s ts t d unmarked told) told

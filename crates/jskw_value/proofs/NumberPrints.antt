@@ -5,6 +5,7 @@ use Rattle.std.proofs.lemmas.Bool.Decides.{Decides-int_eq}
 use Rattle.std.proofs.lemmas.Int.{unsigned_abs-mul}
 use Rattle.std.proofs.lemmas.Nat.{mul-lt, pow-add}
 use Rattle.std.proofs.lemmas.Option.{same_Some}
+use Rattle.std.specs.Int.Bits.{bit_xor}
 use Rattle.std.specs.Prelude.{unsigned_abs}
 use Rattle.jskw_value.specs.Fingerprint.{stirred, sign_print, parts_print, number_print}
 use Rattle.jskw_value.specs.Number.{Num, exact, float, num_equal, whole, u64_of}
@@ -55,15 +56,15 @@ same_parts s a b k l e = ap₂ (stirred s)
     (same_quotient (a % 10 ^ k) (b % 10 ^ l) (10 ^ 18) (10 ^ k) (10 ^ l) (ten_pow_low k) (ten_pow_low l) (same_rest a b (10 ^ k) (10 ^ l) (ten_pow_low k) (ten_pow_low l) e))
 
 -- equal numbers have one fingerprint
-pub same_number : (m n : Num) → num_equal m n ≡ true → number_print m ≡ number_print n
-same_number (exact c k) (exact d l) h =
-    ap (λ s. parts_print s (unsigned_abs c) k) (same_sign c d (10 ^ k) (10 ^ l) (ten_pow_low k) (ten_pow_low l) e)
-    ∙ same_parts (sign_print d) (unsigned_abs c) (unsigned_abs d) k l
+pub same_number : (seed : ℕ) (m n : Num) → num_equal m n ≡ true → number_print seed m ≡ number_print seed n
+same_number seed (exact c k) (exact d l) h =
+    ap (λ s. parts_print (bit_xor s seed) (unsigned_abs c) k) (same_sign c d (10 ^ k) (10 ^ l) (ten_pow_low k) (ten_pow_low l) e)
+    ∙ same_parts (bit_xor (sign_print d) seed) (unsigned_abs c) (unsigned_abs d) k l
     (sym (unsigned_abs-mul c (pos (10 ^ l))) ∙ ap unsigned_abs e ∙ unsigned_abs-mul d (pos (10 ^ k)))
   where
     e : c *ℤ pos (10 ^ l) ≡ d *ℤ pos (10 ^ k)
     e = (Decides-int_eq (c *ℤ pos (10 ^ l)) (d *ℤ pos (10 ^ k))).0 h
-same_number _ _ h = cc
+same_number seed _ _ h = cc
 
 -- ---- for the code
 
@@ -94,16 +95,16 @@ pub no_rest : (n k : ℕ) → k ≡ 0 → 0 ≡ n % 10 ^ k * 10 ^ 18 / 10 ^ k
 no_rest n k e = sym (ap (λ m. n % 10 ^ m * 10 ^ 18 / 10 ^ m) e ∙ ap (λ m. m * 10 ^ 18 / 1) (mod-one n) ∙ refl)
 
 -- of a whole number from 0 to 2^64 - 1
-pub whole_print : (m : Num) (n : ℕ) → option_and_then u64_of (whole m) ≡ Some n → number_print m ≡ stirred 6 n 0
+pub whole_print : (seed : ℕ) (m : Num) (n : ℕ) → option_and_then u64_of (whole m) ≡ Some n → number_print seed m ≡ stirred (bit_xor 6 seed) n 0
 unfolding parts_print
-whole_print (exact (pos c) zero) n e =
-    ap₂ (stirred 6) (sym (whole_alone c 0 refl)) (sym (no_rest c 0 refl)) ∙ ap (λ x. stirred 6 x 0) (go (nat_lt c (2 ^ 64)) e)
+whole_print seed (exact (pos c) zero) n e =
+    ap₂ (stirred (bit_xor 6 seed)) (sym (whole_alone c 0 refl)) (sym (no_rest c 0 refl)) ∙ ap (λ x. stirred (bit_xor 6 seed) x 0) (go (nat_lt c (2 ^ 64)) e)
   where
     go : (b : Bool) → (if b then Some c else None) ≡ Some n → c ≡ n
     go true e = same_Some c n e
     go false e = cc
-whole_print (exact (negsuc c) zero) n e = cc
-whole_print (exact c (suc k)) n e = cc
-whole_print float n e = cc
+whole_print seed (exact (negsuc c) zero) n e = cc
+whole_print seed (exact c (suc k)) n e = cc
+whole_print seed float n e = cc
 
 pub ruleset parts = (scaled_up, rest_fits, whole_alone, no_rest, ten_pow_low)

@@ -22,22 +22,22 @@ use Rattle.jskw_value.proofs.Fingerprints.{equal_print}
 -- ---- as they are written
 
 -- none yet
-pub no_print : (start : ℕ) (ps : List ℕ) (ts : List Tree) → ArePrintsFrom start 0 ps ts
-no_print start ps ts = record { each = λ i t h e. absurd (omega (arith, h)); distinct = λ i t h e. absurd (omega (arith, h)) }
+pub no_print : (seed start : ℕ) (ps : List ℕ) (ts : List Tree) → ArePrintsFrom seed start 0 ps ts
+no_print seed start ps ts = record { each = λ i t h e. absurd (omega (arith, h)); distinct = λ i t h e. absurd (omega (arith, h)) }
 
 -- one more
-pub next_print : (start n p : ℕ) (ps : List ℕ) (ts : List Tree) (t : Tree) → p ≡ print unlimited t → n < length ps
-    → start + n < length ts → t ≡ get_or ts (start + n) t → is_distinct_within unlimited t ≡ true → ArePrintsFrom start n ps ts
-    → ArePrintsFrom start (n + 1) (set ps n p) ts
-next_print start n p ps ts t same h k e d known = record { each = λ i x l a. each i x a (below i n l); distinct = λ i x l a. distinct i x a (below i n l) }
+pub next_print : (seed start n p : ℕ) (ps : List ℕ) (ts : List Tree) (t : Tree) → p ≡ print seed unlimited t → n < length ps
+    → start + n < length ts → t ≡ get_or ts (start + n) t → is_distinct_within unlimited t ≡ true → ArePrintsFrom seed start n ps ts
+    → ArePrintsFrom seed start (n + 1) (set ps n p) ts
+next_print seed start n p ps ts t same h k e d known = record { each = λ i x l a. each i x a (below i n l); distinct = λ i x l a. distinct i x a (below i n l) }
   where
     at : slice_get ts (start + n) ≡ Some t
     at = slice_get_read ts (length ts) (start + n) t refl k e
 
-    each : (i : ℕ) (x : Tree) → slice_get ts (start + i) ≡ Some x → (i ≡ n) ⊎ (i < n) → get_or (set ps n p) i 0 ≡ print unlimited x
+    each : (i : ℕ) (x : Tree) → slice_get ts (start + i) ≡ Some x → (i ≡ n) ⊎ (i < n) → get_or (set ps n p) i 0 ≡ print seed unlimited x
     each i x a (inl q) =
         ap (λ j. get_or (set ps n p) j 0) q ∙ get_or-set_same ps n p 0 h ∙ same
-        ∙ ap (print unlimited) (one_tree ts (start + n) (start + i) t x at (ap (λ j. start + j) q) a)
+        ∙ ap (print seed unlimited) (one_tree ts (start + n) (start + i) t x at (ap (λ j. start + j) q) a)
     each i x a (inr q) = get_or-set_other ps n i p 0 (λ w. omega (arith, q, w)) ∙ known.each i x q a
 
     distinct : (i : ℕ) (x : Tree) → slice_get ts (start + i) ≡ Some x → (i ≡ n) ⊎ (i < n) → is_distinct_within unlimited x ≡ true
@@ -45,9 +45,9 @@ next_print start n p ps ts t same h k e d known = record { each = λ i x l a. ea
     distinct i x a (inr q) = known.distinct i x q a
 
 -- sorted
-pub sorted_prints : (start : ℕ) (ps qs : List ℕ) (ts : List Tree) → ArePrintsFrom start (length ps) ps ts
-    → IsPermutation ps qs → IsSorted nat_cmp qs → AreSortedPrints start qs ts
-sorted_prints start ps qs ts known m s =
+pub sorted_prints : (seed start : ℕ) (ps qs : List ℕ) (ts : List Tree) → ArePrintsFrom seed start (length ps) ps ts
+    → IsPermutation ps qs → IsSorted nat_cmp qs → AreSortedPrints seed start qs ts
+sorted_prints seed start ps qs ts known m s =
     record { in_order = ps; are_prints = known; permutation = m; sorted = IsNonDecreasingBy-from_sort (λ x. x) qs s }
 
 -- ---- a number among sorted ones
@@ -113,10 +113,10 @@ once_before p xs ys m once i j l h f g =
 -- ---- items by their fingerprints
 
 -- the fingerprint of an item, as it was written
-written : (start : ℕ) (ps : List ℕ) (ts : List Tree) (known : AreSortedPrints start ps ts) (i : ℕ) (t : Tree) → start ≤ i
+written : (seed start : ℕ) (ps : List ℕ) (ts : List Tree) (known : AreSortedPrints seed start ps ts) (i : ℕ) (t : Tree) → start ≤ i
     → i < start + length ps → slice_get ts i ≡ Some t
-    → (i - start < length known.in_order) × (get_or known.in_order (i - start) 0 ≡ print unlimited t) × (is_distinct_within unlimited t ≡ true)
-written start ps ts known i t l h e =
+    → (i - start < length known.in_order) × (get_or known.in_order (i - start) 0 ≡ print seed unlimited t) × (is_distinct_within unlimited t ≡ true)
+written seed start ps ts known i t l h e =
     (within, known.are_prints.each (i - start) t within here, known.are_prints.distinct (i - start) t within here)
   where
     within : i - start < length known.in_order
@@ -129,29 +129,29 @@ written start ps ts known i t l h e =
     here = subst (λ j. slice_get ts j ≡ Some t) place e
 
 -- two items with a fingerprint that stands there once at most
-differ_once : (start : ℕ) (ps : List ℕ) (ts : List Tree) → AreSortedPrints start ps ts → (i j : ℕ) (t u : Tree) → start ≤ i
-    → i < j → j < start + length ps → slice_get ts i ≡ Some t → slice_get ts j ≡ Some u → IsOnceAtMost (print unlimited u) ps
+differ_once : (seed start : ℕ) (ps : List ℕ) (ts : List Tree) → AreSortedPrints seed start ps ts → (i j : ℕ) (t u : Tree) → start ≤ i
+    → i < j → j < start + length ps → slice_get ts i ≡ Some t → slice_get ts j ≡ Some u → IsOnceAtMost (print seed unlimited u) ps
     → equal t u ≡ false
-differ_once start ps ts known i j t u l h m e f once = false_from_ne_true (equal t u) (λ w.
-    once_before (print unlimited u) known.in_order ps known.permutation once (i - start) (j - start) (omega (arith, l, h)) there.0
-    (here.1 ∙ equal_print unlimited t u here.2 there.2 w) there.1)
+differ_once seed start ps ts known i j t u l h m e f once = false_from_ne_true (equal t u) (λ w.
+    once_before (print seed unlimited u) known.in_order ps known.permutation once (i - start) (j - start) (omega (arith, l, h)) there.0
+    (here.1 ∙ equal_print seed unlimited t u here.2 there.2 w) there.1)
   where
-    here : (i - start < length known.in_order) × (get_or known.in_order (i - start) 0 ≡ print unlimited t) × (is_distinct_within unlimited t ≡ true)
-    here = written start ps ts known i t l (omega (arith, h, m)) e
+    here : (i - start < length known.in_order) × (get_or known.in_order (i - start) 0 ≡ print seed unlimited t) × (is_distinct_within unlimited t ≡ true)
+    here = written seed start ps ts known i t l (omega (arith, h, m)) e
 
-    there : (j - start < length known.in_order) × (get_or known.in_order (j - start) 0 ≡ print unlimited u) × (is_distinct_within unlimited u ≡ true)
-    there = written start ps ts known j u (omega (arith, l, h)) m f
+    there : (j - start < length known.in_order) × (get_or known.in_order (j - start) 0 ≡ print seed unlimited u) × (is_distinct_within unlimited u ≡ true)
+    there = written seed start ps ts known j u (omega (arith, l, h)) m f
 
 -- an item with a fingerprint that isn't there
-differ_other : (start : ℕ) (ps : List ℕ) (ts : List Tree) → AreSortedPrints start ps ts → (i : ℕ) (t u : Tree) → start ≤ i
-    → i < start + length ps → slice_get ts i ≡ Some t → is_distinct_within unlimited u ≡ true → IsNotAmong (print unlimited u) ps
+differ_other : (seed start : ℕ) (ps : List ℕ) (ts : List Tree) → AreSortedPrints seed start ps ts → (i : ℕ) (t u : Tree) → start ≤ i
+    → i < start + length ps → slice_get ts i ≡ Some t → is_distinct_within unlimited u ≡ true → IsNotAmong (print seed unlimited u) ps
     → equal t u ≡ false
-differ_other start ps ts known i t u l h e d none = false_from_ne_true (equal t u) (λ w.
-    not_before (print unlimited u) known.in_order ps known.permutation none (i - start) here.0
-    (here.1 ∙ equal_print unlimited t u here.2 d w))
+differ_other seed start ps ts known i t u l h e d none = false_from_ne_true (equal t u) (λ w.
+    not_before (print seed unlimited u) known.in_order ps known.permutation none (i - start) here.0
+    (here.1 ∙ equal_print seed unlimited t u here.2 d w))
   where
-    here : (i - start < length known.in_order) × (get_or known.in_order (i - start) 0 ≡ print unlimited t) × (is_distinct_within unlimited t ≡ true)
-    here = written start ps ts known i t l h e
+    here : (i - start < length known.in_order) × (get_or known.in_order (i - start) 0 ≡ print seed unlimited t) × (is_distinct_within unlimited t ≡ true)
+    here = written seed start ps ts known i t l h e
 
 -- ---- item by item
 
@@ -173,24 +173,24 @@ pub all_new : (start end low n m : ℕ) (ts : List Tree) → m ≤ n → AreNewI
 all_new start end low n m ts l known = record { differ = λ i j t u a b c d e f g. known.differ i j t u a b c d (omega (arith, e, l)) f g }
 
 -- since its fingerprint is there once at most
-pub next_once : (start end n p : ℕ) (ps : List ℕ) (ts : List Tree) (t : Tree) → AreSortedPrints start ps ts
-    → end ≡ start + length ps → n < end → end ≤ length ts → t ≡ get_or ts n t → p ≡ print unlimited t → IsOnceAtMost p ps
+pub next_once : (seed start end n p : ℕ) (ps : List ℕ) (ts : List Tree) (t : Tree) → AreSortedPrints seed start ps ts
+    → end ≡ start + length ps → n < end → end ≤ length ts → t ≡ get_or ts n t → p ≡ print seed unlimited t → IsOnceAtMost p ps
     → AreNewIn start end start n ts → AreNewIn start end start (n + 1) ts
-next_once start end n p ps ts t known whole h k e same once before =
+next_once seed start end n p ps ts t known whole h k e same once before =
     next_new start end start n n ts (omega arith) (record { differs = λ i x y l m a b. differs i x y l m a b }) before
   where
     at : slice_get ts n ≡ Some t
     at = slice_get_read ts (length ts) n t refl (omega (arith, h, k)) e
 
     differs : (i : ℕ) (x y : Tree) → start ≤ i → i < n → slice_get ts i ≡ Some x → slice_get ts n ≡ Some y → equal x y ≡ false
-    differs i x y l m a b = differ_once start ps ts known i n x y l m (omega (arith, h, whole)) a b
-        (subst (λ q. IsOnceAtMost q ps) (same ∙ ap (print unlimited) (one_tree ts n n t y at refl b)) once)
+    differs i x y l m a b = differ_once seed start ps ts known i n x y l m (omega (arith, h, whole)) a b
+        (subst (λ q. IsOnceAtMost q ps) (same ∙ ap (print seed unlimited) (one_tree ts n n t y at refl b)) once)
 
 -- since its fingerprint isn't there
-pub next_other : (start end n p : ℕ) (ps : List ℕ) (ts : List Tree) (t : Tree) → AreSortedPrints start ps ts
-    → end ≡ start + length ps → n < length ts → t ≡ get_or ts n t → p ≡ print unlimited t
+pub next_other : (seed start end n p : ℕ) (ps : List ℕ) (ts : List Tree) (t : Tree) → AreSortedPrints seed start ps ts
+    → end ≡ start + length ps → n < length ts → t ≡ get_or ts n t → p ≡ print seed unlimited t
     → is_distinct_within unlimited t ≡ true → IsNotAmong p ps → AreNewIn start end end n ts → AreNewIn start end end (n + 1) ts
-next_other start end n p ps ts t known whole k e same d none before =
+next_other seed start end n p ps ts t known whole k e same d none before =
     next_new start end end n end ts (omega arith) (record { differs = λ i x y l m a b. differs i x y l m a b }) before
   where
     at : slice_get ts n ≡ Some t
@@ -198,14 +198,14 @@ next_other start end n p ps ts t known whole k e same d none before =
 
     differs : (i : ℕ) (x y : Tree) → start ≤ i → i < end → slice_get ts i ≡ Some x → slice_get ts n ≡ Some y → equal x y ≡ false
     differs i x y l m a b = subst (λ z. equal x z ≡ false) (one_tree ts n n t y at refl b)
-        (differ_other start ps ts known i x t l (omega (arith, m, whole)) a d (subst (λ q. IsNotAmong q ps) same none))
+        (differ_other seed start ps ts known i x t l (omega (arith, m, whole)) a d (subst (λ q. IsNotAmong q ps) same none))
 
 -- all at once, where no fingerprint is there twice
-pub rising_new : (start end : ℕ) (ps : List ℕ) (ts : List Tree) → AreSortedPrints start ps ts → end ≡ start + length ps
+pub rising_new : (seed start end : ℕ) (ps : List ℕ) (ts : List Tree) → AreSortedPrints seed start ps ts → end ≡ start + length ps
     → IsStrictlyIncreasing ps → AreNewIn start end start end ts
-rising_new start end ps ts known whole rises = record {
+rising_new seed start end ps ts known whole rises = record {
   differ = λ i j t u a b c d e f g.
-      differ_once start ps ts known i j t u a c (omega (arith, e, whole)) f g (rising_once (print unlimited u) ps known.sorted rises);
+      differ_once seed start ps ts known i j t u a c (omega (arith, e, whole)) f g (rising_once (print seed unlimited u) ps known.sorted rises);
 }
 
 -- ---- block by block

@@ -1,4 +1,4 @@
--- Numbers that equal trees share: of each tree what a budget reaches, its beginning.
+-- Numbers that equal trees share, under any seed: of each tree what a budget reaches, its beginning.
 use Rattle.std.specs.Prelude.{ℕ, zero, suc, ◌+◌, ◌-◌, ◌*◌, ◌/◌, ◌%◌, ◌^◌, ◌==◌, ◌&&◌, ◌||◌, min, max, nat_le, ℤ, pos, negsuc, List, [], ◌∷◌, length, take, drop, Bool, true, not, unsigned_abs, if◌then◌else◌}
 use Rattle.std.specs.Int.{w64, from_le_bytes}
 use Rattle.std.specs.Int.Bits.{bit_or, bit_xor}
@@ -30,10 +30,14 @@ abbrev pub pairs_stirred : ℕ → ℕ → List ℕ → ℕ
 pairs_stirred zero h s = h
 pairs_stirred (suc n) h s = stirred (pairs_stirred n h s) (word_at s (16 * n)) (word_at s (16 * n + 8))
 
+-- what the hash of a text of so many bytes begins with
+abbrev pub text_begun : ℕ → ℕ → ℕ
+text_begun seed count = bit_xor (bit_xor 9600629759793949339 count) seed
+
 -- of a text: its length, its first pairs of words, no more than the budget, and its last pair
-unfoldable pub text_print : ℕ → List ℕ → ℕ
-text_print budget s =
-    stirred (pairs_stirred (min budget ((length s - 1) / 16)) (bit_xor 9600629759793949339 (length s)) s)
+unfoldable pub text_print : ℕ → ℕ → List ℕ → ℕ
+text_print seed budget s =
+    stirred (pairs_stirred (min budget ((length s - 1) / 16)) (text_begun seed (length s)) s)
     (word_at s (length s - 16)) (word_at s (length s - 8))
 
 -- of a sign
@@ -41,14 +45,14 @@ abbrev pub sign_print : ℤ → ℕ
 sign_print (pos n) = 6
 sign_print (negsuc n) = 7
 
--- of n / 10^k: the whole part, and the rest in parts of 10^18
+-- of n / 10^k, mixed into a hash: the whole part, and the rest in parts of 10^18
 unfoldable pub parts_print : ℕ → ℕ → ℕ → ℕ
-parts_print sign n k = stirred sign (n / 10 ^ k) (n % 10 ^ k * 10 ^ 18 / 10 ^ k)
+parts_print h n k = stirred h (n / 10 ^ k) (n % 10 ^ k * 10 ^ 18 / 10 ^ k)
 
 -- of a number by its mathematical value; floats have one fingerprint
-abbrev pub number_print : Num → ℕ
-number_print (exact c k) = parts_print (sign_print c) (unsigned_abs c) k
-number_print float = 8
+abbrev pub number_print : ℕ → Num → ℕ
+number_print seed (exact c k) = parts_print (bit_xor (sign_print c) seed) (unsigned_abs c) k
+number_print seed float = 8
 
 -- ---- trees
 
@@ -62,36 +66,36 @@ share budget count = if budget == unlimited then unlimited else budget / max cou
 
 -- items in their order, the first so many of them; members in any order, all of them or none
 abbrev mutual
-  pub print : ℕ → Tree → ℕ
-  print budget null = 1
-  print budget (boolean b) = if b then 3 else 2
-  print budget (number n) = number_print n
-  print budget (string s) = text_print budget s
-  print budget (array ts) =
-      items_print (share budget (length (item_list ts))) budget (stirred 4 (length (item_list ts)) 0) ts
-  print budget (object ms) = stirred 5 (length (member_list ms))
-      (if nat_le (length (member_list ms)) budget then members_print (share budget (length (member_list ms))) ms % 2 ^ 64 else 0)
+  pub print : ℕ → ℕ → Tree → ℕ
+  print seed budget null = 1
+  print seed budget (boolean b) = if b then 3 else 2
+  print seed budget (number n) = number_print seed n
+  print seed budget (string s) = text_print seed budget s
+  print seed budget (array ts) =
+      items_print seed (share budget (length (item_list ts))) budget (stirred (bit_xor 4 seed) (length (item_list ts)) 0) ts
+  print seed budget (object ms) = stirred 5 (length (member_list ms))
+      (if nat_le (length (member_list ms)) budget then members_print seed (share budget (length (member_list ms))) ms % 2 ^ 64 else 0)
 
   -- the first n items, mixed into a hash
-  pub items_print : ℕ → ℕ → ℕ → Items → ℕ
-  items_print budget zero h ts = h
-  items_print budget (suc n) h no_items = h
-  items_print budget (suc n) h (item t ts) = items_print budget n (stirred h (print budget t) 4) ts
+  pub items_print : ℕ → ℕ → ℕ → ℕ → Items → ℕ
+  items_print seed budget zero h ts = h
+  items_print seed budget (suc n) h no_items = h
+  items_print seed budget (suc n) h (item t ts) = items_print seed budget n (stirred h (print seed budget t) 4) ts
 
-  -- the sum over the members
-  pub members_print : ℕ → Members → ℕ
-  members_print budget no_members = 0
-  members_print budget (member k t ms) =
-      stirred 5 (text_print budget k) (print budget t) + members_print budget ms
+  -- the sum over the members, each mixed with the seed before
+  pub members_print : ℕ → ℕ → Members → ℕ
+  members_print seed budget no_members = 0
+  members_print seed budget (member k t ms) =
+      stirred (bit_xor 5 seed) (text_print seed budget k) (print seed budget t) + members_print seed budget ms
 
 -- the same of a list of items
-abbrev pub list_print : ℕ → ℕ → List Tree → ℕ
-list_print budget h [] = h
-list_print budget h (t ∷ ts) = list_print budget (stirred h (print budget t) 4) ts
+abbrev pub list_print : ℕ → ℕ → ℕ → List Tree → ℕ
+list_print seed budget h [] = h
+list_print seed budget h (t ∷ ts) = list_print seed budget (stirred h (print seed budget t) 4) ts
 
 -- the same of a member
-abbrev pub member_print : ℕ → List ℕ × Tree → ℕ
-member_print budget m = stirred 5 (text_print budget m.0) (print budget m.1)
+abbrev pub member_print : ℕ → ℕ → List ℕ × Tree → ℕ
+member_print seed budget m = stirred (bit_xor 5 seed) (text_print seed budget m.0) (print seed budget m.1)
 
 -- ---- names
 

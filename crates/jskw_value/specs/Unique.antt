@@ -17,7 +17,7 @@ pub record IsUniqueIn (start end : ℕ) (ts : List Tree) : Type 0 where
 -- what the search for the items of that block knows, with the items up to n seen
 pub record IsToldOf (start end budget n : ℕ) (sketch : List ℕ) (ts : List Tree) : Type 0 where
   -- those of the block are marked
-  pub marked : (i : ℕ) (t : Tree) → start ≤ i → i < end → i < n → slice_get ts i ≡ Some t → is_marked sketch (print budget t) ≡ true
+  pub marked : (i : ℕ) (t : Tree) → start ≤ i → i < end → i < n → slice_get ts i ≡ Some t → is_marked sketch (print 0 budget t) ≡ true
   -- no object that a fingerprint looked at has a name twice
   pub distinct : (i : ℕ) (t : Tree) → start ≤ i → i < n → slice_get ts i ≡ Some t → is_distinct_within budget t ≡ true
   -- none of those of the block is equal to a later one
@@ -29,16 +29,16 @@ pub record IsToldOf (start end budget n : ℕ) (sketch : List ℕ) (ts : List Tr
 pub record AreNewIn (start end low high : ℕ) (ts : List Tree) : Type 0 where
   pub differ : (i j : ℕ) (t u : Tree) → start ≤ i → i < end → i < j → low ≤ j → j < high → slice_get ts i ≡ Some t → slice_get ts j ≡ Some u → equal t u ≡ false
 
--- the first n numbers are the fingerprints of the whole items from `start` on
-pub record ArePrintsFrom (start n : ℕ) (prints : List ℕ) (ts : List Tree) : Type 0 where
-  pub each : (i : ℕ) (t : Tree) → i < n → slice_get ts (start + i) ≡ Some t → slice_index prints i ≡ print unlimited t
+-- the first n numbers are the fingerprints of the whole items from `start` on, under a seed
+pub record ArePrintsFrom (seed start n : ℕ) (prints : List ℕ) (ts : List Tree) : Type 0 where
+  pub each : (i : ℕ) (t : Tree) → i < n → slice_get ts (start + i) ≡ Some t → slice_index prints i ≡ print seed unlimited t
   -- no object in these items has a name twice
   pub distinct : (i : ℕ) (t : Tree) → i < n → slice_get ts (start + i) ≡ Some t → is_distinct_within unlimited t ≡ true
 
--- the numbers are the fingerprints of as many whole items from `start` on, in ascending order
-pub record AreSortedPrints (start : ℕ) (prints : List ℕ) (ts : List Tree) : Type 0 where
+-- the numbers are the fingerprints of as many whole items from `start` on, under a seed, in ascending order
+pub record AreSortedPrints (seed start : ℕ) (prints : List ℕ) (ts : List Tree) : Type 0 where
   pub in_order : List ℕ
-  pub are_prints : ArePrintsFrom start (length in_order) in_order ts
+  pub are_prints : ArePrintsFrom seed start (length in_order) in_order ts
   pub permutation : IsPermutation in_order prints
   pub sorted : IsNonDecreasing prints
 

@@ -1,13 +1,14 @@
-//! Fingerprints of nodes: equal nodes have one fingerprint, and most others differ. A fingerprint
-//! looks no further into a node than a budget reaches.
+//! Fingerprints of nodes: under one seed, equal nodes have one fingerprint, and most others differ.
+//! A fingerprint looks no further into a node than a budget reaches; [`of_whole`] looks at all of it.
 ghost use Rattle.std.specs.Prelude.{◌≡◌, ℕ, ◌≤◌, ◌<◌, ◌+◌, ◌-◌, ◌*◌, ◌/◌, ◌%◌, ◌^◌, length, take};
 ghost use Rattle.std.specs.Prelude.{None, IsTrue};
+ghost use Rattle.std.specs.Int.Bits.{bit_xor};
 ghost use Rattle.std.specs.List.{sum_by, IsDistinct, list_all};
 ghost use Rattle.std.specs.Str.{bytes_eq};
 ghost use Rattle.jskw_value.specs.Decimal.{value};
-ghost use Rattle.jskw_value.specs.Fingerprint.{folded, stirred, word_at, text_print, sign_print};
-ghost use Rattle.jskw_value.specs.Fingerprint.{number_print, share, print, list_print};
-ghost use Rattle.jskw_value.specs.Fingerprint.{member_print, is_distinct_within};
+ghost use Rattle.jskw_value.specs.Fingerprint.{folded, stirred, word_at, text_begun, text_print};
+ghost use Rattle.jskw_value.specs.Fingerprint.{sign_print, number_print, unlimited, share, print};
+ghost use Rattle.jskw_value.specs.Fingerprint.{list_print, member_print, is_distinct_within};
 ghost use Rattle.jskw_value.specs.Tree.{as_number, as_string, is_array, is_object, items};
 ghost use Rattle.jskw_value.specs.Tree.{members, names, values};
 
@@ -16,22 +17,34 @@ use crate::json::{Array, JsonNumber, Node, Object};
 use crate::property_name::{number_of, number_of_few};
 
 // The budget that reaches all of a node.
-pub(crate) const UNLIMITED: usize = usize::MAX;
+const UNLIMITED: usize = usize::MAX;
+
+/// Returns the fingerprint of the whole node under a seed. Equal values (Core 4.2.2, "Instance
+/// Equality") have one fingerprint under each seed, whatever representations hold them: numbers by
+/// their value, objects in any order of their members. Different values may have one too, so a
+/// comparison has to follow where two fingerprints are the same. Takes time in proportion to the
+/// size of the node, and no memory.
+pub fn of_whole<N: Node>(node: &N, seed: u64) -> u64
+    ensures value { result ≡ print seed unlimited (N.tree node.now) }
+    ensures distinct { IsTrue (is_distinct_within unlimited (N.tree node.now)) }
+{
+    fingerprint(node, seed, UNLIMITED)
+}
 
 // The fingerprint of a node. It takes no memory, and some steps for each unit of the budget.
 #[cycle(print)]
 #[tactic(auto, using(crate::proofs::Fingerprints::by_level))]
-pub(crate) fn fingerprint<N: Node>(node: &N, budget: usize) -> u64
-    ensures value { result ≡ print budget (N.tree node.now) }
+pub(crate) fn fingerprint<N: Node>(node: &N, seed: u64, budget: usize) -> u64
+    ensures value { result ≡ print seed budget (N.tree node.now) }
     ensures distinct { IsTrue (is_distinct_within budget (N.tree node.now)) }
 {
     if let Some(number) = node.as_number() {
-        return of_number(number);
+        return of_number(number, seed);
     }
     if let Some(text) = node.as_string() {
-        return of_text(text, budget);
+        return of_text(text, seed, budget);
     }
-    of_other(node, budget)
+    of_other(node, seed, budget)
 }
 
 // Of a node that is neither a number nor a string. It is never inlined, so that those two take no
@@ -39,17 +52,17 @@ pub(crate) fn fingerprint<N: Node>(node: &N, budget: usize) -> u64
 #[inline(never)]
 #[cycle(print)]
 #[tactic(auto, using(crate::proofs::Fingerprints::by_level))]
-fn of_other<N: Node>(node: &N, budget: usize) -> u64
+fn of_other<N: Node>(node: &N, seed: u64, budget: usize) -> u64
     requires number { as_number (N.tree node.now) ≡ None }
     requires string { as_string (N.tree node.now) ≡ None }
-    ensures value { result ≡ print budget (N.tree node.now) }
+    ensures value { result ≡ print seed budget (N.tree node.now) }
     ensures distinct { IsTrue (is_distinct_within budget (N.tree node.now)) }
 {
     if node.is_array() {
-        return of_array(node, budget);
+        return of_array(node, seed, budget);
     }
     if node.is_object() {
-        return of_object(node, budget);
+        return of_object(node, seed, budget);
     }
     match node.as_boolean() {
         Some(true) => 3,
@@ -61,18 +74,19 @@ fn of_other<N: Node>(node: &N, budget: usize) -> u64
 // Of an array: the number of its items, and as many of them as the budget has units.
 #[cycle(print)]
 #[tactic(auto, using(crate::proofs::Fingerprints::by_index))]
-fn of_array<N: Node>(node: &N, budget: usize) -> u64
+fn of_array<N: Node>(node: &N, seed: u64, budget: usize) -> u64
     requires { IsTrue (is_array (N.tree node.now)) }
     ensures value { let all = items (N.tree node.now) in
-        result ≡ list_print (share budget (length all)) (stirred 4 (length all) 0) (take budget all) }
+        result ≡ list_print seed (share budget (length all)) (stirred (bit_xor 4 seed) (length all) 0)
+        (take budget all) }
     ensures distinct { let all = items (N.tree node.now) in
         IsTrue (list_all (is_distinct_within (share budget (length all))) (take budget all)) }
 {
     let count = Array::len(node);
     let each = share(budget, count);
-    let mut hash = stir(4, count as u64, 0);
+    let mut hash = stir(4 ^ seed, count as u64, 0);
     for i in 0..count.min(budget) {
-        hash = stir(hash, fingerprint(node.item(i), each), 4);
+        hash = stir(hash, fingerprint(node.item(i), seed, each), 4);
     }
     hash
 }
@@ -81,30 +95,33 @@ fn of_array<N: Node>(node: &N, budget: usize) -> u64
 // budget's units.
 #[cycle(print)]
 #[tactic(auto, using(crate::proofs::Fingerprints::by_level))]
-fn of_object<N: Node>(node: &N, budget: usize) -> u64
+fn of_object<N: Node>(node: &N, seed: u64, budget: usize) -> u64
     requires { IsTrue (is_object (N.tree node.now)) }
-    ensures value { result ≡ print budget (N.tree node.now) }
+    ensures value { result ≡ print seed budget (N.tree node.now) }
     ensures distinct { IsTrue (is_distinct_within budget (N.tree node.now)) }
 {
     let count = Object::len(node);
     if budget < count {
         return stir(5, count as u64, 0);
     }
-    stir(5, count as u64, of_members(node, share(budget, count)))
+    let sum = of_members(node, seed, share(budget, count));
+    stir(5, count as u64, sum)
 }
 
-// The sum over the members, which is the same in any order.
+// The sum over the members, which is the same in any order. Each is mixed with the seed before, so
+// that sums that are the same under one seed tell nothing of another.
 #[cycle(print)]
 #[tactic(auto, using(crate::proofs::Depth::height_below, crate::proofs::Fingerprints::sum_step))]
-fn of_members<N: Node>(node: &N, budget: usize) -> u64
+fn of_members<N: Node>(node: &N, seed: u64, budget: usize) -> u64
     requires { IsTrue (is_object (N.tree node.now)) }
-    ensures value { result ≡ sum_by (member_print budget) (members (N.tree node.now)) % 2 ^ 64 }
+    ensures value { result ≡ sum_by (member_print seed budget) (members (N.tree node.now)) % 2 ^ 64 }
     ensures own { IsDistinct bytes_eq (names (N.tree node.now)) }
     ensures below { IsTrue (list_all (is_distinct_within budget) (values (N.tree node.now))) }
 {
     let mut sum = 0u64;
     for (name, member) in node.walk() {
-        let print = stir(5, of_text(name, budget), fingerprint(member, budget));
+        let name_print = of_text(name, seed, budget);
+        let print = stir(5 ^ seed, name_print, fingerprint(member, seed, budget));
         sum = sum.wrapping_add(print);
     }
     sum
@@ -123,26 +140,26 @@ fn share(budget: usize, count: usize) -> usize
 // Of a number by its value; floats have one fingerprint. Most numbers are whole and not below 0, and
 // go a short way.
 #[tactic(auto, using(crate::proofs::NumberPrints::whole_print))]
-fn of_number<A: JsonNumber>(number: &A) -> u64
-    ensures { result ≡ number_print (A.number number.now) }
+fn of_number<A: JsonNumber>(number: &A, seed: u64) -> u64
+    ensures { result ≡ number_print seed (A.number number.now) }
 {
     if !number.is_lawful() {
         return 8;
     }
     match number.as_u64() {
-        Some(whole) => stir(6, whole, 0),
-        None => of_decimal(&number.decimal()),
+        Some(whole) => stir(6 ^ seed, whole, 0),
+        None => of_decimal(&number.decimal(), seed),
     }
 }
 
 // Of a decimal: the sign, the whole part, and the rest in parts of 10^18.
 #[tactic(auto, unfolding(crate::specs::Fingerprint::parts_print))]
-fn of_decimal(decimal: &Decimal) -> u64
-    ensures { result ≡ number_print (value decimal.now) }
+fn of_decimal(decimal: &Decimal, seed: u64) -> u64
+    ensures { result ≡ number_print seed (value decimal.now) }
 {
     let coefficient = decimal.coefficient();
     let (whole, rest) = parts(coefficient.unsigned_abs() as u64, decimal.scale());
-    stir(of_sign(coefficient), whole, rest)
+    stir(of_sign(coefficient) ^ seed, whole, rest)
 }
 
 fn of_sign(coefficient: i128) -> u64
@@ -165,53 +182,60 @@ fn parts(magnitude: u64, scale: u8) -> (u64, u64)
     (magnitude / unit, magnitude % unit * ten_to(18 - scale))
 }
 
-fn of_text(text: &str, budget: usize) -> u64
-    ensures { result ≡ text_print budget text.now }
+fn of_text(text: &str, seed: u64, budget: usize) -> u64
+    ensures { result ≡ text_print seed budget text.now }
 {
-    of_bytes(text.as_bytes(), budget)
+    of_bytes(text.as_bytes(), seed, budget)
 }
 
 // Of a text: its length, as many pairs of words from its front as the budget has units, and its
 // last pair, which may overlap them. A text of less than eight bytes is one word, which stands
 // twice. What others need is never inlined, so that a text of up to sixteen bytes takes no frame.
 #[tactic(auto, using(crate::proofs::Fingerprints::one_pair))]
-fn of_bytes(bytes: &[u8], budget: usize) -> u64
-    ensures { result ≡ text_print budget bytes.now }
+fn of_bytes(bytes: &[u8], seed: u64, budget: usize) -> u64
+    ensures { result ≡ text_print seed budget bytes.now }
 {
     let count = bytes.len();
     if count < 8 {
-        of_one_word(bytes)
+        of_one_word(bytes, seed)
     } else if count <= 16 {
-        stir_last_pair(9600629759793949339 ^ count as u64, bytes)
+        stir_last_pair(begin_text(count, seed), bytes)
     } else {
-        of_many_words(bytes, budget)
+        of_many_words(bytes, seed, budget)
     }
 }
 
 // Of a text of less than eight bytes, for any budget.
 #[inline(never)]
 #[tactic(auto, using(crate::proofs::Fingerprints::one_word))]
-fn of_one_word(bytes: &[u8]) -> u64
+fn of_one_word(bytes: &[u8], seed: u64) -> u64
     requires { length bytes.now < 8 }
-    ensures { (budget : ℕ) → result ≡ text_print budget bytes.now }
+    ensures { (budget : ℕ) → result ≡ text_print seed budget bytes.now }
 {
     let word = number_of_few(bytes);
-    stir(9600629759793949339 ^ bytes.len() as u64, word, word)
+    stir(begin_text(bytes.len(), seed), word, word)
 }
 
 // Of a text of at least eight bytes.
 #[inline(never)]
 #[tactic(auto, unfolding(crate::specs::Fingerprint::text_print))]
-fn of_many_words(bytes: &[u8], budget: usize) -> u64
+fn of_many_words(bytes: &[u8], seed: u64, budget: usize) -> u64
     requires { 8 ≤ length bytes.now }
-    ensures { result ≡ text_print budget bytes.now }
+    ensures { result ≡ text_print seed budget bytes.now }
 {
     let count = bytes.len();
-    let mut hash = 9600629759793949339 ^ count as u64;
+    let mut hash = begin_text(count, seed);
     for i in 0..budget.min((count - 1) / 16) {
         hash = stir(hash, word_at(bytes, 16 * i), word_at(bytes, 16 * i + 8));
     }
     stir_last_pair(hash, bytes)
+}
+
+// What the hash of a text of so many bytes begins with.
+fn begin_text(count: usize, seed: u64) -> u64
+    ensures { result ≡ text_begun seed count }
+{
+    9600629759793949339 ^ count as u64 ^ seed
 }
 
 // The last pair of words, which overlap in a text of less than sixteen bytes, mixed into a hash.

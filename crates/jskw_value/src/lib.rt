@@ -10,7 +10,7 @@
 pub mod decimal;
 pub mod decimal_tree;
 mod equality;
-mod fingerprint;
+pub mod fingerprint;
 mod first_float;
 pub mod json;
 mod json_text;

@@ -7,7 +7,7 @@ ghost use Rattle.jskw_value.specs.Tree.{is_array, items};
 ghost use Rattle.jskw_value.specs.Unique.{AreNewIn, ArePrintsFrom, AreSortedPrints, IsNotAmong};
 ghost use Rattle.jskw_value.specs.Unique.{IsOnceAtMost, IsUniqueIn};
 
-use crate::fingerprint::{UNLIMITED, fingerprint};
+use crate::fingerprint::of_whole;
 use crate::json::{Array, Node};
 use crate::unique_items::occurs_between;
 
@@ -22,22 +22,29 @@ pub(crate) fn are_unique_by_prints<const SIZE: usize, N: Node>(array: &N) -> boo
     requires short { SIZE ≤ 2 ^ 32 }
     ensures { result ≡ unique (items (N.tree array.now)) }
 {
+    let seed = 0;
     let mut prints = [0u64; SIZE];
     let count = Array::len(array);
     let mut start = 0;
     while SIZE < count - start {
-        if !is_block_unique(array, &mut prints, start, start + SIZE) {
+        if !is_block_unique(array, &mut prints, seed, start, start + SIZE) {
             return false;
         }
         start += SIZE;
     }
-    is_block_unique(array, &mut prints[..count - start], start, count)
+    is_block_unique(array, &mut prints[..count - start], seed, start, count)
 }
 
 // Whether no item from one index up to another is equal to a later one, with room for as many
 // fingerprints.
 #[tactic(auto, using(crate::proofs::Prints::sorted_prints, crate::proofs::Prints::unique_block))]
-fn is_block_unique<N: Node>(array: &N, prints: &mut [u64], start: usize, end: usize) -> bool
+fn is_block_unique<N: Node>(
+    array: &N,
+    prints: &mut [u64],
+    seed: u64,
+    start: usize,
+    end: usize,
+) -> bool
     requires array { IsTrue (is_array (N.tree array.now)) }
     requires room { end ≡ start + length prints.old }
     requires end { end ≤ length (items (N.tree array.now)) }
@@ -45,33 +52,34 @@ fn is_block_unique<N: Node>(array: &N, prints: &mut [u64], start: usize, end: us
     ensures unique { result ≡ true → IsUniqueIn start end (items (N.tree array.now)) }
     ensures twice { result ≡ false → unique (items (N.tree array.now)) ≡ false }
 {
-    write_prints(array, prints, start, end);
+    write_prints(array, prints, seed, start, end);
     prints.sort_unstable();
-    differ_in_block(array, prints, start, end) && differ_from_later(array, prints, start, end)
+    differ_in_block(array, prints, seed, start, end)
+        && differ_from_later(array, prints, seed, start, end)
 }
 
 // Writes the fingerprints of the whole items from one index up to another.
 #[tactic(auto, using(crate::proofs::Prints::no_print))]
-fn write_prints<N: Node>(array: &N, prints: &mut [u64], start: usize, end: usize)
+fn write_prints<N: Node>(array: &N, prints: &mut [u64], seed: u64, start: usize, end: usize)
     requires array { IsTrue (is_array (N.tree array.now)) }
     requires room { end ≡ start + length prints.old }
     requires end { end ≤ length (items (N.tree array.now)) }
     ensures length { length prints.new ≡ length prints.old }
-    ensures prints { ArePrintsFrom start (length prints.new) prints.new (items (N.tree array.now)) }
+    ensures prints { ArePrintsFrom seed start (length prints.new) prints.new (items (N.tree array.now)) }
 {
     for (i, print) in prints.iter_mut().enumerate() {
-        *print = fingerprint(array.item(start + i), UNLIMITED);
+        *print = of_whole(array.item(start + i), seed);
     }
 }
 
 // Whether no two of the items that have these fingerprints are equal. Most often no two of the
 // fingerprints are the same.
 #[tactic(auto, using(crate::proofs::Prints::none_new))]
-fn differ_in_block<N: Node>(array: &N, prints: &[u64], start: usize, end: usize) -> bool
+fn differ_in_block<N: Node>(array: &N, prints: &[u64], seed: u64, start: usize, end: usize) -> bool
     requires array { IsTrue (is_array (N.tree array.now)) }
     requires room { end ≡ start + length prints.now }
     requires end { end ≤ length (items (N.tree array.now)) }
-    requires prints { AreSortedPrints start prints.now (items (N.tree array.now)) }
+    requires prints { AreSortedPrints seed start prints.now (items (N.tree array.now)) }
     ensures new { result ≡ true → AreNewIn start end start end (items (N.tree array.now)) }
     ensures twice { result ≡ false → unique (items (N.tree array.now)) ≡ false }
 {
@@ -79,7 +87,7 @@ fn differ_in_block<N: Node>(array: &N, prints: &[u64], start: usize, end: usize)
         return true;
     }
     for i in start..end {
-        if is_repeated(prints, fingerprint(array.item(i), UNLIMITED))
+        if is_repeated(prints, of_whole(array.item(i), seed))
             && occurs_between(array, start, i, i)
         {
             return false;
@@ -90,19 +98,23 @@ fn differ_in_block<N: Node>(array: &N, prints: &[u64], start: usize, end: usize)
 
 // Whether no item behind those that have these fingerprints is equal to one of them.
 #[tactic(auto, using(crate::proofs::Prints::none_new))]
-fn differ_from_later<N: Node>(array: &N, prints: &[u64], start: usize, end: usize) -> bool
+fn differ_from_later<N: Node>(
+    array: &N,
+    prints: &[u64],
+    seed: u64,
+    start: usize,
+    end: usize,
+) -> bool
     requires array { IsTrue (is_array (N.tree array.now)) }
     requires room { end ≡ start + length prints.now }
     requires end { end ≤ length (items (N.tree array.now)) }
-    requires prints { AreSortedPrints start prints.now (items (N.tree array.now)) }
+    requires prints { AreSortedPrints seed start prints.now (items (N.tree array.now)) }
     ensures new { result ≡ true → let all = items (N.tree array.now) in
         AreNewIn start end end (length all) all }
     ensures twice { result ≡ false → unique (items (N.tree array.now)) ≡ false }
 {
     for i in end..Array::len(array) {
-        if is_among(prints, fingerprint(array.item(i), UNLIMITED))
-            && occurs_between(array, start, end, i)
-        {
+        if is_among(prints, of_whole(array.item(i), seed)) && occurs_between(array, start, end, i) {
             return false;
         }
     }

@@ -42,6 +42,9 @@ const DOUBTS: usize = 8;
 // So that in a long array there may be one more for each so many items.
 const ITEMS_A_DOUBT: usize = 16384;
 
+// The seed of the fingerprints in a sketch.
+const UNSEEDED: u64 = 0;
+
 // Whether no two different indices of the array hold equal items. The first item is compared with
 // all others before any sketch is begun: what pairs find at once is found at once.
 #[tactic(auto, using(crate::proofs::Blocks::first_again, crate::proofs::Blocks::first_new))]
@@ -184,7 +187,7 @@ fn is_new<N: Node>(
         → IsToldOf start end budget (index + 1) sketch.new (items (N.tree array.now)) }
     ensures twice { result ≡ Some false → unique (items (N.tree array.now)) ≡ false }
 {
-    let print = fingerprint(array.item(index), budget);
+    let print = fingerprint(array.item(index), UNSEEDED, budget);
     if is_marked(sketch, print) {
         *doubts = doubts.checked_sub(1)?;
         return Some(!occurs_between(array, start, end.min(index), index));

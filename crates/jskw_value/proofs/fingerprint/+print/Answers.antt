@@ -19,6 +19,6 @@ of_array-loop-i-preserved g n c =
       known.1,
       known.2 ∙ all_step (is_distinct_within each) c.args.budget all i t within early c.item.ensures.value
           ∙ ap (λ b. b && list_all (is_distinct_within each) rest) c.fingerprint.ensures.distinct,
-      known.3 ∙ list_step each c.loop-i.hash c.args.budget all i t within early c.item.ensures.value
-          ∙ ap (λ h. list_print each h rest) (sym (c.stir-hash-in-loop-i.ensures ∙ ap (λ p. stirred c.loop-i.hash p 4) c.fingerprint.ensures.value)),
+      known.3 ∙ list_step c.args.seed each c.loop-i.hash c.args.budget all i t within early c.item.ensures.value
+          ∙ ap (λ h. list_print c.args.seed each h rest) (sym (c.stir-hash-in-loop-i.ensures ∙ ap (λ p. stirred c.loop-i.hash p 4) c.fingerprint.ensures.value)),
     )

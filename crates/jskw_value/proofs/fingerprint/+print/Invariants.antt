@@ -1,4 +1,5 @@
 use Rattle.std.proofs.Common.{◌≡◌, ◌+◌, ◌*◌, ◌%◌, ◌^◌, ◌<◌, min, drop, take, length}
+use Rattle.std.specs.Int.Bits.{bit_xor}
 use Rattle.std.specs.List.{list_all, sum_by, IsDistinct}
 use Rattle.std.specs.Map.{values_of}
 use Rattle.std.specs.Str.{bytes_eq}
@@ -29,7 +30,7 @@ invariant-of_array-loop-i g l =
     let first = take l.budget all in
     (l.i-end ≡ min (length all) l.budget) × (l.each ≡ share l.budget (length all))
     × (list_all (is_distinct_within l.each) first ≡ list_all (is_distinct_within l.each) (drop l.i first))
-    × (list_print l.each (stirred 4 (length all) 0) first ≡ list_print l.each l.hash (drop l.i first))
+    × (list_print l.seed l.each (stirred (bit_xor 4 l.seed) (length all) 0) first ≡ list_print l.seed l.each l.hash (drop l.i first))
 
 abbrev pub invariant-of_members-loop-name : goal.invariant-of_members-loop-name
 invariant-of_members-loop-name g l =
@@ -37,4 +38,4 @@ invariant-of_members-loop-name g l =
     let rest = left g.N.Rooted.tree l.name-iterator in
     IsDistinct bytes_eq (names tree) × (height rest < depth tree)
     × (list_all (is_distinct_within l.budget) (values tree) ≡ list_all (is_distinct_within l.budget) (values_of rest))
-    × ((l.sum + sum_by (member_print l.budget) rest) % 2 ^ 64 ≡ sum_by (member_print l.budget) (members tree) % 2 ^ 64)
+    × ((l.sum + sum_by (member_print l.seed l.budget) rest) % 2 ^ 64 ≡ sum_by (member_print l.seed l.budget) (members tree) % 2 ^ 64)

@@ -16,8 +16,8 @@ loop-i-preserved g c =
       | else-is_among-via-then-is_among+else-occurs_between w ↦ (known.0, next_new start end end i end all (omega arith) (w.occurs_between.ensures.new w.if-occurs_between.false) known.1)
       | else-is_among-via-else-is_among w ↦ (
         known.0,
-        next_other start end i c.fingerprint.result c.args.prints.now all (g.N.Rooted.tree c.item.result.now)
-            c.requires.prints c.requires.room within c.item.ensures.value c.fingerprint.ensures.value c.fingerprint.ensures.distinct
+        next_other c.args.seed start end i c.of_whole.result c.args.prints.now all (g.N.Rooted.tree c.item.result.now)
+            c.requires.prints c.requires.room within c.item.ensures.value c.of_whole.ensures.value c.of_whole.ensures.distinct
             (c.is_among.ensures w.if-is_among.false) known.1,
       )
     ]

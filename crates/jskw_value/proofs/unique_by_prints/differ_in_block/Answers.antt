@@ -6,7 +6,7 @@ use Rattle.jskw_value.proofs.unique_by_prints.differ_in_block.Goals.{else-is_rep
 
 pub returns-then-rises-clause-new : goal.returns-then-rises-clause-new
 returns-then-rises-clause-new g c h =
-    rising_new c.args.start c.args.end c.args.prints.now (items (g.N.Rooted.tree c.args.array.now)) c.requires.prints c.requires.room
+    rising_new c.args.seed c.args.start c.args.end c.args.prints.now (items (g.N.Rooted.tree c.args.array.now)) c.requires.prints c.requires.room
     (c.rises.ensures c.if-rises.true)
 
 pub loop-i-preserved : goal.loop-i-preserved
@@ -18,8 +18,8 @@ loop-i-preserved g c =
     let within : i < end = omega arith in
     elim c.else-is_repeated.branch [
       | else-is_repeated-via-then-is_repeated+else-occurs_between w ↦ next_new start end start i i all (omega arith) (w.occurs_between.ensures.new w.if-occurs_between.false) c.loop-i.invariant
-      | else-is_repeated-via-else-is_repeated w ↦ next_once start end i c.fingerprint.result c.args.prints.now all (g.N.Rooted.tree c.item.result.now)
-          c.requires.prints c.requires.room within c.requires.end c.item.ensures.value c.fingerprint.ensures.value
+      | else-is_repeated-via-else-is_repeated w ↦ next_once c.args.seed start end i c.of_whole.result c.args.prints.now all (g.N.Rooted.tree c.item.result.now)
+          c.requires.prints c.requires.room within c.requires.end c.item.ensures.value c.of_whole.ensures.value
           (c.is_repeated.ensures w.if-is_repeated.false) c.loop-i.invariant
     ]
 

@@ -10,7 +10,7 @@ loop-i-preserved g c =
     let i = c.loop-i.i in
     let room : i < length c.loop-i.prints = omega arith in
     let within : c.args.start + i < length all = omega (arith, room, known.0) in (
-      length-set c.loop-i.prints i c.fingerprint.result ∙ known.0,
-      next_print c.args.start i c.fingerprint.result c.loop-i.prints all (g.N.Rooted.tree c.item.result.now)
-          c.fingerprint.ensures.value room within c.item.ensures.value c.fingerprint.ensures.distinct known.1,
+      length-set c.loop-i.prints i c.of_whole.result ∙ known.0,
+      next_print c.args.seed c.args.start i c.of_whole.result c.loop-i.prints all (g.N.Rooted.tree c.item.result.now)
+          c.of_whole.ensures.value room within c.item.ensures.value c.of_whole.ensures.distinct known.1,
     )
