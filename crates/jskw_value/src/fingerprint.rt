@@ -182,6 +182,13 @@ fn parts(magnitude: u64, scale: u8) -> (u64, u64)
     (magnitude / unit, magnitude % unit * ten_to(18 - scale))
 }
 
+// The fingerprint of a whole text.
+pub(crate) fn of_text_whole(text: &str, seed: u64) -> u64
+    ensures { result ≡ text_print seed unlimited text.now }
+{
+    of_text(text, seed, UNLIMITED)
+}
+
 fn of_text(text: &str, seed: u64, budget: usize) -> u64
     ensures { result ≡ text_print seed budget text.now }
 {
@@ -263,7 +270,7 @@ fn word_at(bytes: &[u8], start: usize) -> u64
 
 // Two words mixed into a hash.
 #[tactic(auto, unfolding(crate::specs::Fingerprint::stirred))]
-fn stir(hash: u64, first: u64, second: u64) -> u64
+pub(crate) fn stir(hash: u64, first: u64, second: u64) -> u64
     ensures { result ≡ stirred hash first second }
 {
     let one = fold(

@@ -20,6 +20,7 @@ pub mod names;
 pub mod nullability;
 pub mod pointer;
 pub mod property_name;
+pub mod seed;
 mod serde_decimals;
 pub mod serde_tree;
 mod sketch;

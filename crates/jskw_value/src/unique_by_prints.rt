@@ -9,6 +9,7 @@ ghost use Rattle.jskw_value.specs.Unique.{IsOnceAtMost, IsUniqueIn};
 
 use crate::fingerprint::of_whole;
 use crate::json::{Array, Node};
+use crate::seed::seed_of;
 use crate::unique_items::occurs_between;
 
 // Whether no two different indices of the array hold equal items, block by block: the sorted
@@ -22,7 +23,7 @@ pub(crate) fn are_unique_by_prints<const SIZE: usize, N: Node>(array: &N) -> boo
     requires short { SIZE ≤ 2 ^ 32 }
     ensures { result ≡ unique (items (N.tree array.now)) }
 {
-    let seed = 0;
+    let seed = seed_of(array);
     let mut prints = [0u64; SIZE];
     let count = Array::len(array);
     let mut start = 0;

@@ -1,0 +1,78 @@
+//! Seeds for fingerprints of whole nodes that nobody can know before the nodes stand.
+ghost use Rattle.std.specs.Prelude.{IsTrue};
+ghost use Rattle.jskw_value.specs.Tree.{is_array, is_object};
+
+use crate::fingerprint::{of_text_whole, of_whole, stir};
+use crate::json::{Array, Node, Object};
+
+// A hash of 128 bits. Two nodes with one hash are so costly to find that whoever chooses the nodes
+// can't change them without changing the seed.
+#[derive(Clone, Copy)]
+struct State {
+    first: u64,
+    second: u64,
+}
+
+impl State {
+    // Two words mixed in.
+    fn with(self, one: u64, other: u64) -> State {
+        State {
+            first: stir(self.first, one, other),
+            second: stir(self.second, other, one),
+        }
+    }
+}
+
+/// Returns a seed for [`of_whole`] that depends on all that the node holds: each item, name, number
+/// and text, in the order in which they stand. So fingerprints under the seed of an array can't be
+/// made the same by choosing its items beforehand: other items give another seed. Any number serves
+/// as a seed, so no contract says which it is; what the seed decides is time alone. Takes time in
+/// proportion to the size of the node, and no memory.
+pub fn seed_of<N: Node>(node: &N) -> u64 {
+    let start = State {
+        first: 7046029254386353131,
+        second: 14029467366897019727,
+    };
+    with_node(start, node).first
+}
+
+// All of a node mixed in.
+#[cycle(seed)]
+fn with_node<N: Node>(state: State, node: &N) -> State {
+    if node.is_array() {
+        return with_items(state, node);
+    }
+    if node.is_object() {
+        return with_members(state, node);
+    }
+    state.with(of_whole(node, state.first), of_whole(node, state.second))
+}
+
+// The number of the items, and each of them.
+#[cycle(seed)]
+#[tactic(auto, using(crate::proofs::Depth::item_depth))]
+fn with_items<N: Node>(state: State, node: &N) -> State
+    requires { IsTrue (is_array (N.tree node.now)) }
+{
+    let count = Array::len(node);
+    let mut state = state.with(4, count as u64);
+    for i in 0..count {
+        state = with_node(state, node.item(i));
+    }
+    state
+}
+
+// The number of the members, and of each its name and what stands at it.
+#[cycle(seed)]
+#[tactic(auto, using(crate::proofs::Depth::height_below))]
+fn with_members<N: Node>(state: State, node: &N) -> State
+    requires { IsTrue (is_object (N.tree node.now)) }
+{
+    let mut state = state.with(5, Object::len(node) as u64);
+    for (name, member) in node.walk() {
+        let one = of_text_whole(name, state.first);
+        let other = of_text_whole(name, state.second);
+        state = with_node(state.with(one, other), member);
+    }
+    state
+}
