@@ -1,6 +1,8 @@
 // Unique items among more of them than are compared pair by pair.
 use crate::tests::trees::{insert, number, objects_in_two_orders, string};
+use jskw_value::fingerprint::of_whole;
 use jskw_value::laws::equal_values_have_one_fingerprint;
+use jskw_value::seed::seed_of;
 use jskw_value::{Array, Decimal, DecimalTree, Members, Node};
 use serde_json::Value;
 use std::alloc::Global;
@@ -136,25 +138,81 @@ fn objects_in_any_order(rt: HostRuntime) -> Result<(), Fail> {
     Ok(())
 }
 
-// An array of so many items that begin and end so and have a number from 0 on between, and of one
-// more with this number.
-fn alike_items(
+// Whether the items of a text's array are unique, over both representations.
+fn are_unique(alloc: Global, text: &str) -> Result<bool, Fail> {
+    let value = Value::from_str(alloc, text)?;
+    let tree = DecimalTree::from_value(alloc, &value)?.ok_or("a float")?;
+    let answer = answer_of(&value)?;
+    if answer_of(&tree)? == answer {
+        Ok(answer)
+    } else {
+        Err("the representations differ")?
+    }
+}
+
+fn answer_of<N: Node>(node: &N) -> Result<bool, Fail> {
+    if node.is_array() {
+        Ok(node.is_unique())
+    } else {
+        Err("no array")?
+    }
+}
+
+// The text of an array of these items, of which one is put in again in place of another. No other
+// two are equal.
+fn text_of(alloc: Global, items: &[String], from: usize, to: usize) -> Result<String, Fail> {
+    let mut text = String::from_str(alloc, "[")?;
+    for i in 0..items.len() {
+        let item = items.get(if i == to { from } else { i }).ok_or("no item")?;
+        text.push_str(if i == 0 { "" } else { "," })?;
+        text.push_str(item.as_str())?;
+    }
+    text.push(']')?;
+    Ok(text)
+}
+
+// With none put in again, and with one pair at the start, in the middle, at the end, and as far apart
+// as can be.
+fn check_items(rt: &impl Abort, alloc: Global, items: &[String]) -> Result<(), Fail> {
+    let (middle, last) = (items.len() / 2, items.len().saturating_sub(1));
+    for (from, to) in [
+        (0, 0),
+        (0, 1),
+        (middle, middle.saturating_add(1)),
+        (last.saturating_sub(1), last),
+        (0, last),
+    ] {
+        let text = text_of(alloc, items, from, to)?;
+        check_answer(rt, are_unique(alloc, text.as_str())?, from, to);
+    }
+    Ok(())
+}
+
+fn check_answer(rt: &impl Abort, are_unique: bool, from: usize, to: usize) {
+    assert_eq!(rt; are_unique, from == to, "item {from} at {to}");
+}
+
+// So many texts that begin and end so, with a number from 0 on between.
+fn alike(alloc: Global, count: u64, front: &str, back: &str) -> Result<Vec<String>, Fail> {
+    let mut items = Vec::new(alloc);
+    for i in 0..count {
+        items.push(format!(in alloc; "{front}{i}{back}")?)?;
+    }
+    Ok(items)
+}
+
+fn check_alike(
+    rt: &impl Abort,
     alloc: Global,
     count: u64,
     front: &str,
     back: &str,
-    last: u64,
-) -> Result<Value, Fail> {
-    let mut text = String::from_str(alloc, "[")?;
-    for i in 0..count {
-        text.push_str(format!(in alloc; "{front}{i}{back},")?.as_str())?;
-    }
-    text.push_str(format!(in alloc; "{front}{last}{back}]")?.as_str())?;
-    Ok(Value::from_str(alloc, text.as_str())?)
+) -> Result<(), Fail> {
+    check_items(rt, alloc, &alike(alloc, count, front, back)?)
 }
 
 // Of arrays, objects and strings: what is alike at the front, at the end, and in all but one place
-// in the middle, further than a fingerprint looks.
+// in the middle, further than a fingerprint of a sketch looks.
 #[test]
 fn nested_and_long_items(rt: HostRuntime) -> Result<(), Fail> {
     let alloc = rt.alloc();
@@ -169,105 +227,158 @@ fn nested_and_long_items(rt: HostRuntime) -> Result<(), Fail> {
         ("\"01234567", "\""),
         ("\"0123456789abcdef", "0123456789abcdef\""),
     ] {
-        for (last, are_unique) in [(10, true), (0, false), (5, false), (9, false)] {
-            let value = alike_items(alloc, 10, front, back, last)?;
-            assert!(rt; Node::is_array(&value));
-            assert_eq!(rt; value.is_unique(), are_unique, "{front} and {last}");
-        }
+        check_alike(&rt, alloc, 10, front, back)?;
     }
     Ok(())
 }
 
-// So many items that are alike further than the fingerprints of a sketch look, and one more.
-fn check_alike_items(
-    rt: &impl Abort,
-    alloc: Global,
-    count: u64,
-    front: &str,
-    back: &str,
-) -> Result<(), Fail> {
-    for (last, are_unique) in [
-        (count, true),
-        (0, false),
-        (count / 2, false),
-        (count.saturating_sub(1), false),
-    ] {
-        let value = alike_items(alloc, count, front, back, last)?;
-        assert!(rt; Node::is_array(&value));
-        assert_eq!(rt;
-            value.is_unique(),
-            are_unique,
-            "{front}, {count} and {last}"
-        );
-    }
-    Ok(())
-}
+// A row has so many items. Each begins with a text, with another so many times and with a third, has
+// a number of its own there, and a text behind it.
+type Row = (
+    u64,
+    &'static str,
+    &'static str,
+    usize,
+    &'static str,
+    &'static str,
+);
 
-// Where the fingerprints of whole items tell.
-#[test]
-fn many_items_that_differ_deep_down_or_late(rt: HostRuntime) -> Result<(), Fail> {
-    let alloc = rt.alloc();
-    let (open, close) = ("[".repeat(alloc, 20)?, "]".repeat(alloc, 20)?);
-    for count in [127u64, 128, 1023, 1024] {
-        check_alike_items(&rt, alloc, count, open.as_str(), close.as_str())?;
-    }
-    let zeros = format!(in alloc; "[{}", "0,".repeat(alloc, 700)?.as_str())?;
-    check_alike_items(&rt, alloc, 200, zeros.as_str(), "]")?;
-    let object = "{\"a\":1,\"b\":".repeat(alloc, 9)?;
-    check_alike_items(&rt, alloc, 200, object.as_str(), "}}}}}}}}}")?;
-    Ok(())
-}
-
-// Members of which either two have one sum of fingerprints.
-const SAME_SUMS: [[&str; 2]; 4] = [
-    [
-        "\"a00\":358168,\"b00\":2909806",
-        "\"a00\":2328621,\"b00\":1236977",
-    ],
-    [
-        "\"a01\":815659,\"b01\":2685690",
-        "\"a01\":371278,\"b01\":3191975",
-    ],
-    [
-        "\"a02\":4106677,\"b02\":3538951",
-        "\"a02\":1993735,\"b02\":963625",
-    ],
-    [
-        "\"a03\":1611501,\"b03\":2850619",
-        "\"a03\":3531808,\"b03\":2780635",
-    ],
+// Items that differ deep down or late only, so that fingerprints of whole items have to tell.
+const LATE: [Row; 8] = [
+    (128, "", "[", 14, "", "]]]]]]]]]]]]]]"),
+    (129, "", "[", 14, "", "]]]]]]]]]]]]]]"),
+    (1024, "", "[", 14, "", "]]]]]]]]]]]]]]"),
+    (1025, "", "[", 14, "", "]]]]]]]]]]]]]]"),
+    (3000, "", "[", 14, "", "]]]]]]]]]]]]]]"),
+    (
+        400,
+        "{\"type\":\"Polygon\",\"coordinates\":[[",
+        "[7,8],",
+        99,
+        "[7,",
+        "]]]}",
+    ),
+    (200, "[", "0,", 600, "", "]"),
+    (
+        200,
+        "",
+        "{\"kind\":\"x\",\"data\":",
+        9,
+        "{\"id\":",
+        "}}}}}}}}}}",
+    ),
 ];
 
-// Items with one whole fingerprint that differ, and one of them again.
 #[test]
-fn objects_of_one_fingerprint(rt: HostRuntime) -> Result<(), Fail> {
-    let alloc = rt.alloc();
-    for (count, are_unique) in [(16usize, true), (17, false)] {
-        let mut text = String::from_str(alloc, "[")?;
-        for i in 0..count {
-            let [a, b, c, d] = SAME_SUMS;
-            let (a, b, c, d) = (a[i % 2], b[i / 2 % 2], c[i / 4 % 2], d[i / 8 % 2]);
-            text.push_str(format!(in alloc; "{{{a},{b},{c},{d}}},")?.as_str())?;
-        }
-        text.push_str("0]")?;
-        let value = Value::from_str(alloc, text.as_str())?;
-        assert!(rt; Node::is_array(&value));
-        assert_eq!(rt; value.is_unique(), are_unique, "{count}");
+fn items_that_differ_deep_down_or_late(rt: HostRuntime) -> Result<(), Fail> {
+    for row in LATE {
+        check_row(&rt, rt.alloc(), row)?;
     }
     Ok(())
 }
 
-// Further than a fingerprint looks.
+fn check_row(rt: &impl Abort, alloc: Global, row: Row) -> Result<(), Fail> {
+    let (count, first, part, times, last, back) = row;
+    let middle = part.repeat(alloc, times)?;
+    let front = format!(in alloc; "{first}{middle}{last}")?;
+    check_alike(rt, alloc, count, front.as_str(), back)
+}
+
+// They differ further in, from both ends, than a fingerprint of a sketch looks.
 #[test]
 fn long_texts_that_differ_in_the_middle(rt: HostRuntime) -> Result<(), Fail> {
     let alloc = rt.alloc();
     let long = "0123456789abcdef".repeat(alloc, 40)?;
+    let (front, back) = (
+        format!(in alloc; "\"{long}")?,
+        format!(in alloc; "{long}\"")?,
+    );
+    check_alike(&rt, alloc, 30, front.as_str(), back.as_str())
+}
+
+// Whether the fingerprint of a number falls into a sixteenth of a sketch's words.
+fn is_crowded(number: u64) -> bool {
+    let print = of_whole(&DecimalTree::Number(Decimal::from(number)), 0);
+    print >> 60 == 0 && (print >> 28) % 16 == 0
+}
+
+// Some 8,000 integers of which most look marked.
+#[test]
+fn integers_that_crowd_a_sketch(rt: HostRuntime) -> Result<(), Fail> {
+    let alloc = rt.alloc();
     let mut items = Vec::new(alloc);
-    for i in 0..30u64 {
-        let text = format!(in alloc; "{long}{i}{long}")?;
-        items.push(DecimalTree::Text(text))?;
+    for number in 0..2_000_000u64 {
+        if is_crowded(number) {
+            items.push(format!(in alloc; "{number}")?)?;
+        }
     }
-    let tree = DecimalTree::Array(items);
-    assert!(rt; is_unique(&tree)?);
+    check_items(&rt, alloc, &items)
+}
+
+// Two members of which either two values have one sum of fingerprints under the seed 0: the end of
+// their names, and the values.
+const SAME_SUMS: [(&str, [u64; 4]); 9] = [
+    ("00", [3668787, 1299163, 1827868, 3006230]),
+    ("01", [644119, 239050, 2383538, 1389183]),
+    ("02", [1564926, 3344834, 953016, 3872509]),
+    ("04", [3027424, 3083213, 1695266, 1144427]),
+    ("05", [2230193, 1233540, 3805155, 2651385]),
+    ("08", [597568, 3975523, 245073, 3271054]),
+    ("09", [3546655, 1191052, 594418, 3794072]),
+    ("10", [3978242, 3661127, 299210, 3399795]),
+    ("11", [1020768, 3992470, 2887917, 3362304]),
+];
+
+// One of the objects that take of each two pairs of members either.
+fn colliding_object(alloc: Global, number: usize) -> Result<String, Fail> {
+    let mut text = String::from_str(alloc, "{")?;
+    let mut rest = number;
+    for (name, [a, b, c, d]) in SAME_SUMS {
+        let (a, b) = if rest % 2 == 0 { (a, b) } else { (c, d) };
+        text.push_str(format!(in alloc; "\"a{name}\":{a},\"b{name}\":{b},")?.as_str())?;
+        rest /= 2;
+    }
+    text.push_str("\"z\":0}")?;
+    Ok(text)
+}
+
+fn colliding_objects(alloc: Global, count: usize) -> Result<Vec<String>, Fail> {
+    let mut items = Vec::new(alloc);
+    for number in 0..count {
+        items.push(colliding_object(alloc, number)?)?;
+    }
+    Ok(items)
+}
+
+#[test]
+fn objects_of_one_fingerprint(rt: HostRuntime) -> Result<(), Fail> {
+    let alloc = rt.alloc();
+    check_items(&rt, alloc, &colliding_objects(alloc, 409)?)
+}
+
+// How many items have the fingerprint of the first under a seed.
+fn count_like_first(array: &Value, seed: u64) -> Result<usize, Fail> {
+    let items = array.as_array().ok_or("no array")?;
+    let first = of_whole(items.first().ok_or("no item")?, seed);
+    Ok(
+        items
+            .iter()
+            .filter(|item| of_whole(*item, seed) == first)
+            .count(),
+    )
+}
+
+// Objects that were searched for under one seed collide under that seed alone. The seed of their array
+// is another one, and that of other items is yet another.
+#[test]
+fn fingerprints_collide_under_one_seed(rt: HostRuntime) -> Result<(), Fail> {
+    let alloc = rt.alloc();
+    let items = colliding_objects(alloc, 409)?;
+    let array = Value::from_str(alloc, text_of(alloc, &items, 0, 0)?.as_str())?;
+    let other = Value::from_str(alloc, text_of(alloc, &items, 0, 1)?.as_str())?;
+    assert_eq!(rt; count_like_first(&array, 0)?, 409);
+    assert_eq!(rt; count_like_first(&array, 1)?, 1);
+    assert_eq!(rt; count_like_first(&array, seed_of(&array))?, 1);
+    assert!(rt; seed_of(&array) != seed_of(&other));
     Ok(())
 }
