@@ -171,8 +171,7 @@ fn text_of(alloc: Global, items: &[String], from: usize, to: usize) -> Result<St
     Ok(text)
 }
 
-// With none put in again, and with one pair at the start, in the middle, at the end, and as far apart
-// as can be.
+// With none put in again, and with one pair at the start, in the middle and at the end.
 fn check_items(rt: &impl Abort, alloc: Global, items: &[String]) -> Result<(), Fail> {
     let (middle, last) = (items.len() / 2, items.len().saturating_sub(1));
     for (from, to) in [
@@ -180,7 +179,6 @@ fn check_items(rt: &impl Abort, alloc: Global, items: &[String]) -> Result<(), F
         (0, 1),
         (middle, middle.saturating_add(1)),
         (last.saturating_sub(1), last),
-        (0, last),
     ] {
         let text = text_of(alloc, items, from, to)?;
         check_answer(rt, are_unique(alloc, text.as_str())?, from, to);
@@ -243,36 +241,39 @@ type Row = (
     &'static str,
 );
 
-// Items that differ deep down or late only, so that fingerprints of whole items have to tell.
-const LATE: [Row; 8] = [
-    (128, "", "[", 14, "", "]]]]]]]]]]]]]]"),
-    (129, "", "[", 14, "", "]]]]]]]]]]]]]]"),
-    (1024, "", "[", 14, "", "]]]]]]]]]]]]]]"),
-    (1025, "", "[", 14, "", "]]]]]]]]]]]]]]"),
-    (3000, "", "[", 14, "", "]]]]]]]]]]]]]]"),
-    (
-        400,
-        "{\"type\":\"Polygon\",\"coordinates\":[[",
-        "[7,8],",
-        99,
-        "[7,",
-        "]]]}",
-    ),
-    (200, "[", "0,", 600, "", "]"),
-    (
-        200,
-        "",
-        "{\"kind\":\"x\",\"data\":",
-        9,
-        "{\"id\":",
-        "}}}}}}}}}}",
-    ),
-];
+// Items that differ so late or so deep down that fingerprints of whole items have to tell.
+const POLYGONS: Row = (
+    400,
+    "{\"type\":\"Polygon\",\"coordinates\":[[",
+    "[7,8],",
+    99,
+    "[7,",
+    "]]]}",
+);
+
+const WIDE: Row = (200, "[", "0,", 600, "", "]");
+
+const RECORDS: Row = (
+    200,
+    "",
+    "{\"kind\":\"x\",\"data\":",
+    9,
+    "{\"id\":",
+    "}}}}}}}}}}",
+);
 
 #[test]
-fn items_that_differ_deep_down_or_late(rt: HostRuntime) -> Result<(), Fail> {
-    for row in LATE {
-        check_row(&rt, rt.alloc(), row)?;
+fn items_that_differ_late(rt: HostRuntime) -> Result<(), Fail> {
+    check_row(&rt, rt.alloc(), POLYGONS)?;
+    check_row(&rt, rt.alloc(), WIDE)?;
+    check_row(&rt, rt.alloc(), RECORDS)
+}
+
+// Where each size of a block of fingerprints begins, and a tenth of what was too slow once.
+#[test]
+fn items_that_differ_deep_down(rt: HostRuntime) -> Result<(), Fail> {
+    for count in [128, 129, 1025, 3000] {
+        check_row(&rt, rt.alloc(), (count, "", "[", 14, "", "]]]]]]]]]]]]]]"))?;
     }
     Ok(())
 }
