@@ -183,7 +183,7 @@ fn parts(magnitude: u64, scale: u8) -> (u64, u64)
 }
 
 // The fingerprint of a whole text.
-pub(crate) fn of_text_whole(text: &str, seed: u64) -> u64
+pub(crate) fn of_whole_text(text: &str, seed: u64) -> u64
     ensures { result ≡ text_print seed unlimited text.now }
 {
     of_text(text, seed, UNLIMITED)

@@ -1,12 +1,12 @@
-//! Seeds for fingerprints of whole nodes that nobody can know before the nodes stand.
+//! Seeds for the fingerprints of whole nodes, taken from what the nodes hold.
 ghost use Rattle.std.specs.Prelude.{IsTrue};
 ghost use Rattle.jskw_value.specs.Tree.{is_array, is_object};
 
-use crate::fingerprint::{of_text_whole, of_whole, stir};
+use crate::fingerprint::{of_whole, of_whole_text, stir};
 use crate::json::{Array, Node, Object};
 
-// A hash of 128 bits. Two nodes with one hash are so costly to find that whoever chooses the nodes
-// can't change them without changing the seed.
+// A hash of 128 bits. Of 64 bits, two nodes with one hash could be found in some 2^32 trials, and one
+// of them put in for the other without changing the seed.
 #[derive(Clone, Copy)]
 struct State {
     first: u64,
@@ -23,11 +23,13 @@ impl State {
     }
 }
 
-/// Returns a seed for [`of_whole`] that depends on all that the node holds: each item, name, number
-/// and text, in the order in which they stand. So fingerprints under the seed of an array can't be
-/// made the same by choosing its items beforehand: other items give another seed. Any number serves
-/// as a seed, so no contract says which it is; what the seed decides is time alone. Takes time in
-/// proportion to the size of the node, and no memory.
+/// Returns a seed for [`of_whole`] that depends on everything that the node holds: each item, name,
+/// number and text, in the order in which they stand.
+///
+/// Different values with one fingerprint can be searched for under a seed that is known. Under the
+/// seed of the array that holds them they can't be: other items, or another order, give another
+/// seed. Any number serves as a seed, so no contract says which it is: it decides how long a search
+/// takes, and never what it finds. Takes time in proportion to the size of the node, and no memory.
 pub fn seed_of<N: Node>(node: &N) -> u64 {
     let start = State {
         first: 7046029254386353131,
@@ -70,8 +72,8 @@ fn with_members<N: Node>(state: State, node: &N) -> State
 {
     let mut state = state.with(5, Object::len(node) as u64);
     for (name, member) in node.walk() {
-        let one = of_text_whole(name, state.first);
-        let other = of_text_whole(name, state.second);
+        let one = of_whole_text(name, state.first);
+        let other = of_whole_text(name, state.second);
         state = with_node(state.with(one, other), member);
     }
     state

@@ -1,5 +1,6 @@
-//! Whether the items of an array differ, by the fingerprints of whole items: where items differ
-//! only deep down or late, those of their beginnings tell too little.
+//! Whether the items of an array differ, by the fingerprints of whole items: if items differ only
+//! deep down or late, those of their beginnings tell too little. The seed is the array's own, so
+//! that items which were searched for, to have one fingerprint under another, differ under it.
 ghost use Rattle.std.specs.Prelude.{◌≡◌, ◌≤◌, ◌<◌, ◌+◌, ◌^◌, length, true, false, IsTrue};
 ghost use Rattle.std.specs.List.Sorted.{IsNonDecreasing, IsStrictlyIncreasing};
 ghost use Rattle.jskw_value.specs.Equality.{unique};

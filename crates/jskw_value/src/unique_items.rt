@@ -42,7 +42,8 @@ const DOUBTS: usize = 8;
 // So that in a long array there may be one more for each so many items.
 const ITEMS_A_DOUBT: usize = 16384;
 
-// The seed of the fingerprints in a sketch.
+// The seed of the fingerprints in a sketch. It may be known, since a sketch that tells too little is
+// given up.
 const UNSEEDED: u64 = 0;
 
 // Whether no two different indices of the array hold equal items. The first item is compared with
@@ -70,7 +71,7 @@ pub(crate) fn has_unique_items<N: Node>(array: &N) -> bool
     }
 }
 
-// By a sketch, and where that tells too little by sorted fingerprints.
+// By a sketch, and if that tells too little by sorted fingerprints.
 fn are_many_unique<const WORDS: usize, const PRINTS: usize, N: Node>(array: &N) -> bool
     requires array { IsTrue (is_array (N.tree array.now)) }
     requires first { IsUniqueIn 0 1 (items (N.tree array.now)) }
@@ -116,8 +117,8 @@ fn occurs_from<N: Node>(array: &N, start: usize, node: &N) -> bool
 }
 
 // By a sketch of so many words, block by block, where the first item differs from all others: the
-// items of each block beside all that come later. None where it takes too many comparisons. It is
-// never inlined, so that a caller's frame has no sketch in it.
+// items of each block beside all that come later. None if the sketch tells too little. It is never
+// inlined, so that a caller's frame has no sketch in it.
 #[inline(never)]
 #[tactic(auto, using(crate::proofs::Blocks::next_block, crate::proofs::Blocks::last_block))]
 fn are_unique_by_sketch<const WORDS: usize, N: Node>(array: &N) -> Option<bool>
@@ -141,7 +142,7 @@ fn are_unique_by_sketch<const WORDS: usize, N: Node>(array: &N) -> Option<bool>
     is_block_unique(array, &mut sketch, blocks * size + 1, count)
 }
 
-// Whether no item from one index up to another is equal to a later one, or None where too many of
+// Whether no item from one index up to another is equal to a later one, or None if too many of
 // them look equal to one and aren't. A fingerprint looks no further into an item than the array is
 // long, so that all of them take less than all pairs would.
 #[tactic(auto, using(crate::proofs::Blocks::told_start, crate::proofs::Blocks::told_end))]
