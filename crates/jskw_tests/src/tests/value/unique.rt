@@ -264,9 +264,13 @@ const RECORDS: Row = (
 
 #[test]
 fn items_that_differ_late(rt: HostRuntime) -> Result<(), Fail> {
-    check_row(&rt, rt.alloc(), POLYGONS)?;
     check_row(&rt, rt.alloc(), WIDE)?;
     check_row(&rt, rt.alloc(), RECORDS)
+}
+
+#[test]
+fn polygons_that_differ_late(rt: HostRuntime) -> Result<(), Fail> {
+    check_row(&rt, rt.alloc(), POLYGONS)
 }
 
 // Where each size of a block of fingerprints begins, and a tenth of what was too slow once.
