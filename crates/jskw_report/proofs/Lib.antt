@@ -9,6 +9,7 @@ pub mod FirstFloats
 pub mod Gathering
 pub mod Matches
 pub mod Once
+pub mod OverriddenKeywords
 pub mod OneOption
 pub mod Pointers
 pub mod Reading

@@ -1,4 +1,5 @@
 pub mod Setting
+pub mod Overridden
 pub mod Kind
 pub mod Keyword
 pub mod KeywordValue

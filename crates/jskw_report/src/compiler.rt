@@ -2,7 +2,8 @@
 ghost use Rattle.std.specs.Prelude.{◌≡◌, [], IfOk, option_map, true};
 ghost use Rattle.serde_json.specs.Find.{get_member};
 ghost use Rattle.serde_json.specs.View.{view, members_view};
-ghost use Rattle.jskw_report.specs.Setting.{has_vocabulary, is_overridden, with_object_layer};
+ghost use Rattle.jskw_report.specs.Setting.{has_vocabulary, is_overridden, name_of};
+ghost use Rattle.jskw_report.specs.Setting.{with_object_layer};
 ghost use Rattle.jskw_report.specs.Paths.{segment_location};
 ghost use Rattle.jskw_report.specs.Read.{keyword_location};
 
@@ -134,11 +135,19 @@ impl<'s, F: Json> Context<'s, F> {
         self.settings.has_vocabulary(vocabulary)
     }
 
-    /// Whether the keyword's name is one of the overridden, letter for letter.
+    /// Returns whether the name is one of the overridden, letter for letter. Compares it with each of
+    /// them; for a keyword of this library, [`overrides`](Context::overrides) takes constant time.
     pub fn is_keyword_overridden(&self, name: &str) -> bool
         ensures { result ≡ is_overridden self.now.setting name.now }
     {
         self.settings.is_keyword_overridden(name)
+    }
+
+    /// Returns whether the name of the keyword is one of the overridden. Takes constant time.
+    pub fn overrides(&self, keyword: KeywordName) -> bool
+        ensures { result ≡ is_overridden self.now.setting (name_of keyword) }
+    {
+        self.settings.overrides(keyword)
     }
 }
 

@@ -1,5 +1,6 @@
 //! The keywords by name, and which of them are active under given settings.
 ghost use Rattle.std.specs.Prelude.{◌≡◌};
+ghost use Rattle.jskw_report.specs.Overridden.{place_of};
 ghost use Rattle.jskw_report.specs.Setting.{is_in, name_of, stands, vocabulary_of};
 
 use crate::compiler::Context;
@@ -121,9 +122,14 @@ impl KeywordName {
     pub fn stands<F: Json>(self, ctx: &Context<'_, F>) -> bool
         ensures { result ≡ stands ctx.now.setting self }
     {
-        self.is_in(ctx.draft())
-            && ctx.has_vocabulary(self.vocabulary())
-            && !ctx.is_keyword_overridden(self.as_str())
+        self.is_in(ctx.draft()) && ctx.has_vocabulary(self.vocabulary()) && !ctx.overrides(self)
+    }
+
+    // The place of the keyword in `ALL`, counted from 0.
+    pub(crate) fn place(self) -> usize
+        ensures { result ≡ place_of self }
+    {
+        self as usize
     }
 
     // Whether the draft has the keyword.

@@ -1,8 +1,12 @@
 //! What a schema is read under: its draft, the vocabularies, and the overridden names.
 ghost use Rattle.std.specs.Prelude.{◌≡◌, map, string_bytes, true};
+ghost use Rattle.std.specs.List.{list_any};
+ghost use Rattle.std.specs.Str.{bytes_eq};
+ghost use Rattle.jskw_report.specs.Overridden.{overridden_marks};
 ghost use Rattle.jskw_report.specs.Setting.{has, with_vocabulary, no_vocabulary, all_vocabularies};
-ghost use Rattle.jskw_report.specs.Setting.{has_vocabulary, is_overridden};
+ghost use Rattle.jskw_report.specs.Setting.{has_vocabulary, is_overridden, name_of};
 
+use crate::keyword::KeywordName;
 use std::marker::Model;
 
 /// A draft of JSON Schema.
@@ -101,10 +105,13 @@ pub struct Settings {
     draft: Draft,
     vocabularies: VocabularySet,
     overridden: Vec<String>,
+    // for each keyword, whether its name is one of `overridden`
+    marks: [bool; 18],
 }
 
 impl Model for Settings {
-    ghost use Rattle.std.specs.Prelude.{map, string_bytes, true};
+    ghost use Rattle.std.specs.Prelude.{◌≡◌, map, string_bytes, true};
+    ghost use Rattle.jskw_report.specs.Overridden.{overridden_marks};
     ghost use Rattle.jskw_report.specs.Setting.{Setting};
 
     ghost Value = { Setting };
@@ -115,11 +122,14 @@ impl Model for Settings {
       overridden = map string_bytes s.overridden.items;
       object_layer = true;
     } };
+
+    ghost invariant = { λ s. s.marks ≡ overridden_marks (map string_bytes s.overridden.items) };
 }
 
 impl Settings {
-    /// The setting of these three, with an object layer. An overridden name may be any text, and may
-    /// be there twice.
+    /// Returns the setting of these three, with an object layer. An overridden name may be any text,
+    /// and may be there twice. Takes time in proportion to the number of names, so that
+    /// [`KeywordName::stands`](crate::KeywordName::stands) takes the same time for any number.
     pub fn new(draft: Draft, vocabularies: VocabularySet, overridden: Vec<String>) -> Settings
         ensures { result ≡ record {
           draft = draft;
@@ -131,19 +141,20 @@ impl Settings {
         Settings {
             draft,
             vocabularies,
+            marks: marks_of(&overridden),
             overridden,
         }
     }
 
-    /// The draft.
+    /// Returns the draft.
     pub fn draft(&self) -> Draft
         ensures { result ≡ self.now.draft }
     {
         self.draft
     }
 
-    /// Whether the vocabulary is present: always in Drafts 4, 6 and 7, else where the set has it
-    /// (Core 8.1.2).
+    /// Returns whether the vocabulary is present: always in Drafts 4, 6 and 7, else if the set has
+    /// it (Core 8.1.2).
     pub fn has_vocabulary(&self, vocabulary: Vocabulary) -> bool
         ensures { result ≡ has_vocabulary self.now vocabulary }
     {
@@ -153,15 +164,42 @@ impl Settings {
         }
     }
 
-    /// Whether the name is one of the overridden, letter for letter.
+    /// Returns whether the name is one of the overridden, letter for letter. Compares it with each of
+    /// them; for a keyword of this library, [`overrides`](Settings::overrides) takes constant time.
     pub fn is_keyword_overridden(&self, name: &str) -> bool
         ensures { result ≡ is_overridden self.now name.now }
     {
-        for own in &self.overridden {
-            if name == own.as_str() {
-                return true;
-            }
-        }
-        false
+        is_among(&self.overridden, name)
     }
+
+    /// Returns whether the name of the keyword is one of the overridden. Takes constant time.
+    #[tactic(auto, using(crate::proofs::OverriddenKeywords::lemmas))]
+    pub fn overrides(&self, keyword: KeywordName) -> bool
+        ensures { result ≡ is_overridden self.now (name_of keyword) }
+    {
+        self.marks[keyword.place()]
+    }
+}
+
+// For each keyword, whether its name is one of these.
+fn marks_of(names: &[String]) -> [bool; 18]
+    ensures { result ≡ overridden_marks (map string_bytes names.now) }
+{
+    let mut marks = [false; 18];
+    for (i, keyword) in KeywordName::ALL.iter().enumerate() {
+        marks[i] = is_among(names, keyword.as_str());
+    }
+    marks
+}
+
+// Whether the name is one of these, letter for letter.
+fn is_among(names: &[String], name: &str) -> bool
+    ensures { result ≡ list_any (bytes_eq name.now) (map string_bytes names.now) }
+{
+    for own in names {
+        if name == own.as_str() {
+            return true;
+        }
+    }
+    false
 }
