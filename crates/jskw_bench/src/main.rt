@@ -1,20 +1,30 @@
 //! Times schemas over the values of `serde_json`. A line `check` has the answers of the cases behind
 //! it printed, and a line `time` the nanoseconds of a compile and of a call of `is_valid` too. At a
-//! line `sizes` it prints how many bytes values take. Each other line is a case: its name, a schema
-//! and an instance, with a tab between each two. The name of a loop written by hand may follow,
-//! which makes the tests of the schema; then it has to answer as the schema does, and its
-//! nanoseconds are printed last. In place of the schema there may be the word `insert`, and in place
-//! of the instance an array of names then: members of these are inserted into an object of decimals.
+//! line `sizes` it prints how many bytes values take. A line `under` with a draft and an array of
+//! names behind it, a tab before each, has the cases behind it compiled under this draft and with
+//! these names overridden, in place of Draft 2020-12 and none. Each other line is a case: its name, a
+//! schema and an instance, with a tab between each two. The name of a loop written by hand may
+//! follow, which makes the tests of the schema; then it has to answer as the schema does, and its
+//! nanoseconds are printed last.
+//!
+//! In place of the schema there may be the name of another call, and then a text in place of the
+//! instance:
+//!
+//! | `read` | the text is read as JSON |
+//! | `insert` | members of the names in an array are inserted into an object of decimals |
+//! | `from_pairs` | the same, all at once |
+//! | `from_value` | the value is made one of decimals |
+//! | `settings` | settings are made with the names in an array overridden |
 #![tactic(auto)]
 
 mod by_hand;
-mod insertion;
+mod calls;
 mod timing;
 
-use insertion::time_insertions;
+use calls::{settings_of, time_call};
 use jskw_array::compiler::compile;
 use jskw_array::{SchemaNode, Validator};
-use jskw_report::{Context, Draft, Location, Settings, ValidationContext, VocabularySet};
+use jskw_report::{Context, Draft, Location, Settings, ValidationContext};
 use jskw_value::SerdeJson;
 use serde_json::Value;
 use std::alloc::Global;
@@ -133,19 +143,32 @@ fn print_sizes(rt: &HostRuntime) -> io::Result<()> {
     println!(rt; "sizes\t{node}\t{validator}\t{location}")
 }
 
-// Inserts members of the names in a text.
-fn run_insertions(rt: &HostRuntime, name: &str, names: &str, is_timed: bool) -> io::Result<()> {
-    let Ok(Value::Array(names)) = Value::from_str(rt.alloc(), names) else {
-        return println!(rt; "{name}\tno names");
-    };
+// Makes a call of a text, and prints whether it could.
+fn run_call(
+    rt: &HostRuntime,
+    name: &str,
+    call: &str,
+    text: &str,
+    is_timed: bool,
+) -> io::Result<()> {
     let span = if is_timed { SPAN } else { 0 };
-    let timing = time_insertions(rt, span, names.as_slice())?;
+    let Some(timing) = time_call(rt, span, call, text)? else {
+        return println!(rt; "{name}\tno call");
+    };
     let is_done = timing.answer() == Some(true);
-    print!(rt; "{name}\t{}", if is_done { "inserted" } else { "refused" })?;
+    print!(rt; "{name}\t{}", if is_done { "done" } else { "refused" })?;
     if is_timed {
         print_nanoseconds(rt, &timing)?;
     }
     println!(rt; "")
+}
+
+// Whether the word in place of a schema is the name of a call. No schema is written so.
+fn is_call(word: &str) -> bool {
+    matches!(
+        word,
+        "read" | "insert" | "from_pairs" | "from_value" | "settings"
+    )
 }
 
 fn run_case(rt: &HostRuntime, settings: &Settings, line: &str, is_timed: bool) -> io::Result<()> {
@@ -155,8 +178,8 @@ fn run_case(rt: &HostRuntime, settings: &Settings, line: &str, is_timed: bool) -
     let schema = parts.next().unwrap_or("");
     let instance = parts.next().unwrap_or("");
     let loop_name = parts.next();
-    if schema == "insert" {
-        return run_insertions(rt, name, instance, is_timed);
+    if is_call(schema) {
+        return run_call(rt, name, schema, instance, is_timed);
     }
     let Ok(schema) = Value::from_str(alloc, schema) else {
         return println!(rt; "{name}\tno schema");
@@ -183,17 +206,41 @@ fn run_case(rt: &HostRuntime, settings: &Settings, line: &str, is_timed: bool) -
     println!(rt; "")
 }
 
+// The draft of a name, else 2020-12.
+fn draft_of(name: &str) -> Draft {
+    match name {
+        "4" => Draft::Draft4,
+        "6" => Draft::Draft6,
+        "7" => Draft::Draft7,
+        "2019-09" => Draft::Draft201909,
+        _ => Draft::Draft202012,
+    }
+}
+
+// The settings of a draft's name and an array of names, with a tab between them.
+fn settings_from(alloc: Global, text: &str) -> io::Result<Settings> {
+    let mut parts = text.split('\t');
+    let draft = draft_of(parts.next().unwrap_or(""));
+    match Value::from_str(alloc, parts.next().unwrap_or("")) {
+        Ok(Value::Array(names)) => Ok(settings_of(alloc, draft, names.as_slice())?),
+        _ => Ok(settings_of(alloc, draft, &[])?),
+    }
+}
+
 fn main(rt: HostRuntime) -> io::Result<()> {
-    let draft = Draft::Draft202012;
-    let settings = Settings::new(draft, VocabularySet::all(), Vec::new(rt.alloc()));
+    let alloc = rt.alloc();
+    let mut settings = settings_of(alloc, Draft::Draft202012, &[])?;
     let mut is_timed = false;
-    for line in rt.lines(rt.alloc()) {
+    for line in rt.lines(alloc) {
         let line = line?;
         match line.as_str() {
             "check" => is_timed = false,
             "time" => is_timed = true,
             "sizes" => print_sizes(&rt)?,
-            case => run_case(&rt, &settings, case, is_timed)?,
+            case => match case.strip_prefix("under\t") {
+                Some(text) => settings = settings_from(alloc, text)?,
+                None => run_case(&rt, &settings, case, is_timed)?,
+            },
         }
     }
     Ok(())

@@ -12,8 +12,11 @@ use std::time::Instant;
 // equal instances, so that no two calls in a row are the same
 const COPIES: usize = 4;
 
-// so many batches of calls are timed
+// so many batches of calls are timed at most
 const BATCHES: usize = 30;
+
+// and no other once they have taken so many nanoseconds
+const LIMIT: u128 = 1_000_000_000;
 
 /// A value without a float.
 #[derive(Drop)]
@@ -111,7 +114,8 @@ fn accepted<F: Fn(&Instance) -> bool>(rounds: usize, instances: &[Instance], acc
     count
 }
 
-/// The fastest of some equal batches, each of which takes at least about so many nanoseconds.
+/// The fastest of some equal batches, each of which takes at least about so many nanoseconds: of
+/// thirty, or of fewer where these take more than a second.
 /// `batch` makes so many rounds of so many calls, and answers how many of the calls accepted.
 pub(crate) fn fastest<F: Fn(usize) -> usize>(
     rt: &HostRuntime,
@@ -130,8 +134,13 @@ pub(crate) fn fastest<F: Fn(usize) -> usize>(
         rounds = rounds.saturating_mul(2);
         best = time_batch(rt, rounds, calls, &batch)?;
     }
+    let mut taken = best.nanoseconds;
     for _ in 1..BATCHES {
+        if taken >= LIMIT {
+            break;
+        }
         let timing = time_batch(rt, rounds, calls, &batch)?;
+        taken = taken.saturating_add(timing.nanoseconds);
         if timing.nanoseconds < best.nanoseconds {
             best = timing;
         }

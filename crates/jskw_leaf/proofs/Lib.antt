@@ -8,3 +8,4 @@ pub mod Options
 pub mod Sizes
 pub mod Tables
 pub mod Types
+pub mod Values

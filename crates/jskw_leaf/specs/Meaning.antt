@@ -25,7 +25,7 @@ use Rattle.jskw_leaf.specs.declared.enum_.table.TableEnumValidator.{TableEnumVal
 use Rattle.jskw_leaf.specs.declared.unique_items.UniqueItemsValidator.{UniqueItemsValidator}
 use Rattle.jskw_leaf.specs.Options.{options_of}
 use Rattle.jskw_leaf.specs.declared.leaf.LeafValidator.{LeafValidator}
-use Rattle.jskw_leaf.specs.declared.leaf.LeafValidator.TheVariants.{False, Number as number, MultipleTypes, ArrayType, BooleanType, IntegerType, NullType, NumberType, ObjectType, StringType, MultipleTypesDraft4, IntegerTypeDraft4, ConstArray, ConstBoolean, ConstNull, ConstNumber, ConstObject, ConstString, Enum, SingleValueEnum, SmallStringEnum, NullableSmallStringEnum, BigStringEnum, NullableBigStringEnum, IntegerEnum, NullableIntegerEnum, UniqueItems, Required, SingleItemRequired, Required2, Required3}
+use Rattle.jskw_leaf.specs.declared.leaf.LeafValidator.TheVariants.{False, Number as number, MultipleTypes, ArrayType, BooleanType, IntegerType, NullType, NumberType, ObjectType, StringType, MultipleTypesDraft4, IntegerTypeDraft4, ConstArray, ConstBoolean, ConstNull, ConstNumber, ConstObject, ConstString, Enum, BigEnum, SingleValueEnum, SmallStringEnum, NullableSmallStringEnum, BigStringEnum, NullableBigStringEnum, IntegerEnum, NullableIntegerEnum, UniqueItems, Required, SingleItemRequired, Required2, Required3}
 use Rattle.jskw_leaf.specs.declared.required.RequiredNames.{RequiredNames}
 
 abbrev pub false_at : Pointer → Placed
@@ -121,6 +121,7 @@ leaf_assertion (ConstNumber v) = const_value v
 leaf_assertion (ConstObject v) = const_value v
 leaf_assertion (ConstString v) = const_string v
 leaf_assertion (Enum v) = enum_any v
+leaf_assertion (BigEnum v) = enum_table v
 leaf_assertion (SingleValueEnum v) = enum_single v
 leaf_assertion (SmallStringEnum v) = enum_table v
 leaf_assertion (NullableSmallStringEnum v) = enum_table v

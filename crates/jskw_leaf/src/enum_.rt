@@ -14,6 +14,7 @@ mod integers;
 mod make;
 mod strings;
 mod table;
+mod values;
 
 pub use integers::IntegerEnumValidator;
 use jskw_report::{Assertion, EnumOptions, Location, ValidationErrorKind};
@@ -22,9 +23,10 @@ pub use make::compile;
 use serde_json::Value;
 pub use strings::{BigStringEnumValidator, SmallStringEnumValidator};
 pub use table::TableEnumValidator;
+pub use values::BigEnumValidator;
 
-/// The validator of options of any types. An instance whose type no option has is compared with
-/// none.
+/// The validator of a few options of any types. An instance of a type that no option has is compared
+/// with none.
 #[derive(Drop)]
 pub struct EnumValidator {
     options: Value,

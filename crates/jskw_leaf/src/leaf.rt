@@ -8,8 +8,8 @@ use crate::const_::{
     ConstObjectValidator, ConstStringValidator,
 };
 use crate::enum_::{
-    BigStringEnumValidator, EnumValidator, IntegerEnumValidator, SingleValueEnumValidator,
-    SmallStringEnumValidator,
+    BigEnumValidator, BigStringEnumValidator, EnumValidator, IntegerEnumValidator,
+    SingleValueEnumValidator, SmallStringEnumValidator,
 };
 use crate::legacy::type_draft_4;
 use crate::required::{
@@ -72,6 +72,8 @@ pub enum LeafValidator<F: Json> {
     ConstString(ConstStringValidator),
     /// `enum` with options that no other variant is for (JSON Schema Validation 6.1.2).
     Enum(EnumValidator),
+    /// `enum` with more than 8 options of any types.
+    BigEnum(BigEnumValidator),
     /// `enum` with one option.
     SingleValueEnum(SingleValueEnumValidator),
     /// `enum` with at most 10 options, all of them strings, or with none.
@@ -104,7 +106,7 @@ macro_rules! whichever {
         whichever!(@ $leaf, $validator => $answer;
             False Number MultipleTypes ArrayType BooleanType IntegerType NullType NumberType
             ObjectType StringType MultipleTypesDraft4 IntegerTypeDraft4 ConstArray ConstBoolean
-            ConstNull ConstNumber ConstObject ConstString Enum SingleValueEnum SmallStringEnum
+            ConstNull ConstNumber ConstObject ConstString Enum BigEnum SingleValueEnum SmallStringEnum
             NullableSmallStringEnum BigStringEnum NullableBigStringEnum IntegerEnum
             NullableIntegerEnum UniqueItems Required SingleItemRequired Required2 Required3
         )

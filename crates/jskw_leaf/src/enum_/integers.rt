@@ -5,8 +5,8 @@ ghost use Rattle.std.specs.Ordering.{int_cmp};
 ghost use Rattle.serde_json.specs.View.{items_view};
 ghost use Rattle.jskw_value.specs.Decimal.{value};
 ghost use Rattle.jskw_value.specs.Number.{exact};
-ghost use Rattle.jskw_leaf.specs.Options.{has_integer, integer_against, integer_of, is_integer};
-ghost use Rattle.jskw_leaf.specs.Options.{picked, some_integer};
+ghost use Rattle.jskw_leaf.specs.Options.{has_integer, has_null, integer_against, integer_of};
+ghost use Rattle.jskw_leaf.specs.Options.{is_integer, picked, some_integer};
 
 use super::table::{OptionTable, TableEnumValidator};
 use jskw_value::{Decimal, Json, JsonNumber, Node};
@@ -14,19 +14,21 @@ use serde_json::Value;
 use std::alloc::{AllocError, Global};
 use std::cmp::Ordering;
 
-/// Integers from -2^63 to 2^63 - 1 in rising order. A number is looked up by its value, by halves:
-/// 1.0 is 1.
+/// Integers from -2^63 to 2^63 - 1 in rising order, for a binary search. A number is looked up by its
+/// value: 1.0 is 1.
 #[derive(Drop)]
 pub struct SortedIntegers {
     integers: Vec<i64>,
     ghost sorted: { IsSorted int_cmp integers.items },
 }
 
-/// The validator of integers, and of null where `N` says so.
+/// The validator of integers, and of null if `N` says so.
 pub type IntegerEnumValidator<N> = TableEnumValidator<SortedIntegers, N>;
 
 impl OptionTable for SortedIntegers {
     ghost takes = { is_integer };
+
+    ghost leaves_out_null = { has_null };
 
     ghost has = { λ table. has_integer table.integers.items };
 

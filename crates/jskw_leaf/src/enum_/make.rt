@@ -26,10 +26,16 @@ use std::alloc::{AllocError, Global};
 // Up to so many strings are compared one by one.
 const STRING_ENUM_THRESHOLD: usize = 10;
 
-/// Compiles `enum`. Always Some: any array is taken that holds no float, and the validator is
-/// chosen by the number and the types of the options. A value that is no array is an error of the
-/// type array. An array that holds a float is a compile error with the message `Not a whole number
-/// of 64 bits`, whose value at fault is the first float.
+// Up to so many options of any types are compared one by one.
+const ENUM_THRESHOLD: usize = 8;
+
+/// Compiles `enum` to a validator chosen by the number and the types of the options. Always returns
+/// Some. Takes time in proportion to the size of the options, and the logarithm of their number.
+///
+/// # Errors
+///
+/// A value that isn't an array is an error of the type array. An array that holds a float is an error
+/// with the message `Not a whole number of 64 bits`, whose value at fault is the first float.
 #[tactic(auto, unfolding(jskw_report::specs::Read::asserted))]
 pub fn compile<'a, F: Json>(
     alloc: Global,
@@ -63,6 +69,7 @@ fn enum_validator<'a, F: Json>(
 }
 
 // The validator of these items of the options, by their number and types.
+#[tactic(auto, using(crate::proofs::Values::all_taken))]
 fn validator_of<F: Json>(
     alloc: Global,
     options: &Value,
@@ -80,6 +87,11 @@ fn validator_of<F: Json>(
     }
     if are_all::<SortedIntegers>(items) {
         return integers(alloc, options, items, location);
+    }
+    if ENUM_THRESHOLD < items.len() {
+        return Ok(LeafValidator::BigEnum(TableEnumValidator::compile(
+            alloc, options, items, location,
+        )?));
     }
     Ok(LeafValidator::Enum(EnumValidator {
         options: options.clone()?,
@@ -178,7 +190,7 @@ fn has_null(items: &[Value]) -> bool
 }
 
 // The types of the items.
-fn types_of(items: &[Value]) -> JsonTypeSet
+pub(super) fn types_of(items: &[Value]) -> JsonTypeSet
     ensures { result ≡ option_types no_types (items_view items.now) }
 {
     let mut types = JsonTypeSet::empty();

@@ -3,7 +3,7 @@ ghost use Rattle.std.specs.Prelude.{◌≡◌, IfOk, map, string_bytes, string_c
 ghost use Rattle.std.specs.List.Sorted.{IsSorted};
 ghost use Rattle.serde_json.specs.Find.{as_str};
 ghost use Rattle.serde_json.specs.View.{items_view};
-ghost use Rattle.jskw_leaf.specs.Options.{has_text, is_text, picked, some_text};
+ghost use Rattle.jskw_leaf.specs.Options.{has_null, has_text, is_text, picked, some_text};
 
 use super::table::{OptionTable, TableEnumValidator};
 use crate::text_table::{is_in_table, sorted};
@@ -11,17 +11,19 @@ use jskw_value::{Json, KeyHead, Node, PropertyName};
 use serde_json::Value;
 use std::alloc::{AllocError, Global};
 
-/// A few strings. One is compared with each, by its head first.
+/// A few strings. An instance is compared with each, by its first bytes first.
 #[derive(Drop)]
 pub struct FewStrings {
     names: Vec<PropertyName>,
 }
 
-/// The validator of a few strings, and of null where `N` says so.
+/// The validator of a few strings, and of null if `N` says so.
 pub type SmallStringEnumValidator<N> = TableEnumValidator<FewStrings, N>;
 
 impl OptionTable for FewStrings {
     ghost takes = { is_text };
+
+    ghost leaves_out_null = { has_null };
 
     ghost has = { λ table. has_text table.names.items };
 
@@ -43,18 +45,20 @@ impl OptionTable for FewStrings {
     }
 }
 
-/// Many strings, in rising order. One is looked up by halves.
+/// Many strings, in rising order, for a binary search.
 #[derive(Drop)]
 pub struct SortedStrings {
     texts: Vec<String>,
     ghost sorted: { IsSorted string_cmp texts.items },
 }
 
-/// The validator of many strings, and of null where `N` says so.
+/// The validator of many strings, and of null if `N` says so.
 pub type BigStringEnumValidator<N> = TableEnumValidator<SortedStrings, N>;
 
 impl OptionTable for SortedStrings {
     ghost takes = { is_text };
+
+    ghost leaves_out_null = { has_null };
 
     ghost has = { λ table. has_text (map string_bytes table.texts.items) };
 

@@ -1,11 +1,11 @@
-//! Options that are looked up in a table, and perhaps null (Validation 6.1.2).
+//! Options in a table, and perhaps null (Validation 6.1.2).
 ghost use Rattle.std.specs.Prelude.{◌≡◌, Bool, IfOk, IsSome, IsTrue, refl, true};
-ghost use Rattle.serde_json.specs.Data.{Data, array};
+ghost use Rattle.serde_json.specs.Data.{Data, Items, array};
 ghost use Rattle.serde_json.specs.Find.{as_array};
 ghost use Rattle.serde_json.specs.View.{view, items_view};
 ghost use Rattle.jskw_value.specs.Tree.{Tree, is_lawful};
 ghost use Rattle.jskw_report.specs.Holds.{is_option};
-ghost use Rattle.jskw_leaf.specs.Options.{AreOptions, has_null, not_among, only, options_of};
+ghost use Rattle.jskw_leaf.specs.Options.{AreOptions, not_among, only, options_of};
 
 use super::not_among;
 use jskw_report::{Assertion, Location, ValidationErrorKind};
@@ -14,32 +14,35 @@ use serde_json::Value;
 use std::alloc::{AllocError, Global};
 use std::marker::{Model, PhantomData};
 
-/// A table of options of one type.
+/// A table of options, of one type or of any.
 pub trait OptionTable: Sized {
-    /// Which values of a schema are of the type.
+    /// Which values of a schema can stand in the table.
     ghost takes: { Data → Bool };
 
     /// Which instances equal one of the options.
     ghost has: { Self → Tree → Bool };
 
-    /// Whether a value of a schema is of the type.
+    /// Whether null is an option that the table leaves out.
+    ghost leaves_out_null: { Items → Bool };
+
+    /// Returns whether a value of a schema can stand in the table.
     fn takes(value: &Value) -> bool
         ensures { result ≡ takes (view value.now) };
 
-    /// The table of those items that aren't null, all of the type. Only memory can fail.
+    /// Makes the table of the items, each of which can stand in it or is null.
     fn new(alloc: Global, items: &[Value]) -> Result<Self, AllocError>
         requires { only takes (items_view items.now) ≡ true }
-        ensures { IfOk result (λ table. AreOptions (has table) (has_null (items_view items.now))
-            (items_view items.now)) };
+        ensures { let all = items_view items.now in
+            IfOk result (λ table. AreOptions (has table) (leaves_out_null all) all) };
 
-    /// Whether the instance, which is lawful, equals one of the options.
+    /// Returns whether the instance equals an option of the table. The instance is lawful.
     fn has<F: Json>(&self, instance: &F::Node) -> bool
         requires { IsTrue (is_lawful (F.Node.tree instance.now)) }
         ensures { result ≡ has self.now (F.Node.tree instance.now) };
 }
 
-// The options that a value lists, with a table of those that aren't null; null is among them where
-// `N` says so. Contracts see the value.
+// The options that a value lists, with a table of them. If `N` says so, null is an option that isn't in
+// the table. Contracts see the value.
 #[derive(Drop)]
 pub(crate) struct Listed<T: OptionTable, N: Nullability> {
     options: Value,
@@ -86,7 +89,7 @@ impl<T: OptionTable, N: Nullability> Listed<T, N> {
     }
 }
 
-/// The validator of options that stand in a table, and of null where `N` says so.
+/// The validator of options in a table, and of null if `N` says so.
 #[derive(Drop)]
 pub struct TableEnumValidator<T: OptionTable, N: Nullability> {
     listed: Listed<T, N>,
@@ -96,8 +99,8 @@ pub struct TableEnumValidator<T: OptionTable, N: Nullability> {
 impl<T: OptionTable, N: Nullability> TableEnumValidator<T, N> {
     ghost use Rattle.jskw_leaf.specs.Meaning.{among_at, enum_table};
 
-    // The validator of the value's options, which are these items, each of the table's type or null,
-    // with null among them where `N` says so. Only memory can fail.
+    // Makes the validator of the value's options, which are these items. Each can stand in the table or
+    // is null, and `N` says whether null is among them and left out of the table.
     pub(super) fn compile(
         alloc: Global,
         options: &Value,
@@ -106,7 +109,7 @@ impl<T: OptionTable, N: Nullability> TableEnumValidator<T, N> {
     ) -> Result<TableEnumValidator<T, N>, AllocError>
         requires array { view options.now ≡ array (items_view items.now) }
         requires taken { only T.takes (items_view items.now) ≡ true }
-        requires null { N.ACCEPTS_NULL ≡ has_null (items_view items.now) }
+        requires null { N.ACCEPTS_NULL ≡ T.leaves_out_null (items_view items.now) }
         ensures { IfOk result (λ v. enum_table v ≡ among_at location options.now) }
     {
         let listed = Listed {

@@ -1,0 +1,111 @@
+-- What the fingerprints of options tell.
+use Rattle.std.proofs.Common.{◌≡◌, ◌≢◌, ℕ, zero, suc, ◌+◌, ◌≤◌, ◌<◌, ◌==◌, List, [], ◌∷◌, ◌++◌, length, get_or, drop, Bool, true, false, ◌&&◌, ◌||◌, sym, refl, ap, ◌∙◌, arith}
+use Rattle.std.proofs.lemmas.Bool.{and_from, and_parts, both_ways, eqb-true, eq-eqb, false_from_ne_true, ltb-true, ltb-false, true_from_ne_false}
+use Rattle.std.proofs.lemmas.List.{get_or-drop, length-drop}
+use Rattle.std.proofs.lemmas.List.Elements.{All-from_get_or}
+use Rattle.std.proofs.lemmas.List.Folds.{list_all-append, list_all_at, list_any_none}
+use Rattle.std.proofs.lemmas.List.Sorted.{All-permutation, list_any-IsPermutation}
+use Rattle.std.proofs.lemmas.List.Sums.{AllPass-from_list_all, list_all-from_AllPass}
+use Rattle.std.specs.List.{list_all}
+use Rattle.std.specs.List.Sorted.{IsNonDecreasingBy, IsPartitionPoint, IsPermutation}
+use lib.Dec.{ltb}
+use Rattle.serde_json.specs.Data.{Items, no_items, item}
+use Rattle.jskw_value.specs.Equality.{equal}
+use Rattle.jskw_value.specs.Fingerprint.{print, is_distinct_within, unlimited}
+use Rattle.jskw_value.specs.Serde.{value_tree}
+use Rattle.jskw_value.specs.Tree.{Tree}
+use Rattle.jskw_value.specs.Types.{has_type_of, no_types}
+use Rattle.jskw_value.specs.declared.types.JsonTypeSet.{JsonTypeSet}
+use Rattle.jskw_value.proofs.Fingerprints.{equal_print}
+use Rattle.jskw_report.specs.Holds.{is_option}
+use Rattle.jskw_leaf.specs.Options.{AreOptions, only, option_types}
+use Rattle.jskw_leaf.proofs.Options.{no_option}
+use Rattle.jskw_leaf.specs.Values.{IsRun, has_value, is_printed}
+use Rattle.jskw_leaf.specs.declared.enum_.values.PrintedValue.{PrintedValue}
+
+-- ---- options in a table
+
+-- in any order
+pub printed_moved : (seed : ℕ) (os ps : List PrintedValue) → IsPermutation os ps → list_all (is_printed seed) os ≡ true → list_all (is_printed seed) ps ≡ true
+printed_moved seed os ps m h =
+    list_all-from_AllPass (is_printed seed) ps (All-permutation (λ o. is_printed seed o ≡ true) os ps m (AllPass-from_list_all (is_printed seed) os h))
+
+-- one more
+pub printed_more : (seed : ℕ) (os : List PrintedValue) (o : PrintedValue) → o.print ≡ print seed unlimited (value_tree o.value)
+    → is_distinct_within unlimited (value_tree o.value) ≡ true → list_all (is_printed seed) os ≡ true
+    → list_all (is_printed seed) (os ++ o ∷ []) ≡ true
+printed_more seed os o same own known =
+    list_all-append (is_printed seed) os (o ∷ [])
+    ∙ and_from (list_all (is_printed seed) os) (is_printed seed o && true) known
+    (and_from (is_printed seed o) true (and_from (o.print == print seed unlimited (value_tree o.value)) (is_distinct_within unlimited (value_tree o.value)) (eq-eqb o.print (print seed unlimited (value_tree o.value)) same) own) refl)
+
+-- one of them
+printed_at : (seed : ℕ) (os : List PrintedValue) (i : ℕ) (d : PrintedValue) → list_all (is_printed seed) os ≡ true → i < length os → is_printed seed (get_or os i d) ≡ true
+printed_at seed os i d known h =
+    true_from_ne_false (is_printed seed (get_or os i d)) (λ w. both_ways (list_all (is_printed seed) os) (list_all_at (is_printed seed) os i d h w) known)
+
+-- ---- a tree t among them, whose fingerprint is p
+
+module _ (seed p : ℕ) (t : Tree) (same : p ≡ print seed unlimited t) (own : is_distinct_within unlimited t ≡ true) where
+  -- an option with another fingerprint differs
+  differs : (o : PrintedValue) → is_printed seed o ≡ true → o.print ≢ p → equal (value_tree o.value) t ≡ false
+  differs o known other = false_from_ne_true (equal (value_tree o.value) t) (λ w.
+      let parts = and_parts (o.print == print seed unlimited (value_tree o.value)) (is_distinct_within unlimited (value_tree o.value)) known in
+      other (eqb-true o.print (print seed unlimited (value_tree o.value)) parts.0 ∙ equal_print seed unlimited (value_tree o.value) t parts.1 own w ∙ sym same))
+
+  -- so do the first n, where all have others
+  none_in_front : (n : ℕ) (os : List PrintedValue) → list_all (is_printed seed) os ≡ true
+      → ((k : ℕ) (d : PrintedValue) → k < n → k < length os → (get_or os k d).print ≢ p) → has_value (drop n os) t ≡ has_value os t
+  none_in_front zero os known others = refl
+  none_in_front (suc n) [] known others = refl
+  none_in_front (suc n) (o ∷ os) known others =
+      let parts = and_parts (is_printed seed o) (list_all (is_printed seed) os) known in
+      none_in_front n os parts.1 (λ k d l h. others (suc k) d (omega (arith, l)) (omega (arith, h)))
+      ∙ sym (ap (λ b. b || has_value os t) (differs o parts.0 (others zero o (omega arith) (omega arith))))
+
+  -- the others begin with those that have its fingerprint, where none is below it
+  run_from : (n : ℕ) (os : List PrintedValue) → list_all (is_printed seed) os ≡ true → IsNonDecreasingBy (λ o. o.print) os
+      → ((k : ℕ) (d : PrintedValue) → n ≤ k → k < length os → p ≤ (get_or os k d).print) → IsRun p t (drop n os)
+  run_from n os known up above i j d l h other =
+      let within : n + j < length os = omega (arith, h, length-drop n os) in
+      rw (get_or-drop n os j d) (differs (get_or os (n + j) d) (printed_at seed os (n + j) d known within) (λ q.
+      let here : p ≤ (get_or os (n + i) d).print = above (n + i) d (omega arith) (omega (arith, within, l)) in
+      let order : (get_or os (n + i) d).print ≤ (get_or os (n + j) d).print = up (n + i) (n + j) d (omega (arith, l)) within in
+      rw get_or-drop at other (omega (arith, here, order, q))))
+
+  -- so a search for the first option that isn't below it leaves the others, a run of its fingerprint first
+  pub searched_values : (n : ℕ) (os : List PrintedValue) → list_all (is_printed seed) os ≡ true → IsNonDecreasingBy (λ o. o.print) os
+      → IsPartitionPoint (λ o. ltb o.print p ≡ true) (λ o. ltb o.print p ≡ false) os n
+      → IsRun p t (drop n os) × (has_value (drop n os) t ≡ has_value os t)
+  searched_values n os known up at = (
+    run_from n os known up (λ k d l h. ltb-false (get_or os k d).print p (at.1 k d l h)),
+    none_in_front n os known (λ k d l h q. let below : (get_or os k d).print < p = ltb-true (get_or os k d).print p (at.0 k d (omega arith) l) in omega (arith, below, q)),
+  )
+
+-- a run is over at the first option with another fingerprint
+pub run_over : (p : ℕ) (t : Tree) (os : List PrintedValue) (i : ℕ) (o : PrintedValue) → IsRun p t os → i < length os → o ≡ get_or os i o
+    → o.print ≢ p → has_value (drop i os) t ≡ false
+run_over p t os i o run h here other =
+    list_any_none (λ v. equal (value_tree v.value) t) (drop i os) (All-from_get_or (λ v. equal (value_tree v.value) t ≡ false) (drop i os) o (λ k l.
+    rw (get_or-drop i os k o) (run i (i + k) o (omega arith) (omega (arith, l, length-drop i os)) (λ q. other (ap (λ v. v.print) here ∙ q)))))
+
+-- ---- the options that a value lists
+
+-- in a table, null among them
+pub are_values : (ds : Items) (os ps : List PrintedValue) → ((t : Tree) → has_value os t ≡ is_option ds t) → IsPermutation os ps → AreOptions (has_value ps) false ds
+are_values ds os ps same m t = sym (same t) ∙ list_any-IsPermutation (λ o. equal (value_tree o.value) t) os ps m ∙ go (has_value ps t)
+  where
+    go : (b : Bool) → b ≡ (b || false)
+    go true = refl
+    go false = refl
+
+-- a tree of another type is none of them
+pub no_value : (s : JsonTypeSet) (ds : Items) (os ps : List PrintedValue) → ((t : Tree) → has_value os t ≡ is_option ds t) → IsPermutation os ps
+    → s ≡ option_types no_types ds → (t : Tree) → has_type_of s t ≡ false → has_value ps t ≡ false
+no_value s ds os ps same m e t h =
+    sym (list_any-IsPermutation (λ o. equal (value_tree o.value) t) os ps m) ∙ same t ∙ no_option s ds t e h
+
+-- each can stand in it
+pub all_taken : (ds : Items) → only (λ d. true) ds ≡ true
+all_taken no_items = refl
+all_taken (item d ds) = all_taken ds

@@ -1,0 +1,125 @@
+//! Many options of any types.
+ghost use Rattle.std.specs.Prelude.{◌≡◌, IfOk, IsTrue, true, false};
+ghost use Rattle.std.specs.List.{list_all};
+ghost use Rattle.std.specs.List.Sorted.{IsNonDecreasingBy};
+ghost use Rattle.serde_json.specs.View.{items_view};
+ghost use Rattle.jskw_value.specs.Tree.{Tree};
+ghost use Rattle.jskw_value.specs.Types.{has_type_of};
+ghost use Rattle.jskw_report.specs.Holds.{is_option};
+ghost use Rattle.jskw_leaf.specs.Values.{IsRun, has_value, is_printed};
+
+use super::make::types_of;
+use super::table::{OptionTable, TableEnumValidator};
+use jskw_value::fingerprint::of_whole;
+use jskw_value::{Json, JsonTypeSet, Node, NotNullable};
+use serde_json::Value;
+use std::alloc::{AllocError, Global};
+
+/// An option beside the fingerprint of the whole of it.
+#[derive(Drop)]
+pub struct PrintedValue {
+    print: u64,
+    value: Value,
+}
+
+/// Many options of any types, null among them, sorted by their fingerprints. To look an instance up
+/// takes its fingerprint, a binary search, and a comparison with each option of that fingerprint: most
+/// often with one or none.
+#[derive(Drop)]
+pub struct SortedValues {
+    types: JsonTypeSet,
+    seed: u64,
+    options: Vec<PrintedValue>,
+    ghost typed: { (t : Tree) → has_type_of types t ≡ false
+        → has_value options.items t ≡ false },
+    ghost printed: { list_all (is_printed seed) options.items ≡ true },
+    ghost sorted: { IsNonDecreasingBy (λ o. o.print) options.items },
+}
+
+/// The validator of many options of any types. An instance of a type that no option has isn't looked
+/// up.
+pub type BigEnumValidator = TableEnumValidator<SortedValues, NotNullable>;
+
+impl OptionTable for SortedValues {
+    ghost takes = { λ _. true };
+
+    ghost leaves_out_null = { λ _. false };
+
+    ghost has = { λ table. has_value table.options.items };
+
+    fn takes(_value: &Value) -> bool {
+        true
+    }
+
+    fn new(alloc: Global, items: &[Value]) -> Result<SortedValues, AllocError> {
+        let seed = seed_of(items);
+        let mut options = printed(alloc, items, seed)?;
+        options.sort_unstable_by_key(|option| option.print);
+        Ok(SortedValues {
+            types: types_of(items),
+            seed,
+            options,
+        })
+    }
+
+    fn has<F: Json>(&self, instance: &F::Node) -> bool {
+        self.types.contains_value_type::<F>(instance)
+            && is_among::<F>(&self.options, self.seed, instance)
+    }
+}
+
+// A seed for the fingerprints, made from all items: options that have the same fingerprint under one
+// seed most likely have different ones under the seed that the list of them makes.
+fn seed_of(items: &[Value]) -> u64 {
+    let mut seed = 0u64;
+    for item in items {
+        seed = seed.rotate_left(7).wrapping_add(of_whole(item, seed));
+    }
+    seed
+}
+
+// The items beside their fingerprints under a seed.
+fn printed(alloc: Global, items: &[Value], seed: u64) -> Result<Vec<PrintedValue>, AllocError>
+    ensures same { IfOk result (λ v. (t : Tree) → has_value v.items t
+        ≡ is_option (items_view items.now) t) }
+    ensures printed { IfOk result (λ v. list_all (is_printed seed) v.items ≡ true) }
+{
+    let mut options = Vec::new(alloc);
+    for item in items {
+        options.push(PrintedValue {
+            print: of_whole(item, seed),
+            value: item.clone()?,
+        })?;
+    }
+    Ok(options)
+}
+
+// Whether one of the options equals the instance. They are sorted by their fingerprints under the
+// seed.
+#[inline(never)]
+fn is_among<F: Json>(options: &[PrintedValue], seed: u64, instance: &F::Node) -> bool
+    requires printed { list_all (is_printed seed) options.now ≡ true }
+    requires sorted { IsNonDecreasingBy (λ o. o.print) options.now }
+    ensures { result ≡ has_value options.now (F.Node.tree instance.now) }
+{
+    let print = of_whole(instance, seed);
+    let start = options.partition_point(|option| option.print < print);
+    starts_with_equal::<F>(&options[start..], print, instance)
+}
+
+// Whether one of the options equals the instance. Those of this fingerprint come first, and none of the
+// others equals the instance.
+fn starts_with_equal<F: Json>(options: &[PrintedValue], print: u64, instance: &F::Node) -> bool
+    requires { IsRun print (F.Node.tree instance.now) options.now }
+    ensures { result ≡ has_value options.now (F.Node.tree instance.now) }
+{
+    for option in options {
+        if option.print != print {
+            return false;
+        }
+        if instance.equals_value(&option.value) {
+            return true;
+        }
+    }
+    false
+}
