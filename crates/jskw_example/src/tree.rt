@@ -1,0 +1,65 @@
+//! An evaluation tree.
+
+use crate::compiled;
+use jskw_report::{Annotations, EvaluationNode, ValidationContext};
+use jskw_value::{Node, SerdeJson};
+use serde_json::Value;
+use std::io;
+
+// Prints the tree of `[5, 10, 25]` under a `contains` with bounds.
+pub(crate) fn print_example(rt: &HostRuntime) -> io::Result<()> {
+    let schema = r#"{"contains": {"minimum": 10}, "minContains": 1, "maxContains": 2}"#;
+    let Some(node) = compiled::<SerdeJson>(rt, schema)? else {
+        return Ok(());
+    };
+    let Ok(instance) = Value::from_str(rt.alloc(), "[5, 10, 25]") else {
+        return Ok(());
+    };
+    if !instance.is_lawful() {
+        return Ok(());
+    }
+    let mut ctx = ValidationContext::new();
+    print_tree(
+        rt,
+        &node.evaluate_instance(rt.alloc(), &instance, &mut ctx)?,
+    )
+}
+
+// Prints a node and those below it.
+fn print_tree(rt: &HostRuntime, root: &EvaluationNode) -> io::Result<()> {
+    let mut nodes = Vec::new(rt.alloc());
+    nodes.push((0, root))?;
+    for _ in 0..u64::MAX {
+        let Some((depth, node)) = nodes.pop() else {
+            break;
+        };
+        print_node(rt, depth, node)?;
+        for child in node.children().iter().rev() {
+            nodes.push((depth + 1, child))?;
+        }
+    }
+    Ok(())
+}
+
+// Prints a node by itself: whether it is valid, both locations, annotation and errors.
+fn print_node(rt: &HostRuntime, depth: u64, node: &EvaluationNode) -> io::Result<()> {
+    for _ in 0..depth {
+        print!(rt; "  ")?;
+    }
+    let word = if node.valid() { "valid" } else { "invalid" };
+    let (at, by) = (
+        node.instance_location().as_str(),
+        node.schema_location().as_str(),
+    );
+    print!(rt; "{word}: instance \"{at}\", schema \"{by}\"")?;
+    match node.annotations() {
+        Some(Annotations::Bool(flag)) => print!(rt; ", annotation {flag}")?,
+        Some(Annotations::Index(index)) => print!(rt; ", annotation {index}")?,
+        Some(Annotations::Indices(indices)) => print!(rt; ", annotation {indices:?}")?,
+        None => {}
+    }
+    for error in node.errors() {
+        print!(rt; ", {}", error.message())?;
+    }
+    println!(rt; "")
+}
