@@ -3,21 +3,24 @@
 use crate::compiled;
 use jskw_report::{Fault, LazyLocation, ValidationContext};
 use jskw_value::{Decimal, DecimalJson, DecimalTree, Member, Members, Node};
+use serde_json::Value;
 use std::alloc::{AllocError, Global};
 use std::io;
 
+const SCHEMA: &str = r#"{"items": {"const": {"price": 20}}}"#;
+
 // Prints the first error of `[{"price": 20.00}, {"price": 20.01}]`.
 pub(crate) fn print_example(rt: &HostRuntime) -> io::Result<()> {
-    let Some(node) = compiled::<DecimalJson>(rt, r#"{"items": {"const": {"price": 20}}}"#)? else {
-        return Ok(());
+    let Ok(schema) = Value::from_str(rt.alloc(), SCHEMA) else {
+        return println!(rt; "the schema is not JSON");
     };
-    let mut items = Vec::new(rt.alloc());
-    for cents in [2000, 2001] {
-        if let Some(item) = priced(rt.alloc(), cents)? {
-            items.push(item)?;
-        }
-    }
-    let prices = DecimalTree::Array(items);
+    let Ok(node) = compiled::<DecimalJson>(rt.alloc(), &schema) else {
+        return println!(rt; "the schema does not compile");
+    };
+    let Some(prices) = prices(rt.alloc(), &[2000, 2001])? else {
+        return println!(rt; "a price is out of range");
+    };
+    // true of every tree of decimals; asked here for the proof
     if !prices.is_lawful() {
         return Ok(());
     }
@@ -33,6 +36,18 @@ pub(crate) fn print_example(rt: &HostRuntime) -> io::Result<()> {
         }
         Err(Fault::Memory(error)) => Err(error)?,
     }
+}
+
+// Returns the array of `{"price": ..}` for each number of cents, or None if one is out of range.
+fn prices(alloc: Global, cents: &[i128]) -> Result<Option<DecimalTree>, AllocError> {
+    let mut items = Vec::new(alloc);
+    for &cents in cents {
+        match priced(alloc, cents)? {
+            Some(item) => items.push(item)?,
+            None => return Ok(None),
+        }
+    }
+    Ok(Some(DecimalTree::Array(items)))
 }
 
 // Returns `{"price": ..}` of so many cents, or None if they are out of a decimal's range.

@@ -1,49 +1,39 @@
 //! Checks the JSON value in each line of standard input against a schema and prints its errors.
-//! Then it prints an evaluation tree, and what a value with decimals gives.
+//! Then it prints an evaluation tree, and the first error of a value with decimals.
 #![tactic(auto)]
 
 mod contracts;
 mod decimals;
 mod tree;
 
+use contracts::verdict;
 use jskw_array::SchemaNode;
 use jskw_array::compiler::compile;
 use jskw_report::{
-    CompileFault, Context, Draft, LazyLocation, Settings, ValidationContext, VocabularySet,
+    CompilationResult, CompileFault, Context, Draft, LazyLocation, Settings, ValidationContext,
+    VocabularySet,
 };
 use jskw_value::{Json, Node, SerdeJson};
 use serde_json::Value;
+use std::alloc::Global;
 use std::io;
 
-// Compiles a schema, or prints why it is refused.
-fn compiled<F: Json>(rt: &HostRuntime, schema: &str) -> io::Result<Option<SchemaNode<F>>> {
-    let all = VocabularySet::all();
-    let settings = Settings::new(Draft::Draft202012, all, Vec::new(rt.alloc()));
-    let ctx = Context::new(rt.alloc(), &settings);
-    let Ok(schema) = Value::from_str(rt.alloc(), schema) else {
-        println!(rt; "the schema is not JSON")?;
-        return Ok(None);
-    };
-    match compile(rt.alloc(), &ctx, &schema) {
-        Ok(node) => Ok(Some(node)),
-        Err(CompileFault::Memory(error)) => Err(error)?,
-        Err(CompileFault::Bad(error)) => {
-            println!(rt;
-                "{} (schema {})",
-                error.message(rt.alloc())?,
-                error.schema_path().as_str()
-            )?;
-            Ok(None)
-        }
-    }
+// Compiles a schema of Draft 2020-12 that no other code checks the keywords of objects for.
+fn compiled<F: Json>(alloc: Global, schema: &Value) -> CompilationResult<'_, SchemaNode<F>> {
+    let settings = Settings::new(Draft::Draft202012, VocabularySet::all(), Vec::new(alloc));
+    let ctx = Context::new(alloc, &settings).with_object_layer(false);
+    compile(alloc, &ctx, schema)
 }
 
-// Prints each error of an instance: keyword, message, and where it lies in instance and schema.
+// Prints each error of an instance: keyword, message, and both locations.
 fn print_errors(
     rt: &HostRuntime,
     node: &SchemaNode<SerdeJson>,
     instance: &Value,
 ) -> io::Result<()> {
+    if !instance.is_lawful() {
+        return println!(rt; "not checked: it holds a float");
+    }
     let mut location = LazyLocation::new(rt.alloc());
     let mut ctx = ValidationContext::new();
     let mut errors = Vec::new(rt.alloc());
@@ -56,26 +46,28 @@ fn print_errors(
     Ok(())
 }
 
-// Checks an instance, unless it holds a float.
-fn check(rt: &HostRuntime, node: &SchemaNode<SerdeJson>, instance: &Value) -> io::Result<()> {
-    match contracts::verdict(node, instance) {
-        Some(true) => println!(rt; "valid"),
-        Some(false) => print_errors(rt, node, instance),
-        None => println!(rt; "not checked: it holds a float"),
+// Checks each line of standard input.
+fn check_lines(rt: &HostRuntime, node: &SchemaNode<SerdeJson>) -> io::Result<()> {
+    for line in rt.lines(rt.alloc()) {
+        match Value::from_str(rt.alloc(), line?.as_str()) {
+            Ok(instance) if verdict(node, &instance) == Some(true) => println!(rt; "valid")?,
+            Ok(instance) => print_errors(rt, node, &instance)?,
+            Err(_) => println!(rt; "not checked: it is not JSON")?,
+        }
     }
+    Ok(())
 }
 
 const SCHEMA: &str = r#"{"type": "array", "items": {"type": "object", "required": ["name"]}}"#;
 
 fn main(rt: HostRuntime) -> io::Result<()> {
-    let Some(node) = compiled(&rt, SCHEMA)? else {
-        return Ok(());
+    let Ok(schema) = Value::from_str(rt.alloc(), SCHEMA) else {
+        return println!(rt; "the schema is not JSON");
     };
-    for line in rt.lines(rt.alloc()) {
-        match Value::from_str(rt.alloc(), line?.as_str()) {
-            Ok(instance) => check(&rt, &node, &instance)?,
-            Err(_) => println!(rt; "not checked: it is not JSON")?,
-        }
+    match compiled(rt.alloc(), &schema) {
+        Ok(node) => check_lines(&rt, &node)?,
+        Err(CompileFault::Bad(error)) => println!(rt; "{}", error.message(rt.alloc())?)?,
+        Err(CompileFault::Memory(error)) => Err(error)?,
     }
     tree::print_example(&rt)?;
     decimals::print_example(&rt)

@@ -6,23 +6,26 @@ use jskw_value::{Node, SerdeJson};
 use serde_json::Value;
 use std::io;
 
+const SCHEMA: &str = r#"{"contains": {"minimum": 10}, "minContains": 1, "maxContains": 2}"#;
+
 // Prints the tree of `[5, 10, 25]` under a `contains` with bounds.
 pub(crate) fn print_example(rt: &HostRuntime) -> io::Result<()> {
-    let schema = r#"{"contains": {"minimum": 10}, "minContains": 1, "maxContains": 2}"#;
-    let Some(node) = compiled::<SerdeJson>(rt, schema)? else {
-        return Ok(());
+    let Ok(schema) = Value::from_str(rt.alloc(), SCHEMA) else {
+        return println!(rt; "the schema is not JSON");
     };
-    let Ok(instance) = Value::from_str(rt.alloc(), "[5, 10, 25]") else {
-        return Ok(());
+    let Ok(node) = compiled::<SerdeJson>(rt.alloc(), &schema) else {
+        return println!(rt; "the schema does not compile");
     };
-    if !instance.is_lawful() {
-        return Ok(());
+    match Value::from_str(rt.alloc(), "[5, 10, 25]") {
+        Ok(instance) if instance.is_lawful() => {
+            let mut ctx = ValidationContext::new();
+            print_tree(
+                rt,
+                &node.evaluate_instance(rt.alloc(), &instance, &mut ctx)?,
+            )
+        }
+        _ => println!(rt; "the instance is not JSON without floats"),
     }
-    let mut ctx = ValidationContext::new();
-    print_tree(
-        rt,
-        &node.evaluate_instance(rt.alloc(), &instance, &mut ctx)?,
-    )
 }
 
 // Prints a node and those below it.
