@@ -50,7 +50,7 @@ fn prices(alloc: Global, cents: &[i128]) -> Result<Option<DecimalTree>, AllocErr
     Ok(Some(DecimalTree::Array(items)))
 }
 
-// Returns `{"price": ..}` of so many cents, or None if they are out of a decimal's range.
+// Returns `{"price": ..}` with this many cents, or None if they are out of range.
 fn priced(alloc: Global, cents: i128) -> Result<Option<DecimalTree>, AllocError> {
     let Some(price) = Decimal::new(cents, 2) else {
         return Ok(None);
