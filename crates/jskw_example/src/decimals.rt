@@ -28,11 +28,8 @@ pub(crate) fn print_example(rt: &HostRuntime) -> io::Result<()> {
     match node.validate(&prices, &mut location, &mut ctx) {
         Ok(()) => println!(rt; "valid"),
         Err(Fault::Invalid(error)) => {
-            println!(rt;
-                "{}: {}",
-                error.instance_path().as_str(),
-                error.message(rt.alloc())?
-            )
+            let message = error.message(rt.alloc())?;
+            println!(rt; "{}: {message}", error.instance_path().as_str())
         }
         Err(Fault::Memory(error)) => Err(error)?,
     }
