@@ -28,8 +28,9 @@ pub(crate) fn print_example(rt: &HostRuntime) -> io::Result<()> {
     match node.validate(&prices, &mut location, &mut ctx) {
         Ok(()) => println!(rt; "valid"),
         Err(Fault::Invalid(error)) => {
-            let message = error.message(rt.alloc())?;
-            println!(rt; "{}: {message}", error.instance_path().as_str())
+            let (at, message) = (error.instance_path().as_str(), error.message(rt.alloc())?);
+            println!(rt; "{at}: {message}")?;
+            Ok(())
         }
         Err(Fault::Memory(error)) => Err(error)?,
     }

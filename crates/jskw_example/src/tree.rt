@@ -38,7 +38,7 @@ fn print_tree(rt: &HostRuntime, root: &EvaluationNode) -> io::Result<()> {
         };
         print_node(rt, depth, node)?;
         for child in node.children().iter().rev() {
-            nodes.push((depth + 1, child))?;
+            nodes.push((depth.saturating_add(1), child))?;
         }
     }
     Ok(())
