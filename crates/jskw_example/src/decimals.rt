@@ -1,7 +1,7 @@
 //! A value with exact decimals.
 
 use crate::compiled;
-use jskw_report::{Fault, LazyLocation, ValidationContext};
+use jskw_report::{Fault, LazyLocation, ValidationContext, ValidationError};
 use jskw_value::{Decimal, DecimalJson, DecimalTree, Member, Members, Node};
 use serde_json::Value;
 use std::alloc::{AllocError, Global};
@@ -27,13 +27,16 @@ pub(crate) fn print_example(rt: &HostRuntime) -> io::Result<()> {
     let (mut location, mut ctx) = (LazyLocation::new(rt.alloc()), ValidationContext::new());
     match node.validate(&prices, &mut location, &mut ctx) {
         Ok(()) => println!(rt; "valid"),
-        Err(Fault::Invalid(error)) => {
-            let (at, message) = (error.instance_path().as_str(), error.message(rt.alloc())?);
-            println!(rt; "{at}: {message}")?;
-            Ok(())
-        }
+        Err(Fault::Invalid(error)) => print_error(rt, &error),
         Err(Fault::Memory(error)) => Err(error)?,
     }
+}
+
+// Prints where an error is and what it says.
+fn print_error(rt: &HostRuntime, error: &ValidationError<DecimalJson>) -> io::Result<()> {
+    let (at, message) = (error.instance_path().as_str(), error.message(rt.alloc())?);
+    println!(rt; "{at}: {message}")?;
+    Ok(())
 }
 
 // Returns the array of `{"price": ..}` for each number of cents, or None if one is out of range.
