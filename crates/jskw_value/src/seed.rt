@@ -26,10 +26,11 @@ impl State {
 /// Returns a seed for [`of_whole`] that depends on everything that the node holds: each item, name,
 /// number and text, in the order in which they stand.
 ///
-/// Different values with one fingerprint can be searched for under a seed that is known. Under the
-/// seed of the array that holds them they can't be: other items, or another order, give another
-/// seed. Any number serves as a seed, so no contract says which it is: it decides how long a search
-/// takes, and never what it finds. Takes time in proportion to the size of the node, and no memory.
+/// Different values with one fingerprint are easy to search for under a seed that is known before.
+/// Under the seed of the array that holds them they are not: with other items, or in another order,
+/// it has another seed. Any number serves as a seed, so no contract says which it is: it decides how
+/// long a search for equal items takes, and never what it finds. Takes time in proportion to the
+/// size of the node, and no memory.
 pub fn seed_of<N: Node>(node: &N) -> u64 {
     let start = State {
         first: 7046029254386353131,

@@ -19,9 +19,9 @@ fn integers(alloc: Global, count: u64, last: DecimalTree) -> Result<DecimalTree,
     Ok(DecimalTree::Array(items))
 }
 
-fn is_unique(tree: &DecimalTree) -> Result<bool, Fail> {
-    if tree.is_array() {
-        Ok(tree.is_unique())
+fn is_unique<N: Node>(node: &N) -> Result<bool, Fail> {
+    if node.is_array() {
+        Ok(node.is_unique())
     } else {
         Err("no array")?
     }
@@ -142,19 +142,11 @@ fn objects_in_any_order(rt: HostRuntime) -> Result<(), Fail> {
 fn are_unique(alloc: Global, text: &str) -> Result<bool, Fail> {
     let value = Value::from_str(alloc, text)?;
     let tree = DecimalTree::from_value(alloc, &value)?.ok_or("a float")?;
-    let answer = answer_of(&value)?;
-    if answer_of(&tree)? == answer {
+    let answer = is_unique(&value)?;
+    if is_unique(&tree)? == answer {
         Ok(answer)
     } else {
         Err("the representations differ")?
-    }
-}
-
-fn answer_of<N: Node>(node: &N) -> Result<bool, Fail> {
-    if node.is_array() {
-        Ok(node.is_unique())
-    } else {
-        Err("no array")?
     }
 }
 
@@ -373,8 +365,8 @@ fn count_like_first(array: &Value, seed: u64) -> Result<usize, Fail> {
     )
 }
 
-// Objects that were searched for under one seed collide under that seed alone. The seed of their array
-// is another one, and that of other items is yet another.
+// Objects that were searched for under one seed collide under it, and not under another. The seed of
+// their array is another, and with other items in it yet another.
 #[test]
 fn fingerprints_collide_under_one_seed(rt: HostRuntime) -> Result<(), Fail> {
     let alloc = rt.alloc();
