@@ -15,7 +15,7 @@ use Rattle.jskw_report.specs.Meaning.{Placed, placed}
 use Rattle.jskw_report.specs.Observe.{failures_unless}
 use Rattle.jskw_report.specs.declared.error.TypeKind.TheVariants.{Single}
 use Rattle.jskw_array.specs.Fused.{Extends, absorbed_type, optional}
-use Rattle.jskw_array.specs.declared.items.array_shape.AbsorbedKeywords.{AbsorbedKeywords}
+use Rattle.jskw_array.specs.declared.items.absorbed.AbsorbedKeywords.{AbsorbedKeywords}
 
 -- ---- each keyword beside `items` fails at most once
 

@@ -1,67 +1,26 @@
--- What a walk over a node's keywords has left at a keyword, and at the end.
-use Rattle.std.proofs.Common.{◌≡◌, ℕ, zero, suc, ◌+◌, ◌<◌, ◌≤◌, Box, Vec, Global, List, [], ◌∷◌, ◌++◌, length, get_or, drop, max, Bool, true, false, ◌&&◌, Option, None, refl, sym, if◌then◌else◌, ap, ◌∙◌, append_assoc, arith}
+-- What a walk over a node's units has left at a unit, and at the end.
+use Rattle.std.proofs.Common.{◌≡◌, ℕ, zero, suc, ◌+◌, ◌<◌, ◌≤◌, List, [], ◌∷◌, ◌++◌, length, get_or, drop, max, Bool, true, false, ◌&&◌, ◌||◌, None, Some, refl, sym, if◌then◌else◌, ap, ◌∙◌, append_assoc, arith}
 use Rattle.std.proofs.Math.Bool.{and-true}
 use Rattle.std.proofs.lemmas.List.{drop_all}
+use Rattle.std.specs.Borrow.{Bor}
 use Rattle.jskw_value.specs.Pointer.{Pointer}
 use Rattle.jskw_value.specs.Tree.{Tree}
-use Rattle.jskw_report.proofs.Appended.{fail_appended, height_appended, hold_appended, needed_appended, pairs_appended, units_appended}
+use Rattle.jskw_report.proofs.Appended.{fail_appended, hand_on_appended, height_appended, hold_appended, needed_appended, pairs_appended, units_appended}
+use Rattle.jskw_report.proofs.Fails.{all_empty, keyword_empty}
 use Rattle.jskw_report.proofs.Gathering.{drop_here}
-use Rattle.jskw_report.specs.Applications.{needed, pairs, all_needed, all_pairs, keyword_needed, keyword_pairs, height, all_height, keyword_height}
-use Rattle.jskw_report.specs.Evaluation.{Evaluation, node_at, of_children, of_errors, tree, unit, units}
-use Rattle.jskw_report.specs.Fail.{all_fail, fail, keyword_fail}
-use Rattle.jskw_report.specs.Holds.{holds, all_hold, keyword_holds}
-use Rattle.jskw_report.specs.Keyword.{Schema, Keyword, Keywords, false_schema, schema_object, append_keywords, keyword, no_keywords}
+use Rattle.jskw_report.specs.Applications.{needed, pairs, all_needed, all_pairs, height, all_height, keyword_height}
+use Rattle.jskw_report.specs.Evaluation.{Evaluation, node_at, of_children, of_errors, tree, units}
+use Rattle.jskw_report.specs.Fail.{all_fail, fail, is_empty}
+use Rattle.jskw_report.specs.Holds.{holds, all_hold}
+use Rattle.jskw_report.specs.Keyword.{Schema, Keywords, all_hand_on, false_schema, schema_location, schema_object, keyword, no_keywords}
+use Rattle.jskw_report.specs.Meaning.{meaning_fail, meaning_holds, meaning_needed, meaning_pairs, meaning_unit}
 use Rattle.jskw_array.specs.Fused.{absorbed_keywords, shape_keywords}
 use Rattle.jskw_array.specs.Meaning.{validator_keyword}
-use Rattle.jskw_array.specs.Node.{OfOnly, fused_keywords, marked, schema_of}
-use Rattle.jskw_array.specs.Units.{keywords_of}
+use Rattle.jskw_array.specs.Node.{HasUnits}
+use Rattle.jskw_array.specs.Units.{absorbed_by, keywords_of, unit_hands_on, unit_location, unit_meaning}
 use Rattle.jskw_array.specs.declared.items.array_shape.ArrayShapeValidator.{ArrayShapeValidator}
-use Rattle.jskw_array.specs.declared.node.Assertions.{Assertions}
-use Rattle.jskw_array.specs.declared.node.Assertions.TheVariants.{Keywords as TheKeywords}
-use Rattle.jskw_array.specs.declared.unit.Unit as declared
-
--- the keyword u stands at the index i; F, N, O and P are the types of a representation
-module _ {F N O P : Type 0} (us : List (declared.Unit F N O P)) (i : ℕ) (u : declared.Unit F N O P) (within : i < length us) (is : u ≡ get_or us i u) where
-  here : keywords_of (drop i us) ≡ keyword u.location (validator_keyword u.validator) (keywords_of (drop (i + 1) us))
-  here = ap keywords_of (drop_here us i u within is)
-
-  pub hold_at : (t : Tree) → all_hold (keywords_of (drop i us)) t
-      ≡ (keyword_holds (validator_keyword u.validator) t && all_hold (keywords_of (drop (i + 1) us)) t)
-  hold_at t = ap (λ ks. all_hold ks t) here
-
-  pub needed_at : (t : Tree) → all_needed (keywords_of (drop i us)) t
-      ≡ keyword_needed (validator_keyword u.validator) t + (if keyword_holds (validator_keyword u.validator) t then all_needed (keywords_of (drop (i + 1) us)) t else 0)
-  needed_at t = ap (λ ks. all_needed ks t) here
-
-  pub pairs_at : (t : Tree) → all_pairs (keywords_of (drop i us)) t
-      ≡ keyword_pairs (validator_keyword u.validator) t + all_pairs (keywords_of (drop (i + 1) us)) t
-  pairs_at t = ap (λ ks. all_pairs ks t) here
-
-  pub fail_at : (t : Tree) (p : Pointer) → all_fail (keywords_of (drop i us)) t p
-      ≡ keyword_fail (validator_keyword u.validator) t p ++ all_fail (keywords_of (drop (i + 1) us)) t p
-  fail_at t p = ap (λ ks. all_fail ks t p) here
-
-  pub unit_at : (t : Tree) (p : Pointer) → units (keywords_of (drop i us)) t p
-      ≡ node_at u.location p (unit (validator_keyword u.validator) t p) ∷ units (keywords_of (drop (i + 1) us)) t p
-  unit_at t p = ap (λ ks. units ks t p) here
-
-  -- its node was gathered behind those before it
-  pub unit_taken : (t : Tree) (p : Pointer) (done now all : List Evaluation) → now ≡ done ++ node_at u.location p (unit (validator_keyword u.validator) t p) ∷ []
-      → done ++ units (keywords_of (drop i us)) t p ≡ all → now ++ units (keywords_of (drop (i + 1) us)) t p ≡ all
-  unit_taken t p done now all is whole =
-      let x = node_at u.location p (unit (validator_keyword u.validator) t p) in
-      let rest = units (keywords_of (drop (i + 1) us)) t p in
-      ap (λ es. es ++ rest) is ∙ append_assoc done (x ∷ []) rest ∙ ap (λ es. done ++ es) (sym (unit_at t p)) ∙ whole
-
-pub keywords_end : {F N O P : Type 0} (us : List (declared.Unit F N O P)) (i : ℕ) → length us ≤ i → keywords_of (drop i us) ≡ no_keywords
-keywords_end us i end = ap keywords_of (drop_all i us end)
-
--- none of the keywords is higher than all
-pub unit_height : {F N O P : Type 0} (us : List (declared.Unit F N O P)) (i : ℕ) (u : declared.Unit F N O P) → i < length us → u ≡ get_or us i u
-    → keyword_height (validator_keyword u.validator) ≤ all_height (keywords_of us)
-unit_height [] i u within is = absurd (omega arith)
-unit_height (r ∷ us) zero u within is = let e = ap (λ v. keyword_height (validator_keyword v.validator)) is in omega arith
-unit_height (r ∷ us) (suc i) u within is = let below = unit_height us i u (omega arith) is in omega arith
+use Rattle.jskw_array.specs.declared.unit.Unit.{Unit as TheUnit}
+use Rattle.jskw_array.specs.declared.unit.Unit.TheVariants.{Keyword as OfKeyword, Shape}
 
 -- `items` of a fused shape
 abbrev pub items_keywords : {F N O P : Type 0} → ArrayShapeValidator F N O P → Keywords
@@ -73,77 +32,167 @@ items_height v =
     let parts = height_appended (absorbed_keywords v.absorbed) (items_keywords v) in
     omega (arith, parts)
 
--- the schema s is that of a node whose shape has the keywords ks, and which has these behind them
-module _ {F N O P : Type 0} (s : Schema) (q : Pointer) (hands_on : Bool) (a : Assertions F N O P) (shape : Option (Box (ArrayShapeValidator F N O P) Global)) (v : Vec (declared.Unit F N O P) Global)
-    (us : List (declared.Unit F N O P)) (ks : Keywords)
-    (view_is : s ≡ schema_of q hands_on a) (is : a ≡ TheKeywords shape v) (are : us ≡ v.items) (fused : fused_keywords shape ≡ ks) where
-  abbrev others : Keywords
-  others = keywords_of us
+-- ---- a unit and those behind it; F, N, O and P are the types of a representation
 
-  pub schema_is : s ≡ schema_object q (marked hands_on shape) (append_keywords ks others)
-  schema_is = view_is ∙ ap (schema_of q hands_on) is ∙ ap (λ xs. schema_object q (marked hands_on shape) (append_keywords (fused_keywords shape) (keywords_of xs))) (sym are)
-      ∙ ap (λ js. schema_object q (marked hands_on shape) (append_keywords js others)) fused
+abbrev pub unit_tall : {F N O P : Type 0} → TheUnit F N O P → ℕ
+unit_tall (OfKeyword k) = keyword_height (validator_keyword k.validator)
+unit_tall (Shape v) = all_height (shape_keywords v.value)
 
-  pub schema_holds : (t : Tree) → holds s t ≡ (all_hold ks t && all_hold others t)
-  schema_holds t = ap (λ r. holds r t) schema_is ∙ hold_appended t ks others
+module _ {F N O P : Type 0} where
+  first_holds : (u : TheUnit F N O P) (us : List (TheUnit F N O P)) (t : Tree) → all_hold (keywords_of (u ∷ us)) t ≡ (meaning_holds (unit_meaning u) t && all_hold (keywords_of us) t)
+  first_holds (OfKeyword k) us t = refl
+  first_holds (Shape v) us t = hold_appended t (shape_keywords v.value) (keywords_of us)
 
-  pub schema_needs : (t : Tree) → needed s t ≡ 1 + (all_needed ks t + (if all_hold ks t then all_needed others t else 0))
-  schema_needs t = ap (λ r. needed r t) schema_is ∙ ap (λ n. 1 + n) (needed_appended t ks others)
+  first_needs : (u : TheUnit F N O P) (us : List (TheUnit F N O P)) (t : Tree)
+      → all_needed (keywords_of (u ∷ us)) t ≡ meaning_needed (unit_meaning u) t + (if meaning_holds (unit_meaning u) t then all_needed (keywords_of us) t else 0)
+  first_needs (OfKeyword k) us t = refl
+  first_needs (Shape v) us t = needed_appended t (shape_keywords v.value) (keywords_of us)
 
-  -- each part is lower than the schema
-  pub lower_shape : all_height ks < height s
-  lower_shape =
-      let e : height s ≡ 1 + all_height (append_keywords ks others) = ap height schema_is in
-      let parts = height_appended ks others in
-      omega (arith, e, parts)
+  first_meets : (u : TheUnit F N O P) (us : List (TheUnit F N O P)) (t : Tree) → all_pairs (keywords_of (u ∷ us)) t ≡ meaning_pairs (unit_meaning u) t + all_pairs (keywords_of us) t
+  first_meets (OfKeyword k) us t = refl
+  first_meets (Shape v) us t = pairs_appended t (shape_keywords v.value) (keywords_of us)
 
-  pub lower_units : all_height others < height s
-  lower_units =
-      let e : height s ≡ 1 + all_height (append_keywords ks others) = ap height schema_is in
-      let parts = height_appended ks others in
-      omega (arith, e, parts)
+  first_fails : (u : TheUnit F N O P) (us : List (TheUnit F N O P)) (t : Tree) (p : Pointer) → all_fail (keywords_of (u ∷ us)) t p ≡ meaning_fail (unit_meaning u) t p ++ all_fail (keywords_of us) t p
+  first_fails (OfKeyword k) us t p = refl
+  first_fails (Shape v) us t p = fail_appended t p (shape_keywords v.value) (keywords_of us)
 
-  pub schema_fails : (t : Tree) (p : Pointer) → fail s t p ≡ all_fail ks t p ++ all_fail others t p
-  schema_fails t p = ap (λ r. fail r t p) schema_is ∙ fail_appended t p ks others
+  -- it holds where it has no errors
+  pub unit_empty : (u : TheUnit F N O P) (t : Tree) (p : Pointer) → meaning_holds (unit_meaning u) t ≡ is_empty (meaning_fail (unit_meaning u) t p)
+  unit_empty (OfKeyword k) t p = keyword_empty (validator_keyword k.validator) t p
+  unit_empty (Shape v) t p = all_empty (shape_keywords v.value) t p
 
-  pub schema_pairs : (t : Tree) → pairs s t ≡ 1 + (all_pairs ks t + all_pairs others t)
-  schema_pairs t = ap (λ r. pairs r t) schema_is ∙ ap (λ n. 1 + n) (pairs_appended t ks others)
+  first_units : (u : TheUnit F N O P) (us : List (TheUnit F N O P)) (t : Tree) (p : Pointer)
+      → units (keywords_of (u ∷ us)) t p ≡ units (absorbed_by u) t p ++ node_at (unit_location u) p (meaning_unit (unit_meaning u) t p) ∷ units (keywords_of us) t p
+  first_units (OfKeyword k) us t p = refl
+  first_units (Shape v) us t p =
+      let before = units (absorbed_keywords v.value.absorbed) t p in
+      let x = node_at v.value.items.location p (meaning_unit (unit_meaning (Shape v)) t p) in
+      let behind = units (keywords_of us) t p in
+      units_appended t p (shape_keywords v.value) (keywords_of us)
+      ∙ ap (λ es. es ++ behind) (units_appended t p (absorbed_keywords v.value.absorbed) (items_keywords v.value)) ∙ append_assoc before (x ∷ []) behind
 
-  pub schema_tree : (t : Tree) (p : Pointer) → tree s t p ≡ node_at q p (of_children None (units ks t p ++ units others t p))
-  schema_tree t p = ap (λ r. tree r t p) schema_is ∙ ap (λ es. node_at q p (of_children None es)) (units_appended t p ks others)
+  first_hands_on : (u : TheUnit F N O P) (us : List (TheUnit F N O P)) → all_hand_on (keywords_of (u ∷ us)) ≡ (unit_hands_on u || all_hand_on (keywords_of us))
+  first_hands_on (OfKeyword k) us = refl
+  first_hands_on (Shape v) us = hand_on_appended (shape_keywords v.value) (keywords_of us)
 
--- ---- any schema
+  first_height : (u : TheUnit F N O P) (us : List (TheUnit F N O P)) → all_height (keywords_of (u ∷ us)) ≡ max (unit_tall u) (all_height (keywords_of us))
+  first_height (OfKeyword k) us = refl
+  first_height (Shape v) us = height_appended (shape_keywords v.value) (keywords_of us)
 
--- a schema and a tree are one pair at least
-pub one_pair : (s : Schema) (t : Tree) → 1 ≤ pairs s t
-one_pair (false_schema q) t = omega arith
-one_pair (schema_object q hands_on ks) t = omega arith
+-- the unit u stands at the index i
+module _ {F N O P : Type 0} (us : List (TheUnit F N O P)) (i : ℕ) (u : TheUnit F N O P) (within : i < length us) (is : u ≡ get_or us i u) where
+  abbrev rest : List (TheUnit F N O P)
+  rest = drop (i + 1) us
+
+  here : keywords_of (drop i us) ≡ keywords_of (u ∷ rest)
+  here = ap keywords_of (drop_here us i u within is)
+
+  pub hold_at : (t : Tree) → all_hold (keywords_of (drop i us)) t ≡ (meaning_holds (unit_meaning u) t && all_hold (keywords_of rest) t)
+  hold_at t = ap (λ ks. all_hold ks t) here ∙ first_holds u rest t
+
+  pub needed_at : (t : Tree) → all_needed (keywords_of (drop i us)) t ≡ meaning_needed (unit_meaning u) t + (if meaning_holds (unit_meaning u) t then all_needed (keywords_of rest) t else 0)
+  needed_at t = ap (λ ks. all_needed ks t) here ∙ first_needs u rest t
+
+  pub pairs_at : (t : Tree) → all_pairs (keywords_of (drop i us)) t ≡ meaning_pairs (unit_meaning u) t + all_pairs (keywords_of rest) t
+  pairs_at t = ap (λ ks. all_pairs ks t) here ∙ first_meets u rest t
+
+  pub fail_at : (t : Tree) (p : Pointer) → all_fail (keywords_of (drop i us)) t p ≡ meaning_fail (unit_meaning u) t p ++ all_fail (keywords_of rest) t p
+  fail_at t p = ap (λ ks. all_fail ks t p) here ∙ first_fails u rest t p
+
+  pub hand_on_at : all_hand_on (keywords_of (drop i us)) ≡ (unit_hands_on u || all_hand_on (keywords_of rest))
+  hand_on_at = ap all_hand_on here ∙ first_hands_on u rest
+
+  -- its nodes were gathered behind those before it
+  pub unit_taken : (t : Tree) (p : Pointer) (done begun now all : List Evaluation) → begun ≡ done ++ units (absorbed_by u) t p
+      → now ≡ begun ++ node_at (unit_location u) p (meaning_unit (unit_meaning u) t p) ∷ []
+      → done ++ units (keywords_of (drop i us)) t p ≡ all → now ++ units (keywords_of rest) t p ≡ all
+  unit_taken t p done begun now all before is whole =
+      let before_it = units (absorbed_by u) t p in
+      let x = node_at (unit_location u) p (meaning_unit (unit_meaning u) t p) in
+      let behind = units (keywords_of rest) t p in
+      ap (λ es. es ++ behind) is ∙ append_assoc begun (x ∷ []) behind ∙ ap (λ es. es ++ x ∷ behind) before ∙ append_assoc done before_it (x ∷ behind)
+      ∙ ap (λ es. done ++ es) (sym (ap (λ ks. units ks t p) here ∙ first_units u rest t p)) ∙ whole
+
+pub keywords_end : {F N O P : Type 0} (us : List (TheUnit F N O P)) (i : ℕ) → length us ≤ i → keywords_of (drop i us) ≡ no_keywords
+keywords_end us i end = ap keywords_of (drop_all i us end)
+
+-- none of the units is higher than all
+pub unit_height : {F N O P : Type 0} (us : List (TheUnit F N O P)) (i : ℕ) (u : TheUnit F N O P) → i < length us → u ≡ get_or us i u → unit_tall u ≤ all_height (keywords_of us)
+unit_height [] i u within is = absurd (omega arith)
+unit_height (r ∷ us) zero u within is = let e = ap unit_tall is in let whole = first_height r us in omega (arith, e, whole)
+unit_height (r ∷ us) (suc i) u within is = let below = unit_height us i u (omega arith) is in let whole = first_height r us in omega (arith, below, whole)
+
+-- ---- a schema by its units
+
+module _ {F N O P : Type 0} (s : Schema) (us : Bor (List (TheUnit F N O P))) (has : HasUnits s (Some us)) where
+  pub schema_holds : (t : Tree) → holds s t ≡ all_hold (keywords_of us.now) t
+  schema_holds t = ap (λ r. holds r t) has.1
+
+  pub schema_needs : (t : Tree) → needed s t ≡ 1 + all_needed (keywords_of us.now) t
+  schema_needs t = ap (λ r. needed r t) has.1
+
+  pub schema_pairs : (t : Tree) → pairs s t ≡ 1 + all_pairs (keywords_of us.now) t
+  schema_pairs t = ap (λ r. pairs r t) has.1
+
+  pub schema_fails : (t : Tree) (p : Pointer) → fail s t p ≡ all_fail (keywords_of us.now) t p
+  schema_fails t p = ap (λ r. fail r t p) has.1
+
+  pub schema_tree : (t : Tree) (p : Pointer) → tree s t p ≡ node_at (schema_location s) p (of_children None (units (keywords_of us.now) t p))
+  schema_tree t p = ap (λ r. tree r t p) has.1
+
+  pub schema_height : height s ≡ 1 + all_height (keywords_of us.now)
+  schema_height = ap height has.1
+
+  -- where it is one unit alone
+  module _ (u : TheUnit F N O P) (one : 1 ≤ length us.now) (few : length us.now < 2) (is : u ≡ get_or us.now 0 u) where
+    alone : keywords_of us.now ≡ keywords_of (u ∷ [])
+    alone = go us.now one few is
+      where
+        go : (vs : List (TheUnit F N O P)) → 1 ≤ length vs → length vs < 2 → u ≡ get_or vs 0 u → keywords_of vs ≡ keywords_of (u ∷ [])
+        go [] one few is = absurd (omega arith)
+        go (v ∷ []) one few is = ap (λ w. keywords_of (w ∷ [])) (sym is)
+        go (v ∷ w ∷ vs) one few is = absurd (omega arith)
+
+    pub only_holds : (t : Tree) → holds s t ≡ meaning_holds (unit_meaning u) t
+    only_holds t = schema_holds t ∙ ap (λ ks. all_hold ks t) alone ∙ first_holds u [] t ∙ and-true (meaning_holds (unit_meaning u) t)
+
+    pub only_needs : (t : Tree) → needed s t ≡ 1 + meaning_needed (unit_meaning u) t
+    only_needs t = schema_needs t ∙ ap (λ ks. 1 + all_needed ks t) alone ∙ ap (λ n. 1 + n) (first_needs u [] t ∙ nothing_behind (meaning_holds (unit_meaning u) t))
+      where
+        nothing_behind : (b : Bool) → meaning_needed (unit_meaning u) t + (if b then 0 else 0) ≡ meaning_needed (unit_meaning u) t
+        nothing_behind true = omega arith
+        nothing_behind false = omega arith
+
+    pub only_lower : unit_tall u < height s
+    only_lower =
+        let e : height s ≡ 1 + all_height (keywords_of (u ∷ [])) = schema_height ∙ ap (λ ks. 1 + all_height ks) alone in
+        let whole = first_height u [] in
+        omega (arith, e, whole)
+
+-- ---- `false`, and any schema
+
+module _ (s : Schema) (is : s ≡ false_schema (schema_location s)) where
+  pub false_holds : (t : Tree) → holds s t ≡ false
+  false_holds t = ap (λ r. holds r t) is
+
+  pub false_needs : (t : Tree) → needed s t ≡ 1
+  false_needs t = ap (λ r. needed r t) is
+
+  pub false_pairs : (t : Tree) → pairs s t ≡ 1
+  false_pairs t = ap (λ r. pairs r t) is
+
+  pub false_fails : (t : Tree) (p : Pointer) → fail s t p ≡ fail (false_schema (schema_location s)) t p
+  false_fails t p = ap (λ r. fail r t p) is
+
+  pub false_tree : (t : Tree) (p : Pointer) → tree s t p ≡ tree (false_schema (schema_location s)) t p
+  false_tree t p = ap (λ r. tree r t p) is
 
 -- the node of `false` tells its error
 pub refused_tree : (q : Pointer) (t : Tree) (p : Pointer) → node_at q p (of_errors (fail (false_schema q) t p)) ≡ tree (false_schema q) t p
 unfolding of_errors
 refused_tree q t p = refl
 
--- ---- a schema of one keyword
-
--- a node has it where it has one unit
-pub only_unit : {F N O P : Type 0} (us : List (declared.Unit F N O P)) (u : declared.Unit F N O P) → 1 ≤ length us → length us < 2 → u ≡ get_or us 0 u
-    → keywords_of us ≡ keyword u.location (validator_keyword u.validator) no_keywords
-only_unit [] u one few is = absurd (omega arith)
-only_unit (v ∷ []) u one few is = ap (λ r. keyword r.location (validator_keyword r.validator) no_keywords) (sym is)
-only_unit (v ∷ w ∷ us) u one few is = absurd (omega arith)
-
--- it asks that and nothing else
-pub only_holds : (k : Keyword) (s : Schema) → OfOnly k s → (t : Tree) → holds s t ≡ keyword_holds k t
-only_holds k s (q, marks, at, is) t = ap (λ r. holds r t) is ∙ and-true (keyword_holds k t)
-
-pub only_needs : (k : Keyword) (s : Schema) → OfOnly k s → (t : Tree) → needed s t ≡ 1 + keyword_needed k t
-only_needs k s (q, marks, at, is) t = ap (λ r. needed r t) is ∙ ap (λ n. 1 + n) (nothing_behind (keyword_holds k t))
-  where
-    nothing_behind : (b : Bool) → keyword_needed k t + (if b then 0 else 0) ≡ keyword_needed k t
-    nothing_behind true = omega arith
-    nothing_behind false = omega arith
-
--- the keyword is lower
-pub only_lower : (k : Keyword) (s : Schema) → OfOnly k s → keyword_height k < height s
-only_lower k s (q, marks, at, is) = let e : height s ≡ 1 + max (keyword_height k) 0 = ap height is in omega (arith, e)
+-- a schema and a tree are one pair at least
+pub one_pair : (s : Schema) (t : Tree) → 1 ≤ pairs s t
+one_pair (false_schema q) t = omega arith
+one_pair (schema_object q hands_on ks) t = omega arith

@@ -11,7 +11,7 @@ use Rattle.jskw_report.specs.Fail.{Failure, failing_bound, keyword_fail, is_empt
 use Rattle.jskw_report.specs.Holds.{holds, keyword_holds}
 use Rattle.jskw_report.specs.Kind as kind
 use Rattle.jskw_report.specs.Keyword.{Schema, Bounds, contains}
-use Rattle.jskw_array.specs.Limits.{fault_of, matching_result}
+use Rattle.jskw_array.specs.Limits.{failing_locations, matching_result}
 
 at_most_one : (f : Pointer → Failure) (b : Bounds) (array over low : Bool)
     → length (if array then map f (if over then b.many ∷ [] else (if low then [] else b.few ∷ [])) else []) ≤ 1
@@ -58,10 +58,10 @@ by_fault f k true false (q ∷ r ∷ qs) is es once e = absurd (omega (arith, on
 
 -- it is that of `contains`
 pub matching_is_unit : (s : Schema) (b : Bounds) (t : Tree) (p : Pointer) → let is = matching_indices (holds s) 0 (items t) in
-    matching_result (fault_of b (length is) t) is (evaluate_matching (holds s) (tree s) 0 (items t) p) ≡ unit (contains s b) t p
+    matching_result (failing_locations b (length is) t) is (evaluate_matching (holds s) (tree s) 0 (items t) p) ≡ unit (contains s b) t p
 matching_is_unit s b t p =
     let is = matching_indices (holds s) 0 (items t) in
     let es = evaluate_matching (holds s) (tree s) 0 (items t) p in
-    ap (λ n. matching_result (fault_of b n t) is es) (indices_count (holds s) 0 (items t))
+    ap (λ n. matching_result (failing_locations b n t) is es) (indices_count (holds s) 0 (items t))
     ∙ by_fault (λ q. record { kind = kind.Contains; instance_location = p; keyword_location = q; tree = t }) (λ q. refl) (is_array t) (keyword_holds (contains s b) t)
     (failing_bound b (count_by (holds s) (items t))) is es (contains_once s b t p) (keyword_empty (contains s b) t p)

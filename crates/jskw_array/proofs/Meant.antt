@@ -1,15 +1,15 @@
 -- What a validator with subschemas says, whichever keyword it is of.
-use Rattle.std.proofs.Common.{◌≡◌, ◌∙◌, Bool, true, false, None, if◌then◌else◌, refl, sym, ap, length, drop, sum_by}
+use Rattle.std.proofs.Common.{◌≡◌, ◌∙◌, Bool, true, false, None, if◌then◌else◌, refl, ap, length, drop, sum_by}
 use Rattle.std.specs.List.{list_all}
 use Rattle.jskw_value.specs.Pointer.{Pointer}
 use Rattle.jskw_value.specs.Tree.{Tree, items}
 use Rattle.jskw_report.specs.Applications.{each_needed, each_pairs, keyword_needed, keyword_pairs, needed, pairs, sum_to_failure}
-use Rattle.jskw_report.specs.Evaluation.{evaluate_pairs, of_children, of_errors, prefix_annotation, unit}
+use Rattle.jskw_report.specs.Evaluation.{evaluate_pairs, of_children, prefix_annotation, unit}
 use Rattle.jskw_report.specs.Fail.{each_fails, each_item, fail, keyword_fail}
 use Rattle.jskw_report.specs.Holds.{each_holds, holds, keyword_holds}
-use Rattle.jskw_report.specs.Keyword.{additional_items, each_hands_on, hands_on_required, items_from, items_list, keyword_hands_on, prefix_items}
+use Rattle.jskw_report.specs.Keyword.{each_hands_on, hands_on_required, keyword_hands_on}
 use Rattle.jskw_report.specs.Meaning.{is_assertion, one}
-use Rattle.jskw_array.specs.Meaning.{each_keyword, rest_keyword, schemas_of}
+use Rattle.jskw_array.specs.Meaning.{each_keyword, each_of, rest_keyword, schemas_of}
 use Rattle.jskw_array.proofs.Meetings.{count_of}
 use Rattle.jskw_array.specs.declared.each.Each.{Each}
 use Rattle.jskw_array.specs.declared.rest.Rest.{Rest}
@@ -42,11 +42,11 @@ module _ {F N O P : Type 0} (v : Each F N O P) where
 
   -- its unit: that of `items`, or of `prefixItems`
   pub items_unit_is : v.is_prefix ≡ false → (t : Tree) (p : Pointer) → unit (each_keyword v) t p ≡ of_children None (evaluate_pairs (schemas_of v.nodes.items) 0 (items t) p)
-  items_unit_is e t p = ap (λ b. unit (if b then prefix_items (schemas_of v.nodes.items) else items_list (schemas_of v.nodes.items)) t p) e
+  items_unit_is e t p = ap (λ b. unit (each_of b (schemas_of v.nodes.items)) t p) e
 
   pub prefix_unit_is : v.is_prefix ≡ true → (t : Tree) (p : Pointer)
       → unit (each_keyword v) t p ≡ of_children (prefix_annotation (length v.nodes.items) (length (items t))) (evaluate_pairs (schemas_of v.nodes.items) 0 (items t) p)
-  prefix_unit_is e t p = ap (λ b. unit (if b then prefix_items (schemas_of v.nodes.items) else items_list (schemas_of v.nodes.items)) t p) e
+  prefix_unit_is e t p = ap (λ b. unit (each_of b (schemas_of v.nodes.items)) t p) e
       ∙ ap (λ k. of_children (prefix_annotation k (length (items t))) (evaluate_pairs (schemas_of v.nodes.items) 0 (items t) p)) (count_of v.nodes.items)
 
   pub each_no_assertion : is_assertion (one (each_keyword v)) ≡ false
@@ -67,14 +67,6 @@ module _ {F N O P : Type 0} (v : Rest F N O P) where
 
   pub rest_delegates : keyword_hands_on (rest_keyword v) ≡ hands_on_required v.node
   rest_delegates = either keyword_hands_on (hands_on_required v.node) v.is_additional _ _ refl refl
-
-  -- its unit: that of `items`, or of `additionalItems`
-  pub rest_unit_is : v.is_additional ≡ false → (t : Tree) (p : Pointer) → unit (rest_keyword v) t p ≡ unit (items_from v.start v.node false) t p
-  rest_unit_is e t p = ap (λ b. unit (if b then additional_items v.start v.node else items_from v.start v.node false) t p) e
-
-  pub additional_unit_is : v.is_additional ≡ true → (t : Tree) (p : Pointer) → unit (rest_keyword v) t p ≡ of_errors (keyword_fail (rest_keyword v) t p)
-  additional_unit_is e t p = ap (λ b. unit (if b then additional_items v.start v.node else items_from v.start v.node false) t p) e
-      ∙ ap (λ b. of_errors (keyword_fail (if b then additional_items v.start v.node else items_from v.start v.node false) t p)) (sym e)
 
   pub rest_no_assertion : is_assertion (one (rest_keyword v)) ≡ false
   rest_no_assertion = either (λ k. is_assertion (one k)) false v.is_additional _ _ refl refl

@@ -1,42 +1,58 @@
 -- The keywords of units that are put together.
-use Rattle.std.specs.Prelude.{Box}
-use Rattle.std.proofs.Common.{◌≡◌, ℕ, ◌+◌, ◌<◌, ◌≤◌, List, [], ◌∷◌, ◌++◌, length, get_or, drop, Vec, Global, Bool, true, false, ◌||◌, refl, ap}
+use Rattle.std.proofs.Common.{◌≡◌, ℕ, ◌+◌, ◌<◌, ◌≤◌, List, [], ◌∷◌, ◌++◌, length, get_or, drop, Vec, Global, false, ◌||◌, refl, ap, sym, ◌∙◌, arith}
+use Rattle.std.specs.Borrow.{Bor}
+use Rattle.std.specs.Prelude.{Option, Some, None, IfSome}
 use Rattle.std.proofs.lemmas.List.{drop_all}
-use Rattle.jskw_report.proofs.Appended.{hand_on_appended}
+use Rattle.jskw_report.proofs.Appended.{append_append}
 use Rattle.jskw_report.proofs.Gathering.{drop_here}
-use Rattle.jskw_report.specs.Keyword.{Schema, Keywords, append_keywords, keyword, no_keywords, all_hand_on, each_hands_on, hands_on_required, keyword_hands_on}
+use Rattle.jskw_report.specs.Keyword.{Schema, Keywords, append_keywords, keyword, no_keywords, all_hand_on, each_hands_on, hands_on_required}
 use Rattle.jskw_array.specs.Meaning.{schemas_of, validator_keyword}
-use Rattle.jskw_array.specs.Fused.{shape_keywords}
+use Rattle.jskw_array.specs.Fused.{Begins, shape_keywords}
 use Rattle.jskw_array.specs.declared.items.array_shape.ArrayShapeValidator.{ArrayShapeValidator}
-use Rattle.jskw_array.specs.Units.{keywords_of}
-use Rattle.jskw_array.specs.declared.unit.Unit as declared
+use Rattle.jskw_array.specs.Units.{IsShape, begin_fused, is_shape, keywords_of}
+use Rattle.jskw_array.specs.declared.unit.PlacedValidator.{PlacedValidator}
+use Rattle.jskw_array.specs.declared.unit.Unit.{Unit as TheUnit}
+use Rattle.jskw_array.specs.declared.unit.Unit.TheVariants.{Keyword as OfKeyword, Shape}
 
 -- one unit more
-pub keywords_of_more : {F N O P : Type 0} (us : List (declared.Unit F N O P)) (u : declared.Unit F N O P)
-    → keywords_of (us ++ u ∷ []) ≡ append_keywords (keywords_of us) (keyword u.location (validator_keyword u.validator) no_keywords)
-keywords_of_more [] u = refl
-keywords_of_more (v ∷ us) u = ap (keyword v.location (validator_keyword v.validator)) (keywords_of_more us u)
+pub keywords_of_more : {F N O P : Type 0} (us : List (TheUnit F N O P)) (k : PlacedValidator F N O P)
+    → keywords_of (us ++ OfKeyword k ∷ []) ≡ append_keywords (keywords_of us) (keyword k.location (validator_keyword k.validator) no_keywords)
+keywords_of_more [] k = refl
+keywords_of_more (OfKeyword v ∷ us) k = ap (keyword v.location (validator_keyword v.validator)) (keywords_of_more us k)
+keywords_of_more (Shape v ∷ us) k = ap (append_keywords (shape_keywords v.value)) (keywords_of_more us k)
+    ∙ append_append (shape_keywords v.value) (keywords_of us) (keyword k.location (validator_keyword k.validator) no_keywords)
+
+-- the first of them stays the first
+pub begin_fused_more : {F N O P : Type 0} (us : List (TheUnit F N O P)) (k : PlacedValidator F N O P) → begin_fused (us ++ OfKeyword k ∷ []) ≡ begin_fused us
+begin_fused_more [] k = refl
+begin_fused_more (OfKeyword v ∷ us) k = refl
+begin_fused_more (Shape v ∷ us) k = refl
+
+-- whether they begin with a fused shape is for the first unit to say
+pub begin_fused_first : {F N O P : Type 0} (us : List (TheUnit F N O P)) (u d : TheUnit F N O P) → 1 ≤ length us → u ≡ get_or us 0 d → begin_fused us ≡ is_shape u
+begin_fused_first [] u d one is = absurd (omega arith)
+begin_fused_first (OfKeyword k ∷ us) u d one is = ap is_shape (sym is)
+begin_fused_first (Shape v ∷ us) u d one is = ap is_shape (sym is)
+
+-- a fused shape that is the first unit
+pub shape_first : {F N O P : Type 0} (us : List (TheUnit F N O P)) (u d : TheUnit F N O P) (v : ArrayShapeValidator F N O P) → 1 ≤ length us → u ≡ get_or us 0 d
+    → IsShape u v → Begins (shape_keywords v) (keywords_of us)
+shape_first [] u d v one is shape = absurd (omega arith)
+shape_first (w ∷ us) u d v one is shape = (keywords_of us, ap (λ x. keywords_of (x ∷ us)) (sym is) ∙ shape us)
+
+-- the same of the shape that the first unit may be
+pub shapes_begin : {F N O P : Type 0} (r : Option (Bor (ArrayShapeValidator F N O P))) (us : List (TheUnit F N O P)) (u d : TheUnit F N O P) (ks : Keywords) → 1 ≤ length us
+    → u ≡ get_or us 0 d → ks ≡ keywords_of us → IfSome r (λ v. IsShape u v.now) → IfSome r (λ v. Begins (shape_keywords v.now) ks)
+shapes_begin None us u d ks one is all shape = shape
+shapes_begin (Some v) us u d ks one is all shape = let begins = shape_first us u d v.now one is shape in (begins.0, all ∙ begins.1)
 
 -- of a whole vector
-abbrev pub keywords_in : {F N O P : Type 0} → Vec (declared.Unit F N O P) Global → Keywords
+abbrev pub keywords_in : {F N O P : Type 0} → Vec (TheUnit F N O P) Global → Keywords
 keywords_in units = keywords_of units.items
-
--- of a shape in a box
-abbrev pub shape_in : {F N O P : Type 0} → Box (ArrayShapeValidator F N O P) Global → Keywords
-shape_in shape = shape_keywords shape.value
 
 -- ---- which of them hand a `required` on
 
--- the schema's own, or that of a subschema of either part
-pub hand_on_parts : (b : Bool) (js ks : Keywords) → (b || all_hand_on (append_keywords js ks)) ≡ ((b || all_hand_on js) || all_hand_on ks)
-hand_on_parts true js ks = refl
-hand_on_parts false js ks = hand_on_appended js ks
-
-module _ {F N O P : Type 0} (us : List (declared.Unit F N O P)) (i : ℕ) where
-  pub hand_on_at : (u : declared.Unit F N O P) → i < length us → u ≡ get_or us i u
-      → all_hand_on (keywords_of (drop i us)) ≡ (keyword_hands_on (validator_keyword u.validator) || all_hand_on (keywords_of (drop (i + 1) us)))
-  hand_on_at u within is = ap (λ xs. all_hand_on (keywords_of xs)) (drop_here us i u within is)
-
+module _ {F N O P : Type 0} (us : List (TheUnit F N O P)) (i : ℕ) where
   pub hand_on_end : length us ≤ i → all_hand_on (keywords_of (drop i us)) ≡ false
   hand_on_end end = ap (λ xs. all_hand_on (keywords_of xs)) (drop_all i us end)
 

@@ -9,7 +9,7 @@ use Rattle.jskw_report.specs.declared.keyword.KeywordName.TheVariants.{TypeKeywo
 use Rattle.jskw_leaf.specs.Meaning.{single_type}
 use Rattle.jskw_number.specs.Meaning.{min_items, max_items}
 use Rattle.jskw_array.specs.Meaning.{validator_keyword}
-use Rattle.jskw_array.specs.declared.items.array_shape.AbsorbedKeywords.{AbsorbedKeywords}
+use Rattle.jskw_array.specs.declared.items.absorbed.AbsorbedKeywords.{AbsorbedKeywords}
 use Rattle.jskw_array.specs.declared.items.array_shape.ArrayShapeValidator.{ArrayShapeValidator}
 
 -- the number of items of an array; nothing else has one

@@ -1,5 +1,5 @@
 -- A node's subschemas are lower than its schema.
-use Rattle.std.specs.Prelude.{◌≡◌, ℕ, ◌+◌, ◌≤◌, List, [], ◌∷◌, Bool, true, false, Some, None, if◌then◌else◌, refl}
+use Rattle.std.specs.Prelude.{◌≡◌, ℕ, ◌+◌, ◌≤◌, List, [], ◌∷◌, Bool, true, false, refl}
 use Rattle.std.proofs.Common.{arith}
 use denote.Param.Weighed.{most}
 use Rattle.jskw_value.specs.Pointer.{Pointer}
@@ -8,9 +8,9 @@ use Rattle.jskw_value.specs.declared.json.Object as object
 use Rattle.jskw_value.specs.declared.json.Rooted as rooted
 use Rattle.jskw_report.specs.Applications.{height, all_height, keyword_height, each_height}
 use Rattle.jskw_report.proofs.Appended.{height_appended}
-use Rattle.jskw_report.specs.Keyword.{Schema, Schemas, additional_items, items_from, items_list, keyword, no_keywords, prefix_items}
+use Rattle.jskw_report.specs.Keyword.{Schema, Schemas, keyword, no_keywords}
 use Rattle.jskw_array.specs.Fused.{absorbed_keywords, shape_keywords}
-use Rattle.jskw_array.specs.Meaning.{each_keyword, rest_keyword, schemas_of, validator_keyword}
+use Rattle.jskw_array.specs.Meaning.{each_keyword, each_of, rest_keyword, rest_of, schemas_of, validator_keyword}
 use Rattle.jskw_array.specs.Node.{schema_of}
 use Rattle.jskw_array.specs.Units.{keywords_of}
 use Rattle.jskw_array.specs.declared.each.Each.{Each}
@@ -18,7 +18,8 @@ use Rattle.jskw_array.specs.declared.items.array_shape.ArrayShapeValidator.{Arra
 use Rattle.jskw_array.specs.declared.node.Assertions.{Assertions}
 use Rattle.jskw_array.specs.declared.node.Assertions.TheVariants.{Never, Keywords}
 use Rattle.jskw_array.specs.declared.rest.Rest.{Rest}
-use Rattle.jskw_array.specs.declared.unit.Unit as unit
+use Rattle.jskw_array.specs.declared.unit.Unit.{Unit as TheUnit}
+use Rattle.jskw_array.specs.declared.unit.Unit.TheVariants.{Keyword as OfKeyword, Shape}
 use Rattle.jskw_array.specs.declared.node.SchemaNode.TheDeep.{deep-ArrayShapeValidator, deep-Assertions, deep-Unit, deep-Validator}
 use Rattle.jskw_array.specs.declared.validator.Validator.{Validator}
 use Rattle.jskw_array.specs.declared.validator.Validator.TheVariants as validator
@@ -28,11 +29,11 @@ each_falls [] = omega arith
 each_falls (s ∷ ss) = omega (arith, each_falls ss)
 
 -- the keyword is as high as its schemas, whichever it is
-each_as_high : (is_prefix : Bool) (ss : Schemas) → keyword_height (if is_prefix then prefix_items ss else items_list ss) ≡ each_height ss
+each_as_high : (is_prefix : Bool) (ss : Schemas) → keyword_height (each_of is_prefix ss) ≡ each_height ss
 each_as_high true ss = refl
 each_as_high false ss = refl
 
-rest_as_high : (is_additional : Bool) (n : ℕ) (s : Schema) → keyword_height (if is_additional then additional_items n s else items_from n s false) ≡ height s
+rest_as_high : (is_additional : Bool) (n : ℕ) (s : Schema) → keyword_height (rest_of is_additional n s) ≡ height s
 rest_as_high true n s = refl
 rest_as_high false n s = refl
 
@@ -56,18 +57,18 @@ module _ {F N O P : Type 0} (r : rooted.Ghosts N) (o : object.Ghosts N P) (j : n
   keyword_falls (validator.ItemsIntegerDraft4 v) = omega arith
   keyword_falls (validator.AdditionalItemsBoolean v) = omega arith
 
-  all_fall : (us : List (unit.Unit F N O P)) → most (deep-Unit F N O P r o j) us ≤ all_height (keywords_of us) + 1
-  all_fall [] = omega arith
-  all_fall (u ∷ us) = omega (arith, keyword_falls u.validator, all_fall us)
-
   shape_falls : (v : ArrayShapeValidator F N O P) → deep-ArrayShapeValidator F N O P r o j v ≤ all_height (shape_keywords v) + 1
   shape_falls v =
       let parts = height_appended (absorbed_keywords v.absorbed) (keyword v.items.location (validator_keyword v.items.validator) no_keywords) in
       omega (arith, parts, keyword_falls v.items.validator)
 
+  all_fall : (us : List (TheUnit F N O P)) → most (deep-Unit F N O P r o j) us ≤ all_height (keywords_of us) + 1
+  all_fall [] = omega arith
+  all_fall (OfKeyword k ∷ us) = omega (arith, keyword_falls k.validator, all_fall us)
+  all_fall (Shape v ∷ us) =
+      let parts = height_appended (shape_keywords v.value) (keywords_of us) in
+      omega (arith, parts, shape_falls v.value, all_fall us)
+
   pub height_falls : (q : Pointer) (hands_on : Bool) (a : Assertions F N O P) → deep-Assertions F N O P r o j a ≤ height (schema_of q hands_on a)
   height_falls q hands_on Never = omega arith
-  height_falls q hands_on (Keywords None us) = omega (arith, all_fall us.items)
-  height_falls q hands_on (Keywords (Some v) us) =
-      let parts = height_appended (shape_keywords v.value) (keywords_of us.items) in
-      omega (arith, parts, shape_falls v.value, all_fall us.items)
+  height_falls q hands_on (Keywords us) = omega (arith, all_fall us.items)

@@ -1,5 +1,5 @@
 -- What each validator stands for. A node is seen as the schema that it stands for.
-use Rattle.std.specs.Prelude.{List, [], ◌∷◌, true, false, if◌then◌else◌, unwrap_or}
+use Rattle.std.specs.Prelude.{ℕ, List, [], ◌∷◌, Bool, true, false, if◌then◌else◌, unwrap_or}
 use Rattle.jskw_value.specs.Pointer.{Pointer}
 use Rattle.jskw_value.specs.declared.types.JsonType.{JsonType}
 use Rattle.jskw_value.specs.declared.types.JsonType.TheVariants.{Boolean, Integer, Number, String}
@@ -22,7 +22,7 @@ schemas_of (s ∷ ss) = schema s (schemas_of ss)
 
 -- the bounds of `contains`
 abbrev pub bounds_of : ItemBounds → Bounds
-bounds_of b = record { lower = b.lower; upper = b.upper; few = b.few; many = unwrap_or b.many b.few }
+bounds_of b = record { lower = b.lower; upper = b.upper; few = b.too_few_at; many = unwrap_or b.too_many_at b.too_few_at }
 
 -- ---- bare type checks
 
@@ -40,18 +40,24 @@ items_type j rule v = bare_items v.location (single_type j rule v.validator)
 
 -- ---- the others
 
+-- a schema for each item: `prefixItems`, or `items` of an array of schemas
+abbrev pub each_of : Bool → Schemas → Keyword
+each_of is_prefix ss = if is_prefix then prefix_items ss else items_list ss
+
+-- one schema for the items from an index on: `additionalItems`, or `items`
+abbrev pub rest_of : Bool → ℕ → Schema → Keyword
+rest_of is_additional n s = if is_additional then additional_items n s else items_from n s false
+
 abbrev pub no_additional_items : AdditionalItemsBooleanValidator → Placed
 no_additional_items v = record { location = v.location; claim = at_most v.items_count }
 
 -- F, N, O and P are the types of a representation
 module _ {F N O P : Type 0} where
-  -- a schema for each item
   abbrev pub each_keyword : Each F N O P → Keyword
-  each_keyword v = if v.is_prefix then prefix_items (schemas_of v.nodes.items) else items_list (schemas_of v.nodes.items)
+  each_keyword v = each_of v.is_prefix (schemas_of v.nodes.items)
 
-  -- one schema for the items from an index on
   abbrev pub rest_keyword : Rest F N O P → Keyword
-  rest_keyword v = if v.is_additional then additional_items v.start v.node else items_from v.start v.node false
+  rest_keyword v = rest_of v.is_additional v.start v.node
 
   -- the items that match
   abbrev pub matching_keyword : Matching F N O P → Keyword

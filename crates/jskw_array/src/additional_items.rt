@@ -1,19 +1,16 @@
-//! `additionalItems` (Draft 7 Validation 6.4.2): what the items behind the schemas of `items` are
-//! held to.
+//! `additionalItems` (Draft 7 Validation 6.4.2): the schema of the items for which `items` has no
+//! schema.
 ghost use Rattle.std.specs.Prelude.{Ok, refl};
 ghost use Rattle.serde_json.specs.View.{view, members_view};
 ghost use Rattle.jskw_report.specs.Compile.{Compiles, Makes, reading};
-ghost use Rattle.jskw_report.specs.Keyword.{additional_items as additional_keyword};
 ghost use Rattle.jskw_report.specs.Keyword.{assertion, at_most};
-ghost use Rattle.jskw_report.specs.KeywordValue.{map_ok};
 ghost use Rattle.jskw_report.specs.Kind.{AdditionalItems};
-ghost use Rattle.jskw_report.specs.Read.{Reading, keyword_location};
+ghost use Rattle.jskw_report.specs.Read.{keyword_location};
 ghost use Rattle.jskw_report.specs.declared.keyword.KeywordName.TheVariants as word;
 ghost use Rattle.jskw_array.specs.Meaning.{no_additional_items, validator_keyword};
 
 use crate::compiler::{compile_at, schema_count};
-use crate::node::SchemaNode;
-use crate::rest::Rest;
+use crate::rest::{Rest, of_schema};
 use crate::validator::Validator;
 use jskw_report::{
     Assertion, CompilationResult, Context, KeywordName, Location, ValidationErrorKind,
@@ -25,7 +22,7 @@ use std::alloc::Global;
 /// The validator of `additionalItems` of a schema.
 pub type AdditionalItemsObjectValidator<F> = Rest<F>;
 
-/// The validator of `additionalItems` of `false`: there are no such items.
+/// The validator of `additionalItems` of `false`: no item without a schema in `items` is allowed.
 #[derive(Drop)]
 pub struct AdditionalItemsBooleanValidator {
     pub(crate) items_count: usize,
@@ -55,9 +52,12 @@ impl Assertion for AdditionalItemsBooleanValidator {
 }
 
 /// Compiles `additionalItems`: the value is a schema, for the items behind the schemas of `items`.
-/// It asserts nothing, and isn't looked at, where `parent` has no array as `items`; nor does
-/// `true`. Of a value that is no schema the error is that of
-/// [`compile`](crate::compiler::compile), at the keyword location; else only memory can fail.
+/// The keyword asserts nothing, and its value is not read, if `items` of `parent` is not an array;
+/// `true` asserts nothing either.
+///
+/// # Errors
+///
+/// The error of [`compile`](crate::compiler::compile) for the schema.
 #[cycle(compile)]
 pub fn compile<'a, F: Json>(
     alloc: Global,
@@ -77,12 +77,12 @@ pub fn compile<'a, F: Json>(
         Some(false) => Some(no_more(alloc, ctx, items_count)),
         None => {
             let keyword = KeywordName::AdditionalItems;
-            Some(of_schema(items_count, compile_at(alloc, ctx, keyword, schema)))
+            Some(of_schema(items_count, true, compile_at(alloc, ctx, keyword, schema)))
         }
     }
 }
 
-// The validator of `false`. Only memory can fail.
+// The validator of `false`. Fails only if memory runs out.
 fn no_more<'a, F: Json>(
     alloc: Global,
     ctx: &Context<'_, F>,
@@ -97,19 +97,4 @@ fn no_more<'a, F: Json>(
         location,
     };
     Ok(Validator::AdditionalItemsBoolean(validator))
-}
-
-// The validator of the schema, where it was compiled.
-fn of_schema<'a, F: Json>(
-    items_count: usize,
-    compiled: CompilationResult<'a, SchemaNode<F>>,
-) -> CompilationResult<'a, Validator<F>>
-    ensures { (read : Reading) → Makes (λ s. s) compiled.entry read
-        → Makes validator_keyword result (map_ok (additional_keyword items_count) read) }
-{
-    Ok(Validator::Rest(Rest {
-        start: items_count,
-        node: compiled?,
-        is_additional: true,
-    }))
 }

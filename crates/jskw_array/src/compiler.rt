@@ -1,5 +1,6 @@
 //! Compiles schemas, keyword by keyword.
-ghost use Rattle.std.specs.Prelude.{◌≡◌, ◌++◌, [], ◌∷◌, Err, IfOk, IsTrue, Result, Some, true};
+ghost use Rattle.std.specs.Prelude.{◌≡◌, ◌++◌, [], ◌∷◌, Err, IfOk, IsTrue, Result, Some, false};
+ghost use Rattle.std.specs.Prelude.{true};
 ghost use Rattle.serde_json.specs.Data.{object};
 ghost use Rattle.serde_json.specs.Find.{get_member};
 ghost use Rattle.serde_json.specs.View.{view, items_view, members_view};
@@ -14,12 +15,13 @@ ghost use Rattle.jskw_report.specs.Sibling.{is_fused};
 ghost use Rattle.jskw_leaf.specs.Meaning.{leaf_keyword};
 ghost use Rattle.jskw_array.specs.Fused.{shape_keywords};
 ghost use Rattle.jskw_array.specs.Meaning.{schemas_of, validator_keyword};
-ghost use Rattle.jskw_array.specs.Units.{keywords_of};
+ghost use Rattle.jskw_array.specs.Units.{begin_fused, keywords_of};
+ghost use Rattle.jskw_array.specs.declared.unit.Unit.TheVariants as unit;
 ghost use Rattle.jskw_array.specs.Siblings.{schema_count};
 
 use crate::items::{ArrayShapeValidator, array_shape_fusion};
 use crate::node::SchemaNode;
-use crate::unit::Unit;
+use crate::unit::{PlacedValidator, Unit};
 use crate::validator::Validator;
 use crate::{additional_items, contains, items, prefix_items};
 use jskw_leaf::{LeafValidator, is_leaf, required};
@@ -32,9 +34,13 @@ use jskw_value::{Json, JsonType, JsonTypeSet};
 use serde_json::{Map, Value};
 use std::alloc::{AllocError, Global};
 
-/// Compiles a schema, which stands at the keyword location of `ctx`: a boolean, or an object by its
-/// keywords in their order, those of its subschemas among them. The first value that a keyword does
-/// not take, or that is no schema, is the error; else only memory can fail.
+/// Compiles the schema at the keyword location of `ctx`: a boolean, or an object with its keywords
+/// in their order, subschemas included.
+///
+/// # Errors
+///
+/// The first value that its keyword does not accept, or that is neither an object nor a boolean
+/// where a schema must be; or [`CompileFault::Memory`].
 #[cycle(compile)]
 pub fn compile<'a, F: Json>(
     alloc: Global,
@@ -52,7 +58,7 @@ pub fn compile<'a, F: Json>(
     }
 }
 
-// An object, by the fused shape that it may have and its other keywords.
+// A schema that is an object.
 #[cycle(compile)]
 fn compile_object<'a, F: Json>(
     alloc: Global,
@@ -69,10 +75,10 @@ fn compile_object<'a, F: Json>(
         return compile_fused(alloc, ctx, location, hands_on, parent);
     }
     let units = compile_keywords(alloc, ctx, parent, &KeywordName::ALL)?;
-    Ok(SchemaNode::of_keywords(location, hands_on, None, units))
+    Ok(SchemaNode::of_keywords(location, hands_on, units))
 }
 
-// An object that has the fused shape, by that and by the keywords behind.
+// A schema that is an object with the fused shape.
 #[cycle(compile)]
 fn compile_fused<'a, F: Json>(
     alloc: Global,
@@ -90,41 +96,31 @@ fn compile_fused<'a, F: Json>(
     let Some(items) = member_of(parent, KeywordName::Items.as_str()) else {
         unreachable!();
     };
-    let shape = boxed(
-        alloc,
-        ArrayShapeValidator::compile(alloc, ctx, parent, items),
-    )?;
+    let shape = ArrayShapeValidator::compile(alloc, ctx, parent, items)?;
     let units = compile_keywords(alloc, ctx, parent, &KeywordName::ALL[FUSED..]);
-    of_fused(location, hands_on, shape, units)
+    of_fused(alloc, location, hands_on, shape, units)
 }
 
-// The keywords of the fused shape are the first so many.
+// The number of keywords of the fused shape, which are the first of all keywords.
 const FUSED: usize = 4;
 
-// The fused shape, where it was compiled, in a box.
-fn boxed<'a, F: Json>(
-    alloc: Global,
-    compiled: CompilationResult<'a, ArrayShapeValidator<F>>,
-) -> CompilationResult<'a, Box<ArrayShapeValidator<F>>>
-    ensures { (read : Result Keywords Refusal) → Makes shape_keywords compiled.entry read
-        → Makes (λ shape. shape_keywords shape.value) result read }
-{
-    Ok(Box::new(alloc, compiled?)?)
-}
-
-// The schema of a fused shape and of the keywords behind, where these were compiled.
+// The schema of a fused shape and of the keywords behind it, if these were compiled.
 fn of_fused<'a, F: Json>(
+    alloc: Global,
     location: Location,
     hands_on: bool,
-    shape: Box<ArrayShapeValidator<F>>,
+    shape: ArrayShapeValidator<F>,
     compiled: CompilationResult<'a, Vec<Unit<F>>>,
 ) -> CompilationResult<'a, SchemaNode<F>>
     ensures { (read : Result Keywords Refusal)
         → Makes (λ units. keywords_of units.items) compiled.entry read → Makes (λ s. s) result
         (whole location (record { hands_on = hands_on; fused = true })
-        (map_ok (append_keywords (shape_keywords shape.value)) read)) }
+        (map_ok (append_keywords (shape_keywords shape)) read)) }
 {
-    Ok(SchemaNode::of_keywords(location, hands_on, Some(shape), compiled?))
+    let mut units = compiled?;
+    units.insert(0, Unit::Shape(Box::new(alloc, shape)?))?;
+    units.shrink_to_fit();
+    Ok(SchemaNode::of_keywords(location, hands_on, units))
 }
 
 // The fault of a value that is neither a boolean nor an object.
@@ -138,7 +134,7 @@ fn no_schema<'a>(alloc: Global, location: &Location, value: &'a Value) -> Compil
     CompileFault::wrong(alloc, ValidationErrorKind::of_types(types), location, value)
 }
 
-// Some keywords of an object, in their order.
+// The given keywords of an object, in their order.
 #[cycle(compile)]
 fn compile_keywords<'a, F: Json>(
     alloc: Global,
@@ -146,10 +142,11 @@ fn compile_keywords<'a, F: Json>(
     parent: &'a Map<String, Value>,
     keywords: &[KeywordName],
 ) -> CompilationResult<'a, Vec<Unit<F>>>
-    ensures { let ms = members_view parent.now.entries in
+    ensures made { let ms = members_view parent.now.entries in
         Makes (λ units. keywords_of units.items) result
         (read_words keywords.now ctx.now.setting ctx.now.location ms
         (λ name. part_named name ms)) }
+    ensures plain { IfOk result (λ units. begin_fused units.items ≡ false) }
 {
     let mut units = Vec::new(alloc);
     for &keyword in keywords {
@@ -172,20 +169,20 @@ fn push_unit<F: Json>(
     validator: Validator<F>,
     units: &mut Vec<Unit<F>>,
 ) -> Result<(), AllocError>
-    ensures { IfOk result (λ _. units.new.items ≡ units.old.items ++ record {
+    ensures { IfOk result (λ _. units.new.items ≡ units.old.items ++ unit.Keyword (record {
       validator = validator;
       location = keyword_location ctx.now.location keyword;
-    } ∷ []) }
+    }) ∷ []) }
 {
     let location = ctx.keyword_location(alloc, keyword);
-    units.push(location.map(|location| Unit {
+    units.push(Unit::Keyword(location.map(|location| PlacedValidator {
         validator,
         location,
-    })?)?;
+    })?))?;
     Ok(())
 }
 
-// One keyword of an object, None where it is absent, does not stand or asserts nothing.
+// One keyword of an object, None if it is absent, inactive or asserts nothing.
 #[tactic(auto, using(crate::proofs::Readings::with_subschemas))]
 #[cycle(compile)]
 fn compile_keyword<'a, F: Json>(
@@ -214,7 +211,7 @@ fn compile_keyword<'a, F: Json>(
     }
 }
 
-// A validator of a keyword without subschemas as one of any keyword.
+// Wraps the validator of a keyword without subschemas.
 fn of_leaf<'a, F: Json>(
     compiled: Option<CompilationResult<'a, LeafValidator<F>>>,
 ) -> Option<CompilationResult<'a, Validator<F>>>
@@ -227,7 +224,7 @@ fn of_leaf<'a, F: Json>(
     }
 }
 
-// The schema that is the value of a keyword; `ctx` stands at the object of the keyword.
+// Compiles the value of a keyword as a schema. `ctx` is at the object of the keyword.
 #[cycle(compile)]
 pub(crate) fn compile_at<'a, F: Json>(
     alloc: Global,
@@ -242,8 +239,7 @@ pub(crate) fn compile_at<'a, F: Json>(
     compile(alloc, &below, schema)
 }
 
-// The schemas that are the value of a keyword, each at its index; `ctx` stands at the object of the
-// keyword.
+// Compiles the value of a keyword as an array of schemas. `ctx` is at the object of the keyword.
 #[cycle(compile)]
 pub(crate) fn compile_each_at<'a, F: Json>(
     alloc: Global,
@@ -259,7 +255,7 @@ pub(crate) fn compile_each_at<'a, F: Json>(
     compile_each(alloc, &below, schemas)
 }
 
-// An array of schemas, each at its index below the keyword location of `ctx`.
+// Compiles each schema at its index below the keyword location of `ctx`.
 #[cycle(compile)]
 fn compile_each<'a, F: Json>(
     alloc: Global,
@@ -277,7 +273,7 @@ fn compile_each<'a, F: Json>(
     Ok(nodes)
 }
 
-// The context of the value of a keyword. Only memory can fail.
+// The context of the value of a keyword. Fails only if memory runs out.
 fn below<'s, F: Json>(
     alloc: Global,
     ctx: &Context<'s, F>,
@@ -291,7 +287,7 @@ fn below<'s, F: Json>(
     ctx.new_at_location(alloc, LocationSegment::Name(keyword.as_str()))
 }
 
-// How many schemas an object has under a name, None where it has no array there.
+// The number of schemas in the array under a name, None if there is no array.
 pub(crate) fn schema_count(parent: &Map<String, Value>, name: &str) -> Option<usize>
     ensures { result ≡ schema_count (get_member name.now (members_view parent.now.entries)) }
 {
@@ -301,7 +297,7 @@ pub(crate) fn schema_count(parent: &Map<String, Value>, name: &str) -> Option<us
     }
 }
 
-// How many items an array has, None for other values.
+// The number of items of an array, None for other values.
 fn item_count(value: &Value) -> Option<usize>
     ensures { result ≡ schema_count (Some (view value.now)) }
 {

@@ -32,11 +32,15 @@ pub type MaxContainsValidator<F> = Matching<F>;
 /// The validator of `contains` with `minContains` and `maxContains`.
 pub type MinMaxContainsValidator<F> = Matching<F>;
 
-/// Compiles `contains`: the value is a schema. From 2019-09 on, under the vocabulary of validation,
-/// `minContains` and `maxContains` beside it are read too: a bad `minContains` is the first error,
-/// as in [`fail_on_non_positive_integer`](jskw_number::helpers::fail_on_non_positive_integer), then
-/// a bad `maxContains`, each at its own keyword location. The next one is that of the schema, as
-/// [`compile`](crate::compiler::compile) tells; else only memory can fail.
+/// Compiles `contains`: the value is a schema. From 2019-09 on, with the validation vocabulary, the
+/// siblings `minContains` and `maxContains` are read too.
+///
+/// # Errors
+///
+/// The first of: a bad `minContains`, as in
+/// [`fail_on_non_positive_integer`](jskw_number::helpers::fail_on_non_positive_integer), a bad
+/// `maxContains`, each at its own keyword location, and the error of
+/// [`compile`](crate::compiler::compile) for the schema.
 #[cycle(compile)]
 pub fn compile<'a, F: Json>(
     alloc: Global,
@@ -56,7 +60,7 @@ pub fn compile<'a, F: Json>(
     }
 }
 
-// The bounds that stand beside `contains` in `parent`, as far as they are read, or the first fault.
+// The bounds beside `contains` in `parent`, as far as they are read, or the first fault.
 fn bounds_beside<'a, F: Json>(
     alloc: Global,
     ctx: &Context<'_, F>,
@@ -70,7 +74,7 @@ fn bounds_beside<'a, F: Json>(
     Ok(bounds_between(alloc, ctx, min_contains, max_contains)?)
 }
 
-// A bound that stands beside `contains` in `parent` and is read, or its fault.
+// A bound beside `contains` in `parent`, None if it is absent or not read.
 fn bound_beside<'a, F: Json>(
     alloc: Global,
     ctx: &Context<'_, F>,
@@ -95,7 +99,7 @@ fn bound_beside<'a, F: Json>(
     }
 }
 
-// The bounds that were read, each with the location of its failure. Only memory can fail.
+// The bounds that were read, with the locations of their failures. Fails only if memory runs out.
 fn bounds_between<F: Json>(
     alloc: Global,
     ctx: &Context<'_, F>,
@@ -112,31 +116,31 @@ fn bounds_between<F: Json>(
         (None, None) => Ok(ItemBounds {
             lower: 1,
             upper: None,
-            few: ctx.keyword_location(alloc, KeywordName::Contains)?,
-            many: None,
+            too_few_at: ctx.keyword_location(alloc, KeywordName::Contains)?,
+            too_many_at: None,
         }),
         (Some(lower), None) => Ok(ItemBounds {
             lower,
             upper: None,
-            few: place.join(alloc, min)?,
-            many: None,
+            too_few_at: place.join(alloc, min)?,
+            too_many_at: None,
         }),
         (None, Some(upper)) => Ok(ItemBounds {
             lower: 1,
             upper: Some(upper),
-            few: place.join(alloc, max)?,
-            many: None,
+            too_few_at: place.join(alloc, max)?,
+            too_many_at: None,
         }),
         (Some(lower), Some(upper)) => Ok(ItemBounds {
             lower,
             upper: Some(upper),
-            few: place.join(alloc, min)?,
-            many: Some(place.join(alloc, max)?),
+            too_few_at: place.join(alloc, min)?,
+            too_many_at: Some(place.join(alloc, max)?),
         }),
     }
 }
 
-// The validator of these bounds and the schema, where it was compiled.
+// The validator of these bounds and a schema that was compiled.
 fn of_schema<'a, F: Json>(
     bounds: ItemBounds,
     compiled: CompilationResult<'a, SchemaNode<F>>,

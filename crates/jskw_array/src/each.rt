@@ -1,22 +1,29 @@
 //! A schema for each item: `prefixItems` (Core 10.3.1.1), and `items` of an array of schemas (Draft 7
-//! Validation 6.4.1). What is no array has no items.
+//! Validation 6.4.1). An instance that is not an array has no items.
+ghost use Rattle.std.specs.Prelude.{Result};
+ghost use Rattle.jskw_report.specs.Compile.{Makes};
+ghost use Rattle.jskw_report.specs.Keyword.{Schemas};
+ghost use Rattle.jskw_report.specs.KeywordValue.{Refusal, map_ok};
 ghost use Rattle.jskw_report.specs.Meaning.{one};
-ghost use Rattle.jskw_array.specs.Meaning.{each_keyword};
+ghost use Rattle.jskw_array.specs.Meaning.{each_keyword, each_of, schemas_of};
+ghost use Rattle.jskw_array.specs.Meaning.{validator_keyword};
 
 use crate::node::SchemaNode;
 use crate::prefix_items::prefix_unit;
+use crate::validator::Validator;
 use jskw_report::{
-    EvaluationResult, Fault, LazyLocation, Validate, ValidationContext, ValidationError,
+    CompilationResult, EvaluationResult, Fault, LazyLocation, Validate, ValidationContext,
+    ValidationError,
 };
 use jskw_value::{Array, Json, Node};
 use std::alloc::{AllocError, Global};
 
-/// The validator of a schema for each item, as far as both go.
+/// The validator of a list of schemas, each for the item at its index.
 #[cycle(schema)]
 #[derive(Drop)]
 pub struct Each<F: Json> {
     pub(crate) nodes: Vec<SchemaNode<F>>,
-    // of `prefixItems`, whose unit is annotated; else of `items`
+    // the keyword is `prefixItems`, whose unit has an annotation; otherwise it is `items`
     pub(crate) is_prefix: bool,
 }
 
@@ -80,4 +87,19 @@ impl<F: Json> Validate<F> for Each<F> {
         }
         Ok(prefix_unit(alloc, schemas, children, instance))
     }
+}
+
+// The validator of schemas that were compiled.
+pub(crate) fn of_schemas<'a, F: Json>(
+    is_prefix: bool,
+    compiled: CompilationResult<'a, Vec<SchemaNode<F>>>,
+) -> CompilationResult<'a, Validator<F>>
+    ensures { (read : Result Schemas Refusal)
+        → Makes (λ nodes. schemas_of nodes.items) compiled.entry read
+        → Makes validator_keyword result (map_ok (each_of is_prefix) read) }
+{
+    Ok(Validator::Each(Each {
+        nodes: compiled?,
+        is_prefix,
+    }))
 }

@@ -1,31 +1,32 @@
 //! `items`: of one schema, for every item that `prefixItems` has none for (Core 10.3.1.2), or of an
 //! array of schemas, each for the item of its index (Draft 7 Validation 6.4.1).
-ghost use Rattle.std.specs.Prelude.{◌≡◌, IsTrue, Result, Some, false, if◌then◌else◌, length};
-ghost use Rattle.std.specs.Prelude.{nat_lt, true};
+ghost use Rattle.std.specs.Prelude.{◌≡◌, Some, false, if◌then◌else◌, length};
+ghost use Rattle.std.specs.Prelude.{nat_lt};
 ghost use Rattle.serde_json.specs.Data.{string};
 ghost use Rattle.serde_json.specs.View.{view, members_view};
 ghost use Rattle.jskw_value.specs.Tree.{is_array, items};
-ghost use Rattle.jskw_report.specs.Compile.{Compiles, Makes, reading};
+ghost use Rattle.jskw_report.specs.Compile.{Compiles, reading};
 ghost use Rattle.jskw_report.specs.Evaluation.{flag, of_children, valid_unit};
 ghost use Rattle.jskw_report.specs.EvaluationView.{result_of};
-ghost use Rattle.jskw_report.specs.Keyword.{Schemas, items_from, items_list};
-ghost use Rattle.jskw_report.specs.KeywordValue.{Refusal, map_ok};
-ghost use Rattle.jskw_report.specs.Read.{Reading, items_start, keyword_location, read};
-ghost use Rattle.jskw_report.specs.Setting.{name_of, is_2020_12, stands};
+ghost use Rattle.jskw_report.specs.Read.{items_start};
+ghost use Rattle.jskw_report.specs.Setting.{stands};
 ghost use Rattle.jskw_report.specs.Sibling.{is_array as is_list, is_bare, is_inlined_type};
 ghost use Rattle.jskw_report.specs.Sibling.{is_items_schema, is_only_type, member_passes};
 ghost use Rattle.jskw_report.specs.declared.keyword.KeywordName.TheVariants as word;
-ghost use Rattle.jskw_array.specs.Meaning.{schemas_of, validator_keyword};
+ghost use Rattle.jskw_array.specs.Meaning.{validator_keyword};
 
-pub(crate) mod array_shape;
+mod absorbed;
+mod array_shape;
+mod fusion;
 mod item_type;
 
 use crate::compiler::{compile_at, compile_each_at, schema_count};
-use crate::each::Each;
-use crate::node::SchemaNode;
-use crate::rest::Rest;
+use crate::each::{Each, of_schemas};
+use crate::rest::{Rest, of_schema};
 use crate::validator::Validator;
-pub use array_shape::{AbsorbedKeywords, ArrayShapeValidator, array_shape_fusion};
+pub use absorbed::AbsorbedKeywords;
+pub use array_shape::ArrayShapeValidator;
+pub use fusion::array_shape_fusion;
 use item_type::compile_inline;
 pub use item_type::{
     BooleanItems, IntegerItems, IntegerItemsDraft4, ItemType, ItemsTypeValidator, NumberItems,
@@ -49,8 +50,8 @@ pub type ItemsObjectValidator<F> = Rest<F>;
 /// The validator of `items` of one schema, for the items behind those of `prefixItems`.
 pub type ItemsObjectSkipPrefixValidator<F> = Rest<F>;
 
-// The unit of `items` of one schema from `start` on, with the nodes of those items below: whether
-// there are any.
+// The unit of `items` of one schema from `start` on, with the nodes of these items. The annotation
+// is whether there are any.
 pub(crate) fn items_unit<N: Node>(
     alloc: Global,
     start: usize,
@@ -69,10 +70,13 @@ pub(crate) fn items_unit<N: Node>(
     unit
 }
 
-/// Compiles `items`. The value is an array of schemas, each of which stands at its index, or one
-/// schema, an object or `false`; in 2020-12 that is for the items behind the schemas of an array
-/// `prefixItems`. Every other value asserts nothing. A fault is that of one of the schemas, as
-/// [`compile`](crate::compiler::compile) tells; else only memory can fail.
+/// Compiles `items`. The value is an array of schemas, each for the item at its index, or one
+/// schema, an object or `false`; in 2020-12 this is for the items behind those of an array
+/// `prefixItems`. Every other value asserts nothing.
+///
+/// # Errors
+///
+/// The error of [`compile`](crate::compiler::compile) for one of the schemas.
 #[cycle(compile)]
 pub fn compile<'a, F: Json>(
     alloc: Global,
@@ -85,7 +89,8 @@ pub fn compile<'a, F: Json>(
 {
     if let Some(schemas) = schema.as_array() {
         let keyword = KeywordName::Items;
-        return Some(of_schemas(compile_each_at(alloc, ctx, keyword, schemas.as_slice())));
+        let compiled = compile_each_at(alloc, ctx, keyword, schemas.as_slice());
+        return Some(of_schemas(false, compiled));
     }
     if !is_items_schema(schema) {
         return None;
@@ -94,7 +99,8 @@ pub fn compile<'a, F: Json>(
         return Some(compile_inline(alloc, ctx, schema));
     }
     let start = items_start(ctx, parent);
-    Some(of_schema(start, compile_at(alloc, ctx, KeywordName::Items, schema)))
+    let compiled = compile_at(alloc, ctx, KeywordName::Items, schema);
+    Some(of_schema(start, false, compiled))
 }
 
 // Whether the value is one schema that asserts something: an object or `false`.
@@ -150,14 +156,14 @@ fn is_inlined_name(name: &str) -> bool
     matches!(name, "number" | "string" | "boolean" | "integer")
 }
 
-// Whether `parent` has an array under a name.
+// Whether `parent` has an array under the name.
 fn has_array(parent: &Map<String, Value>, name: &str) -> bool
     ensures { result ≡ member_passes is_list name.now (members_view parent.now.entries) }
 {
     matches!(member_of(parent, name), Some(Value::Array(_)))
 }
 
-// Where `items` of one schema begins: in 2020-12 behind the schemas of `prefixItems`.
+// The index at which `items` of one schema begins: in 2020-12 behind the schemas of `prefixItems`.
 fn items_start<F: Json>(ctx: &Context<'_, F>, parent: &Map<String, Value>) -> usize
     ensures { result ≡ items_start ctx.now.setting (members_view parent.now.entries) }
 {
@@ -165,33 +171,4 @@ fn items_start<F: Json>(ctx: &Context<'_, F>, parent: &Map<String, Value>) -> us
         return 0;
     }
     schema_count(parent, "prefixItems").unwrap_or(0)
-}
-
-// The validator of the schemas, where they were compiled.
-fn of_schemas<'a, F: Json>(
-    compiled: CompilationResult<'a, Vec<SchemaNode<F>>>,
-) -> CompilationResult<'a, Validator<F>>
-    ensures { (read : Result Schemas Refusal)
-        → Makes (λ nodes. schemas_of nodes.items) compiled.entry read
-        → Makes validator_keyword result (map_ok items_list read) }
-{
-    Ok(Validator::Each(Each {
-        nodes: compiled?,
-        is_prefix: false,
-    }))
-}
-
-// The validator of one schema, from the item `start` on, where it was compiled.
-fn of_schema<'a, F: Json>(
-    start: usize,
-    compiled: CompilationResult<'a, SchemaNode<F>>,
-) -> CompilationResult<'a, Validator<F>>
-    ensures { (read : Reading) → Makes (λ s. s) compiled.entry read
-        → Makes validator_keyword result (map_ok (λ sub. items_from start sub false) read) }
-{
-    Ok(Validator::Rest(Rest {
-        start,
-        node: compiled?,
-        is_additional: false,
-    }))
 }

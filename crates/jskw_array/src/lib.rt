@@ -1,11 +1,13 @@
 //! The keywords of JSON Schema that have subschemas, and whole schemas of the value and array
 //! keywords.
 //!
-//! [`compile`] makes a [`SchemaNode`] of a schema; its observers answer for the whole schema. Each
-//! module of a keyword has its validators with a `compile`, which makes a [`Validator`]. Sections
-//! of the standard are those of JSON Schema Core and Validation 2020-12, unless a draft is named.
+//! [`compile`] turns a schema into a [`SchemaNode`], which validates instances: `is_valid`,
+//! `validate`, `collect_errors`, `evaluate_instance`. These four have one condition: the instance
+//! is lawful, that is, it contains no float. [`jskw_value::Node::is_lawful`] returns whether it is.
 //!
-//! [`compile`]: compiler::compile
+//! The module of a keyword has its validators and a `compile`, which gives a [`Validator`].
+//! Sections of the standard are those of JSON Schema Core and Validation 2020-12, unless a draft is
+//! named.
 #![tactic(auto)]
 
 pub mod additional_items;
@@ -21,5 +23,6 @@ pub mod rest;
 mod unit;
 pub mod validator;
 
+pub use compiler::compile;
 pub use node::SchemaNode;
 pub use validator::Validator;

@@ -1,5 +1,5 @@
 //! The items that match one schema: `contains` (Core 10.3.1.3) with `minContains` and `maxContains`
-//! (Validation 6.4.4, 6.4.5). What is no array passes.
+//! (Validation 6.4.4, 6.4.5). Every instance that is not an array passes.
 ghost use Rattle.std.specs.Prelude.{◌≡◌, IfOk, IsTrue, count_by, length, sum_by};
 ghost use Rattle.jskw_value.specs.Tree.{is_lawful, items};
 ghost use Rattle.jskw_report.specs.Applications.{needed};
@@ -8,7 +8,8 @@ ghost use Rattle.jskw_report.specs.Fail.{failing_bound};
 ghost use Rattle.jskw_report.specs.Holds.{holds};
 ghost use Rattle.jskw_report.specs.Meaning.{one};
 ghost use Rattle.jskw_report.specs.Observe.{CountsUpTo};
-ghost use Rattle.jskw_array.specs.Limits.{enough, failing, fault_of, matching_result};
+ghost use Rattle.jskw_array.specs.Limits.{deciding_count, failing_locations, locations_of};
+ghost use Rattle.jskw_array.specs.Limits.{matching_result};
 ghost use Rattle.jskw_array.specs.Meaning.{bounds_of, matching_keyword};
 
 use crate::node::SchemaNode;
@@ -20,20 +21,22 @@ use jskw_report::{
 use jskw_value::{Array, Json, Node};
 use std::alloc::{AllocError, Global};
 
-/// How many items are to match, and where `contains` fails with too few and with too many.
+/// How many items must match, and the keyword locations of a failure with too few and with too many
+/// matches.
 #[derive(Drop)]
 pub struct ItemBounds {
     pub(crate) lower: u64,
     pub(crate) upper: Option<u64>,
-    pub(crate) few: Location,
-    // None where it is the same location
-    pub(crate) many: Option<Location>,
+    pub(crate) too_few_at: Location,
+    // None if it is the same location
+    pub(crate) too_many_at: Option<Location>,
 }
 
 impl ItemBounds {
-    // How many matches settle the answer: one more than the upper bound, else the lower one.
-    fn enough(&self) -> u64
-        ensures { result ≡ enough (bounds_of self.now) }
+    // The number of matches that decides the answer: one more than the upper bound, or else the
+    // lower bound.
+    fn deciding_count(&self) -> u64
+        ensures { result ≡ deciding_count (bounds_of self.now) }
     {
         match self.upper {
             Some(upper) => upper.saturating_add(1),
@@ -41,27 +44,27 @@ impl ItemBounds {
         }
     }
 
-    // Where `contains` fails if so many items match.
-    fn fault(&self, matches: u64) -> Option<&Location>
-        ensures { failing result ≡ failing_bound (bounds_of self.now) matches }
+    // The keyword location at which `contains` fails, None if it holds.
+    fn failing_location(&self, matches: u64) -> Option<&Location>
+        ensures { locations_of result ≡ failing_bound (bounds_of self.now) matches }
     {
         if let Some(upper) = self.upper
             && matches > upper
         {
-            return match &self.many {
-                Some(many) => Some(many),
-                None => Some(&self.few),
+            return match &self.too_many_at {
+                Some(location) => Some(location),
+                None => Some(&self.too_few_at),
             };
         }
         if matches >= self.lower {
             None
         } else {
-            Some(&self.few)
+            Some(&self.too_few_at)
         }
     }
 }
 
-/// The validator of `contains`: of a schema, and of how many items are to match it.
+/// The validator of `contains`: a schema, and how many items must match it.
 #[cycle(schema)]
 #[derive(Drop)]
 pub struct Matching<F: Json> {
@@ -70,34 +73,36 @@ pub struct Matching<F: Json> {
 }
 
 impl<F: Json> Matching<F> {
-    // Where `contains` fails, None where it holds. No item is asked once the answer is settled.
+    // The keyword location at which `contains` fails, None if it holds. The schema is applied to no
+    // more items than the answer needs.
     #[inline(never)]
     #[cycle(is_valid)]
-    fn fault(&self, instance: &F::Node, ctx: &mut ValidationContext) -> Option<&Location>
+    fn failing_location(&self, instance: &F::Node, ctx: &mut ValidationContext) -> Option<&Location>
         requires { IsTrue (is_lawful (F.Node.tree instance.now)) }
-        ensures answer { let t = F.Node.tree instance.now in failing result
-            ≡ fault_of (bounds_of self.now.bounds) (count_by (holds self.now.node) (items t)) t }
+        ensures answer { let t = F.Node.tree instance.now in locations_of result
+            ≡ failing_locations (bounds_of self.now.bounds)
+            (count_by (holds self.now.node) (items t)) t }
         ensures counted { CountsUpTo ctx.old ctx.new
             (sum_by (needed self.now.node) (items (F.Node.tree instance.now))) }
     {
         if !instance.is_array() {
             return None;
         }
-        let enough = self.bounds.enough();
+        let deciding_count = self.bounds.deciding_count();
         let mut matches = 0;
         for index in 0..instance.item_count() {
-            if matches == enough {
-                return self.bounds.fault(matches);
+            if matches == deciding_count {
+                return self.bounds.failing_location(matches);
             }
             if self.node.is_valid(instance.item(index), ctx) {
                 matches += 1;
             }
         }
-        self.bounds.fault(matches)
+        self.bounds.failing_location(matches)
     }
 
-    // The unit of an instance of which these items match, with their nodes; what is no array has
-    // none.
+    // The unit of an instance of which the items at the indices `matches` match. `children` are the
+    // nodes of these items.
     fn unit<'i>(
         &'i self,
         alloc: Global,
@@ -107,11 +112,12 @@ impl<F: Json> Matching<F> {
         location: &LazyLocation,
     ) -> Result<EvaluationResult, AllocError>
         ensures { IfOk result (λ r. result_of r ≡ matching_result
-            (fault_of (bounds_of self.now.bounds) (length matches.items) (F.Node.tree instance.now))
+            (failing_locations (bounds_of self.now.bounds) (length matches.items)
+            (F.Node.tree instance.now))
             matches.items children.items) }
     {
         if instance.is_array()
-            && let Some(schema_path) = self.bounds.fault(matches.len() as u64)
+            && let Some(schema_path) = self.bounds.failing_location(matches.len() as u64)
         {
             let kind = ValidationErrorKind::Contains;
             let error: ValidationError<F> = ValidationError::new(
@@ -136,7 +142,7 @@ impl<F: Json> Validate<F> for Matching<F> {
 
     #[cycle(is_valid)]
     fn is_valid(&self, instance: &F::Node, ctx: &mut ValidationContext) -> bool {
-        self.fault(instance, ctx).is_none()
+        self.failing_location(instance, ctx).is_none()
     }
 
     fn validate<'i>(
@@ -145,7 +151,7 @@ impl<F: Json> Validate<F> for Matching<F> {
         location: &mut LazyLocation,
         ctx: &mut ValidationContext,
     ) -> Result<(), Fault<'i, F>> {
-        let Some(schema_path) = self.fault(instance, ctx) else {
+        let Some(schema_path) = self.failing_location(instance, ctx) else {
             return Ok(());
         };
         let kind = ValidationErrorKind::Contains;

@@ -7,22 +7,21 @@ ghost use Rattle.jskw_report.specs.Applications.{needed, pairs};
 ghost use Rattle.jskw_report.specs.Evaluation.{tree};
 ghost use Rattle.jskw_report.specs.Fail.{fail};
 ghost use Rattle.jskw_report.specs.Holds.{holds};
-ghost use Rattle.jskw_report.specs.Keyword.{all_hand_on, append_keywords, each_hands_on};
-ghost use Rattle.jskw_report.specs.Keyword.{false_schema, is_fused_schema, keywords_in};
-ghost use Rattle.jskw_report.specs.Keyword.{hands_on_required, schema_location, schema_object};
+ghost use Rattle.jskw_report.specs.Keyword.{each_hands_on, false_schema, hands_on_required};
+ghost use Rattle.jskw_report.specs.Keyword.{is_fused_schema, keywords_in, schema_location};
+ghost use Rattle.jskw_report.specs.Keyword.{schema_object};
 ghost use Rattle.jskw_report.specs.Observe.{Appends, CountsUpTo, IsFirst};
 ghost use Rattle.jskw_report.specs.Paths.{path_of};
 ghost use Rattle.jskw_array.specs.Fused.{Begins, shape_keywords};
-ghost use Rattle.jskw_array.specs.Meaning.{schemas_of, validator_keyword};
-ghost use Rattle.jskw_array.specs.Node.{OfOnly, boolean_schema, fused_keywords, marked};
+ghost use Rattle.jskw_array.specs.Meaning.{schemas_of};
+ghost use Rattle.jskw_array.specs.Node.{HasUnits, boolean_schema, marked};
 ghost use Rattle.jskw_array.specs.Units.{keywords_of};
 
 use crate::items::ArrayShapeValidator;
-use crate::items::array_shape::evaluate_shape;
 use crate::unit::{
     Unit, collect_units, evaluate_units, some_unit_hands_on, units_are_valid, validate_units,
 };
-use crate::validator::Validator;
+pub use crate::validator::Validator;
 use jskw_report::validator::{append_first, evaluate_first, fail_unless};
 use jskw_report::{
     EvaluationNode, EvaluationResult, Fault, LazyLocation, Location, Validate, ValidationContext,
@@ -32,16 +31,17 @@ use jskw_value::Json;
 use std::alloc::{AllocError, Global};
 use std::marker::Model;
 
-/// A compiled schema over the representation `F`. It has the observers of `Validate`, which here
-/// answer for the whole schema. Contracts see it as the schema that it was compiled from, read
-/// keyword by keyword.
+/// A compiled schema over the representation `F`. It has the observers of `Validate`, here for the
+/// whole schema. Each of them has one condition: the instance is lawful, that is, it contains no
+/// float; `Node::is_lawful` returns whether it is. Contracts see a node as the schema that it was
+/// compiled from, keyword by keyword.
 #[cycle(schema)]
 #[derive(Drop)]
 pub struct SchemaNode<F: Json> {
     location: Location,
     // the `required` of this schema is handed on
     hands_on: bool,
-    // that of this schema or of a subschema is
+    // the `required` of this schema or of a subschema is handed on
     hands_on_any: bool,
     assertions: Assertions<F>,
 }
@@ -52,12 +52,8 @@ pub struct SchemaNode<F: Json> {
 enum Assertions<F: Json> {
     // The schema `false`.
     Never,
-    // The keywords of an object, none for `true`.
-    Keywords {
-        // `type`, `minItems`, `maxItems` and `items`, where they are checked together
-        shape: Option<Box<ArrayShapeValidator<F>>>,
-        units: Vec<Unit<F>>,
-    },
+    // The keywords of an object, none for `true`. A fused shape is the first unit.
+    Keywords(Vec<Unit<F>>),
 }
 
 impl<F: Json> Model for SchemaNode<F> {
@@ -95,10 +91,7 @@ impl<F: Json> SchemaNode<F> {
         ensures { result ≡ boolean_schema location accepts }
     {
         let assertions = if accepts {
-            Assertions::Keywords {
-                shape: None,
-                units: Vec::new(alloc),
-            }
+            Assertions::Keywords(Vec::new(alloc))
         } else {
             Assertions::Never
         };
@@ -110,25 +103,21 @@ impl<F: Json> SchemaNode<F> {
         }
     }
 
-    // An object with these keywords, whose own `required` is handed on or is not: those of a fused
-    // shape, if it has one, and others behind them.
+    // The schema of these keywords. `hands_on` is whether its own `required` is handed on.
     pub(crate) fn of_keywords(
         location: Location,
         hands_on: bool,
-        shape: Option<Box<ArrayShapeValidator<F>>>,
         units: Vec<Unit<F>>,
     ) -> SchemaNode<F>
-        ensures { result ≡ schema_object location (marked hands_on shape)
-            (append_keywords (fused_keywords shape) (keywords_of units.items)) }
+        ensures { result ≡ schema_object location (marked hands_on units.items)
+            (keywords_of units.items) }
     {
-        let hands_on_any = hands_on
-            || shape_hands_on(&shape)
-            || some_unit_hands_on(units.as_slice());
+        let hands_on_any = hands_on || some_unit_hands_on(units.as_slice());
         SchemaNode {
             location,
             hands_on,
             hands_on_any,
-            assertions: Assertions::Keywords { shape, units },
+            assertions: Assertions::Keywords(units),
         }
     }
 
@@ -139,47 +128,49 @@ impl<F: Json> SchemaNode<F> {
         &self.location
     }
 
-    /// Whether the `required` of the schema or of a subschema is handed on: it asserts nothing
-    /// here, and is left to the keywords of objects.
+    /// Returns whether the `required` of the schema or of a subschema is handed on: then it asserts
+    /// nothing here, and is left to the keywords of objects.
     pub fn hands_on_required(&self) -> bool
         ensures { result ≡ hands_on_required self.now }
     {
         self.hands_on_any
     }
 
-    /// The validator of `type`, `minItems`, `maxItems` and `items`, Some exactly where they are
-    /// checked together, as [`array_shape_fusion`](crate::items::array_shape_fusion) tells of the
-    /// schema.
+    /// Returns the validator of `type`, `minItems`, `maxItems` and `items`, if they are checked
+    /// together: exactly if [`array_shape_fusion`](crate::items::array_shape_fusion) returns true
+    /// for the schema.
     pub fn array_shape(&self) -> Option<&ArrayShapeValidator<F>>
         ensures fused { is_some result ≡ is_fused_schema self.now }
         ensures keywords { IfSome result (λ v. Begins (shape_keywords v.now)
             (keywords_in self.now)) }
     {
-        match &self.assertions {
-            Assertions::Keywords {
-                shape: Some(shape),
-                ..
-            } => Some(shape),
-            _ => None,
+        match self.units()? {
+            [first, ..] => first.shape(),
+            [] => None,
         }
     }
 
-    // The validator of a schema's only keyword, None where there are others. Who asks it has
-    // applied this node, and counts that.
-    fn single_validator(&self) -> Option<&Validator<F>>
-        ensures { IfSome result (λ v. OfOnly (validator_keyword v.now) self.now) }
+    // The units of the schema, None for `false`.
+    fn units(&self) -> Option<&[Unit<F>]>
+        ensures { HasUnits self.now result }
     {
-        let Assertions::Keywords { shape, units } = &self.assertions else {
-            return None;
-        };
-        match (shape, units.as_slice()) {
-            (None, [unit]) => Some(&unit.validator),
-            _ => None,
+        match &self.assertions {
+            Assertions::Never => None,
+            Assertions::Keywords(units) => Some(units.as_slice()),
         }
     }
 
-    /// Whether the schema holds of the instance. It takes no memory, and looks no further than the
-    /// first failure.
+    // Counts one application of the schema, and returns its units, None for `false`.
+    fn apply(&self, ctx: &mut ValidationContext) -> Option<&[Unit<F>]>
+        ensures units { HasUnits self.now result }
+        ensures applied { min (ctx.old + 1) u64.MAX ≤ ctx.new }
+        ensures counted { CountsUpTo ctx.old ctx.new 1 }
+    {
+        ctx.count_one();
+        self.units()
+    }
+
+    /// Returns whether the instance is valid. Allocates no memory, and stops at the first failure.
     #[cycle(is_valid)]
     pub fn is_valid(&self, instance: &F::Node, ctx: &mut ValidationContext) -> bool
         requires { IsTrue (is_lawful (F.Node.tree instance.now)) }
@@ -187,24 +178,18 @@ impl<F: Json> SchemaNode<F> {
         ensures applied { min (ctx.old + 1) u64.MAX ≤ ctx.new }
         ensures counted { CountsUpTo ctx.old ctx.new (needed self.now (F.Node.tree instance.now)) }
     {
-        ctx.count_one();
-        if let Some(validator) = self.single_validator() {
-            return validator.is_valid(instance, ctx);
-        }
-        let Assertions::Keywords { shape, units } = &self.assertions else {
+        let Some(units) = self.apply(ctx) else {
             return false;
         };
-        let units = units.as_slice();
-        match shape {
-            None => units_are_valid(units, instance, ctx),
-            Some(shape) => {
-                shape.is_valid(instance, ctx) && units_are_valid(units, instance, ctx)
-            }
+        match units {
+            [unit] => unit.is_valid(instance, ctx),
+            _ => units_are_valid(units, instance, ctx),
         }
     }
 
-    /// Ok where the schema holds, and else the first error; want of memory says nothing of the
-    /// instance. `location` is the instance's, and at every return it is as at the call.
+    /// Returns Ok if the instance is valid, and otherwise its first error. [`Fault::Memory`] says
+    /// nothing about the instance. `location` is the instance location, and unchanged at every
+    /// return.
     #[cycle(validate)]
     pub fn validate<'i>(
         &'i self,
@@ -219,21 +204,13 @@ impl<F: Json> SchemaNode<F> {
         ensures applied { min (ctx.old + 1) u64.MAX ≤ ctx.new }
         ensures counted { CountsUpTo ctx.old ctx.new (needed self.now (F.Node.tree instance.now)) }
     {
-        ctx.count_one();
-        let Assertions::Keywords { shape, units } = &self.assertions else {
-            return refuse(&self.location, instance, location);
+        let Some(units) = self.apply(ctx) else {
+            return refuse(self.location(), instance, location);
         };
-        let units = units.as_slice();
-        match shape {
-            None => validate_units(units, instance, location, ctx),
-            Some(shape) => {
-                shape.validate(instance, location, ctx)?;
-                validate_units(units, instance, location, ctx)
-            }
-        }
+        validate_units(units, instance, location, ctx)
     }
 
-    // What `validate` answers of the item at an index of the instance at `location`.
+    // `validate` of the item at `index` of the instance at `location`.
     #[cycle(validate)]
     pub(crate) fn validate_item<'i>(
         &'i self,
@@ -254,8 +231,9 @@ impl<F: Json> SchemaNode<F> {
         answer
     }
 
-    /// Appends every error, in order. After want of memory the list is as it was, followed by a
-    /// beginning of them. `location` is the instance's, and at every return it is as at the call.
+    /// Appends every error, in order. If memory runs out, the list keeps its old entries, followed
+    /// by a beginning of the errors. `location` is the instance location, and unchanged at every
+    /// return.
     #[cycle(collect_errors)]
     pub fn collect_errors<'i>(
         &'i self,
@@ -271,21 +249,13 @@ impl<F: Json> SchemaNode<F> {
         ensures applied { min (ctx.old + 1) u64.MAX ≤ ctx.new }
         ensures counted { CountsUpTo ctx.old ctx.new (pairs self.now (F.Node.tree instance.now)) }
     {
-        ctx.count_one();
-        let Assertions::Keywords { shape, units } = &self.assertions else {
-            return append_first(refuse(&self.location, instance, location), errors);
+        let Some(units) = self.apply(ctx) else {
+            return append_first(refuse(self.location(), instance, location), errors);
         };
-        let units = units.as_slice();
-        match shape {
-            None => collect_units(units, instance, location, ctx, errors),
-            Some(shape) => {
-                shape.collect_errors(instance, location, ctx, errors)?;
-                collect_units(units, instance, location, ctx, errors)
-            }
-        }
+        collect_units(units, instance, location, ctx, errors)
     }
 
-    // Appends the errors of the item at an index of the instance at `location`.
+    // `collect_errors` of the item at `index` of the instance at `location`.
     #[cycle(collect_errors)]
     pub(crate) fn collect_item<'i>(
         &'i self,
@@ -308,8 +278,7 @@ impl<F: Json> SchemaNode<F> {
         answer
     }
 
-    /// The evaluation tree of a whole instance (Core 12.3). Only memory can fail, and then there is
-    /// no tree.
+    /// Returns the evaluation tree of a whole instance (Core 12.3). Fails only if memory runs out.
     pub fn evaluate_instance(
         &self,
         alloc: Global,
@@ -325,8 +294,8 @@ impl<F: Json> SchemaNode<F> {
         self.evaluate_instance_below(alloc, instance, &mut location, ctx)
     }
 
-    /// The evaluation tree of an instance that stands at `location`, which at every return is as at
-    /// the call. Only memory can fail, and then there is no tree.
+    /// Returns the evaluation tree of the instance at `location`, which is unchanged at every
+    /// return. Fails only if memory runs out.
     #[cycle(evaluate)]
     pub fn evaluate_instance_below(
         &self,
@@ -342,26 +311,17 @@ impl<F: Json> SchemaNode<F> {
         ensures applied { min (ctx.old + 1) u64.MAX ≤ ctx.new }
         ensures counted { CountsUpTo ctx.old ctx.new (pairs self.now (F.Node.tree instance.now)) }
     {
-        ctx.count_one();
+        let Some(units) = self.apply(ctx) else {
+            return evaluate_refusal::<F>(alloc, self.location(), instance, location);
+        };
         let path = location.render()?;
-        match &self.assertions {
-            Assertions::Never => {
-                let refusal = refuse::<F>(&self.location, instance, location);
-                let result = evaluate_first(alloc, refusal)?;
-                EvaluationNode::new(alloc, result, &self.location, &path)
-            }
-            Assertions::Keywords { shape, units } => {
-                let units = units.as_slice();
-                let mut children = Vec::new(alloc);
-                evaluate_shape(alloc, shape, instance, location, &path, ctx, &mut children)?;
-                evaluate_units(alloc, units, instance, location, &path, ctx, &mut children)?;
-                let result = EvaluationResult::from_children(alloc, children);
-                EvaluationNode::new(alloc, result, &self.location, &path)
-            }
-        }
+        let mut children = Vec::new(alloc);
+        evaluate_units(alloc, units, instance, location, &path, ctx, &mut children)?;
+        let result = EvaluationResult::from_children(alloc, children);
+        EvaluationNode::new(alloc, result, self.location(), &path)
     }
 
-    // The evaluation tree of the item at an index of the instance at `location`.
+    // The evaluation tree of the item at `index` of the instance at `location`.
     #[cycle(evaluate)]
     pub(crate) fn evaluate_item(
         &self,
@@ -397,6 +357,21 @@ fn refuse<'i, F: Json>(
     fail_unless(false, kind, schema_path, instance, location)
 }
 
+// The evaluation tree of `false`.
+fn evaluate_refusal<F: Json>(
+    alloc: Global,
+    schema_path: &Location,
+    instance: &F::Node,
+    location: &LazyLocation,
+) -> Result<EvaluationNode, AllocError>
+    ensures { IfOk result (λ node. node ≡ tree (false_schema schema_path.now)
+        (F.Node.tree instance.now) (path_of location.now)) }
+{
+    let path = location.render()?;
+    let result = evaluate_first(alloc, refuse::<F>(schema_path, instance, location))?;
+    EvaluationNode::new(alloc, result, schema_path, &path)
+}
+
 // Whether the `required` of some schema, or of a subschema of it, is handed on.
 #[tactic(auto, using(crate::proofs::Units::each_hands_on_at, crate::proofs::Units::each_hands_on_end))]
 pub(crate) fn some_hands_on<F: Json>(nodes: &[SchemaNode<F>]) -> bool
@@ -408,14 +383,4 @@ pub(crate) fn some_hands_on<F: Json>(nodes: &[SchemaNode<F>]) -> bool
         }
     }
     false
-}
-
-// Whether that of a subschema of the fused shape is, where there is one.
-fn shape_hands_on<F: Json>(shape: &Option<Box<ArrayShapeValidator<F>>>) -> bool
-    ensures { result ≡ all_hand_on (fused_keywords shape.now) }
-{
-    match shape {
-        Some(shape) => shape.items.validator.hands_on_required(),
-        None => false,
-    }
 }

@@ -1,6 +1,5 @@
-//! `prefixItems` (Core 10.3.1.1): each item, as far as there are schemas, is valid against the
-//! schema of its index.
-ghost use Rattle.std.specs.Prelude.{◌≡◌, Result, length, option_map};
+//! `prefixItems` (Core 10.3.1.1): a list of schemas, each for the item at its index.
+ghost use Rattle.std.specs.Prelude.{◌≡◌, length, option_map};
 ghost use Rattle.serde_json.specs.View.{view, members_view};
 ghost use Rattle.jskw_value.specs.Tree.{items};
 ghost use Rattle.jskw_value.specs.declared.types.JsonType.TheVariants.{Array};
@@ -8,15 +7,13 @@ ghost use Rattle.jskw_report.specs.Compile.{Compiles, Makes, reading};
 ghost use Rattle.jskw_report.specs.Evaluation.{of_children, prefix_annotation};
 ghost use Rattle.jskw_report.specs.EvaluationParts.{annotation_of};
 ghost use Rattle.jskw_report.specs.EvaluationView.{result_of};
-ghost use Rattle.jskw_report.specs.Keyword.{Schemas, prefix_items as prefix_keyword};
-ghost use Rattle.jskw_report.specs.KeywordValue.{Refusal, map_ok, of_type, wrong};
+ghost use Rattle.jskw_report.specs.KeywordValue.{of_type, wrong};
 ghost use Rattle.jskw_report.specs.Read.{keyword_location};
 ghost use Rattle.jskw_report.specs.declared.keyword.KeywordName.TheVariants as word;
-ghost use Rattle.jskw_array.specs.Meaning.{schemas_of, validator_keyword};
+ghost use Rattle.jskw_array.specs.Meaning.{validator_keyword};
 
 use crate::compiler::compile_each_at;
-use crate::each::Each;
-use crate::node::SchemaNode;
+use crate::each::{Each, of_schemas};
 use crate::validator::Validator;
 use jskw_report::{
     Annotations, CompilationResult, CompileFault, Context, EvaluationNode, EvaluationResult,
@@ -29,7 +26,7 @@ use std::alloc::Global;
 /// The validator of `prefixItems`.
 pub type PrefixItemsValidator<F> = Each<F>;
 
-// The unit of so many schemas over the items of the instance, which has these nodes below.
+// The unit of `prefixItems` of `schemas` schemas, with the nodes of the items.
 pub(crate) fn prefix_unit<N: Node>(
     alloc: Global,
     schemas: usize,
@@ -46,7 +43,7 @@ pub(crate) fn prefix_unit<N: Node>(
     unit
 }
 
-// True where every item has a schema, else the largest index that has one; nothing where none has.
+// True if every item has a schema, otherwise the largest index that has one, None if none has.
 fn annotation(schemas: usize, items: usize) -> Option<Annotations>
     ensures { option_map annotation_of result ≡ prefix_annotation schemas items }
 {
@@ -59,9 +56,12 @@ fn annotation(schemas: usize, items: usize) -> Option<Annotations>
     Some(Annotations::Index(schemas - 1))
 }
 
-/// Compiles `prefixItems`: the value is an array of schemas, each of which stands at its index. A
-/// value that is no array is an error of the type array at the keyword location. Else only memory
-/// can fail, or one of the schemas as [`compile`](crate::compiler::compile) tells.
+/// Compiles `prefixItems`: the value is an array of schemas, each for the item at its index.
+///
+/// # Errors
+///
+/// If the value is not an array, an error of the type `array` at the keyword location; otherwise
+/// the error of [`compile`](crate::compiler::compile) for one of the schemas.
 #[cycle(compile)]
 pub fn compile<'a, F: Json>(
     alloc: Global,
@@ -77,10 +77,13 @@ pub fn compile<'a, F: Json>(
         return Some(no_array(alloc, ctx, schema));
     };
     let keyword = KeywordName::PrefixItems;
-    Some(of_schemas(compile_each_at(alloc, ctx, keyword, schemas.as_slice())))
+    Some(of_schemas(
+        true,
+        compile_each_at(alloc, ctx, keyword, schemas.as_slice()),
+    ))
 }
 
-// The fault of a value that is no array.
+// The fault of a value that is not an array.
 fn no_array<'a, F: Json>(
     alloc: Global,
     ctx: &Context<'_, F>,
@@ -92,18 +95,4 @@ fn no_array<'a, F: Json>(
     let location = ctx.keyword_location(alloc, KeywordName::PrefixItems)?;
     let kind = ValidationErrorKind::of_type(JsonType::Array);
     Err(CompileFault::wrong(alloc, kind, &location, value))
-}
-
-// The validator of the schemas, where they were compiled.
-fn of_schemas<'a, F: Json>(
-    compiled: CompilationResult<'a, Vec<SchemaNode<F>>>,
-) -> CompilationResult<'a, Validator<F>>
-    ensures { (read : Result Schemas Refusal)
-        → Makes (λ nodes. schemas_of nodes.items) compiled.entry read
-        → Makes validator_keyword result (map_ok prefix_keyword read) }
-{
-    Ok(Validator::Each(Each {
-        nodes: compiled?,
-        is_prefix: true,
-    }))
 }

@@ -1,22 +1,27 @@
 //! One schema for the items from an index on: `items` (Core 10.3.1.2), and `additionalItems` (Draft 7
-//! Validation 6.4.2). What is no array has no items.
-ghost use Rattle.std.specs.Prelude.{◌≡◌, IfOk, IsTrue, drop, length, sum_by};
+//! Validation 6.4.2). An instance that is not an array has no items.
+ghost use Rattle.std.specs.Prelude.{◌≡◌, IfOk, IsTrue, length};
 ghost use Rattle.jskw_value.specs.Tree.{is_lawful, items};
-ghost use Rattle.jskw_report.specs.Applications.{keyword_needed, keyword_pairs, pairs};
+ghost use Rattle.jskw_report.specs.Applications.{keyword_needed, keyword_pairs};
+ghost use Rattle.jskw_report.specs.Compile.{Makes};
 ghost use Rattle.jskw_report.specs.Evaluation.{of_errors};
 ghost use Rattle.jskw_report.specs.EvaluationView.{result_of};
 ghost use Rattle.jskw_report.specs.Fail.{keyword_fail};
 ghost use Rattle.jskw_report.specs.Holds.{keyword_holds};
+ghost use Rattle.jskw_report.specs.KeywordValue.{map_ok};
 ghost use Rattle.jskw_report.specs.Meaning.{one};
 ghost use Rattle.jskw_report.specs.Observe.{CountsUpTo};
 ghost use Rattle.jskw_report.specs.Paths.{path_of};
-ghost use Rattle.jskw_array.specs.Meaning.{rest_keyword};
+ghost use Rattle.jskw_report.specs.Read.{Reading};
+ghost use Rattle.jskw_array.specs.Meaning.{rest_keyword, rest_of, validator_keyword};
 
 use crate::items::items_unit;
 use crate::node::SchemaNode;
+use crate::validator::Validator;
 use jskw_report::validator::evaluate_errors;
 use jskw_report::{
-    EvaluationResult, Fault, LazyLocation, Validate, ValidationContext, ValidationError,
+    CompilationResult, EvaluationResult, Fault, LazyLocation, Validate, ValidationContext,
+    ValidationError,
 };
 use jskw_value::{Array, Json, Node};
 use std::alloc::{AllocError, Global};
@@ -27,12 +32,13 @@ use std::alloc::{AllocError, Global};
 pub struct Rest<F: Json> {
     pub(crate) start: usize,
     pub(crate) node: SchemaNode<F>,
-    // of `additionalItems`, whose unit has the errors and no nodes below; else of `items`
+    // the keyword is `additionalItems`, whose unit has the errors and no nodes below; otherwise it
+    // is `items`
     pub(crate) is_additional: bool,
 }
 
 impl<F: Json> Rest<F> {
-    // What `is_valid` answers of an array of `count` items.
+    // `is_valid` of an array that is known to have `count` items.
     #[inline(never)]
     #[cycle(is_valid)]
     pub(crate) fn holds_of(
@@ -131,4 +137,20 @@ impl<F: Json> Validate<F> for Rest<F> {
         }
         Ok(items_unit(alloc, self.start, children, instance))
     }
+}
+
+// The validator of a schema that was compiled, for the items from `start` on.
+pub(crate) fn of_schema<'a, F: Json>(
+    start: usize,
+    is_additional: bool,
+    compiled: CompilationResult<'a, SchemaNode<F>>,
+) -> CompilationResult<'a, Validator<F>>
+    ensures { (read : Reading) → Makes (λ s. s) compiled.entry read
+        → Makes validator_keyword result (map_ok (rest_of is_additional start) read) }
+{
+    Ok(Validator::Rest(Rest {
+        start,
+        node: compiled?,
+        is_additional,
+    }))
 }

@@ -1,5 +1,6 @@
-//! The keywords of a schema, each with its keyword location, and the walks over them.
-ghost use Rattle.std.specs.Prelude.{◌≡◌, ◌++◌, IfOk, IsTrue};
+//! The units of a schema: its keywords in order, where the first four may be one unit, and the walks
+//! over them.
+ghost use Rattle.std.specs.Prelude.{◌≡◌, ◌++◌, IfOk, IfSome, IsTrue, is_some};
 ghost use Rattle.jskw_value.specs.Tree.{is_lawful};
 ghost use Rattle.jskw_report.specs.Applications.{all_needed, all_pairs};
 ghost use Rattle.jskw_report.specs.Evaluation.{units as units_of};
@@ -8,21 +9,143 @@ ghost use Rattle.jskw_report.specs.Holds.{all_hold};
 ghost use Rattle.jskw_report.specs.Keyword.{all_hand_on};
 ghost use Rattle.jskw_report.specs.Observe.{Appends, CountsUpTo, IsFirst};
 ghost use Rattle.jskw_report.specs.Paths.{path_of};
-ghost use Rattle.jskw_array.specs.Units.{keywords_of};
+ghost use Rattle.jskw_array.specs.Fused.{Extends};
+ghost use Rattle.jskw_array.specs.Units.{IsShape, absorbed_by, is_shape, keywords_of};
+ghost use Rattle.jskw_array.specs.Units.{unit_hands_on, unit_location, unit_meaning};
 
+use crate::items::ArrayShapeValidator;
 use crate::validator::Validator;
 use jskw_report::{
-    EvaluationNode, Fault, LazyLocation, Location, Validate, ValidationContext, ValidationError,
+    EvaluationNode, EvaluationResult, Fault, LazyLocation, Location, Validate, ValidationContext,
+    ValidationError,
 };
 use jskw_value::Json;
 use std::alloc::{AllocError, Global};
 
+// What a schema asks of an instance at one time: one keyword, or the four of the fused shape.
+#[cycle(schema)]
+#[derive(Drop)]
+pub(crate) enum Unit<F: Json> {
+    Keyword(PlacedValidator<F>),
+    Shape(Box<ArrayShapeValidator<F>>),
+}
+
 // A keyword's validator, with its keyword location.
 #[cycle(schema)]
 #[derive(Drop)]
-pub(crate) struct Unit<F: Json> {
+pub(crate) struct PlacedValidator<F: Json> {
     pub(crate) validator: Validator<F>,
     pub(crate) location: Location,
+}
+
+impl<F: Json> Validate<F> for Unit<F> {
+    ghost meaning = { unit_meaning };
+
+    #[cycle(is_valid)]
+    fn is_valid(&self, instance: &F::Node, ctx: &mut ValidationContext) -> bool {
+        match self {
+            Unit::Keyword(keyword) => keyword.validator.is_valid(instance, ctx),
+            Unit::Shape(shape) => shape.is_valid(instance, ctx),
+        }
+    }
+
+    #[cycle(validate)]
+    fn validate<'i>(
+        &'i self,
+        instance: &'i F::Node,
+        location: &mut LazyLocation,
+        ctx: &mut ValidationContext,
+    ) -> Result<(), Fault<'i, F>> {
+        match self {
+            Unit::Keyword(keyword) => keyword.validator.validate(instance, location, ctx),
+            Unit::Shape(shape) => shape.validate(instance, location, ctx),
+        }
+    }
+
+    #[cycle(collect_errors)]
+    fn collect_errors<'i>(
+        &'i self,
+        instance: &'i F::Node,
+        location: &mut LazyLocation,
+        ctx: &mut ValidationContext,
+        errors: &mut Vec<ValidationError<'i, F>>,
+    ) -> Result<(), AllocError> {
+        match self {
+            Unit::Keyword(keyword) => {
+                keyword
+                    .validator
+                    .collect_errors(instance, location, ctx, errors)
+            }
+            Unit::Shape(shape) => shape.collect_errors(instance, location, ctx, errors),
+        }
+    }
+
+    #[cycle(evaluate)]
+    fn evaluate(
+        &self,
+        alloc: Global,
+        instance: &F::Node,
+        location: &mut LazyLocation,
+        ctx: &mut ValidationContext,
+    ) -> Result<EvaluationResult, AllocError> {
+        match self {
+            Unit::Keyword(keyword) => keyword.validator.evaluate(alloc, instance, location, ctx),
+            Unit::Shape(shape) => shape.evaluate(alloc, instance, location, ctx),
+        }
+    }
+}
+
+impl<F: Json> Unit<F> {
+    // Returns the fused shape, if the unit is one.
+    pub(crate) fn shape(&self) -> Option<&ArrayShapeValidator<F>>
+        ensures fused { is_some result ≡ is_shape self.now }
+        ensures keywords { IfSome result (λ v. IsShape self.now v.now) }
+    {
+        match self {
+            Unit::Shape(shape) => Some(shape),
+            Unit::Keyword(_) => None,
+        }
+    }
+
+    // The keyword location of the node that `evaluate` gives.
+    fn location(&self) -> &Location
+        ensures { result.now ≡ unit_location self.now }
+    {
+        match self {
+            Unit::Keyword(keyword) => &keyword.location,
+            Unit::Shape(shape) => &shape.items.location,
+        }
+    }
+
+    // Appends the nodes of `type`, `minItems` and `maxItems` of the fused shape, over the instance
+    // at `path`.
+    fn evaluate_absorbed(
+        &self,
+        alloc: Global,
+        instance: &F::Node,
+        path: &Location,
+        children: &mut Vec<EvaluationNode>,
+    ) -> Result<(), AllocError>
+        ensures { Extends children.old.items children.new.items (units_of (absorbed_by self.now)
+            (F.Node.tree instance.now) path.now) result }
+    {
+        match self {
+            Unit::Keyword(_) => Ok(()),
+            Unit::Shape(shape) => shape
+                .absorbed
+                .evaluate::<F>(alloc, instance, path, children),
+        }
+    }
+
+    // Whether the `required` of a subschema is handed on.
+    fn hands_on_required(&self) -> bool
+        ensures { result ≡ unit_hands_on self.now }
+    {
+        match self {
+            Unit::Keyword(keyword) => keyword.validator.hands_on_required(),
+            Unit::Shape(shape) => shape.items.validator.hands_on_required(),
+        }
+    }
 }
 
 // Whether every keyword holds of the instance.
@@ -39,7 +162,7 @@ pub(crate) fn units_are_valid<F: Json>(
         (all_needed (keywords_of units.now) (F.Node.tree instance.now)) }
 {
     for unit in units {
-        if !unit.validator.is_valid(instance, ctx) {
+        if !unit.is_valid(instance, ctx) {
             return false;
         }
     }
@@ -62,7 +185,7 @@ pub(crate) fn validate_units<'i, F: Json>(
         (all_needed (keywords_of units.now) (F.Node.tree instance.now)) }
 {
     for unit in units {
-        unit.validator.validate(instance, location, ctx)?;
+        unit.validate(instance, location, ctx)?;
     }
     Ok(())
 }
@@ -84,13 +207,12 @@ pub(crate) fn collect_units<'i, F: Json>(
         (all_pairs (keywords_of units.now) (F.Node.tree instance.now)) }
 {
     for unit in units {
-        unit.validator
-            .collect_errors(instance, location, ctx, errors)?;
+        unit.collect_errors(instance, location, ctx, errors)?;
     }
     Ok(())
 }
 
-// Appends the nodes of the keywords over the instance, which stands at `path`.
+// Appends the nodes of the keywords over the instance at `path`.
 #[cycle(evaluate)]
 pub(crate) fn evaluate_units<F: Json>(
     alloc: Global,
@@ -110,19 +232,20 @@ pub(crate) fn evaluate_units<F: Json>(
         (all_pairs (keywords_of units.now) (F.Node.tree instance.now)) }
 {
     for unit in units {
-        let result = unit.validator.evaluate(alloc, instance, location, ctx)?;
-        children.push(EvaluationNode::new(alloc, result, &unit.location, path)?)?;
+        unit.evaluate_absorbed(alloc, instance, path, children)?;
+        let result = unit.evaluate(alloc, instance, location, ctx)?;
+        children.push(EvaluationNode::new(alloc, result, unit.location(), path)?)?;
     }
     Ok(())
 }
 
 // Whether the `required` of a subschema of some keyword is handed on.
-#[tactic(auto, using(crate::proofs::Units::hand_on_at, crate::proofs::Units::hand_on_end))]
+#[tactic(auto, using(crate::proofs::Units::hand_on_end))]
 pub(crate) fn some_unit_hands_on<F: Json>(units: &[Unit<F>]) -> bool
     ensures { result ≡ all_hand_on (keywords_of units.now) }
 {
     for unit in units {
-        if unit.validator.hands_on_required() {
+        if unit.hands_on_required() {
             return true;
         }
     }

@@ -1,4 +1,4 @@
-//! The validators of all keywords, as one type.
+//! The validators of all keywords as one type.
 ghost use Rattle.std.specs.Prelude.{◌≡◌, IsTrue, length};
 ghost use Rattle.jskw_value.specs.Tree.{is_lawful, items};
 ghost use Rattle.jskw_report.specs.Applications.{keyword_needed};
@@ -23,26 +23,36 @@ use jskw_report::{
 use jskw_value::Json;
 use std::alloc::{AllocError, Global};
 
-/// A validator of one keyword, over the representation `F`.
+/// The validator of one keyword, over the representation `F`.
 #[cycle(schema)]
 #[derive(Drop)]
 pub enum Validator<F: Json> {
+    /// A keyword without subschemas.
     Leaf(LeafValidator<F>),
+    /// `prefixItems`, or `items` of an array of schemas.
     Each(Each<F>),
+    /// `items` of one schema, or `additionalItems` of one.
     Rest(Rest<F>),
+    /// `contains`, with `minContains` and `maxContains`.
     Matching(Matching<F>),
+    /// `items` of `{"type": "number"}`.
     ItemsNumber(ItemsTypeValidator<NumberItems, F>),
+    /// `items` of `{"type": "string"}`.
     ItemsString(ItemsTypeValidator<StringItems, F>),
+    /// `items` of `{"type": "boolean"}`.
     ItemsBoolean(ItemsTypeValidator<BooleanItems, F>),
+    /// `items` of `{"type": "integer"}`, from Draft 6 on.
     ItemsInteger(ItemsTypeValidator<IntegerItems, F>),
+    /// `items` of `{"type": "integer"}` in Draft 4.
     ItemsIntegerDraft4(ItemsTypeValidator<IntegerItemsDraft4, F>),
+    /// `additionalItems` of `false`.
     AdditionalItemsBoolean(AdditionalItemsBooleanValidator),
 }
 
-// What is said of the validator, whichever it is.
-macro_rules! whichever {
+// Matches on the validator, with the same expression for each variant.
+macro_rules! dispatch {
     ($any:expr, $validator:ident => $answer:expr) => {
-        whichever!(@arms $any, $validator => $answer;
+        dispatch!(@arms $any, $validator => $answer;
             Leaf Each Rest Matching ItemsNumber ItemsString ItemsBoolean ItemsInteger
             ItemsIntegerDraft4 AdditionalItemsBoolean
         )
@@ -59,7 +69,7 @@ impl<F: Json> Validate<F> for Validator<F> {
 
     #[cycle(is_valid)]
     fn is_valid(&self, instance: &F::Node, ctx: &mut ValidationContext) -> bool {
-        whichever!(self, v => Validate::<F>::is_valid(v, instance, ctx))
+        dispatch!(self, v => Validate::<F>::is_valid(v, instance, ctx))
     }
 
     #[cycle(validate)]
@@ -69,7 +79,7 @@ impl<F: Json> Validate<F> for Validator<F> {
         location: &mut LazyLocation,
         ctx: &mut ValidationContext,
     ) -> Result<(), Fault<'i, F>> {
-        whichever!(self, v => v.validate(instance, location, ctx))
+        dispatch!(self, v => v.validate(instance, location, ctx))
     }
 
     #[cycle(collect_errors)]
@@ -80,7 +90,7 @@ impl<F: Json> Validate<F> for Validator<F> {
         ctx: &mut ValidationContext,
         errors: &mut Vec<ValidationError<'i, F>>,
     ) -> Result<(), AllocError> {
-        whichever!(self, v => v.collect_errors(instance, location, ctx, errors))
+        dispatch!(self, v => v.collect_errors(instance, location, ctx, errors))
     }
 
     #[cycle(evaluate)]
@@ -91,12 +101,12 @@ impl<F: Json> Validate<F> for Validator<F> {
         location: &mut LazyLocation,
         ctx: &mut ValidationContext,
     ) -> Result<EvaluationResult, AllocError> {
-        whichever!(self, v => Validate::<F>::evaluate(v, alloc, instance, location, ctx))
+        dispatch!(self, v => Validate::<F>::evaluate(v, alloc, instance, location, ctx))
     }
 }
 
 impl<F: Json> Validator<F> {
-    // What `is_valid` answers of an array of so many items. `items` does not count them again.
+    // `is_valid` of an array that is known to have `count` items.
     #[cycle(is_valid)]
     pub(crate) fn holds_of(
         &self,

@@ -1,21 +1,20 @@
-use Rattle.std.proofs.Common.{rules, ◌≡◌, ◌∙◌, ◌++◌, drop, ap, sym, subst, refl, append-nil, arith}
+use Rattle.std.proofs.Common.{rules, ◌≡◌, ◌∙◌, ◌++◌, ap, sym, subst, refl, append-nil, arith}
 use Rattle.std.proofs.lemmas.Grind.{common_steps}
 use Rattle.jskw_value.specs.Pointer.{item_location}
 use Rattle.jskw_value.specs.Tree.{items}
 use Rattle.jskw_report.proofs.Appended.{fail_appended}
 use Rattle.jskw_report.proofs.Appending.{appends_before, appends_begun, appends_behind, collects_all, collects_more, collects_nothing, collects_part, collects_stopped}
-use Rattle.jskw_report.specs.Applications.{pairs}
+use Rattle.jskw_report.specs.Applications.{all_height, pairs}
 use Rattle.jskw_report.specs.Errors.{failures_of}
 use Rattle.jskw_report.specs.Fail.{all_fail, fail, keyword_fail}
+use Rattle.jskw_report.specs.Meaning.{meaning_fail}
 use Rattle.jskw_report.specs.Observe.{Appends, AppendsBeginning, Collects}
 use Rattle.jskw_report.specs.Paths.{path_of}
-use Rattle.jskw_report.specs.Keyword.{no_keywords}
 use Rattle.jskw_array.specs.Fused.{absorbed_keywords, shape_keywords}
 use Rattle.jskw_array.specs.Heights.{each_is_as_high, rest_is_as_high}
-use Rattle.jskw_array.specs.Meaning.{each_keyword, rest_keyword, schemas_of, validator_keyword}
-use Rattle.jskw_array.specs.Node.{fused_keywords}
-use Rattle.jskw_array.specs.Units.{keywords_of}
-use Rattle.jskw_array.proofs.Keywords.{fail_at, items_height, items_keywords, keywords_end, lower_shape, lower_units, pairs_at, schema_fails, schema_pairs, unit_height}
+use Rattle.jskw_array.specs.Meaning.{each_keyword, rest_keyword, validator_keyword}
+use Rattle.jskw_array.specs.Units.{keywords_of, unit_meaning}
+use Rattle.jskw_array.proofs.Keywords.{fail_at, items_height, items_keywords, keywords_end, pairs_at, schema_fails, schema_height, schema_pairs, unit_height, unit_tall}
 use Rattle.jskw_array.proofs.Meant.{absurd-of, each_fails_of, each_meets, each_no_assertion, rest_fails_of, rest_meets, rest_no_assertion}
 use Rattle.jskw_array.proofs.Meetings.{each_fails_at, each_fails_end, each_pairs_at, entered, fails_at, height_at, sum_at}
 use Rattle.jskw_array.proofs.+collect_errors.Goals as goal
@@ -186,14 +185,21 @@ unit::collect_units-returns-in_err-collect_errors-clause-appended g t c =
     let p = path_of c.args.location.now in
     let us = c.args.units.now in
     let u = c.unit-item.result in
-    let k = validator_keyword u.validator in
+    let m = unit_meaning u in
     let old = failures_of tree c.args.errors.now.items in
     let now = failures_of tree l.errors.items in
     let new = failures_of tree c.collect_errors.new.errors.items in
     let here = fail_at us l.unit-index u c.loop-unit-test.true c.unit-item.is instance p in
     let left = subst (λ fs. Collects old now fs (all_fail (keywords_of us) instance p)) here l.invariant.collects in
-    let begun = subst (λ q. AppendsBeginning now new (keyword_fail k instance (path_of q))) l.invariant.location c.in_err-collect_errors.ensures.appended in
+    let begun = subst (λ q. AppendsBeginning now new (meaning_fail m instance (path_of q))) l.invariant.location c.in_err-collect_errors.ensures.appended in
     appends_begun tree _ _ _ _ _ c.from_residual.ensures.1 (collects_part _ _ left begun)
+
+pub unit::collect_units-returns-in_err-collect_errors-clause-counted : goal.unit::collect_units-returns-in_err-collect_errors-clause-counted
+unit::collect_units-returns-in_err-collect_errors-clause-counted g t c =
+    let l = c.loop-unit in
+    let here = pairs_at c.args.units.now l.unit-index c.unit-item.result c.loop-unit-test.true c.unit-item.is (g.F.Node.Rooted.tree c.args.instance.now) in
+    let next = c.in_err-collect_errors.ensures.counted in
+    record { from = omega (arith, l.invariant.counted_from, next.from); to = omega (arith, here, l.invariant.counted_to, next.to) }
 
 pub unit::collect_units-loop-unit-preserved : goal.unit::collect_units-loop-unit-preserved
 unit::collect_units-loop-unit-preserved g t c =
@@ -203,13 +209,13 @@ unit::collect_units-loop-unit-preserved g t c =
     let p = path_of c.args.location.now in
     let us = c.args.units.now in
     let u = c.unit-item.result in
-    let k = validator_keyword u.validator in
+    let m = unit_meaning u in
     let old = failures_of tree c.args.errors.now.items in
     let now = failures_of tree l.errors.items in
     let new = failures_of tree c.collect_errors.new.errors.items in
     let here = fail_at us l.unit-index u c.loop-unit-test.true c.unit-item.is instance p in
     let left = subst (λ fs. Collects old now fs (all_fail (keywords_of us) instance p)) here l.invariant.collects in
-    let appended = subst (λ q. new ≡ now ++ keyword_fail k instance (path_of q)) l.invariant.location c.in_ok-collect_errors.ensures.appended in
+    let appended = subst (λ q. new ≡ now ++ meaning_fail m instance (path_of q)) l.invariant.location c.in_ok-collect_errors.ensures.appended in
     let cost = pairs_at us l.unit-index u c.loop-unit-test.true c.unit-item.is instance in
     let next = c.in_ok-collect_errors.ensures.counted in
     record {
@@ -223,6 +229,12 @@ pub unit::collect_units-returns-clause-appended : goal.unit::collect_units-retur
 unit::collect_units-returns-clause-appended g t c =
     let l = c.loop-unit in
     collects_all l.invariant.collects (ap (λ ks. all_fail ks (g.F.Node.Rooted.tree c.args.instance.now) (path_of c.args.location.now)) (keywords_end c.args.units.now l.unit-index c.loop-unit-test.false))
+
+pub unit::UnitValidate::collect_errors-collect_errors-requires-in-Shape : goal.unit::UnitValidate::collect_errors-collect_errors-requires-in-Shape
+unit::UnitValidate::collect_errors-collect_errors-requires-in-Shape g t c κs within =
+    let v = c.deref.result.now in
+    let tall : unit_tall c.args.self.now ≡ all_height (shape_keywords v) = ap unit_tall c.in-Shape.is ∙ ap (λ w. all_height (shape_keywords w)) (sym c.deref.ensures) in
+    (omega (arith, tall, items_height v, c.decreases), search rules)
 
 -- ---- the fused shape
 
@@ -253,91 +265,20 @@ items::array_shape::ArrayShapeValidatorValidate::collect_errors-returns-clause-a
 
 -- ---- a node
 
-pub node::SchemaNode::collect_errors-collect_errors-requires : goal.node::SchemaNode::collect_errors-collect_errors-requires
-node::SchemaNode::collect_errors-collect_errors-requires g t c κs within =
-    let n = c.self.inside in
-    let us = c.as_slice-units.result.now in
-    let v = c.deref.result.now in
-    let below = lower_shape c.args.self.now n.location n.hands_on n.assertions c.in-Keywords.shape c.in-Keywords.units us (shape_keywords v) (sym c.self.view_is) c.in-Keywords.is c.as_slice-units.ensures.value (ap fused_keywords c.in-Some.is ∙ ap shape_keywords (sym c.deref.ensures)) in
-    (omega (arith, below, items_height v, c.decreases), search rules)
-
-pub node::SchemaNode::collect_errors-collect_units-requires-in-Some : goal.node::SchemaNode::collect_errors-collect_units-requires-in-Some
-node::SchemaNode::collect_errors-collect_units-requires-in-Some g t c κs within =
-    let n = c.self.inside in
-    let us = c.as_slice-units.result.now in
-    let below = lower_units c.args.self.now n.location n.hands_on n.assertions c.in-Keywords.shape c.in-Keywords.units us _ (sym c.self.view_is) c.in-Keywords.is c.as_slice-units.ensures.value refl in
+pub node::SchemaNode::collect_errors-collect_units-requires : goal.node::SchemaNode::collect_errors-collect_units-requires
+node::SchemaNode::collect_errors-collect_units-requires g t c κs within =
+    let below = schema_height c.args.self.now c.in-Some.units c.in-Some.ensures.units in
     (omega (arith, below, c.decreases), search rules)
 
-pub node::SchemaNode::collect_errors-returns-in_err-collect_errors-in-Some-clause-appended : goal.node::SchemaNode::collect_errors-returns-in_err-collect_errors-in-Some-clause-appended
-node::SchemaNode::collect_errors-returns-in_err-collect_errors-in-Some-clause-appended g t c =
+pub node::SchemaNode::collect_errors-returns-clause-appended : goal.node::SchemaNode::collect_errors-returns-clause-appended
+node::SchemaNode::collect_errors-returns-clause-appended g t c =
     let tree = g.F.Node.Rooted.tree in
-    let instance = tree c.args.instance.now in
-    let p = path_of c.args.location.now in
-    let n = c.self.inside in
-    let us = c.as_slice-units.result.now in
-    let v = c.deref.result.now in
-    let whole = schema_fails c.args.self.now n.location n.hands_on n.assertions c.in-Keywords.shape c.in-Keywords.units us (shape_keywords v) (sym c.self.view_is) c.in-Keywords.is c.as_slice-units.ensures.value (ap fused_keywords c.in-Some.is ∙ ap shape_keywords (sym c.deref.ensures)) instance p in
-    let old = c.args.errors.now.items in
-    let new = c.collect_errors.new.errors.items in
-    let begun = appends_before tree old new (all_fail (shape_keywords v) instance p) (all_fail (keywords_of us) instance p) c.from_residual.result _ c.from_residual.ensures.1 c.in_err-collect_errors-in-Some.ensures.appended in
-    subst (λ fs. Appends tree old new fs c.from_residual.result) (sym whole) begun
-
-pub node::SchemaNode::collect_errors-returns-in_err-collect_errors-in-Some-clause-counted : goal.node::SchemaNode::collect_errors-returns-in_err-collect_errors-in-Some-clause-counted
-node::SchemaNode::collect_errors-returns-in_err-collect_errors-in-Some-clause-counted g t c =
-    let instance = g.F.Node.Rooted.tree c.args.instance.now in
-    let n = c.self.inside in
-    let us = c.as_slice-units.result.now in
-    let v = c.deref.result.now in
-    let whole = schema_pairs c.args.self.now n.location n.hands_on n.assertions c.in-Keywords.shape c.in-Keywords.units us (shape_keywords v) (sym c.self.view_is) c.in-Keywords.is c.as_slice-units.ensures.value (ap fused_keywords c.in-Some.is ∙ ap shape_keywords (sym c.deref.ensures)) instance in
-    let first = c.count_one.ensures.counted in
-    let next = c.in_err-collect_errors-in-Some.ensures.counted in
-    record { from = omega (arith, first.from, next.from); to = omega (arith, whole, first.to, next.to) }
-
-pub node::SchemaNode::collect_errors-returns-in-None-clause-appended : goal.node::SchemaNode::collect_errors-returns-in-None-clause-appended
-node::SchemaNode::collect_errors-returns-in-None-clause-appended g t c =
-    let tree = g.F.Node.Rooted.tree in
-    let instance = tree c.args.instance.now in
-    let p = path_of c.args.location.now in
-    let n = c.self.inside in
-    let us = c.as_slice-units.result.now in
-    let whole = schema_fails c.args.self.now n.location n.hands_on n.assertions c.in-Keywords.shape c.in-Keywords.units us no_keywords (sym c.self.view_is) c.in-Keywords.is c.as_slice-units.ensures.value (ap fused_keywords c.in-None.is) instance p in
+    let whole = schema_fails c.args.self.now c.in-Some.units c.in-Some.ensures.units (tree c.args.instance.now) (path_of c.args.location.now) in
     subst (λ fs. Appends tree c.args.errors.now.items c.collect_units.new.errors.items fs c.collect_units.result) (sym whole) c.collect_units.ensures.appended
 
-pub node::SchemaNode::collect_errors-returns-in-None-clause-counted : goal.node::SchemaNode::collect_errors-returns-in-None-clause-counted
-node::SchemaNode::collect_errors-returns-in-None-clause-counted g t c =
-    let instance = g.F.Node.Rooted.tree c.args.instance.now in
-    let n = c.self.inside in
-    let us = c.as_slice-units.result.now in
-    let whole = schema_pairs c.args.self.now n.location n.hands_on n.assertions c.in-Keywords.shape c.in-Keywords.units us no_keywords (sym c.self.view_is) c.in-Keywords.is c.as_slice-units.ensures.value (ap fused_keywords c.in-None.is) instance in
-    let first = c.count_one.ensures.counted in
+pub node::SchemaNode::collect_errors-returns-clause-counted : goal.node::SchemaNode::collect_errors-returns-clause-counted
+node::SchemaNode::collect_errors-returns-clause-counted g t c =
+    let whole = schema_pairs c.args.self.now c.in-Some.units c.in-Some.ensures.units (g.F.Node.Rooted.tree c.args.instance.now) in
+    let first = c.apply.ensures.counted in
     let rest = c.collect_units.ensures.counted in
     record { from = omega (arith, first.from, rest.from); to = omega (arith, whole, first.to, rest.to) }
-
-pub node::SchemaNode::collect_errors-returns-in_ok-collect_errors-in-Some-clause-appended : goal.node::SchemaNode::collect_errors-returns-in_ok-collect_errors-in-Some-clause-appended
-node::SchemaNode::collect_errors-returns-in_ok-collect_errors-in-Some-clause-appended g t c =
-    let tree = g.F.Node.Rooted.tree in
-    let instance = tree c.args.instance.now in
-    let p = path_of c.args.location.now in
-    let n = c.self.inside in
-    let us = c.as_slice-units.result.now in
-    let v = c.deref.result.now in
-    let whole = schema_fails c.args.self.now n.location n.hands_on n.assertions c.in-Keywords.shape c.in-Keywords.units us (shape_keywords v) (sym c.self.view_is) c.in-Keywords.is c.as_slice-units.ensures.value (ap fused_keywords c.in-Some.is ∙ ap shape_keywords (sym c.deref.ensures)) instance p in
-    let old = c.args.errors.now.items in
-    let now = c.collect_errors.new.errors.items in
-    let new = c.collect_units-in-Some.new.errors.items in
-    let result = c.collect_units-in-Some.result in
-    let last = subst (λ q. Appends tree now new (all_fail (keywords_of us) instance (path_of q)) result) c.in_ok-collect_errors-in-Some.ensures.location c.collect_units-in-Some.ensures.appended in
-    let behind = appends_behind tree old now new (all_fail (shape_keywords v) instance p) (all_fail (keywords_of us) instance p) result c.in_ok-collect_errors-in-Some.ensures.appended last in
-    subst (λ fs. Appends tree old new fs result) (sym whole) behind
-
-pub node::SchemaNode::collect_errors-returns-in_ok-collect_errors-in-Some-clause-counted : goal.node::SchemaNode::collect_errors-returns-in_ok-collect_errors-in-Some-clause-counted
-node::SchemaNode::collect_errors-returns-in_ok-collect_errors-in-Some-clause-counted g t c =
-    let instance = g.F.Node.Rooted.tree c.args.instance.now in
-    let n = c.self.inside in
-    let us = c.as_slice-units.result.now in
-    let v = c.deref.result.now in
-    let whole = schema_pairs c.args.self.now n.location n.hands_on n.assertions c.in-Keywords.shape c.in-Keywords.units us (shape_keywords v) (sym c.self.view_is) c.in-Keywords.is c.as_slice-units.ensures.value (ap fused_keywords c.in-Some.is ∙ ap shape_keywords (sym c.deref.ensures)) instance in
-    let first = c.count_one.ensures.counted in
-    let next = c.in_ok-collect_errors-in-Some.ensures.counted in
-    let rest = c.collect_units-in-Some.ensures.counted in
-    record { from = omega (arith, first.from, next.from, rest.from); to = omega (arith, whole, first.to, next.to, rest.to) }

@@ -7,6 +7,7 @@ use Rattle.jskw_report.specs.Observe.{Collects}
 use Rattle.jskw_report.specs.Paths.{path_of}
 use Rattle.jskw_array.specs.Meaning.{each_keyword, rest_keyword, schemas_of, validator_keyword}
 use Rattle.jskw_array.specs.Units.{keywords_of}
+use Rattle.jskw_array.proofs.Keywords.{unit_tall}
 use Rattle.jskw_array.proofs.+collect_errors.Given as goal
 
 abbrev pub decreases-node::SchemaNode::collect_errors : goal.decreases-node::SchemaNode::collect_errors
@@ -17,6 +18,9 @@ decreases-node::SchemaNode::collect_item g l = 10 * height l.self.now + 1
 
 abbrev pub decreases-unit::collect_units : goal.decreases-unit::collect_units
 decreases-unit::collect_units g l = 10 * all_height (keywords_of l.units.now) + 7
+
+abbrev pub decreases-unit::UnitValidate::collect_errors : goal.decreases-unit::UnitValidate::collect_errors
+decreases-unit::UnitValidate::collect_errors g l = 10 * unit_tall l.self.now + 6
 
 abbrev pub decreases-items::array_shape::ArrayShapeValidatorValidate::collect_errors : goal.decreases-items::array_shape::ArrayShapeValidatorValidate::collect_errors
 decreases-items::array_shape::ArrayShapeValidatorValidate::collect_errors g l = 10 * keyword_height (validator_keyword l.self.now.items.validator) + 5

@@ -14,15 +14,15 @@ use Rattle.jskw_report.specs.declared.keyword.KeywordName.TheVariants as word
 use Rattle.jskw_array.specs.Fused.{absorbed_keywords, fused_words, shape_keywords}
 use Rattle.jskw_array.specs.Meaning.{bounds_of, schemas_of, validator_keyword}
 use Rattle.jskw_array.specs.Node.{boolean_schema}
-use Rattle.jskw_array.specs.Units.{keywords_of}
+use Rattle.jskw_array.specs.Units.{begin_fused, keywords_of}
 use Rattle.jskw_array.specs.Siblings.{schema_count}
 use Rattle.jskw_array.proofs.Depths.{depth_array, item_depth, member_depth}
 use Rattle.jskw_array.proofs.EachSchema.{after as after_schemas, after_none as after_no_schemas, each_end, each_made, each_refused, schemas_in, schemas_of_more}
-use Rattle.jskw_array.proofs.Faults.{compiles_as, handed_on, refused_whole}
+use Rattle.jskw_array.proofs.Faults.{compiles_active, compiles_as, handed_on, refused_whole}
 use Rattle.jskw_array.proofs.FusedReading.{fused_behind, fused_items, fused_refused, is_there, items_reads, items_value, shape_reads}
 use Rattle.jskw_array.proofs.Readings.{additional_absent, additional_false, additional_of_schema, additional_true, bare_is_type, bare_stands, contains_of_schema, contains_read, items_bare, items_of_array, items_of_schema, items_silent, prefix_of_array, prefix_refused, read_boolean, view-Bool}
 use Rattle.jskw_array.proofs.Turns.{after_none, turn_end, turn_made, turn_refused, turn_silent}
-use Rattle.jskw_array.proofs.Units.{keywords_in, keywords_of_more, shape_in}
+use Rattle.jskw_array.proofs.Units.{begin_fused_more, keywords_in, keywords_of_more}
 use Rattle.jskw_array.proofs.+compile.Goals as goal
 use Rattle.jskw_array.proofs.+compile.Goals.{compiler::compile_keywords-in-None, compiler::compile_keywords-in-Some-Ok+in_ok-push_unit-in-Some-Ok}
 
@@ -57,9 +57,8 @@ compiler::compile_fused-returns-in_err-shape g t c =
     let ms = members_view c.args.parent.now.entries in
     let marks : Marks = record { hands_on = c.args.hands_on; fused = true } in
     let first = read_words fused_words c.args.ctx.now.setting p ms (λ name. part_named name ms) in
-    let of_shape = shape_in {F = g.row.F.Denot} {N = g.row.F-Node.Denot} {O = g.row.F-Node-Number.Denot} {P = g.row.F-Node-PreparedKey.Denot} in
-    let made = subst (λ r. Makes of_shape r first) c.in_err-shape.was (c.boxed.ensures first c.compile.ensures) in
-    handed_on of_shape (λ (n : Schema). n) c.in_err-shape.field-0.0 _ first _ c.from_residual.ensures.1 made
+    let of_shape = shape_keywords {F = g.row.F.Denot} {N = g.row.F-Node.Denot} {O = g.row.F-Node-Number.Denot} {P = g.row.F-Node-PreparedKey.Denot} in
+    handed_on of_shape (λ (n : Schema). n) c.in_err-shape.field-0.0 _ first _ c.from_residual.ensures.1 c.in_err-shape.ensures
     (λ e refused. ap (whole p marks) (fused_refused fused_words (drop 4 keywords) c.args.ctx.now.setting p ms e refused))
 
 pub compiler::compile_fused-returns : goal.compiler::compile_fused-returns
@@ -67,14 +66,11 @@ compiler::compile_fused-returns g t c =
     let s = c.args.ctx.now.setting in
     let p = c.args.ctx.now.location in
     let ms = members_view c.args.parent.now.entries in
-    let js = shape_keywords c.in_ok-shape.shape.value in
+    let js = shape_keywords c.in_ok-shape.shape in
     let marks : Marks = record { hands_on = c.args.hands_on; fused = true } in
-    let first = read_words fused_words s p ms (λ name. part_named name ms) in
-    let of_shape = shape_in {F = g.row.F.Denot} {N = g.row.F-Node.Denot} {O = g.row.F-Node-Number.Denot} {P = g.row.F-Node-PreparedKey.Denot} in
-    let made = subst (λ r. Makes of_shape r first) c.in_ok-shape.was (c.boxed.ensures first c.compile.ensures) in
-    let all = fused_behind fused_words (drop 4 keywords) s p ms js made in
+    let all = fused_behind fused_words (drop 4 keywords) s p ms js c.in_ok-shape.ensures in
     subst (Makes (λ (n : Schema). n) c.of_fused.result) (ap (λ q. whole q marks (map_ok (append_keywords js) (read_words (drop 4 keywords) s p ms (λ name. part_named name ms)))) c.requires.location ∙ sym (ap (whole p marks) all))
-    (c.of_fused.ensures _ c.compile_keywords-units.ensures)
+    (c.of_fused.ensures _ c.compile_keywords-units.ensures.made)
 
 pub items::array_shape::ArrayShapeValidator::compile-unreachable-requires : goal.items::array_shape::ArrayShapeValidator::compile-unreachable-requires
 items::array_shape::ArrayShapeValidator::compile-unreachable-requires g t c =
@@ -104,7 +100,7 @@ pub compiler::compile_keywords-compile_keyword-requires : goal.compiler::compile
 compiler::compile_keywords-compile_keyword-requires g t c κs within = (omega (arith, c.decreases), search rules)
 
 pub compiler::compile_keywords-loop-keyword-init : goal.compiler::compile_keywords-loop-keyword-init
-compiler::compile_keywords-loop-keyword-init g t c = rw c.new-units.ensures.items (after_none _)
+compiler::compile_keywords-loop-keyword-init g t c = record { left = rw c.new-units.ensures.items (after_none _); plain = ap begin_fused c.new-units.ensures.items }
 
 pub compiler::compile_keywords-loop-keyword-preserved : goal.compiler::compile_keywords-loop-keyword-preserved
 compiler::compile_keywords-loop-keyword-preserved g t c =
@@ -120,20 +116,29 @@ compiler::compile_keywords-loop-keyword-preserved g t c =
     let keyword_of = validator_keyword {F = g.row.F.Denot} {N = g.row.F-Node.Denot} {O = g.row.F-Node-Number.Denot} {P = g.row.F-Node-PreparedKey.Denot} in
     elim c.match-compile_keyword.branch [
       | compiler::compile_keywords-in-None w ↦
-          rw w.units-is (turn_silent keyword_of done all s p ms parts ws index word.TypeKeyword c.loop-keyword-test.true l.invariant w.in-None.ensures)
+          record {
+            left = rw w.units-is (turn_silent keyword_of done all s p ms parts ws index word.TypeKeyword c.loop-keyword-test.true l.invariant.left w.in-None.ensures);
+            plain = rw w.units-is l.invariant.plain;
+          }
       | compiler::compile_keywords-in-Some-Ok+in_ok-push_unit-in-Some-Ok w ↦
-          let turn = turn_made keyword_of done all s p ms parts ws index word.TypeKeyword c.loop-keyword-test.true l.invariant _ _ w.in-Some-Ok.field-0-is w.in-Some-Ok.ensures in
-          rw (w.units-is, w.in_ok-push_unit-in-Some-Ok.ensures, keywords_of_more) turn
+          let turn = turn_made keyword_of done all s p ms parts ws index word.TypeKeyword c.loop-keyword-test.true l.invariant.left _ _ w.in-Some-Ok.field-0-is w.in-Some-Ok.ensures in
+          record {
+            left = rw (w.units-is, w.in_ok-push_unit-in-Some-Ok.ensures, keywords_of_more) turn;
+            plain = rw (w.units-is, w.in_ok-push_unit-in-Some-Ok.ensures, begin_fused_more) l.invariant.plain;
+          }
     ]
 
-pub compiler::compile_keywords-returns : goal.compiler::compile_keywords-returns
-compiler::compile_keywords-returns g t c =
+pub compiler::compile_keywords-returns-clause-made : goal.compiler::compile_keywords-returns-clause-made
+compiler::compile_keywords-returns-clause-made g t c =
     let ms = members_view c.args.parent.now.entries in
     rw c.shrink_to_fit.ensures.items
-    (turn_end (keywords_of c.loop-keyword.units.items) _ c.args.ctx.now.setting c.args.ctx.now.location ms (λ name. part_named name ms) c.args.keywords.now c.loop-keyword.keyword-index c.loop-keyword-test.false c.loop-keyword.invariant)
+    (turn_end (keywords_of c.loop-keyword.units.items) _ c.args.ctx.now.setting c.args.ctx.now.location ms (λ name. part_named name ms) c.args.keywords.now c.loop-keyword.keyword-index c.loop-keyword-test.false c.loop-keyword.invariant.left)
 
-pub compiler::compile_keywords-returns-in-Some-Err : goal.compiler::compile_keywords-returns-in-Some-Err
-compiler::compile_keywords-returns-in-Some-Err g t c =
+pub compiler::compile_keywords-returns-clause-plain : goal.compiler::compile_keywords-returns-clause-plain
+compiler::compile_keywords-returns-clause-plain g t c = ap begin_fused c.shrink_to_fit.ensures.items ∙ c.loop-keyword.invariant.plain
+
+pub compiler::compile_keywords-returns-in-Some-Err-clause-made : goal.compiler::compile_keywords-returns-in-Some-Err-clause-made
+compiler::compile_keywords-returns-in-Some-Err-clause-made g t c =
     let l = c.loop-keyword in
     let ws = c.args.keywords.now in
     let s = c.args.ctx.now.setting in
@@ -141,7 +146,7 @@ compiler::compile_keywords-returns-in-Some-Err g t c =
     let ms = members_view c.args.parent.now.entries in
     let parts : List ℕ → Option Part = λ name. part_named name ms in
     turn_refused (validator_keyword {F = g.row.F.Denot} {N = g.row.F-Node.Denot} {O = g.row.F-Node-Number.Denot} {P = g.row.F-Node-PreparedKey.Denot}) (keywords_of l.units.items) (read_words ws s p ms parts) s p ms parts ws l.keyword-index word.TypeKeyword
-    c.loop-keyword-test.true l.invariant (keywords_in {F = g.row.F.Denot} {N = g.row.F-Node.Denot} {O = g.row.F-Node-Number.Denot} {P = g.row.F-Node-PreparedKey.Denot}) _ _ c.in-Some-Err.field-0-is c.in-Some-Err.ensures
+    c.loop-keyword-test.true l.invariant.left (keywords_in {F = g.row.F.Denot} {N = g.row.F-Node.Denot} {O = g.row.F-Node-Number.Denot} {P = g.row.F-Node-PreparedKey.Denot}) _ _ c.in-Some-Err.field-0-is c.in-Some-Err.ensures
 
 -- ---- an array of schemas
 
@@ -205,11 +210,10 @@ compiler::compile_each_at-compile_each-requires g t c κs within = (omega (arith
 
 pub prefix_items::compile-returns-in_default : goal.prefix_items::compile-returns-in_default
 prefix_items::compile-returns-in_default g t c =
-    let keyword_of = validator_keyword {F = g.row.F.Denot} {N = g.row.F-Node.Denot} {O = g.row.F-Node-Number.Denot} {P = g.row.F-Node-PreparedKey.Denot} in
     let ms = members_view c.args.parent.now.entries in
     let d = view c.args.schema.now in
     let lost : as_array d ≡ None = search (rules, c.as_array.ensures) in
-    compiles_as keyword_of (Some c.no_array.result) _ _ (prefix_refused c.args.ctx.now ms d lost) c.no_array.ensures
+    compiles_as _ (Some c.no_array.result) _ _ (prefix_refused c.args.ctx.now ms d lost) c.no_array.ensures
 
 pub prefix_items::compile-compile_each_at-requires : goal.prefix_items::compile-compile_each_at-requires
 prefix_items::compile-compile_each_at-requires g t c κs within =
@@ -221,7 +225,6 @@ prefix_items::compile-compile_each_at-requires g t c κs within =
 
 pub prefix_items::compile-returns : goal.prefix_items::compile-returns
 prefix_items::compile-returns g t c =
-    let keyword_of = validator_keyword {F = g.row.F.Denot} {N = g.row.F-Node.Denot} {O = g.row.F-Node-Number.Denot} {P = g.row.F-Node-PreparedKey.Denot} in
     let s = c.args.ctx.now.setting in
     let q = keyword_location c.args.ctx.now.location word.PrefixItems in
     let ms = members_view c.args.parent.now.entries in
@@ -229,7 +232,7 @@ prefix_items::compile-returns g t c =
     let ds = items_view c.in-Some.schemas.now.items in
     let found : as_array d ≡ Some ds = search (rules, c.as_array.ensures, c.in-Some.is) in
     let made = subst (λ vs. Makes schemas_in c.compile_each_at.result (read_each (items_view vs) s q 0)) c.as_slice.ensures.value c.compile_each_at.ensures in
-    compiles_as keyword_of (Some c.of_schemas.result) _ _ (prefix_of_array c.args.ctx.now ms d ds found) (c.of_schemas.ensures _ made)
+    compiles_as _ (Some c.of_schemas.result) _ _ (prefix_of_array c.args.ctx.now ms d ds found) (c.of_schemas.ensures _ made)
 
 -- ---- one keyword of an object
 
@@ -252,31 +255,29 @@ compiler::compile_keyword-returns-then-not-stands g t c =
 
 pub compiler::compile_keyword-returns-then-is_leaf : goal.compiler::compile_keyword-returns-then-is_leaf
 compiler::compile_keyword-returns-then-is_leaf g t c =
-    let keyword_of = validator_keyword {F = g.row.F.Denot} {N = g.row.F-Node.Denot} {O = g.row.F-Node-Number.Denot} {P = g.row.F-Node-PreparedKey.Denot} in
     let s = c.args.ctx.now.setting in
     let p = c.args.ctx.now.location in
     let ms = members_view c.args.parent.now.entries in
     let d = view c.in_ok-schema.schema.now in
     let found : get_member (name_of c.args.keyword) ms ≡ Some d = search (rules, c.as_str.ensures, c.in_ok-schema.ensures) in
     let there : stands s c.args.keyword ≡ true = search (rules, c.stands.ensures, c.if-not-stands.false) in
-    compiles_as keyword_of c.of_leaf.result _ _ (read_standing c.args.keyword s p ms d found there) (c.of_leaf.ensures _ c.compile.ensures)
+    compiles_as _ c.of_leaf.result _ _ (read_standing c.args.keyword s p ms d found there) (c.of_leaf.ensures _ c.compile.ensures)
 
 -- ---- `items`
 
 pub items::compile-returns-in-Some : goal.items::compile-returns-in-Some
 items::compile-returns-in-Some g t c =
-    let keyword_of = validator_keyword {F = g.row.F.Denot} {N = g.row.F-Node.Denot} {O = g.row.F-Node-Number.Denot} {P = g.row.F-Node-PreparedKey.Denot} in
     let s = c.args.ctx.now.setting in
     let q = keyword_location c.args.ctx.now.location word.Items in
     let ms = members_view c.args.parent.now.entries in
     let d = view c.args.schema.now in
     let ds = items_view c.in-Some.schemas.now.items in
     let found : as_array d ≡ Some ds = search (rules, c.as_array.ensures, c.in-Some.is) in
-    let made = subst (λ vs. Makes schemas_in c.compile_each_at.result (read_each (items_view vs) s q 0)) c.as_slice.ensures.value c.compile_each_at.ensures in
-    compiles_as keyword_of (Some c.of_schemas.result) _ _ (items_of_array c.args.ctx.now ms d ds found) (c.of_schemas.ensures _ made)
+    let made = subst (λ vs. Makes schemas_in c.compile_each_at-compiled.result (read_each (items_view vs) s q 0)) c.as_slice.ensures.value c.compile_each_at-compiled.ensures in
+    compiles_as _ (Some c.of_schemas.result) _ _ (items_of_array c.args.ctx.now ms d ds found) (c.of_schemas.ensures _ made)
 
-pub items::compile-compile_each_at-requires : goal.items::compile-compile_each_at-requires
-items::compile-compile_each_at-requires g t c κs within =
+pub items::compile-compile_each_at-compiled-requires : goal.items::compile-compile_each_at-compiled-requires
+items::compile-compile_each_at-compiled-requires g t c κs within =
     let d = view c.args.schema.now in
     let found : as_array d ≡ Some (items_view c.in-Some.schemas.now.items) = search (rules, c.as_array.ensures, c.in-Some.is) in
     let e = depth_array d (items_view c.in-Some.schemas.now.items) found in
@@ -303,10 +304,9 @@ items::compile-compile_inline-requires g t c =
 
 pub items::compile-returns-then-is_bare : goal.items::compile-returns-then-is_bare
 items::compile-returns-then-is_bare g t c =
-    let keyword_of = validator_keyword {F = g.row.F.Denot} {N = g.row.F-Node.Denot} {O = g.row.F-Node-Number.Denot} {P = g.row.F-Node-PreparedKey.Denot} in
     let ms = members_view c.args.parent.now.entries in
     let d = view c.args.schema.now in
-    compiles_as keyword_of (Some c.compile_inline.result) _ _ (items_bare c.args.ctx.now ms d (sym c.is_items_schema.ensures ∙ c.if-not-is_items_schema.false) (sym c.is_bare.ensures ∙ c.if-is_bare.true)) c.compile_inline.ensures
+    compiles_as _ (Some c.compile_inline.result) _ _ (items_bare c.args.ctx.now ms d (sym c.is_items_schema.ensures ∙ c.if-not-is_items_schema.false) (sym c.is_bare.ensures ∙ c.if-is_bare.true)) c.compile_inline.ensures
 
 pub items::compile-returns : goal.items::compile-returns
 items::compile-returns g t c =
@@ -314,7 +314,7 @@ items::compile-returns g t c =
     let ms = members_view c.args.parent.now.entries in
     let d = view c.args.schema.now in
     let start = c.items_start-start.ensures in
-    let made = c.of_schema.ensures _ c.compile_at.ensures in
+    let made = c.of_schema.ensures _ c.compile_at-compiled.ensures in
     compiles_as keyword_of (Some c.of_schema.result) _ _ (items_of_schema c.args.ctx.now ms d (sym c.is_items_schema.ensures ∙ c.if-not-is_items_schema.false) (sym c.is_bare.ensures ∙ c.if-is_bare.false))
     (subst (λ n. Makes keyword_of c.of_schema.result (map_ok (λ sub. items_from n sub false) (read d c.args.ctx.now.setting (keyword_location c.args.ctx.now.location word.Items)))) start made)
 
@@ -337,29 +337,26 @@ additional_items::compile-returns-in-Some-true g t c =
 
 pub additional_items::compile-returns-in-Some-false : goal.additional_items::compile-returns-in-Some-false
 additional_items::compile-returns-in-Some-false g t c =
-    let keyword_of = validator_keyword {F = g.row.F.Denot} {N = g.row.F-Node.Denot} {O = g.row.F-Node-Number.Denot} {P = g.row.F-Node-PreparedKey.Denot} in
     let ms = members_view c.args.parent.now.entries in
     let d = view c.args.schema.now in
     let count : schema_count (get_member (name_of word.Items) ms) ≡ Some c.in-Some.items_count = sym c.schema_count.ensures ∙ c.in-Some.is in
-    compiles_as keyword_of (Some c.no_more.result) _ _ (additional_false c.args.ctx.now ms d c.in-Some.items_count count (sym c.as_bool.ensures ∙ c.in-Some-false.is ∙ ap Some c.in-Some-false.field-0-test)) c.no_more.ensures
+    compiles_as _ (Some c.no_more.result) _ _ (additional_false c.args.ctx.now ms d c.in-Some.items_count count (sym c.as_bool.ensures ∙ c.in-Some-false.is ∙ ap Some c.in-Some-false.field-0-test)) c.no_more.ensures
 
 pub additional_items::compile-returns-in-None : goal.additional_items::compile-returns-in-None
 additional_items::compile-returns-in-None g t c =
-    let keyword_of = validator_keyword {F = g.row.F.Denot} {N = g.row.F-Node.Denot} {O = g.row.F-Node-Number.Denot} {P = g.row.F-Node-PreparedKey.Denot} in
     let ms = members_view c.args.parent.now.entries in
     let d = view c.args.schema.now in
     let count : schema_count (get_member (name_of word.Items) ms) ≡ Some c.in-Some.items_count = sym c.schema_count.ensures ∙ c.in-Some.is in
-    compiles_as keyword_of (Some c.of_schema.result) _ _ (additional_of_schema c.args.ctx.now ms d c.in-Some.items_count count (sym c.as_bool.ensures ∙ c.in-None.is)) (c.of_schema.ensures _ c.compile_at.ensures)
+    compiles_as _ (Some c.of_schema.result) _ _ (additional_of_schema c.args.ctx.now ms d c.in-Some.items_count count (sym c.as_bool.ensures ∙ c.in-None.is)) (c.of_schema.ensures _ c.compile_at.ensures)
 
 -- ---- `contains`
 
 pub contains::compile-returns-in-Ok : goal.contains::compile-returns-in-Ok
 contains::compile-returns-in-Ok g t c =
-    let keyword_of = validator_keyword {F = g.row.F.Denot} {N = g.row.F-Node.Denot} {O = g.row.F-Node-Number.Denot} {P = g.row.F-Node-PreparedKey.Denot} in
     let ms = members_view c.args.parent.now.entries in
     let d = view c.args.schema.now in
     let made : Makes bounds_of (Ok c.in-Ok.bounds) (read_bounds c.args.ctx.now.setting c.args.ctx.now.location ms) = subst (λ r. Makes bounds_of r (read_bounds c.args.ctx.now.setting c.args.ctx.now.location ms)) c.in-Ok.is c.bounds_beside.ensures in
-    compiles_as keyword_of (Some c.of_schema.result) _ _ (contains_of_schema c.args.ctx.now ms d (bounds_of c.in-Ok.bounds) made) (c.of_schema.ensures _ c.compile_at-compiled.ensures)
+    compiles_as _ (Some c.of_schema.result) _ _ (contains_of_schema c.args.ctx.now ms d (bounds_of c.in-Ok.bounds) made) (c.of_schema.ensures _ c.compile_at-compiled.ensures)
 
 pub contains::compile-returns-in-Err : goal.contains::compile-returns-in-Err
 contains::compile-returns-in-Err g t c =
@@ -373,8 +370,8 @@ contains::compile-returns-in-Err g t c =
 
 -- ---- the calls go down
 
-pub items::compile-compile_at-requires : goal.items::compile-compile_at-requires
-items::compile-compile_at-requires g t c κs within = (omega (arith, c.decreases), search rules)
+pub items::compile-compile_at-compiled-requires : goal.items::compile-compile_at-compiled-requires
+items::compile-compile_at-compiled-requires g t c κs within = (omega (arith, c.decreases), search rules)
 
 pub additional_items::compile-compile_at-requires : goal.additional_items::compile-compile_at-requires
 additional_items::compile-compile_at-requires g t c κs within = (omega (arith, c.decreases), search rules)
@@ -393,14 +390,9 @@ compiler::compile_keyword-compile-requires-in-Items g t c κs within =
 
 pub compiler::compile_keyword-returns-in-Items : goal.compiler::compile_keyword-returns-in-Items
 compiler::compile_keyword-returns-in-Items g t c =
-    let keyword_of = validator_keyword {F = g.row.F.Denot} {N = g.row.F-Node.Denot} {O = g.row.F-Node-Number.Denot} {P = g.row.F-Node-PreparedKey.Denot} in
-    let s = c.args.ctx.now.setting in
-    let p = c.args.ctx.now.location in
-    let ms = members_view c.args.parent.now.entries in
-    let d = view c.in_ok-schema.schema.now in
-    let found : get_member (name_of c.args.keyword) ms ≡ Some d = search (rules, c.as_str.ensures, c.in_ok-schema.ensures) in
-    let there : stands s c.args.keyword ≡ true = search (rules, c.stands.ensures, c.if-not-stands.false) in
-    compiles_as keyword_of c.compile-in-Items.result _ _ (read_standing c.args.keyword s p ms d found there ∙ ap (λ w. reading w c.args.ctx.now ms d) c.in-Items.is) c.compile-in-Items.ensures
+    let found : get_member (name_of c.args.keyword) (members_view c.args.parent.now.entries) ≡ Some (view c.in_ok-schema.schema.now) = search (rules, c.as_str.ensures, c.in_ok-schema.ensures) in
+    let active : stands c.args.ctx.now.setting c.args.keyword ≡ true = search (rules, c.stands.ensures, c.if-not-stands.false) in
+    compiles_active _ c.compile-in-Items.result c.args.keyword _ c.args.ctx.now _ _ found active c.in-Items.is c.compile-in-Items.ensures
 
 pub compiler::compile_keyword-compile-requires-in-PrefixItems : goal.compiler::compile_keyword-compile-requires-in-PrefixItems
 compiler::compile_keyword-compile-requires-in-PrefixItems g t c κs within =
@@ -410,14 +402,9 @@ compiler::compile_keyword-compile-requires-in-PrefixItems g t c κs within =
 
 pub compiler::compile_keyword-returns-in-PrefixItems : goal.compiler::compile_keyword-returns-in-PrefixItems
 compiler::compile_keyword-returns-in-PrefixItems g t c =
-    let keyword_of = validator_keyword {F = g.row.F.Denot} {N = g.row.F-Node.Denot} {O = g.row.F-Node-Number.Denot} {P = g.row.F-Node-PreparedKey.Denot} in
-    let s = c.args.ctx.now.setting in
-    let p = c.args.ctx.now.location in
-    let ms = members_view c.args.parent.now.entries in
-    let d = view c.in_ok-schema.schema.now in
-    let found : get_member (name_of c.args.keyword) ms ≡ Some d = search (rules, c.as_str.ensures, c.in_ok-schema.ensures) in
-    let there : stands s c.args.keyword ≡ true = search (rules, c.stands.ensures, c.if-not-stands.false) in
-    compiles_as keyword_of c.compile-in-PrefixItems.result _ _ (read_standing c.args.keyword s p ms d found there ∙ ap (λ w. reading w c.args.ctx.now ms d) c.in-PrefixItems.is) c.compile-in-PrefixItems.ensures
+    let found : get_member (name_of c.args.keyword) (members_view c.args.parent.now.entries) ≡ Some (view c.in_ok-schema.schema.now) = search (rules, c.as_str.ensures, c.in_ok-schema.ensures) in
+    let active : stands c.args.ctx.now.setting c.args.keyword ≡ true = search (rules, c.stands.ensures, c.if-not-stands.false) in
+    compiles_active _ c.compile-in-PrefixItems.result c.args.keyword _ c.args.ctx.now _ _ found active c.in-PrefixItems.is c.compile-in-PrefixItems.ensures
 
 pub compiler::compile_keyword-compile-requires-in-AdditionalItems : goal.compiler::compile_keyword-compile-requires-in-AdditionalItems
 compiler::compile_keyword-compile-requires-in-AdditionalItems g t c κs within =
@@ -427,14 +414,9 @@ compiler::compile_keyword-compile-requires-in-AdditionalItems g t c κs within =
 
 pub compiler::compile_keyword-returns-in-AdditionalItems : goal.compiler::compile_keyword-returns-in-AdditionalItems
 compiler::compile_keyword-returns-in-AdditionalItems g t c =
-    let keyword_of = validator_keyword {F = g.row.F.Denot} {N = g.row.F-Node.Denot} {O = g.row.F-Node-Number.Denot} {P = g.row.F-Node-PreparedKey.Denot} in
-    let s = c.args.ctx.now.setting in
-    let p = c.args.ctx.now.location in
-    let ms = members_view c.args.parent.now.entries in
-    let d = view c.in_ok-schema.schema.now in
-    let found : get_member (name_of c.args.keyword) ms ≡ Some d = search (rules, c.as_str.ensures, c.in_ok-schema.ensures) in
-    let there : stands s c.args.keyword ≡ true = search (rules, c.stands.ensures, c.if-not-stands.false) in
-    compiles_as keyword_of c.compile-in-AdditionalItems.result _ _ (read_standing c.args.keyword s p ms d found there ∙ ap (λ w. reading w c.args.ctx.now ms d) c.in-AdditionalItems.is) c.compile-in-AdditionalItems.ensures
+    let found : get_member (name_of c.args.keyword) (members_view c.args.parent.now.entries) ≡ Some (view c.in_ok-schema.schema.now) = search (rules, c.as_str.ensures, c.in_ok-schema.ensures) in
+    let active : stands c.args.ctx.now.setting c.args.keyword ≡ true = search (rules, c.stands.ensures, c.if-not-stands.false) in
+    compiles_active _ c.compile-in-AdditionalItems.result c.args.keyword _ c.args.ctx.now _ _ found active c.in-AdditionalItems.is c.compile-in-AdditionalItems.ensures
 
 pub compiler::compile_keyword-compile-requires-in-Contains : goal.compiler::compile_keyword-compile-requires-in-Contains
 compiler::compile_keyword-compile-requires-in-Contains g t c κs within =
@@ -444,11 +426,6 @@ compiler::compile_keyword-compile-requires-in-Contains g t c κs within =
 
 pub compiler::compile_keyword-returns-in-Contains : goal.compiler::compile_keyword-returns-in-Contains
 compiler::compile_keyword-returns-in-Contains g t c =
-    let keyword_of = validator_keyword {F = g.row.F.Denot} {N = g.row.F-Node.Denot} {O = g.row.F-Node-Number.Denot} {P = g.row.F-Node-PreparedKey.Denot} in
-    let s = c.args.ctx.now.setting in
-    let p = c.args.ctx.now.location in
-    let ms = members_view c.args.parent.now.entries in
-    let d = view c.in_ok-schema.schema.now in
-    let found : get_member (name_of c.args.keyword) ms ≡ Some d = search (rules, c.as_str.ensures, c.in_ok-schema.ensures) in
-    let there : stands s c.args.keyword ≡ true = search (rules, c.stands.ensures, c.if-not-stands.false) in
-    compiles_as keyword_of c.compile-in-Contains.result _ _ (read_standing c.args.keyword s p ms d found there ∙ ap (λ w. reading w c.args.ctx.now ms d) c.in-Contains.is) c.compile-in-Contains.ensures
+    let found : get_member (name_of c.args.keyword) (members_view c.args.parent.now.entries) ≡ Some (view c.in_ok-schema.schema.now) = search (rules, c.as_str.ensures, c.in_ok-schema.ensures) in
+    let active : stands c.args.ctx.now.setting c.args.keyword ≡ true = search (rules, c.stands.ensures, c.if-not-stands.false) in
+    compiles_active _ c.compile-in-Contains.result c.args.keyword _ c.args.ctx.now _ _ found active c.in-Contains.is c.compile-in-Contains.ensures

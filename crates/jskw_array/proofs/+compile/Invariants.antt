@@ -1,9 +1,9 @@
-use Rattle.std.proofs.Common.{◌≡◌, ◌+◌, ◌*◌, drop}
+use Rattle.std.proofs.Common.{◌≡◌, ◌+◌, ◌*◌, false, drop}
 use Rattle.serde_json.specs.Data.{depth, items_depth, members_depth}
 use Rattle.serde_json.specs.View.{view, items_view, members_view}
 use Rattle.jskw_report.specs.Read.{part_named, read_each, read_words}
 use Rattle.jskw_array.specs.Meaning.{schemas_of}
-use Rattle.jskw_array.specs.Units.{keywords_of}
+use Rattle.jskw_array.specs.Units.{begin_fused, keywords_of}
 use Rattle.jskw_array.proofs.EachSchema.{after as after_schemas}
 use Rattle.jskw_array.proofs.Turns.{after}
 use Rattle.jskw_array.proofs.+compile.Given as goal
@@ -51,8 +51,11 @@ decreases-compiler::compile_object g l = 7 * members_depth (members_view l.paren
 abbrev pub invariant-compiler::compile_keywords-loop-keyword : goal.invariant-compiler::compile_keywords-loop-keyword
 invariant-compiler::compile_keywords-loop-keyword g l =
     let ms = members_view l.parent.entries in
-    after (keywords_of l.units.items) (read_words (drop l.keyword-index l.keywords) l.ctx.setting l.ctx.location ms (λ name. part_named name ms))
-    ≡ read_words l.keywords l.ctx.setting l.ctx.location ms (λ name. part_named name ms)
+    record {
+      left : after (keywords_of l.units.items) (read_words (drop l.keyword-index l.keywords) l.ctx.setting l.ctx.location ms (λ name. part_named name ms))
+          ≡ read_words l.keywords l.ctx.setting l.ctx.location ms (λ name. part_named name ms);
+      plain : begin_fused l.units.items ≡ false;
+    }
 
 abbrev pub invariant-compiler::compile_each-loop-index : goal.invariant-compiler::compile_each-loop-index
 invariant-compiler::compile_each-loop-index g l =

@@ -1,26 +1,23 @@
-use Rattle.std.proofs.Common.{rules, ◌≡◌, ◌∙◌, ◌++◌, [], ◌∷◌, length, true, false, None, ap, ap₂, sym, subst, refl, append_assoc, IfOk, arith}
+use Rattle.std.proofs.Common.{rules, ◌≡◌, ◌∙◌, ◌++◌, [], ◌∷◌, length, true, false, None, ap, ap₂, sym, subst, refl, IfOk, arith}
 use Rattle.std.proofs.Math.Nat.{le_trans}
 use Rattle.std.proofs.lemmas.Grind.{common_steps}
 use Rattle.jskw_value.specs.Pointer.{item_location}
 use Rattle.jskw_value.specs.Tree.{items}
-use Rattle.jskw_report.proofs.Appended.{units_appended}
 use Rattle.jskw_report.proofs.Gathering.{gathered_all, index_end, index_passed, index_taken, node_end, node_passed, node_taken}
 use Rattle.jskw_report.proofs.Valid.{tree_valid}
-use Rattle.jskw_report.specs.Applications.{all_pairs, pairs}
-use Rattle.jskw_report.specs.Evaluation.{evaluate_pairs, is_valid, node_at, of_children, prefix_annotation, tree, unit, units}
+use Rattle.jskw_report.specs.Applications.{all_height, pairs}
+use Rattle.jskw_report.specs.Evaluation.{evaluate_pairs, is_valid, node_at, of_children, prefix_annotation, tree, units}
 use Rattle.jskw_report.specs.EvaluationView.{result_of}
-use Rattle.jskw_report.specs.Fail.{fail}
 use Rattle.jskw_report.specs.Holds.{holds}
-use Rattle.jskw_report.specs.Keyword.{false_schema}
-use Rattle.jskw_report.specs.Observe.{CountsUpTo}
+use Rattle.jskw_report.specs.Keyword.{false_schema, schema_location}
+use Rattle.jskw_report.specs.Meaning.{meaning_unit}
 use Rattle.jskw_report.specs.Paths.{path_of}
-use Rattle.jskw_array.specs.Fused.{absorbed_keywords, shape_keywords}
-use Rattle.jskw_array.specs.Limits.{fault_of, matching_result}
+use Rattle.jskw_array.specs.Fused.{shape_keywords}
+use Rattle.jskw_array.specs.Limits.{failing_locations, matching_result}
 use Rattle.jskw_array.specs.Heights.{each_is_as_high, rest_is_as_high}
-use Rattle.jskw_array.specs.Meaning.{bounds_of, schemas_of, validator_keyword}
-use Rattle.jskw_array.specs.Node.{fused_keywords, schema_of}
-use Rattle.jskw_array.specs.Units.{keywords_of}
-use Rattle.jskw_array.proofs.Keywords.{items_keywords, keywords_end, lower_shape, lower_units, one_pair, pairs_at, refused_tree, schema_pairs, schema_tree, unit_height, unit_taken}
+use Rattle.jskw_array.specs.Meaning.{bounds_of, schemas_of}
+use Rattle.jskw_array.specs.Units.{absorbed_by, keywords_of, unit_location, unit_meaning}
+use Rattle.jskw_array.proofs.Keywords.{false_tree, items_height, keywords_end, one_pair, pairs_at, schema_height, schema_pairs, schema_tree, unit_height, unit_taken, unit_tall}
 use Rattle.jskw_array.proofs.MatchedItems.{matching_is_unit}
 use Rattle.jskw_array.proofs.Meant.{each_meets, items_unit_is, prefix_unit_is}
 use Rattle.jskw_array.proofs.Meetings.{each_units_end, height_at, sum_at}
@@ -124,7 +121,7 @@ matching::MatchingValidate::evaluate-returns-clause-gives g t c =
     let nodes = gathered_all _ _ _ (node_end ts l.index (omega arith) (holds s) (tree s) p) l.invariant.gathered in
     let indices = gathered_all _ _ _ (index_end ts l.index (omega arith) (holds s)) l.invariant.matching in
     let b = bounds_of c.args.self.now.bounds in
-    let is = ap₂ (λ is es. matching_result (fault_of b (length is) instance) is es) indices nodes ∙ matching_is_unit s b instance p in
+    let is = ap₂ (λ is es. matching_result (failing_locations b (length is) instance) is es) indices nodes ∙ matching_is_unit s b instance p in
     subst (λ x. IfOk c.unit.result (λ r. result_of r ≡ x)) is c.unit.ensures
 
 -- ---- the keywords
@@ -175,14 +172,14 @@ unit::evaluate_units-loop-unit-preserved g t c =
     let p = path_of c.args.location.now in
     let us = c.args.units.now in
     let u = c.unit-item.result in
-    let k = validator_keyword u.validator in
-    let result = c.in_ok-result.ensures.gives ∙ ap (λ q. unit k instance (path_of q)) l.invariant.location in
-    let made = c.in_ok-new.ensures ∙ ap₂ (node_at u.location) c.requires.path result in
-    let more = c.in_ok-push.ensures.items ∙ ap (λ e. l.children.items ++ e ∷ []) made in
+    let before = c.in_ok-evaluate_absorbed.ensures ∙ ap (λ q. l.children.items ++ units (absorbed_by u) instance q) c.requires.path in
+    let result = c.in_ok-result.ensures.gives ∙ ap (λ q. meaning_unit (unit_meaning u) instance (path_of q)) l.invariant.location in
+    let made = c.in_ok-new.ensures ∙ ap (λ q. node_at q c.args.path.now (result_of c.in_ok-result.result)) c.location.ensures ∙ ap₂ (node_at (unit_location u)) c.requires.path result in
+    let more = c.in_ok-push.ensures.items ∙ ap (λ e. c.evaluate_absorbed.new.children.items ++ e ∷ []) made in
     let cost = pairs_at us l.unit-index u c.loop-unit-test.true c.unit-item.is instance in
     let next = c.in_ok-result.ensures.counted in
     record {
-      gathered = unit_taken us l.unit-index u c.loop-unit-test.true c.unit-item.is instance p _ _ _ more l.invariant.gathered;
+      gathered = unit_taken us l.unit-index u c.loop-unit-test.true c.unit-item.is instance p _ _ _ _ before more l.invariant.gathered;
       location = c.in_ok-result.ensures.location ∙ l.invariant.location;
       counted_from = omega (arith, l.invariant.counted_from, next.from);
       counted_to = omega (arith, cost, l.invariant.counted_to, next.to);
@@ -195,119 +192,59 @@ unit::evaluate_units-returns-clause-gives g t c =
     let p = path_of c.args.location.now in
     gathered_all _ _ _ (ap (λ ks. units ks instance p) (keywords_end c.args.units.now l.unit-index c.loop-unit-test.false)) l.invariant.gathered
 
--- ---- the fused shape
-
-pub items::array_shape::evaluate_shape-returns-in_err-push-clause-counted : goal.items::array_shape::evaluate_shape-returns-in_err-push-clause-counted
-items::array_shape::evaluate_shape-returns-in_err-push-clause-counted g t c =
-    let is = ap fused_keywords c.in-Some.is ∙ ap shape_keywords (sym c.deref-2.ensures) in
-    subst (λ ks. CountsUpTo c.args.ctx.now c.evaluate-2.new.ctx (all_pairs ks (g.F.Node.Rooted.tree c.args.instance.now))) (sym is) c.in_ok-result.ensures.counted
-
-pub items::array_shape::evaluate_shape-returns-clause-counted : goal.items::array_shape::evaluate_shape-returns-clause-counted
-items::array_shape::evaluate_shape-returns-clause-counted g t c =
-    let is = ap fused_keywords c.in-Some.is ∙ ap shape_keywords (sym c.deref-2.ensures) in
-    subst (λ ks. CountsUpTo c.args.ctx.now c.evaluate-2.new.ctx (all_pairs ks (g.F.Node.Rooted.tree c.args.instance.now))) (sym is) c.in_ok-result.ensures.counted
-
-pub items::array_shape::evaluate_shape-returns-clause-gives : goal.items::array_shape::evaluate_shape-returns-clause-gives
-items::array_shape::evaluate_shape-returns-clause-gives g t c =
-    let instance = g.F.Node.Rooted.tree c.args.instance.now in
-    let p = path_of c.args.location.now in
-    let v = c.in-Some.shape.value in
-    let old = c.args.children.now.items in
-    let others = units (absorbed_keywords v.absorbed) instance p in
-    let node = node_at v.items.location p (unit (validator_keyword v.items.validator) instance p) in
-    let before = c.in_ok-evaluate.ensures ∙ ap₂ (λ w q. old ++ units (absorbed_keywords w.absorbed) instance q) c.deref.ensures c.requires.path in
-    let result = c.in_ok-result.ensures.gives ∙ ap (λ w. unit (validator_keyword w.items.validator) instance p) c.deref-2.ensures in
-    let made = c.in_ok-new.ensures ∙ ap (λ w. node_at w.items.location c.args.path.now (result_of c.in_ok-result.result)) c.deref-3.ensures ∙ ap₂ (node_at v.items.location) c.requires.path result in
-    c.in_ok-push.ensures.items ∙ ap₂ (λ es e. es ++ e ∷ []) before made ∙ append_assoc old others (node ∷ [])
-    ∙ ap (λ es. old ++ es) (sym (units_appended instance p (absorbed_keywords v.absorbed) (items_keywords v)))
-    ∙ ap (λ ks. old ++ units ks instance p) (sym (ap fused_keywords c.in-Some.is))
+pub unit::UnitValidate::evaluate-evaluate-requires-in-Shape : goal.unit::UnitValidate::evaluate-evaluate-requires-in-Shape
+unit::UnitValidate::evaluate-evaluate-requires-in-Shape g t c κs within =
+    let v = c.deref.result.now in
+    let tall : unit_tall c.args.self.now ≡ all_height (shape_keywords v) = ap unit_tall c.in-Shape.is ∙ ap (λ w. all_height (shape_keywords w)) (sym c.deref.ensures) in
+    (omega (arith, tall, items_height v, c.decreases), search rules)
 
 -- ---- a node
 
-pub node::SchemaNode::evaluate_instance_below-evaluate_shape-requires : goal.node::SchemaNode::evaluate_instance_below-evaluate_shape-requires
-node::SchemaNode::evaluate_instance_below-evaluate_shape-requires g t c κs within =
-    let n = c.self.inside in
-    let us = c.as_slice-units.result.now in
-    let below = lower_shape c.args.self.now n.location n.hands_on n.assertions c.in-Keywords.shape c.in-Keywords.units us (fused_keywords c.in-Keywords.shape) (sym c.self.view_is) c.in-Keywords.is c.as_slice-units.ensures.value refl in
-    (omega (arith, below, c.decreases), search (rules, c.in_ok-path.ensures))
-
 pub node::SchemaNode::evaluate_instance_below-evaluate_units-requires : goal.node::SchemaNode::evaluate_instance_below-evaluate_units-requires
 node::SchemaNode::evaluate_instance_below-evaluate_units-requires g t c κs within =
-    let n = c.self.inside in
-    let us = c.as_slice-units.result.now in
-    let below = lower_units c.args.self.now n.location n.hands_on n.assertions c.in-Keywords.shape c.in-Keywords.units us (fused_keywords c.in-Keywords.shape) (sym c.self.view_is) c.in-Keywords.is c.as_slice-units.ensures.value refl in
-    (omega (arith, below, c.decreases), search (rules, c.in_ok-path.ensures, c.in_ok-evaluate_shape-in-Keywords.ensures.location))
+    let below = schema_height c.args.self.now c.in-Some.units c.in-Some.ensures.units in
+    (omega (arith, below, c.decreases), search (rules, c.in_ok-path.ensures))
 
-pub node::SchemaNode::evaluate_instance_below-returns-in_err-evaluate_shape-in-Keywords-clause-applied : goal.node::SchemaNode::evaluate_instance_below-returns-in_err-evaluate_shape-in-Keywords-clause-applied
-node::SchemaNode::evaluate_instance_below-returns-in_err-evaluate_shape-in-Keywords-clause-applied g t c =
-    le_trans c.count_one.ensures.applied c.in_err-evaluate_shape-in-Keywords.ensures.counted.from
+pub node::SchemaNode::evaluate_instance_below-returns-in_err-path-clause-counted : goal.node::SchemaNode::evaluate_instance_below-returns-in_err-path-clause-counted
+node::SchemaNode::evaluate_instance_below-returns-in_err-path-clause-counted g t c =
+    let one = one_pair c.args.self.now (g.F.Node.Rooted.tree c.args.instance.now) in
+    let counted = c.apply.ensures.counted in
+    record { from = counted.from; to = omega (arith, one, counted.to) }
 
-pub node::SchemaNode::evaluate_instance_below-returns-in_err-evaluate_shape-in-Keywords-clause-counted : goal.node::SchemaNode::evaluate_instance_below-returns-in_err-evaluate_shape-in-Keywords-clause-counted
-node::SchemaNode::evaluate_instance_below-returns-in_err-evaluate_shape-in-Keywords-clause-counted g t c =
-    let instance = g.F.Node.Rooted.tree c.args.instance.now in
-    let n = c.self.inside in
-    let us = c.as_slice-units.result.now in
-    let whole = schema_pairs c.args.self.now n.location n.hands_on n.assertions c.in-Keywords.shape c.in-Keywords.units us (fused_keywords c.in-Keywords.shape) (sym c.self.view_is) c.in-Keywords.is c.as_slice-units.ensures.value refl instance in
-    let first = c.count_one.ensures.counted in
-    let next = c.in_err-evaluate_shape-in-Keywords.ensures.counted in
-    record { from = omega (arith, first.from, next.from); to = omega (arith, whole, first.to, next.to) }
+pub node::SchemaNode::evaluate_instance_below-returns-in_err-evaluate_units-clause-applied : goal.node::SchemaNode::evaluate_instance_below-returns-in_err-evaluate_units-clause-applied
+node::SchemaNode::evaluate_instance_below-returns-in_err-evaluate_units-clause-applied g t c = le_trans c.apply.ensures.applied c.in_err-evaluate_units.ensures.counted.from
 
-pub node::SchemaNode::evaluate_instance_below-returns-in_err-evaluate_units-in-Keywords-clause-applied : goal.node::SchemaNode::evaluate_instance_below-returns-in_err-evaluate_units-in-Keywords-clause-applied
-node::SchemaNode::evaluate_instance_below-returns-in_err-evaluate_units-in-Keywords-clause-applied g t c =
-    le_trans c.count_one.ensures.applied (le_trans c.in_ok-evaluate_shape-in-Keywords.ensures.counted.from c.in_err-evaluate_units-in-Keywords.ensures.counted.from)
-
-pub node::SchemaNode::evaluate_instance_below-returns-in_err-evaluate_units-in-Keywords-clause-counted : goal.node::SchemaNode::evaluate_instance_below-returns-in_err-evaluate_units-in-Keywords-clause-counted
-node::SchemaNode::evaluate_instance_below-returns-in_err-evaluate_units-in-Keywords-clause-counted g t c =
-    let instance = g.F.Node.Rooted.tree c.args.instance.now in
-    let n = c.self.inside in
-    let us = c.as_slice-units.result.now in
-    let whole = schema_pairs c.args.self.now n.location n.hands_on n.assertions c.in-Keywords.shape c.in-Keywords.units us (fused_keywords c.in-Keywords.shape) (sym c.self.view_is) c.in-Keywords.is c.as_slice-units.ensures.value refl instance in
-    let first = c.count_one.ensures.counted in
-    let next = c.in_ok-evaluate_shape-in-Keywords.ensures.counted in
-    let rest = c.in_err-evaluate_units-in-Keywords.ensures.counted in
-    record { from = omega (arith, first.from, next.from, rest.from); to = omega (arith, whole, first.to, next.to, rest.to) }
+pub node::SchemaNode::evaluate_instance_below-returns-in_err-evaluate_units-clause-counted : goal.node::SchemaNode::evaluate_instance_below-returns-in_err-evaluate_units-clause-counted
+node::SchemaNode::evaluate_instance_below-returns-in_err-evaluate_units-clause-counted g t c =
+    let whole = schema_pairs c.args.self.now c.in-Some.units c.in-Some.ensures.units (g.F.Node.Rooted.tree c.args.instance.now) in
+    let first = c.apply.ensures.counted in
+    let rest = c.in_err-evaluate_units.ensures.counted in
+    record { from = omega (arith, first.from, rest.from); to = omega (arith, whole, first.to, rest.to) }
 
 pub node::SchemaNode::evaluate_instance_below-returns-clause-applied : goal.node::SchemaNode::evaluate_instance_below-returns-clause-applied
-node::SchemaNode::evaluate_instance_below-returns-clause-applied g t c =
-    le_trans c.count_one.ensures.applied (le_trans c.in_ok-evaluate_shape-in-Keywords.ensures.counted.from c.in_ok-evaluate_units-in-Keywords.ensures.counted.from)
+node::SchemaNode::evaluate_instance_below-returns-clause-applied g t c = le_trans c.apply.ensures.applied c.in_ok-evaluate_units.ensures.counted.from
 
 pub node::SchemaNode::evaluate_instance_below-returns-clause-counted : goal.node::SchemaNode::evaluate_instance_below-returns-clause-counted
 node::SchemaNode::evaluate_instance_below-returns-clause-counted g t c =
-    let instance = g.F.Node.Rooted.tree c.args.instance.now in
-    let n = c.self.inside in
-    let us = c.as_slice-units.result.now in
-    let whole = schema_pairs c.args.self.now n.location n.hands_on n.assertions c.in-Keywords.shape c.in-Keywords.units us (fused_keywords c.in-Keywords.shape) (sym c.self.view_is) c.in-Keywords.is c.as_slice-units.ensures.value refl instance in
-    let first = c.count_one.ensures.counted in
-    let next = c.in_ok-evaluate_shape-in-Keywords.ensures.counted in
-    let rest = c.in_ok-evaluate_units-in-Keywords.ensures.counted in
-    record { from = omega (arith, first.from, next.from, rest.from); to = omega (arith, whole, first.to, next.to, rest.to) }
+    let whole = schema_pairs c.args.self.now c.in-Some.units c.in-Some.ensures.units (g.F.Node.Rooted.tree c.args.instance.now) in
+    let first = c.apply.ensures.counted in
+    let rest = c.in_ok-evaluate_units.ensures.counted in
+    record { from = omega (arith, first.from, rest.from); to = omega (arith, whole, first.to, rest.to) }
 
 pub node::SchemaNode::evaluate_instance_below-returns-clause-gives : goal.node::SchemaNode::evaluate_instance_below-returns-clause-gives
 node::SchemaNode::evaluate_instance_below-returns-clause-gives g t c =
     let instance = g.F.Node.Rooted.tree c.args.instance.now in
     let p = path_of c.args.location.now in
-    let n = c.self.inside in
-    let us = c.as_slice-units.result.now in
-    let ks = fused_keywords c.in-Keywords.shape in
-    let whole = schema_tree c.args.self.now n.location n.hands_on n.assertions c.in-Keywords.shape c.in-Keywords.units us (fused_keywords c.in-Keywords.shape) (sym c.self.view_is) c.in-Keywords.is c.as_slice-units.ensures.value refl instance p in
-    let first = c.in_ok-evaluate_shape-in-Keywords.ensures.gives ∙ ap (λ es. es ++ units ks instance p) c.new-children.ensures.items in
-    let children = c.in_ok-evaluate_units-in-Keywords.ensures.gives ∙ ap₂ (λ es q. es ++ units (keywords_of us) instance (path_of q)) first c.in_ok-evaluate_shape-in-Keywords.ensures.location in
+    let s = c.args.self.now in
+    let whole = schema_tree s c.in-Some.units c.in-Some.ensures.units instance p in
+    let children = c.in_ok-evaluate_units.ensures.gives ∙ ap (λ es. es ++ units (keywords_of c.in-Some.units.now) instance p) c.new-children.ensures.items in
     let result = c.from_children-result.ensures ∙ ap (of_children None) children in
-    subst (λ x. IfOk c.new-in-Keywords.result (λ node. node ≡ x)) (ap₂ (node_at n.location) c.in_ok-path.ensures result ∙ sym whole) c.new-in-Keywords.ensures
+    let is = ap (λ q. node_at q c.in_ok-path.path (result_of c.from_children-result.result)) c.location-2.ensures ∙ ap₂ (node_at (schema_location s)) c.in_ok-path.ensures result ∙ sym whole in
+    subst (λ x. IfOk c.new.result (λ node. node ≡ x)) is c.new.ensures
 
-pub node::SchemaNode::evaluate_instance_below-returns-in_err-path-clause-counted : goal.node::SchemaNode::evaluate_instance_below-returns-in_err-path-clause-counted
-node::SchemaNode::evaluate_instance_below-returns-in_err-path-clause-counted g t c =
-    let one = one_pair c.args.self.now (g.F.Node.Rooted.tree c.args.instance.now) in
-    let counted = c.count_one.ensures.counted in
-    record { from = counted.from; to = omega (arith, one, counted.to) }
-
-pub node::SchemaNode::evaluate_instance_below-returns-in-Never-clause-gives : goal.node::SchemaNode::evaluate_instance_below-returns-in-Never-clause-gives
-node::SchemaNode::evaluate_instance_below-returns-in-Never-clause-gives g t c =
-    let n = c.self.inside in
+pub node::SchemaNode::evaluate_instance_below-returns-in_default-clause-gives : goal.node::SchemaNode::evaluate_instance_below-returns-in_default-clause-gives
+node::SchemaNode::evaluate_instance_below-returns-in_default-clause-gives g t c =
     let instance = g.F.Node.Rooted.tree c.args.instance.now in
     let p = path_of c.args.location.now in
-    let schema = sym c.self.view_is ∙ ap (schema_of n.location n.hands_on) c.in-Never.is in
-    let result = c.in_ok-result-in-Never.ensures.unit (fail (false_schema n.location) instance p) (omega arith) c.refuse-refusal.ensures in
-    let is = ap (λ q. node_at n.location q (result_of c.in_ok-result-in-Never.result)) c.in_ok-path.ensures ∙ ap (node_at n.location p) result
-    ∙ refused_tree n.location instance p ∙ ap (λ s. tree s instance p) (sym schema) in
-    subst (λ x. IfOk c.new.result (λ node. node ≡ x)) is c.new.ensures
+    let is = ap (λ q. tree (false_schema q) instance p) c.location.ensures ∙ sym (false_tree c.args.self.now c.in_default.ensures.units instance p) in
+    subst (λ x. IfOk c.evaluate_refusal.result (λ node. node ≡ x)) is c.evaluate_refusal.ensures

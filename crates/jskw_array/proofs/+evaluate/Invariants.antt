@@ -5,8 +5,8 @@ use Rattle.jskw_report.specs.Evaluation.{evaluate_each, evaluate_matching, evalu
 use Rattle.jskw_report.specs.Holds.{holds}
 use Rattle.jskw_report.specs.Paths.{path_of}
 use Rattle.jskw_array.specs.Meaning.{each_keyword, rest_keyword, schemas_of, validator_keyword}
-use Rattle.jskw_array.specs.Node.{fused_keywords}
 use Rattle.jskw_array.specs.Units.{keywords_of}
+use Rattle.jskw_array.proofs.Keywords.{unit_tall}
 use Rattle.jskw_array.proofs.+evaluate.Given as goal
 
 abbrev pub decreases-node::SchemaNode::evaluate_instance_below : goal.decreases-node::SchemaNode::evaluate_instance_below
@@ -18,11 +18,11 @@ decreases-node::SchemaNode::evaluate_item g l = 10 * height l.self.now + 1
 abbrev pub decreases-unit::evaluate_units : goal.decreases-unit::evaluate_units
 decreases-unit::evaluate_units g l = 10 * all_height (keywords_of l.units.now) + 7
 
+abbrev pub decreases-unit::UnitValidate::evaluate : goal.decreases-unit::UnitValidate::evaluate
+decreases-unit::UnitValidate::evaluate g l = 10 * unit_tall l.self.now + 6
+
 abbrev pub decreases-items::array_shape::ArrayShapeValidatorValidate::evaluate : goal.decreases-items::array_shape::ArrayShapeValidatorValidate::evaluate
 decreases-items::array_shape::ArrayShapeValidatorValidate::evaluate g l = 10 * keyword_height (validator_keyword l.self.now.items.validator) + 5
-
-abbrev pub decreases-items::array_shape::evaluate_shape : goal.decreases-items::array_shape::evaluate_shape
-decreases-items::array_shape::evaluate_shape g l = 10 * all_height (fused_keywords l.shape.now) + 6
 
 abbrev pub decreases-validator::ValidatorValidate::evaluate : goal.decreases-validator::ValidatorValidate::evaluate
 decreases-validator::ValidatorValidate::evaluate g l = 10 * keyword_height (validator_keyword l.self.now) + 3

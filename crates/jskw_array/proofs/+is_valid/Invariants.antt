@@ -5,6 +5,7 @@ use Rattle.jskw_report.specs.Applications.{needed, each_needed, all_needed, keyw
 use Rattle.jskw_report.specs.Holds.{holds, each_holds, all_hold, keyword_holds}
 use Rattle.jskw_array.specs.Meaning.{each_keyword, rest_keyword, schemas_of, validator_keyword}
 use Rattle.jskw_array.specs.Units.{keywords_of}
+use Rattle.jskw_array.proofs.Keywords.{unit_tall}
 use Rattle.jskw_array.proofs.+is_valid.Given as goal
 
 abbrev pub decreases-node::SchemaNode::is_valid : goal.decreases-node::SchemaNode::is_valid
@@ -12,6 +13,9 @@ decreases-node::SchemaNode::is_valid g l = 10 * height l.self.now
 
 abbrev pub decreases-unit::units_are_valid : goal.decreases-unit::units_are_valid
 decreases-unit::units_are_valid g l = 10 * all_height (keywords_of l.units.now) + 7
+
+abbrev pub decreases-unit::UnitValidate::is_valid : goal.decreases-unit::UnitValidate::is_valid
+decreases-unit::UnitValidate::is_valid g l = 10 * unit_tall l.self.now + 6
 
 abbrev pub decreases-items::array_shape::ArrayShapeValidatorValidate::is_valid : goal.decreases-items::array_shape::ArrayShapeValidatorValidate::is_valid
 decreases-items::array_shape::ArrayShapeValidatorValidate::is_valid g l = 10 * keyword_height (validator_keyword l.self.now.items.validator) + 5
@@ -34,8 +38,8 @@ decreases-rest::Rest::holds_of g l = 10 * keyword_height (rest_keyword l.self.no
 abbrev pub decreases-matching::MatchingValidate::is_valid : goal.decreases-matching::MatchingValidate::is_valid
 decreases-matching::MatchingValidate::is_valid g l = 10 * height l.self.now.node + 2
 
-abbrev pub decreases-matching::Matching::fault : goal.decreases-matching::Matching::fault
-decreases-matching::Matching::fault g l = 10 * height l.self.now.node + 1
+abbrev pub decreases-matching::Matching::failing_location : goal.decreases-matching::Matching::failing_location
+decreases-matching::Matching::failing_location g l = 10 * height l.self.now.node + 1
 
 abbrev pub invariant-each::EachValidate::is_valid-loop-index : goal.invariant-each::EachValidate::is_valid-loop-index
 invariant-each::EachValidate::is_valid-loop-index g l =
@@ -58,14 +62,14 @@ invariant-rest::Rest::holds_of-loop-index g l =
       counted_to : l.ctx + sum_to_failure (holds s) (needed s) (drop l.index (items t)) ≤ l.initial.ctx + keyword_needed (rest_keyword l.self) t;
     }
 
-abbrev pub invariant-matching::Matching::fault-loop-index : goal.invariant-matching::Matching::fault-loop-index
-invariant-matching::Matching::fault-loop-index g l =
+abbrev pub invariant-matching::Matching::failing_location-loop-index : goal.invariant-matching::Matching::failing_location-loop-index
+invariant-matching::Matching::failing_location-loop-index g l =
     let ts = items (g.F.Node.Rooted.tree l.instance) in
     let s = l.self.node in
     record {
       last : l.index-end ≡ length ts;
       few : l.matches ≤ l.index;
-      enough : l.matches ≤ l.enough;
+      decided : l.matches ≤ l.deciding_count;
       counted : l.matches + count_by (holds s) (drop l.index ts) ≡ count_by (holds s) ts;
       counted_from : l.initial.ctx ≤ l.ctx;
       counted_to : l.ctx + sum_by (needed s) (drop l.index ts) ≤ l.initial.ctx + sum_by (needed s) ts;

@@ -4,19 +4,18 @@ use Rattle.jskw_value.specs.Pointer.{item_location}
 use Rattle.jskw_value.specs.Tree.{items}
 use Rattle.jskw_report.proofs.Appended.{fail_appended}
 use Rattle.jskw_report.proofs.Appending.{first_before}
-use Rattle.jskw_report.proofs.Fails.{all_empty, holds_empty, keyword_empty}
-use Rattle.jskw_report.specs.Applications.{all_needed, keyword_needed, needed}
-use Rattle.jskw_report.specs.Fail.{all_fail, each_fails, each_item, fail, is_empty, keyword_fail}
+use Rattle.jskw_report.proofs.Fails.{holds_empty}
+use Rattle.jskw_report.specs.Applications.{all_height, all_needed, needed}
+use Rattle.jskw_report.specs.Fail.{all_fail, each_fails, each_item, fail, is_empty}
 use Rattle.jskw_report.specs.Holds.{holds}
+use Rattle.jskw_report.specs.Meaning.{meaning_fail, meaning_needed}
 use Rattle.jskw_report.specs.Observe.{IsFirst}
 use Rattle.jskw_report.specs.Paths.{path_of}
-use Rattle.jskw_report.specs.Keyword.{no_keywords}
 use Rattle.jskw_array.specs.Fused.{absorbed_keywords, shape_keywords}
 use Rattle.jskw_array.specs.Heights.{each_is_as_high, rest_is_as_high}
-use Rattle.jskw_array.specs.Meaning.{schemas_of, validator_keyword}
-use Rattle.jskw_array.specs.Node.{fused_keywords}
-use Rattle.jskw_array.specs.Units.{keywords_of}
-use Rattle.jskw_array.proofs.Keywords.{fail_at, items_height, items_keywords, keywords_end, lower_shape, lower_units, needed_at, schema_fails, schema_needs, unit_height}
+use Rattle.jskw_array.specs.Meaning.{schemas_of}
+use Rattle.jskw_array.specs.Units.{keywords_of, unit_meaning}
+use Rattle.jskw_array.proofs.Keywords.{fail_at, items_height, items_keywords, keywords_end, needed_at, schema_fails, schema_height, schema_needs, unit_empty, unit_height, unit_tall}
 use Rattle.jskw_array.proofs.Meant.{absurd-of, each_fails_of, each_needs, each_no_assertion, rest_fails_of, rest_needs, rest_no_assertion}
 use Rattle.jskw_array.proofs.Meetings.{each_fails_at, each_fails_end, each_needed_at, fails_at, height_at, until_at}
 use Rattle.jskw_array.proofs.+validate.Goals as goal
@@ -155,12 +154,19 @@ unit::validate_units-returns-in_err-validate-clause-first g t c =
     let p = path_of c.args.location.now in
     let us = c.args.units.now in
     let u = c.unit-item.result in
-    let k = validator_keyword u.validator in
+    let m = unit_meaning u in
     let e = c.in_err-validate.field-0.0 in
     let here = fail_at us l.unit-index u c.loop-unit-test.true c.unit-item.is instance p in
-    let first = subst (λ q. IsFirst tree (keyword_fail k instance (path_of q)) (Err e)) l.invariant.location c.in_err-validate.ensures.first in
+    let first = subst (λ q. IsFirst tree (meaning_fail m instance (path_of q)) (Err e)) l.invariant.location c.in_err-validate.ensures.first in
     let rest = all_fail (keywords_of (drop (l.unit-index + 1) us)) instance p in
-    first_before tree _ e (keyword_fail k instance p) rest _ c.from_residual.ensures.1 first (sym here ∙ l.invariant.left)
+    first_before tree _ e (meaning_fail m instance p) rest _ c.from_residual.ensures.1 first (sym here ∙ l.invariant.left)
+
+pub unit::validate_units-returns-in_err-validate-clause-counted : goal.unit::validate_units-returns-in_err-validate-clause-counted
+unit::validate_units-returns-in_err-validate-clause-counted g t c =
+    let l = c.loop-unit in
+    let here = needed_at c.args.units.now l.unit-index c.unit-item.result c.loop-unit-test.true c.unit-item.is (g.F.Node.Rooted.tree c.args.instance.now) in
+    let next = c.in_err-validate.ensures.counted in
+    record { from = omega (arith, l.invariant.counted_from, next.from); to = omega (arith, here, l.invariant.counted_to, next.to) }
 
 pub unit::validate_units-loop-unit-preserved : goal.unit::validate_units-loop-unit-preserved
 unit::validate_units-loop-unit-preserved g t c =
@@ -170,13 +176,13 @@ unit::validate_units-loop-unit-preserved g t c =
     let p = path_of c.args.location.now in
     let us = c.args.units.now in
     let u = c.unit-item.result in
-    let k = validator_keyword u.validator in
-    let none = subst (λ q. keyword_fail k instance (path_of q) ≡ []) l.invariant.location c.in_ok-validate.ensures.first in
-    let holds_here = keyword_empty k instance p ∙ ap is_empty none in
+    let m = unit_meaning u in
+    let none = subst (λ q. meaning_fail m instance (path_of q) ≡ []) l.invariant.location c.in_ok-validate.ensures.first in
+    let holds_here = unit_empty u instance p ∙ ap is_empty none in
     let here = fail_at us l.unit-index u c.loop-unit-test.true c.unit-item.is instance p in
     let rest = keywords_of (drop (l.unit-index + 1) us) in
-    let cost : all_needed (keywords_of (drop l.unit-index us)) instance ≡ keyword_needed k instance + all_needed rest instance =
-    needed_at us l.unit-index u c.loop-unit-test.true c.unit-item.is instance ∙ ap (λ b. keyword_needed k instance + (if b then all_needed rest instance else 0)) holds_here in
+    let cost : all_needed (keywords_of (drop l.unit-index us)) instance ≡ meaning_needed m instance + all_needed rest instance =
+    needed_at us l.unit-index u c.loop-unit-test.true c.unit-item.is instance ∙ ap (λ b. meaning_needed m instance + (if b then all_needed rest instance else 0)) holds_here in
     let next = c.in_ok-validate.ensures.counted in
     record {
       left = sym (here ∙ ap (λ fs. fs ++ all_fail rest instance p) none) ∙ l.invariant.left;
@@ -189,6 +195,12 @@ pub unit::validate_units-returns-clause-first : goal.unit::validate_units-return
 unit::validate_units-returns-clause-first g t c =
     let l = c.loop-unit in
     sym l.invariant.left ∙ ap (λ ks. all_fail ks (g.F.Node.Rooted.tree c.args.instance.now) (path_of c.args.location.now)) (keywords_end c.args.units.now l.unit-index c.loop-unit-test.false)
+
+pub unit::UnitValidate::validate-validate-requires-in-Shape : goal.unit::UnitValidate::validate-validate-requires-in-Shape
+unit::UnitValidate::validate-validate-requires-in-Shape g t c κs within =
+    let v = c.deref.result.now in
+    let tall : unit_tall c.args.self.now ≡ all_height (shape_keywords v) = ap unit_tall c.in-Shape.is ∙ ap (λ w. all_height (shape_keywords w)) (sym c.deref.ensures) in
+    (omega (arith, tall, items_height v, c.decreases), search rules)
 
 -- ---- the fused shape
 
@@ -203,87 +215,20 @@ items::array_shape::ArrayShapeValidatorValidate::validate-returns-in_err-validat
 
 -- ---- a node
 
-pub node::SchemaNode::validate-validate-requires : goal.node::SchemaNode::validate-validate-requires
-node::SchemaNode::validate-validate-requires g t c κs within =
-    let n = c.self.inside in
-    let us = c.as_slice-units.result.now in
-    let v = c.deref.result.now in
-    let below = lower_shape c.args.self.now n.location n.hands_on n.assertions c.in-Keywords.shape c.in-Keywords.units us (shape_keywords v) (sym c.self.view_is) c.in-Keywords.is c.as_slice-units.ensures.value (ap fused_keywords c.in-Some.is ∙ ap shape_keywords (sym c.deref.ensures)) in
-    (omega (arith, below, items_height v, c.decreases), search rules)
-
-pub node::SchemaNode::validate-validate_units-requires-in-Some : goal.node::SchemaNode::validate-validate_units-requires-in-Some
-node::SchemaNode::validate-validate_units-requires-in-Some g t c κs within =
-    let n = c.self.inside in
-    let us = c.as_slice-units.result.now in
-    let below = lower_units c.args.self.now n.location n.hands_on n.assertions c.in-Keywords.shape c.in-Keywords.units us _ (sym c.self.view_is) c.in-Keywords.is c.as_slice-units.ensures.value refl in
+pub node::SchemaNode::validate-validate_units-requires : goal.node::SchemaNode::validate-validate_units-requires
+node::SchemaNode::validate-validate_units-requires g t c κs within =
+    let below = schema_height c.args.self.now c.in-Some.units c.in-Some.ensures.units in
     (omega (arith, below, c.decreases), search rules)
 
-pub node::SchemaNode::validate-returns-in_err-validate-in-Some-clause-first : goal.node::SchemaNode::validate-returns-in_err-validate-in-Some-clause-first
-node::SchemaNode::validate-returns-in_err-validate-in-Some-clause-first g t c =
+pub node::SchemaNode::validate-returns-clause-first : goal.node::SchemaNode::validate-returns-clause-first
+node::SchemaNode::validate-returns-clause-first g t c =
     let tree = g.F.Node.Rooted.tree in
-    let instance = tree c.args.instance.now in
-    let p = path_of c.args.location.now in
-    let n = c.self.inside in
-    let us = c.as_slice-units.result.now in
-    let v = c.deref.result.now in
-    let whole = schema_fails c.args.self.now n.location n.hands_on n.assertions c.in-Keywords.shape c.in-Keywords.units us (shape_keywords v) (sym c.self.view_is) c.in-Keywords.is c.as_slice-units.ensures.value (ap fused_keywords c.in-Some.is ∙ ap shape_keywords (sym c.deref.ensures)) instance p in
-    first_before tree _ c.in_err-validate-in-Some.field-0.0 (all_fail (shape_keywords v) instance p) (all_fail (keywords_of us) instance p) _ c.from_residual.ensures.1 c.in_err-validate-in-Some.ensures.first (sym whole)
-
-pub node::SchemaNode::validate-returns-in_err-validate-in-Some-clause-counted : goal.node::SchemaNode::validate-returns-in_err-validate-in-Some-clause-counted
-node::SchemaNode::validate-returns-in_err-validate-in-Some-clause-counted g t c =
-    let instance = g.F.Node.Rooted.tree c.args.instance.now in
-    let n = c.self.inside in
-    let us = c.as_slice-units.result.now in
-    let v = c.deref.result.now in
-    let whole = schema_needs c.args.self.now n.location n.hands_on n.assertions c.in-Keywords.shape c.in-Keywords.units us (shape_keywords v) (sym c.self.view_is) c.in-Keywords.is c.as_slice-units.ensures.value (ap fused_keywords c.in-Some.is ∙ ap shape_keywords (sym c.deref.ensures)) instance in
-    let first = c.count_one.ensures.counted in
-    let next = c.in_err-validate-in-Some.ensures.counted in
-    record { from = omega (arith, first.from, next.from); to = omega (arith, whole, first.to, next.to) }
-
-pub node::SchemaNode::validate-returns-in-None-clause-first : goal.node::SchemaNode::validate-returns-in-None-clause-first
-node::SchemaNode::validate-returns-in-None-clause-first g t c =
-    let tree = g.F.Node.Rooted.tree in
-    let instance = tree c.args.instance.now in
-    let n = c.self.inside in
-    let us = c.as_slice-units.result.now in
-    let whole = schema_fails c.args.self.now n.location n.hands_on n.assertions c.in-Keywords.shape c.in-Keywords.units us no_keywords (sym c.self.view_is) c.in-Keywords.is c.as_slice-units.ensures.value (ap fused_keywords c.in-None.is) instance (path_of c.args.location.now) in
+    let whole = schema_fails c.args.self.now c.in-Some.units c.in-Some.ensures.units (tree c.args.instance.now) (path_of c.args.location.now) in
     subst (λ fs. IsFirst tree fs c.validate_units.result) (sym whole) c.validate_units.ensures.first
 
-pub node::SchemaNode::validate-returns-in-None-clause-counted : goal.node::SchemaNode::validate-returns-in-None-clause-counted
-node::SchemaNode::validate-returns-in-None-clause-counted g t c =
-    let instance = g.F.Node.Rooted.tree c.args.instance.now in
-    let n = c.self.inside in
-    let us = c.as_slice-units.result.now in
-    let whole = schema_needs c.args.self.now n.location n.hands_on n.assertions c.in-Keywords.shape c.in-Keywords.units us no_keywords (sym c.self.view_is) c.in-Keywords.is c.as_slice-units.ensures.value (ap fused_keywords c.in-None.is) instance in
-    let first = c.count_one.ensures.counted in
+pub node::SchemaNode::validate-returns-clause-counted : goal.node::SchemaNode::validate-returns-clause-counted
+node::SchemaNode::validate-returns-clause-counted g t c =
+    let whole = schema_needs c.args.self.now c.in-Some.units c.in-Some.ensures.units (g.F.Node.Rooted.tree c.args.instance.now) in
+    let first = c.apply.ensures.counted in
     let rest = c.validate_units.ensures.counted in
     record { from = omega (arith, first.from, rest.from); to = omega (arith, whole, first.to, rest.to) }
-
-pub node::SchemaNode::validate-returns-in_ok-validate-in-Some-clause-first : goal.node::SchemaNode::validate-returns-in_ok-validate-in-Some-clause-first
-node::SchemaNode::validate-returns-in_ok-validate-in-Some-clause-first g t c =
-    let tree = g.F.Node.Rooted.tree in
-    let instance = tree c.args.instance.now in
-    let p = path_of c.args.location.now in
-    let n = c.self.inside in
-    let us = c.as_slice-units.result.now in
-    let v = c.deref.result.now in
-    let whole = schema_fails c.args.self.now n.location n.hands_on n.assertions c.in-Keywords.shape c.in-Keywords.units us (shape_keywords v) (sym c.self.view_is) c.in-Keywords.is c.as_slice-units.ensures.value (ap fused_keywords c.in-Some.is ∙ ap shape_keywords (sym c.deref.ensures)) instance p in
-    let is = ap (λ q. all_fail (keywords_of us) instance (path_of q)) c.in_ok-validate-in-Some.ensures.location
-    ∙ sym (whole ∙ ap (λ fs. fs ++ all_fail (keywords_of us) instance p) c.in_ok-validate-in-Some.ensures.first) in
-    subst (λ fs. IsFirst tree fs c.validate_units-in-Some.result) is c.validate_units-in-Some.ensures.first
-
-pub node::SchemaNode::validate-returns-in_ok-validate-in-Some-clause-counted : goal.node::SchemaNode::validate-returns-in_ok-validate-in-Some-clause-counted
-node::SchemaNode::validate-returns-in_ok-validate-in-Some-clause-counted g t c =
-    let instance = g.F.Node.Rooted.tree c.args.instance.now in
-    let p = path_of c.args.location.now in
-    let n = c.self.inside in
-    let us = c.as_slice-units.result.now in
-    let v = c.deref.result.now in
-    let shape_holds = all_empty (shape_keywords v) instance p ∙ ap is_empty c.in_ok-validate-in-Some.ensures.first in
-    let whole = schema_needs c.args.self.now n.location n.hands_on n.assertions c.in-Keywords.shape c.in-Keywords.units us (shape_keywords v) (sym c.self.view_is) c.in-Keywords.is c.as_slice-units.ensures.value (ap fused_keywords c.in-Some.is ∙ ap shape_keywords (sym c.deref.ensures)) instance in
-    let cost : needed c.args.self.now instance ≡ 1 + (all_needed (shape_keywords v) instance + all_needed (keywords_of us) instance) =
-    whole ∙ ap (λ b. 1 + (all_needed (shape_keywords v) instance + (if b then all_needed (keywords_of us) instance else 0))) shape_holds in
-    let first = c.count_one.ensures.counted in
-    let next = c.in_ok-validate-in-Some.ensures.counted in
-    let rest = c.validate_units-in-Some.ensures.counted in
-    record { from = omega (arith, first.from, next.from, rest.from); to = omega (arith, cost, first.to, next.to, rest.to) }

@@ -6,6 +6,7 @@ use Rattle.jskw_report.specs.Holds.{holds}
 use Rattle.jskw_report.specs.Paths.{path_of}
 use Rattle.jskw_array.specs.Meaning.{each_keyword, rest_keyword, schemas_of, validator_keyword}
 use Rattle.jskw_array.specs.Units.{keywords_of}
+use Rattle.jskw_array.proofs.Keywords.{unit_tall}
 use Rattle.jskw_array.proofs.+validate.Given as goal
 
 abbrev pub decreases-node::SchemaNode::validate : goal.decreases-node::SchemaNode::validate
@@ -16,6 +17,9 @@ decreases-node::SchemaNode::validate_item g l = 10 * height l.self.now + 1
 
 abbrev pub decreases-unit::validate_units : goal.decreases-unit::validate_units
 decreases-unit::validate_units g l = 10 * all_height (keywords_of l.units.now) + 7
+
+abbrev pub decreases-unit::UnitValidate::validate : goal.decreases-unit::UnitValidate::validate
+decreases-unit::UnitValidate::validate g l = 10 * unit_tall l.self.now + 6
 
 abbrev pub decreases-items::array_shape::ArrayShapeValidatorValidate::validate : goal.decreases-items::array_shape::ArrayShapeValidatorValidate::validate
 decreases-items::array_shape::ArrayShapeValidatorValidate::validate g l = 10 * keyword_height (validator_keyword l.self.now.items.validator) + 5

@@ -1,5 +1,5 @@
-//! `items` of a `type` alone (Core 10.3.1.2, Validation 6.1.1): each item is tested in place, which
-//! is no application of a subschema.
+//! `items` of a schema with `type` alone (Core 10.3.1.2, Validation 6.1.1): each item is tested in
+//! place, which applies no subschema.
 ghost use Rattle.std.specs.Prelude.{◌≡◌, IfOk, IsTrue, Some, length, true};
 ghost use Rattle.serde_json.specs.Data.{member, no_members, object, string};
 ghost use Rattle.serde_json.specs.View.{view};
@@ -92,8 +92,7 @@ impl ItemType for IntegerItemsDraft4 {
     }
 }
 
-/// The validator of `items` of a `type` alone. Nothing is applied to an item, and the location goes
-/// down to those alone that are not of the type.
+/// The validator of `items` of a schema with `type` alone. No subschema is applied.
 #[derive(Drop)]
 pub struct ItemsTypeValidator<T: ItemType, F: Json> {
     // that of `items`
@@ -104,7 +103,7 @@ pub struct ItemsTypeValidator<T: ItemType, F: Json> {
 }
 
 impl<T: ItemType, F: Json> ItemsTypeValidator<T, F> {
-    /// The validator of the `items` at a location and of the `type` at another.
+    /// Returns the validator of the `items` at `location` and the `type` at `type_location`.
     pub fn new(location: Location, type_location: Location) -> ItemsTypeValidator<T, F>
         ensures { items_type T.json_type T.rule result
             ≡ bare_items location (type_at T.json_type T.rule type_location) }
@@ -116,7 +115,7 @@ impl<T: ItemType, F: Json> ItemsTypeValidator<T, F> {
         }
     }
 
-    // Whether each of the items is of the type, of which there are so many.
+    // Whether each of the `count` items is of the type.
     pub(crate) fn holds_of(&self, count: usize, instance: &F::Node) -> bool
         requires lawful { IsTrue (is_lawful (F.Node.tree instance.now)) }
         requires count { count ≡ length (items (F.Node.tree instance.now)) }
@@ -219,7 +218,7 @@ impl<T: ItemType, F: Json> Validate<F> for ItemsTypeValidator<T, F> {
     }
 }
 
-// Compiles `items` of a schema that is a `type` alone, which is read. Only memory can fail.
+// Compiles `items` of a schema with an active `type` alone. Fails only if memory runs out.
 pub(crate) fn compile_inline<'a, F: Json>(
     alloc: Global,
     ctx: &Context<'_, F>,
@@ -237,7 +236,7 @@ pub(crate) fn compile_inline<'a, F: Json>(
     Ok(typed_items(only_type(schema), ctx.draft(), location, type_location))
 }
 
-// The name that the schema's one member has as its value.
+// The value of the schema's one member.
 fn only_type(schema: &Value) -> &str
     requires { IsTrue (is_only_type (view schema.now)) }
     ensures { view schema.now
@@ -249,7 +248,7 @@ fn only_type(schema: &Value) -> &str
     value.as_str().unwrap_or("")
 }
 
-// The validator of items of the type of a name.
+// The validator of items of the type `name`.
 fn typed_items<F: Json>(
     name: &str,
     draft: Draft,

@@ -5,7 +5,7 @@ use Rattle.jskw_report.proofs.Appending.{first_before}
 use Rattle.jskw_report.specs.Fail.{all_fail}
 use Rattle.jskw_report.specs.Paths.{path_of}
 use Rattle.jskw_array.specs.Fused.{absorbed_bounds, optional}
-use Rattle.jskw_array.proofs.items.array_shape.AbsorbedKeywords.validate.Goals as goal
+use Rattle.jskw_array.proofs.items.absorbed.AbsorbedKeywords.validate.Goals as goal
 
 pub returns-in_err-validate_bound : goal.returns-in_err-validate_bound
 returns-in_err-validate_bound g c =

@@ -4,7 +4,7 @@ use Rattle.jskw_report.proofs.Appended.{units_appended}
 use Rattle.jskw_report.specs.Evaluation.{units}
 use Rattle.jskw_array.specs.Fused.{Extends, optional}
 use Rattle.jskw_array.proofs.Fused.{extends_before}
-use Rattle.jskw_array.proofs.items.array_shape.AbsorbedKeywords.evaluate_counts.Goals as goal
+use Rattle.jskw_array.proofs.items.absorbed.AbsorbedKeywords.evaluate_counts.Goals as goal
 
 pub returns-in_err-evaluate_bound : goal.returns-in_err-evaluate_bound
 returns-in_err-evaluate_bound g c =

@@ -8,7 +8,7 @@ use Rattle.jskw_leaf.specs.Meaning.{type_at}
 use Rattle.jskw_array.specs.Fused.{absorbed_keywords, optional}
 use Rattle.jskw_array.proofs.Faults.{handed_on}
 use Rattle.jskw_array.proofs.FusedReading.{absorbed_made, absorbed_refused, absorbed_refused_next, fused_max, fused_min, fused_type}
-use Rattle.jskw_array.proofs.items.array_shape.AbsorbedKeywords.compile.Goals as goal
+use Rattle.jskw_array.proofs.items.absorbed.AbsorbedKeywords.compile.Goals as goal
 
 pub compile_min_items-requires : goal.compile_min_items-requires
 compile_min_items-requires g c = fused_min c.args.ctx.now.setting (members_view c.args.parent.now.entries) c.requires

@@ -6,7 +6,7 @@ use Rattle.jskw_report.specs.Keyword.{MinItems}
 use Rattle.jskw_report.specs.Setting.{name_of}
 use Rattle.jskw_report.specs.declared.keyword.KeywordName.TheVariants as word
 use Rattle.jskw_array.proofs.FusedReading.{min_read, size_absent, size_made, size_there}
-use Rattle.jskw_array.proofs.items.array_shape.compile_min_items.Goals as goal
+use Rattle.jskw_array.proofs.items.absorbed.compile_min_items.Goals as goal
 
 pub returns-in_default : goal.returns-in_default
 returns-in_default g c =

@@ -8,7 +8,7 @@ use Rattle.jskw_report.specs.Observe.{Appends}
 use Rattle.jskw_report.specs.Paths.{path_of}
 use Rattle.jskw_array.specs.Fused.{absorbed_bounds, absorbed_type, optional}
 use Rattle.jskw_array.proofs.Fused.{max_once, min_once, type_once}
-use Rattle.jskw_array.proofs.items.array_shape.AbsorbedKeywords.collect_errors.Goals as goal
+use Rattle.jskw_array.proofs.items.absorbed.AbsorbedKeywords.collect_errors.Goals as goal
 
 pub returns-in_err-append_first : goal.returns-in_err-append_first
 returns-in_err-append_first g c =

@@ -1,0 +1,13 @@
+use Rattle.std.proofs.Common.{◌≡◌, ◌∙◌, ap, sym}
+use Rattle.jskw_report.specs.Keyword.{schema_location, schema_object}
+use Rattle.jskw_array.specs.Node.{marked, schema_of}
+use Rattle.jskw_array.specs.Units.{keywords_of}
+use Rattle.jskw_array.proofs.node.SchemaNode.units.Goals as goal
+
+pub returns-in-Keywords : goal.returns-in-Keywords
+returns-in-Keywords g c =
+    let n = c.self.inside in
+    let us = c.as_slice.result.now in
+    let is : c.args.self.now ≡ schema_object n.location (marked n.hands_on us) (keywords_of us) =
+    sym c.self.view_is ∙ ap (schema_of n.location n.hands_on) c.in-Keywords.is ∙ ap (λ xs. schema_object n.location (marked n.hands_on xs) (keywords_of xs)) (sym c.as_slice.ensures.value) in
+    (n.hands_on, is ∙ ap (λ q. schema_object q (marked n.hands_on us) (keywords_of us)) (sym (ap schema_location is)))

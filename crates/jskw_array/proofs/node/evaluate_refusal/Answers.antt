@@ -1,0 +1,15 @@
+use Rattle.std.proofs.Common.{◌≡◌, ◌∙◌, ap₂, subst, IfOk, arith}
+use Rattle.jskw_report.specs.Evaluation.{node_at}
+use Rattle.jskw_report.specs.Fail.{fail}
+use Rattle.jskw_report.specs.Keyword.{false_schema}
+use Rattle.jskw_report.specs.Paths.{path_of}
+use Rattle.jskw_array.proofs.Keywords.{refused_tree}
+use Rattle.jskw_array.proofs.node.evaluate_refusal.Goals as goal
+
+pub returns : goal.returns
+returns g c =
+    let q = c.args.schema_path.now in
+    let instance = g.F.Node.Rooted.tree c.args.instance.now in
+    let p = path_of c.args.location.now in
+    let result = c.in_ok-result.ensures.unit (fail (false_schema q) instance p) (omega arith) c.refuse.ensures in
+    subst (λ x. IfOk c.new.result (λ node. node ≡ x)) (ap₂ (node_at q) c.in_ok-path.ensures result ∙ refused_tree q instance p) c.new.ensures

@@ -1,0 +1,347 @@
+//! `type` of `array`, `minItems` and `maxItems` of the fused shape of an array.
+ghost use Rattle.std.specs.Prelude.{◌≡◌, [], ◌∷◌, IfOk, IfSome, IsTrue, is_some, length};
+ghost use Rattle.serde_json.specs.View.{members_view};
+ghost use Rattle.jskw_value.specs.Tree.{Tree, is_array as is_list, is_lawful, items};
+ghost use Rattle.jskw_report.specs.Compile.{Makes};
+ghost use Rattle.jskw_report.specs.Errors.{kind_of};
+ghost use Rattle.jskw_report.specs.Evaluation.{node_at, of_errors, unit, units};
+ghost use Rattle.jskw_report.specs.EvaluationView.{result_of};
+ghost use Rattle.jskw_report.specs.Fail.{all_fail, keyword_fail};
+ghost use Rattle.jskw_report.specs.Holds.{all_hold, assertion_holds};
+ghost use Rattle.jskw_report.specs.Meaning.{placed};
+ghost use Rattle.jskw_report.specs.Observe.{Appends, IsFirst, failures_unless};
+ghost use Rattle.jskw_report.specs.Paths.{path_of};
+ghost use Rattle.jskw_report.specs.Read.{part_named, read_words};
+ghost use Rattle.jskw_report.specs.Sibling.{is_fused, takes_size};
+ghost use Rattle.jskw_report.specs.declared.keyword.KeywordName.TheVariants as word;
+ghost use Rattle.jskw_number.specs.Meaning.{max_items, min_items};
+ghost use Rattle.jskw_array.specs.Fused.{absorbed_bounds, absorbed_keywords, absorbed_type};
+ghost use Rattle.jskw_array.specs.Fused.{Extends, count_of, optional};
+
+use jskw_leaf::type_::ArrayTypeValidator;
+use jskw_number::max_items::MaxItemsValidator;
+use jskw_number::min_items::MinItemsValidator;
+use jskw_report::compiler::member_of;
+use jskw_report::validator::{append_first, evaluate_first, fail_unless};
+use jskw_report::{
+    Assertion, CompilationResult, Context, EvaluationNode, EvaluationResult, Fault, KeywordName,
+    LazyLocation, Location, ValidationError, ValidationErrorKind,
+};
+use jskw_value::{Array, Json, Node};
+use serde_json::{Map, Value};
+use std::alloc::{AllocError, Global};
+
+/// `type` of `array`, `minItems` and `maxItems` beside fused `items`.
+#[derive(Drop)]
+pub struct AbsorbedKeywords {
+    type_: ArrayTypeValidator,
+    min_items: Option<MinItemsValidator>,
+    max_items: Option<MaxItemsValidator>,
+}
+
+impl AbsorbedKeywords {
+    // Compiles those of `parent`, which has the fused shape. Fails only if memory runs out.
+    pub(crate) fn compile<'a, F: Json>(
+        alloc: Global,
+        ctx: &Context<'_, F>,
+        parent: &'a Map<String, Value>,
+    ) -> CompilationResult<'a, AbsorbedKeywords>
+        requires { IsTrue (is_fused ctx.now.setting (members_view parent.now.entries)) }
+        ensures { let ms = members_view parent.now.entries in Makes absorbed_keywords result
+            (read_words (word.TypeKeyword ∷ word.MinItems ∷ word.MaxItems ∷ []) ctx.now.setting
+            ctx.now.location ms (λ name. part_named name ms)) }
+    {
+        let location = ctx.keyword_location(alloc, KeywordName::TypeKeyword)?;
+        let min_items = compile_min_items(alloc, ctx, parent)?;
+        let max_items = compile_max_items(alloc, ctx, parent)?;
+        Ok(AbsorbedKeywords {
+            type_: ArrayTypeValidator::new(location),
+            min_items,
+            max_items,
+        })
+    }
+
+    // The number of items of an array that they accept, None for every other instance.
+    pub(crate) fn valid_count<N: Node>(&self, instance: &N) -> Option<usize>
+        ensures holds { is_some result ≡ all_hold (absorbed_keywords self.now) (N.tree instance.now) }
+        ensures count { IfSome result (λ n. n ≡ length (items (N.tree instance.now))) }
+    {
+        if !instance.is_array() {
+            return None;
+        }
+        let length = Array::len(instance);
+        let count = Some(length as u64);
+        if self.min_items_hold(count) && self.max_items_hold(count) {
+            Some(length)
+        } else {
+            None
+        }
+    }
+
+    // Whether `minItems` holds of an array of `count` items, of a non-array if there is no count.
+    fn min_items_hold(&self, count: Option<u64>) -> bool
+        ensures { (t : Tree) → count ≡ count_of t
+            → result ≡ all_hold (optional min_items self.now.min_items) t }
+    {
+        match (&self.min_items, count) {
+            (Some(bound), Some(count)) => bound.accepts(count),
+            _ => true,
+        }
+    }
+
+    // Whether `maxItems` holds of an array of `count` items, of a non-array if there is no count.
+    fn max_items_hold(&self, count: Option<u64>) -> bool
+        ensures { (t : Tree) → count ≡ count_of t
+            → result ≡ all_hold (optional max_items self.now.max_items) t }
+    {
+        match (&self.max_items, count) {
+            (Some(bound), Some(count)) => bound.accepts(count),
+            _ => true,
+        }
+    }
+
+    // Their first error.
+    pub(crate) fn validate<'i, F: Json>(
+        &'i self,
+        instance: &'i F::Node,
+        location: &LazyLocation,
+    ) -> Result<(), Fault<'i, F>>
+        requires { IsTrue (is_lawful (F.Node.tree instance.now)) }
+        ensures { IsFirst F.Node.tree (all_fail (absorbed_keywords self.now)
+            (F.Node.tree instance.now) (path_of location.now)) result }
+    {
+        validate_assertion(&self.type_, instance, location)?;
+        validate_bound(&self.min_items, instance, location)?;
+        validate_bound(&self.max_items, instance, location)
+    }
+
+    // Appends their errors, in order.
+    pub(crate) fn collect_errors<'i, F: Json>(
+        &'i self,
+        instance: &'i F::Node,
+        location: &LazyLocation,
+        errors: &mut Vec<ValidationError<'i, F>>,
+    ) -> Result<(), AllocError>
+        requires { IsTrue (is_lawful (F.Node.tree instance.now)) }
+        ensures { Appends F.Node.tree errors.old.items errors.new.items (all_fail
+            (absorbed_keywords self.now) (F.Node.tree instance.now) (path_of location.now)) result }
+    {
+        append_first(validate_assertion(&self.type_, instance, location), errors)?;
+        append_first(validate_bound(&self.min_items, instance, location), errors)?;
+        append_first(validate_bound(&self.max_items, instance, location), errors)
+    }
+
+    // Appends their nodes over the instance at `path`.
+    pub(crate) fn evaluate<F: Json>(
+        &self,
+        alloc: Global,
+        instance: &F::Node,
+        path: &Location,
+        children: &mut Vec<EvaluationNode>,
+    ) -> Result<(), AllocError>
+        ensures { Extends children.old.items children.new.items (units (absorbed_keywords self.now)
+            (F.Node.tree instance.now) path.now) result }
+    {
+        let is_array = instance.is_array();
+        children.push(self.evaluate_type::<F>(alloc, instance, is_array, path)?)?;
+        let count = if is_array {
+            Some(Array::len(instance) as u64)
+        } else {
+            None
+        };
+        self.evaluate_counts::<F>(alloc, instance, count, path, children)
+    }
+
+    /// Returns the node of `type` over an instance at `instance_location`. `is_array` must be
+    /// whether the instance is an array. Fails only if memory runs out.
+    pub fn evaluate_type<F: Json>(
+        &self,
+        alloc: Global,
+        instance: &F::Node,
+        is_array: bool,
+        instance_location: &Location,
+    ) -> Result<EvaluationNode, AllocError>
+        requires { is_array ≡ is_list (F.Node.tree instance.now) }
+        ensures { let a = absorbed_type self.now in IfOk result (λ node. node
+            ≡ node_at a.location instance_location.now
+            (unit (placed a) (F.Node.tree instance.now) instance_location.now)) }
+    {
+        evaluate_assertion::<F, ArrayTypeValidator>(
+            alloc,
+            &self.type_,
+            is_array,
+            instance,
+            instance_location,
+        )
+    }
+
+    /// Appends the nodes of `minItems` and `maxItems`, as far as the schema has them, over an
+    /// instance at `instance_location`. `count` must be the number of items, None for a non-array.
+    /// If memory runs out, a beginning of them is appended.
+    pub fn evaluate_counts<F: Json>(
+        &self,
+        alloc: Global,
+        instance: &F::Node,
+        count: Option<u64>,
+        instance_location: &Location,
+        children: &mut Vec<EvaluationNode>,
+    ) -> Result<(), AllocError>
+        requires { count ≡ count_of (F.Node.tree instance.now) }
+        ensures { Extends children.old.items children.new.items (units (absorbed_bounds self.now)
+            (F.Node.tree instance.now) instance_location.now) result }
+    {
+        let holds = self.min_items_hold(count);
+        evaluate_bound::<F, MinItemsValidator>(
+            alloc,
+            &self.min_items,
+            holds,
+            instance,
+            instance_location,
+            children,
+        )?;
+        let holds = self.max_items_hold(count);
+        evaluate_bound::<F, MaxItemsValidator>(
+            alloc,
+            &self.max_items,
+            holds,
+            instance,
+            instance_location,
+            children,
+        )
+    }
+}
+
+// The validator of `minItems`, if `parent` has it.
+fn compile_min_items<'a, F: Json>(
+    alloc: Global,
+    ctx: &Context<'_, F>,
+    parent: &'a Map<String, Value>,
+) -> CompilationResult<'a, Option<MinItemsValidator>>
+    requires { IsTrue (takes_size ctx.now.setting (members_view parent.now.entries) word.MinItems) }
+    ensures { let ms = members_view parent.now.entries in Makes (optional min_items) result
+        (read_words (word.MinItems ∷ []) ctx.now.setting ctx.now.location ms
+        (λ name. part_named name ms)) }
+{
+    let Some(value) = member_of(parent, KeywordName::MinItems.as_str()) else {
+        return Ok(None);
+    };
+    Ok(Some(MinItemsValidator::compile(alloc, ctx, value)?))
+}
+
+// The validator of `maxItems`, if `parent` has it.
+fn compile_max_items<'a, F: Json>(
+    alloc: Global,
+    ctx: &Context<'_, F>,
+    parent: &'a Map<String, Value>,
+) -> CompilationResult<'a, Option<MaxItemsValidator>>
+    requires { IsTrue (takes_size ctx.now.setting (members_view parent.now.entries) word.MaxItems) }
+    ensures { let ms = members_view parent.now.entries in Makes (optional max_items) result
+        (read_words (word.MaxItems ∷ []) ctx.now.setting ctx.now.location ms
+        (λ name. part_named name ms)) }
+{
+    let Some(value) = member_of(parent, KeywordName::MaxItems.as_str()) else {
+        return Ok(None);
+    };
+    Ok(Some(MaxItemsValidator::compile(alloc, ctx, value)?))
+}
+
+// The error of an assertion.
+fn validate_assertion<'i, F: Json, A: Assertion>(
+    assertion: &'i A,
+    instance: &'i F::Node,
+    location: &LazyLocation,
+) -> Result<(), Fault<'i, F>>
+    requires { IsTrue (is_lawful (F.Node.tree instance.now)) }
+    ensures { IsFirst F.Node.tree (keyword_fail (placed (A.asserts assertion.now))
+        (F.Node.tree instance.now) (path_of location.now)) result }
+{
+    let holds = assertion.holds::<F>(instance);
+    fail_unless(
+        holds,
+        assertion.kind(),
+        assertion.location(),
+        instance,
+        location,
+    )
+}
+
+// The error of a bound, if there is one.
+fn validate_bound<'i, F: Json, A: Assertion>(
+    bound: &'i Option<A>,
+    instance: &'i F::Node,
+    location: &LazyLocation,
+) -> Result<(), Fault<'i, F>>
+    requires { IsTrue (is_lawful (F.Node.tree instance.now)) }
+    ensures { IsFirst F.Node.tree (all_fail (optional A.asserts bound.now)
+        (F.Node.tree instance.now) (path_of location.now)) result }
+{
+    match bound {
+        Some(bound) => validate_assertion(bound, instance, location),
+        None => Ok(()),
+    }
+}
+
+// The node of an assertion, by whether it holds.
+fn evaluate_assertion<F: Json, A: Assertion>(
+    alloc: Global,
+    assertion: &A,
+    holds: bool,
+    instance: &F::Node,
+    instance_location: &Location,
+) -> Result<EvaluationNode, AllocError>
+    requires { holds ≡ assertion_holds (A.asserts assertion.now).claim (F.Node.tree instance.now) }
+    ensures { let a = A.asserts assertion.now in IfOk result (λ node. node
+        ≡ node_at a.location instance_location.now
+        (unit (placed a) (F.Node.tree instance.now) instance_location.now)) }
+{
+    let result = evaluate_unless::<F>(
+        alloc,
+        holds,
+        assertion.kind(),
+        assertion.location(),
+        instance,
+        instance_location,
+    )?;
+    EvaluationNode::new(alloc, result, assertion.location(), instance_location)
+}
+
+// The unit of an assertion, by whether it holds.
+#[tactic(auto, unfolding(jskw_report::specs::Evaluation::of_errors))]
+fn evaluate_unless<'i, F: Json>(
+    alloc: Global,
+    holds: bool,
+    kind: ValidationErrorKind<'i>,
+    schema_path: &'i Location,
+    instance: &'i F::Node,
+    instance_location: &Location,
+) -> Result<EvaluationResult, AllocError>
+    ensures { IfOk result (λ r. result_of r ≡ of_errors (failures_unless holds (kind_of kind.entry)
+        schema_path.now (F.Node.tree instance.now) instance_location.now)) }
+{
+    if holds {
+        return Ok(EvaluationResult::valid_empty(alloc));
+    }
+    let path = instance_location.copy(alloc)?;
+    let error = ValidationError::new(kind, path, schema_path, instance);
+    evaluate_first::<F>(alloc, Err(Fault::Invalid(error)))
+}
+
+// Appends the node of a bound, if there is one.
+fn evaluate_bound<F: Json, A: Assertion>(
+    alloc: Global,
+    bound: &Option<A>,
+    holds: bool,
+    instance: &F::Node,
+    instance_location: &Location,
+    children: &mut Vec<EvaluationNode>,
+) -> Result<(), AllocError>
+    requires { holds ≡ all_hold (optional A.asserts bound.now) (F.Node.tree instance.now) }
+    ensures { Extends children.old.items children.new.items (units (optional A.asserts bound.now)
+        (F.Node.tree instance.now) instance_location.now) result }
+{
+    let Some(bound) = bound else {
+        return Ok(());
+    };
+    children.push(evaluate_assertion::<F, A>(alloc, bound, holds, instance, instance_location)?)?;
+    Ok(())
+}
