@@ -36,7 +36,7 @@ impl OptionTable for SortedIntegers {
         value.as_i64().is_some()
     }
 
-    fn new(alloc: Global, items: &[Value]) -> Result<SortedIntegers, AllocError> {
+    fn new(alloc: Global, _options: &Value, items: &[Value]) -> Result<SortedIntegers, AllocError> {
         let mut integers = integers_of(alloc, items)?;
         integers.sort_unstable();
         Ok(SortedIntegers { integers })

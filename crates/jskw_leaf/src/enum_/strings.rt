@@ -31,7 +31,7 @@ impl OptionTable for FewStrings {
         value.as_str().is_some()
     }
 
-    fn new(alloc: Global, items: &[Value]) -> Result<FewStrings, AllocError> {
+    fn new(alloc: Global, _options: &Value, items: &[Value]) -> Result<FewStrings, AllocError> {
         Ok(FewStrings {
             names: names_of(alloc, items)?,
         })
@@ -66,7 +66,7 @@ impl OptionTable for SortedStrings {
         value.as_str().is_some()
     }
 
-    fn new(alloc: Global, items: &[Value]) -> Result<SortedStrings, AllocError> {
+    fn new(alloc: Global, _options: &Value, items: &[Value]) -> Result<SortedStrings, AllocError> {
         Ok(SortedStrings {
             texts: sorted(texts_of(alloc, items)?),
         })

@@ -29,8 +29,8 @@ pub trait OptionTable: Sized {
     fn takes(value: &Value) -> bool
         ensures { result ≡ takes (view value.now) };
 
-    /// Makes the table of the items, each of which can stand in it or is null.
-    fn new(alloc: Global, items: &[Value]) -> Result<Self, AllocError>
+    /// Makes the table of the items of the options, each of which can stand in it or is null.
+    fn new(alloc: Global, options: &Value, items: &[Value]) -> Result<Self, AllocError>
         requires { only takes (items_view items.now) ≡ true }
         ensures { let all = items_view items.now in
             IfOk result (λ table. AreOptions (has table) (leaves_out_null all) all) };
@@ -114,7 +114,7 @@ impl<T: OptionTable, N: Nullability> TableEnumValidator<T, N> {
     {
         let listed = Listed {
             options: options.clone()?,
-            table: T::new(alloc, items)?,
+            table: T::new(alloc, options, items)?,
             nullability: PhantomData,
         };
         Ok(TableEnumValidator { listed, location })

@@ -11,6 +11,7 @@ ghost use Rattle.jskw_leaf.specs.Values.{IsRun, has_value, is_printed};
 use super::make::types_of;
 use super::table::{OptionTable, TableEnumValidator};
 use jskw_value::fingerprint::of_whole;
+use jskw_value::seed::seed_of;
 use jskw_value::{Json, JsonTypeSet, Node, NotNullable};
 use serde_json::Value;
 use std::alloc::{AllocError, Global};
@@ -22,9 +23,9 @@ pub struct PrintedValue {
     value: Value,
 }
 
-/// Many options of any types, null among them, sorted by their fingerprints. To look an instance up
-/// takes its fingerprint, a binary search, and a comparison with each option of that fingerprint: most
-/// often with one or none.
+/// Many options of any types, null among them, sorted by their fingerprints under the seed that the
+/// whole list of them makes. To look an instance up takes its fingerprint, a binary search, and a
+/// comparison with each option of that fingerprint: most often with one or none.
 #[derive(Drop)]
 pub struct SortedValues {
     types: JsonTypeSet,
@@ -51,14 +52,14 @@ impl OptionTable for SortedValues {
         true
     }
 
-    fn new(alloc: Global, items: &[Value]) -> Result<SortedValues, AllocError> {
-        let seed = seed_of(items);
-        let mut options = printed(alloc, items, seed)?;
-        options.sort_unstable_by_key(|option| option.print);
+    fn new(alloc: Global, options: &Value, items: &[Value]) -> Result<SortedValues, AllocError> {
+        let seed = seed_of(options);
+        let mut sorted = printed(alloc, items, seed)?;
+        sorted.sort_unstable_by_key(|option| option.print);
         Ok(SortedValues {
             types: types_of(items),
             seed,
-            options,
+            options: sorted,
         })
     }
 
@@ -66,16 +67,6 @@ impl OptionTable for SortedValues {
         self.types.contains_value_type::<F>(instance)
             && is_among::<F>(&self.options, self.seed, instance)
     }
-}
-
-// A seed for the fingerprints, made from all items: options that have the same fingerprint under one
-// seed most likely have different ones under the seed that the list of them makes.
-fn seed_of(items: &[Value]) -> u64 {
-    let mut seed = 0u64;
-    for item in items {
-        seed = seed.rotate_left(7).wrapping_add(of_whole(item, seed));
-    }
-    seed
 }
 
 // The items beside their fingerprints under a seed.
