@@ -2,6 +2,5 @@
 mod errors;
 mod evaluation;
 mod messages;
-mod observers;
 mod paths;
 mod settings;

@@ -1,74 +1,7 @@
-// Trees of decimals, and the two ways to look for required names in them.
-use jskw_value::{Decimal, DecimalJson, DecimalTree, InsertFault, Json, Members};
-use serde_json::{Map, Value};
+// Trees of decimals, made by hand.
+use jskw_value::{Decimal, DecimalTree, InsertFault, Members};
 use std::alloc::{AllocError, Global};
 use std::test::Fail;
-
-// Trees of decimals, of which every name is looked up.
-pub(super) struct Keys0;
-
-impl Json for Keys0 {
-    type Node = DecimalTree;
-
-    const KEYS_PER_LOOKUP: usize = 0;
-
-    fn prepare_key(alloc: Global, name: &str) -> Result<String, AllocError> {
-        DecimalJson::prepare_key(alloc, name)
-    }
-}
-
-// Trees of decimals, of which a few names are always walked for.
-pub(super) struct KeysMax;
-
-impl Json for KeysMax {
-    type Node = DecimalTree;
-
-    const KEYS_PER_LOOKUP: usize = usize::MAX;
-
-    fn prepare_key(alloc: Global, name: &str) -> Result<String, AllocError> {
-        DecimalJson::prepare_key(alloc, name)
-    }
-}
-
-// A value without a float as a tree of decimals.
-#[cycle(tree)]
-pub(super) fn decimal_tree(alloc: Global, value: &Value) -> Result<DecimalTree, Fail> {
-    match value {
-        Value::Null => Ok(DecimalTree::Null),
-        Value::Bool(boolean) => Ok(DecimalTree::Bool(*boolean)),
-        Value::Number(number) => {
-            if let Some(whole) = number.as_u64() {
-                return Ok(DecimalTree::Number(Decimal::from(whole)));
-            }
-            let whole = number.as_i64().ok_or("a float")?;
-            Ok(DecimalTree::Number(Decimal::from(whole)))
-        }
-        Value::String(text) => Ok(DecimalTree::Text(text.clone()?)),
-        Value::Array(items) => decimal_array(alloc, items),
-        Value::Object(members) => decimal_object(alloc, members),
-    }
-}
-
-// The array of its items as trees of decimals.
-#[cycle(tree)]
-fn decimal_array(alloc: Global, items: &Vec<Value>) -> Result<DecimalTree, Fail> {
-    let mut trees = Vec::new(alloc);
-    for item in items {
-        trees.push(decimal_tree(alloc, item)?)?;
-    }
-    Ok(DecimalTree::Array(trees))
-}
-
-// The object of its members as trees of decimals.
-#[cycle(tree)]
-fn decimal_object(alloc: Global, members: &Map<String, Value>) -> Result<DecimalTree, Fail> {
-    let mut trees = Members::new(alloc);
-    for (name, member) in members.iter() {
-        let tree = decimal_tree(alloc, member)?;
-        insert(alloc, &mut trees, name.as_str(), tree)?;
-    }
-    Ok(DecimalTree::Object(trees))
-}
 
 // Adds a member whose name is new.
 pub(super) fn insert(
@@ -81,14 +14,6 @@ pub(super) fn insert(
         Ok(()) => Ok(()),
         Err(InsertFault::Repeated(_, _)) => Err("a name twice")?,
         Err(InsertFault::Memory(_, _)) => Err(AllocError)?,
-    }
-}
-
-// The name and the value that a refused insertion hands back, and whether the name was there.
-pub(super) fn handed_back(fault: InsertFault<DecimalTree>) -> (String, DecimalTree, bool) {
-    match fault {
-        InsertFault::Repeated(name, value) => (name, value, true),
-        InsertFault::Memory(name, value) => (name, value, false),
     }
 }
 
@@ -113,10 +38,4 @@ pub(super) fn objects_in_two_orders(alloc: Global) -> Result<DecimalTree, Fail> 
 pub(super) fn number(coefficient: i128, scale: u8) -> Result<DecimalTree, Fail> {
     let decimal = Decimal::new(coefficient, scale).ok_or("no decimal")?;
     Ok(DecimalTree::Number(decimal))
-}
-
-// The decimal of a coefficient and a scale, which are written as in `20e-1`.
-pub(super) fn decimal_of(text: &str) -> Result<Decimal, Fail> {
-    let (coefficient, scale) = text.split_once("e-").ok_or("no scale")?;
-    Ok(Decimal::new(coefficient.parse()?, scale.parse()?).ok_or("no decimal")?)
 }

@@ -1,215 +1,130 @@
-// `type`, in Draft 4 and in the later drafts, and the schema `false`.
-use super::observers::observed;
-use super::places::member_location;
-use super::trees::number;
-use super::{DRAFTS_AFTER_4, check_rows};
+// Validators that are made for a location, and the two ways to tell an integer.
+use super::value::table::{check, decimal_of, tree_of};
+use jskw_leaf::LeafValidator;
 use jskw_leaf::boolean::FalseValidator;
 use jskw_leaf::legacy::type_draft_4;
+use jskw_leaf::required::compile_with_path;
 use jskw_leaf::type_::{
     ArrayTypeValidator, BooleanTypeValidator, IntegerTypeValidator, NullTypeValidator,
     NumberTypeValidator, ObjectTypeValidator, StringTypeValidator, is_integer,
 };
-use jskw_report::{Draft, Location, Validate};
-use jskw_value::{DecimalJson, DecimalTree, Json, JsonNumber, Node, SerdeJson};
+use jskw_report::{
+    CompileFault, Fault, LazyLocation, Location, LocationSegment, Validate, ValidationContext,
+};
+use jskw_value::{DecimalJson, DecimalTree, Node};
 use serde_json::Value;
-use std::alloc::Global;
-use std::process::Abort;
+use std::alloc::{AllocError, Global};
 use std::test::Fail;
 
-// In every draft.
-const TYPES: &str = r#"{"type":"null"}|null|type|valid
-{"type":"null"}|0|type|type Null
-{"type":"boolean"}|false|type|valid
-{"type":"boolean"}|null|type|type Boolean
-{"type":"string"}|""|type|valid
-{"type":"string"}|[]|type|type String
-{"type":"array"}|[]|type|valid
-{"type":"array"}|{}|type|type Array
-{"type":"object"}|{}|type|valid
-{"type":"object"}|[]|type|type Object
-{"type":"number"}|5|type|valid
-{"type":"number"}|"5"|type|type Number
-{"type":"integer"}|5|type|valid
-{"type":"integer"}|9223372036854775807|type|valid
-{"type":"integer"}|18446744073709551615|type|valid
-{"type":"integer"}|true|type|type Integer
-{"type":["integer"]}|true|type|type Integer
-{"type":["string","object"]}|1|type|types Object String
-{"type":["string","object"]}|{}|type|valid
-{"type":["integer","null"]}|5|type|valid
-{"type":["number","null"]}|5|type|valid
-{"type":["boolean","array"]}|[1]|type|valid
-{"type":[]}|null|type|types"#;
+// A validator that is made for `/a`, and an item of the index 7: the text of its error, with both
+// locations.
+const MADE: &str = "false 1|False schema does not allow 1 at /7 by /a
+array 1|1 is not of type \"array\" at /7 by /a
+boolean 1|1 is not of type \"boolean\" at /7 by /a
+integer 1|valid
+integer #10e-1|valid
+integer #15e-1|1.5 is not of type \"integer\" at /7 by /a
+draft_4_integer 1|valid
+draft_4_integer #10e-1|1.0 is not of type \"integer\" at /7 by /a
+null 1|1 is not of type \"null\" at /7 by /a
+number 1|valid
+number \"\"|\"\" is not of type \"number\" at /7 by /a
+object 1|1 is not of type \"object\" at /7 by /a
+string 1|1 is not of type \"string\" at /7 by /a";
 
-// In every draft.
-const BAD_TYPES: &str = r#"{"type":5}|null|type|refused: types Array String at /items/type, 5
-{"type":null}|null|type|refused: types Array String at /items/type, null
-{"type":"foo"}|null|type|refused: compileError Unexpected type at /items/type, "foo"
-{"type":["foo"]}|null|type|refused: compileError Unexpected type at /items/type, "foo"
-{"type":[5]}|null|type|refused: type String at /items/type, 5
-{"type":["foo","string"]}|null|type|refused: enum of the types at /items/type, "foo"
-{"type":["string","foo"]}|null|type|refused: enum of the types at /items/type, "foo"
-{"type":[5,"string"]}|null|type|refused: type String at /items/type, 5
-{"type":["string",5,"foo"]}|null|type|refused: type String at /items/type, 5"#;
-
-// An integer is written without a fraction.
-const FRACTIONS_IN_DRAFT_4: &str = r#"{"type":"integer"}|#10e-0|type|valid
-{"type":"integer"}|#10e-1|type|type Integer
-{"type":"integer"}|#15e-1|type|type Integer
-{"type":["integer","null"]}|#10e-1|type|types Integer Null
-{"type":["integer","number"]}|#15e-1|type|valid
-{"type":"number"}|#15e-1|type|valid"#;
-
-// An integer is a number without a fraction, however it is written.
-const FRACTIONS: &str = r#"{"type":"integer"}|#10e-0|type|valid
-{"type":"integer"}|#10e-1|type|valid
-{"type":"integer"}|#15e-1|type|type Integer
-{"type":["integer","null"]}|#10e-1|type|valid
-{"type":["integer","null"]}|#15e-1|type|types Integer Null
-{"type":"number"}|#15e-1|type|valid
-{"type":["number"]}|#15e-1|type|valid"#;
-
-#[test]
-fn named_types(rt: HostRuntime) -> Result<(), Fail> {
-    for draft in [Draft::Draft4, Draft::Draft202012] {
-        check_rows(&rt, rt.alloc(), draft, TYPES)?;
-        check_rows(&rt, rt.alloc(), draft, BAD_TYPES)?;
-    }
-    Ok(())
+fn made(alloc: Global, name: &str, instance: &str) -> Result<String, Fail> {
+    let tree = tree_of(alloc, instance)?;
+    let at = Location::new(alloc).join(alloc, LocationSegment::Name("a"))?;
+    Ok(match name {
+        "false" => said(alloc, FalseValidator::new(at), &tree)?,
+        "array" => said(alloc, ArrayTypeValidator::new(at), &tree)?,
+        "boolean" => said(alloc, BooleanTypeValidator::new(at), &tree)?,
+        "integer" => said(alloc, IntegerTypeValidator::new(at), &tree)?,
+        "draft_4_integer" => said(alloc, type_draft_4::IntegerTypeValidator::new(at), &tree)?,
+        "null" => said(alloc, NullTypeValidator::new(at), &tree)?,
+        "number" => said(alloc, NumberTypeValidator::new(at), &tree)?,
+        "object" => said(alloc, ObjectTypeValidator::new(at), &tree)?,
+        _ => said(alloc, StringTypeValidator::new(at), &tree)?,
+    })
 }
 
-#[test]
-fn integers_with_a_zero_fraction(rt: HostRuntime) -> Result<(), Fail> {
-    check_rows(&rt, rt.alloc(), Draft::Draft4, FRACTIONS_IN_DRAFT_4)?;
-    for draft in DRAFTS_AFTER_4 {
-        check_rows(&rt, rt.alloc(), draft, FRACTIONS)?;
-    }
-    Ok(())
-}
-
-// Whether a validator says this of 1, over both representations.
-fn says<V: Validate<SerdeJson> + Validate<DecimalJson> + Drop>(
-    rt: &impl Abort,
+// What a validator says of an item of the index 7.
+fn said<V: Validate<DecimalJson> + Drop>(
     alloc: Global,
     validator: V,
-    wanted: &str,
-) -> Result<(), Fail> {
-    let value = Value::from_str(alloc, "1")?;
-    says_of::<SerdeJson, V>(rt, alloc, &validator, &value, wanted)?;
-    says_of::<DecimalJson, V>(rt, alloc, &validator, &number(1, 0)?, wanted)
-}
-
-// Whether a validator says this of an instance.
-fn says_of<F: Json, V: Validate<F>>(
-    rt: &impl Abort,
-    alloc: Global,
-    validator: &V,
-    instance: &F::Node,
-    wanted: &str,
-) -> Result<(), Fail> {
-    let text = observed::<F, V>(rt, alloc, validator, instance)?;
-    assert_eq!(rt; text.as_str(), wanted);
-    Ok(())
-}
-
-#[test]
-fn validators_that_are_made_for_a_location(rt: HostRuntime) -> Result<(), Fail> {
-    let alloc = rt.alloc();
-    says(
-        &rt,
-        alloc,
-        FalseValidator::new(Location::new(alloc)),
-        "falseSchema at /7 by ",
-    )?;
-    says(
-        &rt,
-        alloc,
-        FalseValidator::new(member_location(alloc, "a")?),
-        "falseSchema at /7 by /a",
-    )?;
-    says(
-        &rt,
-        alloc,
-        ArrayTypeValidator::new(member_location(alloc, "a")?),
-        "type Array at /7 by /a",
-    )?;
-    says(
-        &rt,
-        alloc,
-        BooleanTypeValidator::new(member_location(alloc, "a")?),
-        "type Boolean at /7 by /a",
-    )?;
-    says(
-        &rt,
-        alloc,
-        NullTypeValidator::new(member_location(alloc, "a")?),
-        "type Null at /7 by /a",
-    )?;
-    says(
-        &rt,
-        alloc,
-        NumberTypeValidator::new(member_location(alloc, "a")?),
-        "valid",
-    )?;
-    says(
-        &rt,
-        alloc,
-        ObjectTypeValidator::new(member_location(alloc, "a")?),
-        "type Object at /7 by /a",
-    )?;
-    says(
-        &rt,
-        alloc,
-        StringTypeValidator::new(member_location(alloc, "a")?),
-        "type String at /7 by /a",
-    )?;
-    Ok(())
-}
-
-#[test]
-fn integer_validators_that_are_made_for_a_location(rt: HostRuntime) -> Result<(), Fail> {
-    let alloc = rt.alloc();
-    let invalid = "type Integer at /7 by /a";
-    says(
-        &rt,
-        alloc,
-        IntegerTypeValidator::new(member_location(alloc, "a")?),
-        "valid",
-    )?;
-    says(
-        &rt,
-        alloc,
-        type_draft_4::IntegerTypeValidator::new(member_location(alloc, "a")?),
-        "valid",
-    )?;
-    let fraction = number(10, 1)?;
-    let by_value = IntegerTypeValidator::new(member_location(alloc, "a")?);
-    let text = observed::<DecimalJson, IntegerTypeValidator>(&rt, alloc, &by_value, &fraction)?;
-    assert_eq!(rt; text.as_str(), "valid");
-    let written = type_draft_4::IntegerTypeValidator::new(member_location(alloc, "a")?);
-    let text = observed::<DecimalJson, _>(&rt, alloc, &written, &fraction)?;
-    assert_eq!(rt; text.as_str(), invalid);
-    Ok(())
-}
-
-#[test]
-fn integers_by_value_and_as_written(rt: HostRuntime) -> Result<(), Fail> {
-    for (coefficient, scale, by_value, as_written) in [
-        (10, 0, true, true),
-        (10, 1, true, false),
-        (15, 1, false, false),
-        (0, 18, true, false),
-    ] {
-        let tree = number(coefficient, scale)?;
-        let DecimalTree::Number(decimal) = &tree else {
-            return Err("no number")?;
-        };
-        assert_eq!(rt; is_integer(decimal), by_value);
-        assert_eq!(rt; type_draft_4::is_integer(decimal), as_written);
+    item: &DecimalTree,
+) -> Result<String, AllocError> {
+    let mut location = LazyLocation::new(alloc);
+    location.push(7)?;
+    let first = validator.validate(item, &mut location, &mut ValidationContext::new());
+    match first {
+        Ok(()) => String::from_str(alloc, "valid"),
+        Err(Fault::Invalid(error)) => {
+            let (at, by) = (error.instance_path().as_str(), error.schema_path().as_str());
+            format!(in alloc; "{} at {at} by {by}", error.message(alloc)?)
+        }
+        Err(Fault::Memory(error)) => Err(error),
     }
-    let value = Value::from_str(rt.alloc(), "-5")?;
-    let whole = Node::as_number(&value).ok_or("no number")?;
-    assert!(rt; JsonNumber::is_lawful(whole));
-    assert!(rt; is_integer(whole) && type_draft_4::is_integer(whole));
-    Ok(())
+}
+
+#[test]
+fn validators_made_for_a_location(rt: HostRuntime) -> Result<(), Fail> {
+    check(&rt, rt.alloc(), made, MADE)
+}
+
+// A `required` that is compiled for `/a`, where nothing is handed on, asked of an object with `b`.
+const REQUIRED: &str = r#"required ["a"]|"a" is a required property at /7 by /a
+required ["b"]|valid
+required ["a","b"]|"a" is a required property at /7 by /a
+required []|valid
+required [5]|5 is not of type "string" at /a
+required 5|5 is not of type "array" at /a"#;
+
+fn required(alloc: Global, _: &str, names: &str) -> Result<String, Fail> {
+    let names = Value::from_str(alloc, names)?;
+    let object = tree_of(alloc, r#"{"b":1}"#)?;
+    let at = Location::new(alloc).join(alloc, LocationSegment::Name("a"))?;
+    let compiled: Option<Result<LeafValidator<DecimalJson>, CompileFault>> = compile_with_path(
+        alloc, &names, at,
+    );
+    Ok(match compiled.ok_or("nothing is asserted")? {
+        Ok(validator) => said(alloc, validator, &object)?,
+        Err(CompileFault::Bad(error)) => {
+            let message = error.message(alloc)?;
+            format!(in alloc; "{message} at {}", error.schema_path().as_str())?
+        }
+        Err(CompileFault::Memory(error)) => Err(error)?,
+    })
+}
+
+#[test]
+fn required_that_is_compiled_for_a_location(rt: HostRuntime) -> Result<(), Fail> {
+    check(&rt, rt.alloc(), required, REQUIRED)
+}
+
+// Whether a number is an integer by its value, and as Draft 4 has it, as written.
+const INTEGERS: &str = "decimal 10e-0|true true
+decimal 10e-1|true false
+decimal 15e-1|false false
+decimal 0e-18|true false
+value -5|true true";
+
+fn integer(alloc: Global, call: &str, number: &str) -> Result<String, Fail> {
+    if call == "decimal" {
+        let number = decimal_of(number)?;
+        let as_written = type_draft_4::is_integer(&number);
+        return Ok(format!(in alloc; "{} {as_written}", is_integer(&number))?);
+    }
+    let value = Value::from_str(alloc, number)?;
+    let number = Node::as_number(&value).ok_or("no number")?;
+    if !value.is_lawful() {
+        return Err("a float")?;
+    }
+    let as_written = type_draft_4::is_integer(number);
+    Ok(format!(in alloc; "{} {as_written}", is_integer(number))?)
+}
+
+#[test]
+fn integers(rt: HostRuntime) -> Result<(), Fail> {
+    check(&rt, rt.alloc(), integer, INTEGERS)
 }

@@ -5,7 +5,7 @@ mod floats;
 mod members;
 mod names;
 mod nodes;
-mod text;
+pub(super) mod table;
 mod types;
 mod unique;
 mod walks;

@@ -1,118 +1,113 @@
 // Units and nodes of an evaluation, and the count of applications.
-use crate::tests::places::member_location;
+use super::paths::member_location;
+use crate::tests::value::table::check;
 use jskw_report::{
     Annotations, ErrorDescription, EvaluationNode, EvaluationResult, Location, ValidationContext,
 };
 use std::alloc::{AllocError, Global};
 use std::test::Fail;
 
-// A list of one description, of `type` and this text.
-fn one_error(alloc: Global, text: &str) -> Result<Vec<ErrorDescription>, AllocError> {
+// Nodes that are put below another, of which those whose names begin with `x` are invalid: what the
+// other one reports. `annotated` annotates a unit of nodes twice; `empty` one of two descriptions and
+// no nodes; `unit` has one description, at `/items` and item 7. `nested` puts the node inside 99
+// others, and says how many are invalid and have no description.
+const CALLS: &str = "children |   true
+children a b|   true; /a true; /b true
+children a xb|   false; /a true; /xb false
+children xa b|   false; /xa false; /b true
+children xa xb|   false; /xa false; /xb false
+annotated a b|   true; 7; /a true; /b true
+annotated a xb|   false; 7; /a true; /xb false
+empty |   false; [0, 2]; type a text; enum 
+unit a xb|/items /items /7 false; true; type a text; /a true; /xb false
+nested xa|99 and /xa /xa  false; type a text";
+
+fn answer(alloc: Global, call: &str, names: &str) -> Result<String, Fail> {
+    let children = nodes_of(alloc, names)?;
+    let mut unit = EvaluationResult::from_children(alloc, children);
+    match call {
+        "annotated" => {
+            unit.annotate(Annotations::Bool(true));
+            unit.annotate(Annotations::Index(7));
+        }
+        "empty" => {
+            unit = EvaluationResult::invalid_empty(alloc, errors_of(alloc, &["type", "enum"])?);
+            unit.annotate(Annotations::Indices(Vec::from_array(alloc, [0, 2])?));
+        }
+        "unit" => return Ok(node_text(alloc, &node_of_a_unit(alloc, names)?)?),
+        "nested" => return Ok(innermost(alloc, &deep_node(alloc, names)?)?),
+        _ => {}
+    }
+    Ok(unit_text(alloc, unit)?)
+}
+
+// A line of a node: its locations, whether it is valid, its annotation, its descriptions, and the
+// locations of the nodes below with whether these are valid.
+fn node_text(alloc: Global, node: &EvaluationNode) -> Result<String, AllocError> {
+    let (way, by) = (
+        node.evaluation_path().as_str(),
+        node.schema_location().as_str(),
+    );
+    let mut text = format!(in alloc; "{way} {by} {} ", node.instance_location().as_str())?;
+    write!(text, "{}", node.valid())?;
+    match node.annotations() {
+        None => {}
+        Some(Annotations::Bool(value)) => write!(text, "; {value}")?,
+        Some(Annotations::Index(index)) => write!(text, "; {index}")?,
+        Some(Annotations::Indices(indices)) => write!(text, "; {indices:?}")?,
+    }
+    for error in node.errors() {
+        write!(text, "; {} {}", error.keyword(), error.message())?;
+    }
+    for child in node.children() {
+        write!(
+            text,
+            "; {} {}",
+            child.evaluation_path().as_str(),
+            child.valid()
+        )?;
+    }
+    Ok(text)
+}
+
+// The line of a unit's node at the whole schema and the whole instance.
+pub(super) fn unit_text(alloc: Global, unit: EvaluationResult) -> Result<String, AllocError> {
+    let whole = Location::new(alloc);
+    node_text(alloc, &EvaluationNode::new(alloc, unit, &whole, &whole)?)
+}
+
+// Descriptions of these keywords, of which `type` has a text.
+fn errors_of(
+    alloc: Global,
+    keywords: &[&'static str],
+) -> Result<Vec<ErrorDescription>, AllocError> {
     let mut errors = Vec::new(alloc);
-    errors.push(ErrorDescription::new("type", String::from_str(alloc, text)?))?;
+    for keyword in keywords {
+        let message = if *keyword == "type" { "a text" } else { "" };
+        errors.push(ErrorDescription::new(keyword, String::from_str(alloc, message)?))?;
+    }
     Ok(errors)
 }
 
-// A node without nodes below, of the keyword of a name.
-fn keyword_node(alloc: Global, name: &str, is_valid: bool) -> Result<EvaluationNode, AllocError> {
-    let unit = if is_valid {
-        EvaluationResult::valid_empty(alloc)
-    } else {
-        EvaluationResult::invalid_empty(alloc, one_error(alloc, "a text")?)
-    };
-    let place = member_location(alloc, name)?;
-    EvaluationNode::new(alloc, unit, &place, &Location::new(alloc))
-}
-
-// A node of each of the two.
-fn two_nodes(alloc: Global, first: bool, second: bool) -> Result<Vec<EvaluationNode>, AllocError> {
+// A node for each name, without nodes below.
+fn nodes_of(alloc: Global, names: &str) -> Result<Vec<EvaluationNode>, AllocError> {
     let mut nodes = Vec::new(alloc);
-    nodes.push(keyword_node(alloc, "first", first)?)?;
-    nodes.push(keyword_node(alloc, "second", second)?)?;
+    for name in names.split_whitespace() {
+        let unit = if name.starts_with('x') {
+            EvaluationResult::invalid_empty(alloc, errors_of(alloc, &["type"])?)
+        } else {
+            EvaluationResult::valid_empty(alloc)
+        };
+        let place = member_location(alloc, name)?;
+        nodes.push(EvaluationNode::new(alloc, unit, &place, &Location::new(alloc))?)?;
+    }
     Ok(nodes)
 }
 
-#[test]
-fn a_unit_is_valid_where_every_node_below_is(rt: HostRuntime) -> Result<(), Fail> {
-    let empty = EvaluationResult::from_children(rt.alloc(), Vec::new(rt.alloc()));
-    assert!(rt; matches!(empty, EvaluationResult::Valid { .. }));
-    for (first, second) in [(true, true), (true, false), (false, true), (false, false)] {
-        let nodes = two_nodes(rt.alloc(), first, second)?;
-        match EvaluationResult::from_children(rt.alloc(), nodes) {
-            EvaluationResult::Valid {
-                annotations,
-                children,
-            } => {
-                assert!(rt; first && second);
-                assert!(rt; annotations.is_none() && children.len() == 2);
-            }
-            EvaluationResult::Invalid {
-                errors,
-                children,
-                annotations,
-            } => {
-                assert!(rt; !(first && second));
-                assert!(rt; errors.is_empty() && annotations.is_none());
-                assert!(rt; children.len() == 2);
-                assert_eq!(rt; children[0].valid(), first);
-                assert_eq!(rt; children[1].valid(), second);
-            }
-        }
-    }
-    Ok(())
-}
-
-#[test]
-fn the_last_annotation_stands_on_a_valid_unit(rt: HostRuntime) -> Result<(), Fail> {
-    let nodes = two_nodes(rt.alloc(), true, true)?;
-    let mut unit = EvaluationResult::from_children(rt.alloc(), nodes);
-    unit.annotate(Annotations::Bool(true));
-    unit.annotate(Annotations::Index(7));
-    match &unit {
-        EvaluationResult::Valid {
-            annotations,
-            children,
-        } => {
-            assert!(rt; matches!(annotations, Some(Annotations::Index(7))));
-            assert_eq!(rt; children.len(), 2);
-        }
-        EvaluationResult::Invalid { .. } => assert!(rt; false),
-    }
-    Ok(())
-}
-
-#[test]
-fn an_invalid_unit_keeps_its_annotation_and_its_texts(rt: HostRuntime) -> Result<(), Fail> {
-    let mut unit = EvaluationResult::invalid_empty(rt.alloc(), one_error(rt.alloc(), "a text")?);
-    let mut matches = Vec::new(rt.alloc());
-    matches.push(0)?;
-    matches.push(2)?;
-    unit.annotate(Annotations::Indices(matches));
-    match &unit {
-        EvaluationResult::Valid { .. } => assert!(rt; false),
-        EvaluationResult::Invalid {
-            errors,
-            children,
-            annotations,
-        } => {
-            assert!(rt; children.is_empty() && errors.len() == 1);
-            assert_eq!(rt; errors[0].message(), "a text");
-            match annotations {
-                Some(Annotations::Indices(matches)) => {
-                    assert!(rt; matches.as_slice() == [0, 2].as_slice());
-                }
-                _ => assert!(rt; false),
-            }
-        }
-    }
-    Ok(())
-}
-
-// The node of a unit of one description, two nodes and an annotation.
-fn node_of_a_unit(alloc: Global) -> Result<EvaluationNode, AllocError> {
+fn node_of_a_unit(alloc: Global, names: &str) -> Result<EvaluationNode, AllocError> {
     let mut unit = EvaluationResult::Invalid {
-        errors: one_error(alloc, "a text")?,
-        children: two_nodes(alloc, true, false)?,
+        errors: errors_of(alloc, &["type"])?,
+        children: nodes_of(alloc, names)?,
         annotations: None,
     };
     unit.annotate(Annotations::Bool(true));
@@ -120,65 +115,43 @@ fn node_of_a_unit(alloc: Global) -> Result<EvaluationNode, AllocError> {
     EvaluationNode::new(alloc, unit, &place, &member_location(alloc, "7")?)
 }
 
-#[test]
-fn a_node_has_its_locations(rt: HostRuntime) -> Result<(), Fail> {
-    let node = node_of_a_unit(rt.alloc())?;
-    assert_eq!(rt; node.evaluation_path().as_str(), "/items");
-    assert_eq!(rt; node.schema_location().as_str(), "/items");
-    assert_eq!(rt; node.instance_location().as_str(), "/7");
-    Ok(())
-}
-
-#[test]
-fn a_node_has_the_parts_of_its_unit(rt: HostRuntime) -> Result<(), Fail> {
-    let node = node_of_a_unit(rt.alloc())?;
-    assert!(rt; !node.valid());
-    assert!(rt; matches!(node.annotations(), Some(Annotations::Bool(true))));
-    assert_eq!(rt; node.errors().len(), 1);
-    assert_eq!(rt; node.errors()[0].keyword(), "type");
-    assert_eq!(rt; node.errors()[0].message(), "a text");
-    Ok(())
-}
-
-#[test]
-fn a_node_has_the_nodes_below_in_their_order(rt: HostRuntime) -> Result<(), Fail> {
-    let node = node_of_a_unit(rt.alloc())?;
-    let mut paths = node.children().iter().map(EvaluationNode::evaluation_path);
-    assert!(rt; paths.next().is_some_and(|path| path.as_str() == "/first"));
-    assert!(rt; paths.next().is_some_and(|path| path.as_str() == "/second"));
-    assert!(rt; paths.next().is_none());
-    Ok(())
-}
-
-#[test]
-fn a_tree_of_a_hundred_nodes_in_one_another_is_made_and_dropped(
-    rt: HostRuntime,
-) -> Result<(), Fail> {
-    let whole = Location::new(rt.alloc());
-    let mut root = keyword_node(rt.alloc(), "type", false)?;
-    for _ in 0..99 {
-        let mut children = Vec::new(rt.alloc());
-        children.push(root)?;
-        let unit = EvaluationResult::from_children(rt.alloc(), children);
-        root = EvaluationNode::new(rt.alloc(), unit, &whole, &whole)?;
+fn deep_node(alloc: Global, name: &str) -> Result<EvaluationNode, AllocError> {
+    let whole = Location::new(alloc);
+    let mut nodes = nodes_of(alloc, name)?;
+    for _ in 0..98 {
+        let unit = EvaluationResult::from_children(alloc, nodes);
+        nodes = Vec::from_array(alloc, [EvaluationNode::new(alloc, unit, &whole, &whole)?])?;
     }
-    let mut node = &root;
-    for _ in 0..99 {
-        assert!(rt; !node.valid() && node.errors().is_empty());
-        node = node.children().first().ok_or("no node below")?;
+    let unit = EvaluationResult::from_children(alloc, nodes);
+    EvaluationNode::new(alloc, unit, &whole, &whole)
+}
+
+// The number of invalid nodes without a description above the innermost, and that.
+fn innermost(alloc: Global, root: &EvaluationNode) -> Result<String, AllocError> {
+    let mut node = root;
+    let mut count = 0usize;
+    for _ in 0..100 {
+        if let Some(child) = node.children().first() {
+            if !node.valid() && node.errors().is_empty() {
+                count = count.saturating_add(1);
+            }
+            node = child;
+        }
     }
-    assert_eq!(rt; node.evaluation_path().as_str(), "/type");
-    assert!(rt; node.errors().len() == 1 && node.children().is_empty());
-    Ok(())
+    format!(in alloc; "{count} and {}", node_text(alloc, node)?)
 }
 
 #[test]
-fn applications_are_counted_from_0(rt: HostRuntime) -> Result<(), Fail> {
+fn evaluations(rt: HostRuntime) -> Result<(), Fail> {
+    check(&rt, rt.alloc(), answer, CALLS)
+}
+
+#[test]
+fn applications_are_counted_from_0(rt: HostRuntime) {
     let mut ctx = ValidationContext::new();
-    for count in 0..3 {
-        assert_eq!(rt; ctx.applications(), count);
-        ctx.count_one();
-    }
-    assert_eq!(rt; ctx.applications(), 3);
-    Ok(())
+    let none = ctx.applications();
+    ctx.count_one();
+    let one = ctx.applications();
+    ctx.count_one();
+    assert!(rt; (none, one, ctx.applications()) == (0, 1, 2));
 }

@@ -1,311 +1,162 @@
-// The texts of errors, which no contract states.
-use crate::tests::places::root_error;
-use crate::tests::trees::number;
-use jskw_report::{
-    EnumOptions, ErrorDescription, Location, TypeKind, ValidationError, ValidationErrorKind,
-};
-use jskw_value::{DecimalJson, DecimalTree, Json, JsonType, JsonTypeSet, SerdeJson};
+// The messages of errors, which no contract states.
+use crate::tests::value::table::{check, parts, tree_of};
+use jskw_report::{EnumOptions, Location, TypeKind, ValidationError, ValidationErrorKind};
+use jskw_value::{DecimalJson, Json, JsonType, JsonTypeSet, SerdeJson};
 use serde_json::Value;
-use std::alloc::{AllocError, Global};
-use std::process::Abort;
+use std::alloc::Global;
+use std::str::FromStr;
 use std::test::Fail;
 
-// An error of the kind about the node has this text.
-fn check_text<F: Json>(
-    rt: &impl Abort,
+// Errors by their keyword, what it asked for and the value at fault, each with its message.
+// `#10e-1` is the decimal 1.0.
+const MESSAGES: &str = r#"additionalItems 1|[1,2]|Additional items past 1 are not allowed
+compileError null|"foo"|Unexpected type
+const {"b": [1, "x"], "a": null}|3|{"a":null,"b":[1,"x"]} was expected
+contains null|["a", {}]|None of ["a",{}] are valid under the given schema
+enum {"b": [1, "x"], "a": null}|"z"|"z" is not one of the candidates
+enum []|"z"|"z" is not one of the candidates
+enum [[1, 2]]|"z"|"z" is not one of [1,2]
+enum [1, null]|"z"|"z" is not one of 1 or null
+enum ["a", true, {}]|"z"|"z" is not one of "a", true or {}
+enum ["a", "b", "c", "d"]|"z"|"z" is not one of "a", "b" or 2 other candidates
+enum ["a", "b", "c", "d", "e", "f", "g", "h", "i", "j", "k"]|"z"|"z" is not one of "a", "b" or 9 other candidates
+enum "the names of the types"|"z"|"z" is not one of "array", "boolean" or 5 other candidates
+exclusiveMaximum 5|5|5 is greater than or equal to the maximum of 5
+exclusiveMinimum -5|-5|-5 is less than or equal to the minimum of -5
+falseSchema null|{"a": [true, false]}|False schema does not allow {"a":[true,false]}
+falseSchema null|"\"\u0001\/\n"|False schema does not allow "\"\u0001/\n"
+maxItems 1|[1,2]|[1,2] has more than 1 items
+maximum -9223372036854775808|18446744073709551615|18446744073709551615 is greater than the maximum of -9223372036854775808
+maxProperties 0|{"a":1}|{"a":1} has more than 0 properties
+minItems 18446744073709551615|[]|[] has less than 18446744073709551615 items
+minimum 18446744073709551615|-9223372036854775808|-9223372036854775808 is less than the minimum of 18446744073709551615
+minimum 7|#10e-1|1.0 is less than the minimum of 7
+minimum 7|#-5e-1|-0.5 is less than the minimum of 7
+minimum 7|#6e-0|6 is less than the minimum of 7
+minimum 2|null|null is less than the minimum of 2
+minProperties 2|{}|{} has less than 2 properties
+multipleOf 9007199254740993|18014398509481984|18014398509481984 is not a multiple of 9007199254740993
+required "a"|{}|"a" is a required property
+required ""|{}|"" is a required property
+required "\"\\/~ \b\t\n\f\r\u0000\u001f\u00e9"|{}|"\"\\/~ \b\t\n\f\r\u0000\u001fé" is a required property
+type "array"|"x"|"x" is not of type "array"
+type "boolean"|"x"|"x" is not of type "boolean"
+type "integer"|"x"|"x" is not of type "integer"
+type "integer"|1.5|float is not of type "integer"
+type "null"|"x"|"x" is not of type "null"
+type "number"|"x"|"x" is not of type "number"
+type "object"|"x"|"x" is not of type "object"
+type "string"|"x"|"x" is not of type "string"
+type []|1|1 is not of any type
+type ["array"]|1|1 is not of types "array"
+type ["object", "string"]|1|1 is not of types "string", "object"
+type ["object", "array", "string", "number", "integer", "boolean", "null"]|1|1 is not of types "null", "boolean", "integer", "number", "string", "array", "object"
+uniqueItems null|[1,1]|[1,1] has non-unique elements"#;
+
+// A character that stands as it is in a message, and is hard to see in this one.
+const UNSEEN: &str = "required \"\\u007f\"|{}|\"\u{7f}\" is a required property";
+
+fn message(alloc: Global, keyword: &str, asked: &str) -> Result<String, Fail> {
+    let (asked_for, instance) = parts(asked, '|')?;
+    let asked_for = Value::from_str(alloc, asked_for)?;
+    let kind = kind_of(keyword, &asked_for);
+    if instance.starts_with('#') {
+        return message_of::<DecimalJson>(alloc, keyword, kind, &tree_of(alloc, instance)?);
+    }
+    message_of::<SerdeJson>(alloc, keyword, kind, &Value::from_str(alloc, instance)?)
+}
+
+// The message of an error of this kind, which is of that keyword.
+fn message_of<F: Json>(
     alloc: Global,
+    keyword: &str,
     kind: ValidationErrorKind<'_>,
     instance: &F::Node,
-    text: &str,
-) -> Result<(), AllocError> {
-    let schema_path = Location::new(alloc);
-    let error: ValidationError<F> = root_error(alloc, kind, &schema_path, instance);
-    assert_eq!(rt; error.message(alloc)?.as_str(), text);
-    Ok(())
-}
-
-// So has one about a type, of an instance that is given as a JSON text.
-fn check_wrong_type(
-    rt: &impl Abort,
-    alloc: Global,
-    kind: TypeKind,
-    instance: &str,
-    text: &str,
-) -> Result<(), Fail> {
-    let instance = Value::from_str(alloc, instance)?;
-    let kind = ValidationErrorKind::WrongType { kind };
-    Ok(check_text::<SerdeJson>(rt, alloc, kind, &instance, text)?)
-}
-
-#[test]
-fn each_kind_has_its_keyword_and_text(rt: HostRuntime) -> Result<(), Fail> {
-    let expected = Value::from_str(rt.alloc(), "{\"b\": [1, \"x\"], \"a\": null}")?;
-    for (keyword, instance, kind, text) in [
-        (
-            "additionalItems",
-            "[1,2]",
-            ValidationErrorKind::AdditionalItems { limit: 1 },
-            "Additional items past 1 are not allowed",
-        ),
-        (
-            "compileError",
-            "\"foo\"",
-            ValidationErrorKind::CompileError {
-                message: "Unexpected type",
-            },
-            "Unexpected type",
-        ),
-        (
-            "const",
-            "3",
-            ValidationErrorKind::Constant {
-                expected_value: &expected,
-            },
-            "{\"a\":null,\"b\":[1,\"x\"]} was expected",
-        ),
-        (
-            "contains",
-            "[\"a\", {}]",
-            ValidationErrorKind::Contains,
-            "None of [\"a\",{}] are valid under the given schema",
-        ),
-        (
-            "enum",
-            "\"z\"",
-            ValidationErrorKind::Enum {
-                options: EnumOptions::Listed(&expected),
-            },
-            "\"z\" is not one of the candidates",
-        ),
-        (
-            "exclusiveMaximum",
-            "5",
-            ValidationErrorKind::ExclusiveMaximum { limit: 5 },
-            "5 is greater than or equal to the maximum of 5",
-        ),
-        (
-            "exclusiveMinimum",
-            "-5",
-            ValidationErrorKind::ExclusiveMinimum { limit: -5 },
-            "-5 is less than or equal to the minimum of -5",
-        ),
-        (
-            "falseSchema",
-            "{\"a\": [true, false]}",
-            ValidationErrorKind::FalseSchema,
-            "False schema does not allow {\"a\":[true,false]}",
-        ),
-        (
-            "maxItems",
-            "[1,2]",
-            ValidationErrorKind::MaxItems { limit: 1 },
-            "[1,2] has more than 1 items",
-        ),
-        (
-            "maximum",
-            "18446744073709551615",
-            ValidationErrorKind::Maximum {
-                limit: -9223372036854775808,
-            },
-            "18446744073709551615 is greater than the maximum of -9223372036854775808",
-        ),
-        (
-            "maxProperties",
-            "{\"a\":1}",
-            ValidationErrorKind::MaxProperties { limit: 0 },
-            "{\"a\":1} has more than 0 properties",
-        ),
-        (
-            "minItems",
-            "[]",
-            ValidationErrorKind::MinItems {
-                limit: 18446744073709551615,
-            },
-            "[] has less than 18446744073709551615 items",
-        ),
-        (
-            "minimum",
-            "-9223372036854775808",
-            ValidationErrorKind::Minimum {
-                limit: 18446744073709551615,
-            },
-            "-9223372036854775808 is less than the minimum of 18446744073709551615",
-        ),
-        (
-            "minProperties",
-            "{}",
-            ValidationErrorKind::MinProperties { limit: 2 },
-            "{} has less than 2 properties",
-        ),
-        (
-            "multipleOf",
-            "18014398509481984",
-            ValidationErrorKind::MultipleOf {
-                multiple_of: 9007199254740993,
-            },
-            "18014398509481984 is not a multiple of 9007199254740993",
-        ),
-        (
-            "required",
-            "{}",
-            ValidationErrorKind::Required { property: "a" },
-            "\"a\" is a required property",
-        ),
-        (
-            "type",
-            "\"x\"",
-            ValidationErrorKind::WrongType {
-                kind: TypeKind::Single(JsonType::Integer),
-            },
-            "\"x\" is not of type \"integer\"",
-        ),
-        (
-            "uniqueItems",
-            "[1,1]",
-            ValidationErrorKind::UniqueItems,
-            "[1,1] has non-unique elements",
-        ),
-    ] {
-        assert_eq!(rt; kind.keyword(), keyword);
-        let instance = Value::from_str(rt.alloc(), instance)?;
-        check_text::<SerdeJson>(&rt, rt.alloc(), kind, &instance, text)?;
+) -> Result<String, Fail> {
+    if kind.keyword() != keyword {
+        return Err("another keyword")?;
     }
-    Ok(())
+    let by = Location::new(alloc);
+    let error: ValidationError<F> = ValidationError::new(kind, Location::new(alloc), &by, instance);
+    Ok(error.message(alloc)?)
 }
 
-#[test]
-fn names_and_strings_are_escaped(rt: HostRuntime) -> Result<(), Fail> {
-    let instance = Value::from_str(rt.alloc(), "\"\\\"\\u0001\\/\\n\"")?;
-    for (kind, text) in [
-        (
-            ValidationErrorKind::Required { property: "" },
-            "\"\" is a required property",
-        ),
-        (
-            ValidationErrorKind::Required {
-                property: "\"\\/~ \u{8}\t\n\u{c}\r\u{0}\u{1f}\u{7f}é",
-            },
-            "\"\\\"\\\\/~ \\b\\t\\n\\f\\r\\u0000\\u001f\u{7f}é\" is a required property",
-        ),
-        (
-            ValidationErrorKind::FalseSchema,
-            "False schema does not allow \"\\\"\\u0001/\\n\"",
-        ),
-    ] {
-        check_text::<SerdeJson>(&rt, rt.alloc(), kind, &instance, text)?;
+// The kind of error of a keyword that asked for this.
+fn kind_of<'v>(keyword: &str, asked_for: &'v Value) -> ValidationErrorKind<'v> {
+    match keyword {
+        "compileError" => ValidationErrorKind::CompileError {
+            message: "Unexpected type",
+        },
+        "const" => ValidationErrorKind::Constant {
+            expected_value: asked_for,
+        },
+        "contains" => ValidationErrorKind::Contains,
+        "enum" => ValidationErrorKind::Enum {
+            options: options_of(asked_for),
+        },
+        "falseSchema" => ValidationErrorKind::FalseSchema,
+        "required" => ValidationErrorKind::Required {
+            property: asked_for.as_str().unwrap_or(""),
+        },
+        "type" => ValidationErrorKind::WrongType {
+            kind: types_of(asked_for),
+        },
+        "uniqueItems" => ValidationErrorKind::UniqueItems,
+        _ => bound_of(keyword, asked_for),
     }
-    Ok(())
 }
 
-#[test]
-fn options_are_named_up_to_three(rt: HostRuntime) -> Result<(), Fail> {
-    let instance = Value::from_str(rt.alloc(), "\"z\"")?;
-    for (options, text) in [
-        ("[]", "\"z\" is not one of the candidates"),
-        ("[[1, 2]]", "\"z\" is not one of [1,2]"),
-        ("[1, null]", "\"z\" is not one of 1 or null"),
-        ("[\"a\", true, {}]", "\"z\" is not one of \"a\", true or {}"),
-        (
-            "[\"a\", \"b\", \"c\", \"d\"]",
-            "\"z\" is not one of \"a\", \"b\" or 2 other candidates",
-        ),
-        (
-            "[\"a\", \"b\", \"c\", \"d\", \"e\", \"f\", \"g\", \"h\", \"i\", \"j\", \"k\"]",
-            "\"z\" is not one of \"a\", \"b\" or 9 other candidates",
-        ),
-    ] {
-        let listed = Value::from_str(rt.alloc(), options)?;
-        let kind = ValidationErrorKind::Enum {
-            options: EnumOptions::Listed(&listed),
-        };
-        check_text::<SerdeJson>(&rt, rt.alloc(), kind, &instance, text)?;
+fn options_of(asked_for: &Value) -> EnumOptions<'_> {
+    match asked_for {
+        Value::String(_) => EnumOptions::TypeNames,
+        _ => EnumOptions::Listed(asked_for),
     }
-    let kind = ValidationErrorKind::Enum {
-        options: EnumOptions::TypeNames,
+}
+
+// A type by its name, or a set of several.
+fn types_of(asked_for: &Value) -> TypeKind {
+    let mut set = JsonTypeSet::empty();
+    match asked_for {
+        Value::Array(names) => {
+            for name in names {
+                if let Ok(json_type) = JsonType::from_str(name.as_str().unwrap_or("")) {
+                    set = set.insert(json_type);
+                }
+            }
+            TypeKind::Multiple(set)
+        }
+        _ => match JsonType::from_str(asked_for.as_str().unwrap_or("")) {
+            Ok(json_type) => TypeKind::Single(json_type),
+            Err(()) => TypeKind::Multiple(set),
+        },
+    }
+}
+
+// The kind of a keyword that asked for a number.
+fn bound_of<'v>(keyword: &str, number: &'v Value) -> ValidationErrorKind<'v> {
+    let bound = number.as_u64().unwrap_or(0);
+    let limit = match number.as_i64() {
+        Some(limit) => i128::from(limit),
+        None => i128::from(bound),
     };
-    let text = "\"z\" is not one of \"array\", \"boolean\" or 5 other candidates";
-    check_text::<SerdeJson>(&rt, rt.alloc(), kind, &instance, text)?;
-    Ok(())
-}
-
-#[test]
-fn types_are_named_in_one_order(rt: HostRuntime) -> Result<(), Fail> {
-    let none = JsonTypeSet::empty();
-    let all = none
-        .insert(JsonType::Object)
-        .insert(JsonType::Array)
-        .insert(JsonType::String)
-        .insert(JsonType::Number)
-        .insert(JsonType::Integer)
-        .insert(JsonType::Boolean)
-        .insert(JsonType::Null);
-    for (types, text) in [
-        (none, "1 is not of any type"),
-        (none.insert(JsonType::Array), "1 is not of types \"array\""),
-        (
-            none.insert(JsonType::Object).insert(JsonType::String),
-            "1 is not of types \"string\", \"object\"",
-        ),
-        (
-            all,
-            "1 is not of types \"null\", \"boolean\", \"integer\", \"number\", \"string\", \
-             \"array\", \"object\"",
-        ),
-    ] {
-        check_wrong_type(&rt, rt.alloc(), TypeKind::Multiple(types), "1", text)?;
+    match keyword {
+        "additionalItems" => ValidationErrorKind::AdditionalItems {
+            limit: bound as usize,
+        },
+        "exclusiveMaximum" => ValidationErrorKind::ExclusiveMaximum { limit },
+        "exclusiveMinimum" => ValidationErrorKind::ExclusiveMinimum { limit },
+        "maxItems" => ValidationErrorKind::MaxItems { limit: bound },
+        "maximum" => ValidationErrorKind::Maximum { limit },
+        "maxProperties" => ValidationErrorKind::MaxProperties { limit: bound },
+        "minItems" => ValidationErrorKind::MinItems { limit: bound },
+        "minimum" => ValidationErrorKind::Minimum { limit },
+        "minProperties" => ValidationErrorKind::MinProperties { limit: bound },
+        _ => ValidationErrorKind::MultipleOf { multiple_of: bound },
     }
-    Ok(())
 }
 
 #[test]
-fn each_type_has_its_name(rt: HostRuntime) -> Result<(), Fail> {
-    for (json_type, text) in [
-        (JsonType::Array, "\"x\" is not of type \"array\""),
-        (JsonType::Boolean, "\"x\" is not of type \"boolean\""),
-        (JsonType::Integer, "\"x\" is not of type \"integer\""),
-        (JsonType::Null, "\"x\" is not of type \"null\""),
-        (JsonType::Number, "\"x\" is not of type \"number\""),
-        (JsonType::Object, "\"x\" is not of type \"object\""),
-        (JsonType::String, "\"x\" is not of type \"string\""),
-    ] {
-        check_wrong_type(&rt, rt.alloc(), TypeKind::Single(json_type), "\"x\"", text)?;
-    }
-    Ok(())
-}
-
-#[test]
-fn decimals_are_written_with_their_scales(rt: HostRuntime) -> Result<(), Fail> {
-    for (coefficient, scale, text) in [
-        (10, 1, "1.0 is less than the minimum of 7"),
-        (-5, 1, "-0.5 is less than the minimum of 7"),
-        (6, 0, "6 is less than the minimum of 7"),
-    ] {
-        let kind = ValidationErrorKind::Minimum { limit: 7 };
-        check_text::<DecimalJson>(&rt, rt.alloc(), kind, &number(coefficient, scale)?, text)?;
-    }
-    Ok(())
-}
-
-#[test]
-fn a_float_of_a_schema_is_a_word(rt: HostRuntime) -> Result<(), Fail> {
-    let value = Value::from_str(rt.alloc(), "1.5")?;
-    let kind = ValidationErrorKind::WrongType {
-        kind: TypeKind::Single(JsonType::Integer),
-    };
-    let error = ValidationError::refused(rt.alloc(), kind, Location::new(rt.alloc()), &value);
-    let found = error.message(rt.alloc())?;
-    assert_eq!(rt; found.as_str(), "float is not of type \"integer\"");
-    Ok(())
-}
-
-#[test]
-fn a_description_has_the_text_of_its_error(rt: HostRuntime) -> Result<(), Fail> {
-    let instance = DecimalTree::Null;
-    let schema_path = Location::new(rt.alloc());
-    let kind = ValidationErrorKind::Minimum { limit: 2 };
-    let error: ValidationError<DecimalJson> = root_error(rt.alloc(), kind, &schema_path, &instance);
-    let description = ErrorDescription::from_validation_error(rt.alloc(), &error)?;
-    assert_eq!(rt; description.keyword(), "minimum");
-    assert_eq!(rt; description.message(), "null is less than the minimum of 2");
-    Ok(())
+fn each_kind_has_its_keyword_and_message(rt: HostRuntime) -> Result<(), Fail> {
+    check(&rt, rt.alloc(), message, MESSAGES)?;
+    check(&rt, rt.alloc(), message, UNSEEN)
 }

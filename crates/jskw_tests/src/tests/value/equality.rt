@@ -1,96 +1,59 @@
 // Equality within a representation and across two.
-use crate::tests::columns;
-use crate::tests::trees::{insert, number, objects_in_two_orders, string};
+use super::table::{check, object_of, parts};
 use jskw_value::laws::equality_is_equivalence;
 use jskw_value::names::names_are_distinct;
-use jskw_value::{Array, DecimalTree, Members, Node};
+use jskw_value::{DecimalTree, Node};
 use serde_json::Value;
+use std::alloc::Global;
 use std::test::Fail;
 
-// Two values, and whether they are equal.
-const VALUES: &str = r#"null|null|equal
-null|false|different
-[]|{}|different
-[1,2]|[2,1]|different
-[1,2]|[1]|different
-{"a":1,"b":2}|{"b":2,"a":1}|equal
-{"a":1,"b":2}|{"a":1,"c":2}|different
-{"a":1}|{"a":1,"b":2}|different
-{"a":[1,{"b":null}]}|{"a":[1,{"b":null}]}|equal
-"a"|"b"|different
-1|"1"|different
-1.5|1.5|different
-18446744073709551615|-1|different"#;
+// Two values, and whether they are equal: both of `serde_json`, in both orders, and the first as a
+// tree of decimals, if it holds no float. `FRACTIONS` is an object of decimals, which is asked alone.
+const CALLS: &str = r#"equal null|null|true true Some(true)
+equal null|false|false false Some(false)
+equal []|{}|false false Some(false)
+equal [1,2]|[2,1]|false false Some(false)
+equal [1,2]|[1]|false false Some(false)
+equal {"a":1,"b":2}|{"b":2,"a":1}|true true Some(true)
+equal {"a":1,"b":2}|{"a":1,"c":2}|false false Some(false)
+equal {"a":1}|{"a":1,"b":2}|false false Some(false)
+equal {"a":[1,{"b":null}]}|{"a":[1,{"b":null}]}|true true Some(true)
+equal "a"|"b"|false false Some(false)
+equal 1|"1"|false false Some(false)
+equal 1.5|1.5|false false None
+equal 18446744073709551615|-1|false false Some(false)
+fractions |{"a":[1,null,"x"],"b":true,"c":3}|true
+fractions |{"a":[1,null,"x"],"b":true,"d":3}|false
+fractions |{"a":[1,null,"x"],"b":true}|false
+fractions |{"a":[1,null,"x"],"b":true,"c":3,"d":3}|false
+fractions |{"a":[1,null,"y"],"b":true,"c":3}|false
+fractions |{"a":[1,null,"x"],"b":true,"c":3.0}|false"#;
 
-#[test]
-fn values_of_one_representation(rt: HostRuntime) -> Result<(), Fail> {
-    for line in VALUES.lines() {
-        let (left, right, stands) = columns(line)?;
-        let left = Value::from_str(rt.alloc(), left)?;
-        let right = Value::from_str(rt.alloc(), right)?;
-        names_are_distinct(&left);
-        equality_is_equivalence();
-        let are_equal = stands == "equal";
-        assert_eq!(rt; left.equals(&right), are_equal, "{line}");
-        assert_eq!(rt; right.equals_value(&left), are_equal, "{line}");
-    }
-    Ok(())
-}
+const FRACTIONS: [(&str, &str); 3] = [("c", "#30e-1"), ("a", "[1,null,\"x\"]"), ("b", "true")];
 
-// An object with `c`, `a` and `b`, in this order.
-#[test]
-fn values_of_two_representations(rt: HostRuntime) -> Result<(), Fail> {
-    let mut members = Members::new(rt.alloc());
-    insert(rt.alloc(), &mut members, "c", number(30, 1)?)?;
-    let items = [number(10, 1)?, DecimalTree::Null, string(rt.alloc(), "x")?];
-    insert(
-        rt.alloc(),
-        &mut members,
-        "a",
-        DecimalTree::Array(Vec::from_array(rt.alloc(), items)?),
-    )?;
-    insert(rt.alloc(), &mut members, "b", DecimalTree::Bool(true))?;
-    let tree = DecimalTree::Object(members);
-    names_are_distinct(&tree);
-    assert!(rt; tree.equals(&tree));
-    for (text, are_equal) in [
-        ("{\"a\":[1,null,\"x\"],\"b\":true,\"c\":3}", true),
-        ("{\"a\":[1,null,\"x\"],\"b\":true,\"d\":3}", false),
-        ("{\"a\":[1,null,\"x\"],\"b\":true}", false),
-        ("{\"a\":[1,null,\"x\"],\"b\":true,\"c\":3,\"d\":3}", false),
-        ("{\"a\":[1,null,\"y\"],\"b\":true,\"c\":3}", false),
-        ("{\"a\":[1,null,\"x\"],\"b\":true,\"c\":3.0}", false),
-    ] {
-        let value = Value::from_str(rt.alloc(), text)?;
-        assert_eq!(rt; tree.equals_value(&value), are_equal, "{text}");
+fn answer(alloc: Global, call: &str, asked: &str) -> Result<String, Fail> {
+    let (left, right) = parts(asked, '|')?;
+    let right = Value::from_str(alloc, right)?;
+    if call == "fractions" {
+        let tree = object_of(alloc, &FRACTIONS)?;
+        return Ok(format!(in alloc; "{}", tree.equals_value(&right))?);
     }
-    Ok(())
+    let left = Value::from_str(alloc, left)?;
+    let mut text = format!(in alloc; "{} {}", left.equals(&right), right.equals_value(&left))?;
+    let across = DecimalTree::from_value(alloc, &left)?.map(|tree| tree.equals_value(&right));
+    write!(text, " {across:?}")?;
+    Ok(text)
 }
 
 #[test]
-fn unique_items(rt: HostRuntime) -> Result<(), Fail> {
-    for (text, are_unique) in [
-        ("[]", true),
-        ("[1,2,3]", true),
-        ("[1,2,1]", false),
-        ("[{\"a\":1,\"b\":2},{\"b\":2,\"a\":1}]", false),
-        ("[[1],[1,1],[]]", true),
-        ("[null,0,\"0\",false,[0]]", true),
-    ] {
-        let value = Value::from_str(rt.alloc(), text)?;
-        assert!(rt; Node::is_array(&value));
-        assert_eq!(rt; value.is_unique(), are_unique, "{text}");
-    }
-    Ok(())
+fn equality(rt: HostRuntime) -> Result<(), Fail> {
+    check(&rt, rt.alloc(), answer, CALLS)
 }
 
 #[test]
-fn unique_items_over_decimals(rt: HostRuntime) -> Result<(), Fail> {
-    let ones = DecimalTree::Array(Vec::from_array(rt.alloc(), [number(1, 0)?, number(10, 1)?])?);
-    assert!(rt; ones.is_array() && !ones.is_unique());
-    let pair = objects_in_two_orders(rt.alloc())?;
-    assert!(rt; pair.is_array() && !pair.is_unique());
-    let none = DecimalTree::Array(Vec::new(rt.alloc()));
-    assert!(rt; none.is_array() && none.is_unique());
+fn laws_can_be_called(rt: HostRuntime) -> Result<(), Fail> {
+    names_are_distinct(&Value::from_str(rt.alloc(), "[{\"a\":1}]")?);
+    names_are_distinct(&object_of(rt.alloc(), &FRACTIONS)?);
+    equality_is_equivalence();
     Ok(())
 }

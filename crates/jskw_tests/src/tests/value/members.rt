@@ -1,105 +1,118 @@
 // Members with distinct names.
-use crate::tests::trees::{handed_back, insert, number};
-use jskw_value::{DecimalTree, Members, Node, Object};
+use super::table::check;
+use jskw_value::{Decimal, DecimalTree, InsertFault, Member, Members, Node, Object, RepeatedName};
 use std::alloc::{AllocError, Global};
 use std::test::Fail;
 
-// The members `a`, which is 1, and no other.
-fn one_member(alloc: Global) -> Result<Members, Fail> {
-    let mut members = Members::new(alloc);
-    insert(alloc, &mut members, "a", number(1, 0)?)?;
-    Ok(members)
-}
+// Names that are put into members. `insert` gives them the values 0, 1 and so on: each name that is
+// there already, with the value that comes back, and then the members. `from_pairs` takes each name
+// for its value: the members, or the place of the first name that stands twice, and all pairs.
+// `count` inserts so many numbers: whether there is none, how many there are, and the values of the
+// names ``, `0`, `999` and `1000`, by two calls.
+const CALLS: &str = r#"insert |{"":0}
+insert b a c|{"a":1,"b":0,"c":2}
+insert c b a|{"a":2,"b":1,"c":0}
+insert aa  a|{"":1,"a":2,"aa":0}
+insert é z Z|{"Z":2,"z":1,"é":0}
+insert 10 9 1|{"1":2,"10":0,"9":1}
+insert a a|a 1, {"a":0}
+insert b a c c b a|c 3, b 4, a 5, {"a":1,"b":0,"c":2}
+from_pairs |{"":""}
+from_pairs b a c|{"a":"a","b":"b","c":"c"}
+from_pairs 10 9 1|{"1":"1","10":"10","9":"9"}
+from_pairs é z Z|{"Z":"Z","z":"z","é":"é"}
+from_pairs a a|a "a", a "a", repeated at 0
+from_pairs d c a b c b|a "a", b "b", b "b", c "c", c "c", d "d", repeated at 1
+count 0|true 0 None false None false None false None false
+count 1|false 1 None false Some(0) true None false None false
+count 1000|false 1000 None false Some(0) true Some(999) true None false"#;
 
-#[test]
-fn a_repeated_name_comes_back(rt: HostRuntime) -> Result<(), Fail> {
-    let mut members = one_member(rt.alloc())?;
-    let again = String::from_str(rt.alloc(), "a")?;
-    let fault = members
-        .insert(again, number(2, 0)?)
-        .err()
-        .ok_or("inserted")?;
-    let (name, value, is_repeated) = handed_back(fault);
-    assert!(rt; is_repeated);
-    assert_eq!(rt; name.as_str(), "a");
-    assert_eq!(rt; value.as_number().ok_or("a number")?.coefficient(), 2);
-    Ok(())
-}
-
-#[test]
-fn where_a_name_is_repeated_the_first_member_stays(rt: HostRuntime) -> Result<(), Fail> {
-    assert!(rt; Members::new(rt.alloc()).is_empty());
-    let mut members = one_member(rt.alloc())?;
-    let again = String::from_str(rt.alloc(), "a")?;
-    assert!(rt; members.insert(again, number(2, 0)?).is_err());
-    assert!(rt; !members.is_empty() && members.len() == 1);
-    let first = members.get("a").and_then(|tree| tree.as_number());
-    assert_eq!(rt; first.ok_or("a number")?.coefficient(), 1);
-    assert!(rt; members.get("b").is_none());
-    Ok(())
-}
-
-// The object whose members have these names, put in one after the other and then once more.
-fn object_of(alloc: Global, names: &[&str]) -> Result<DecimalTree, Fail> {
-    let mut members = Members::new(alloc);
-    for name in names {
-        insert(alloc, &mut members, name, DecimalTree::Null)?;
+fn answer(alloc: Global, call: &str, asked: &str) -> Result<String, Fail> {
+    match call {
+        "insert" => inserted(alloc, asked),
+        "from_pairs" => paired(alloc, asked),
+        _ => found(numbered(alloc, asked.parse()?)?, String::new(alloc)),
     }
-    for name in names {
-        if members
-            .insert(String::from_str(alloc, name)?, DecimalTree::Null)
-            .is_ok()
-        {
-            return Err("inserted twice")?;
+}
+
+fn inserted(alloc: Global, names: &str) -> Result<String, Fail> {
+    let mut members = Members::new(alloc);
+    let mut text = String::new(alloc);
+    for (place, name) in names.split(' ').enumerate() {
+        let value = DecimalTree::Number(Decimal::from(place as u64));
+        match members.insert(String::from_str(alloc, name)?, value) {
+            Ok(()) => {}
+            Err(InsertFault::Memory(_, _)) => return Err(AllocError)?,
+            Err(InsertFault::Repeated(name, value)) => push_pair(name.as_str(), &value, &mut text)?,
         }
     }
-    Ok(DecimalTree::Object(members))
+    DecimalTree::Object(members).write_json(&mut text)?;
+    Ok(text)
 }
 
-// The names of an object by their places, a comma behind each.
-fn names_of(alloc: Global, object: &DecimalTree) -> Result<String, AllocError> {
+// Appends a name and the text of its value.
+fn push_pair(name: &str, value: &DecimalTree, text: &mut String) -> Result<(), AllocError> {
+    write!(text, "{name} ")?;
+    value.write_json(text)?;
+    text.push_str(", ")
+}
+
+fn paired(alloc: Global, names: &str) -> Result<String, Fail> {
+    let mut pairs = Vec::new(alloc);
+    for name in names.split(' ') {
+        let value = DecimalTree::Text(String::from_str(alloc, name)?);
+        pairs.push(Member {
+            name: String::from_str(alloc, name)?,
+            value,
+        })?;
+    }
     let mut text = String::new(alloc);
-    if object.is_object() {
-        for place in 0..Object::len(object) {
-            text.push_str(object.name_at(place))?;
-            text.push(',')?;
+    match Members::from_pairs(pairs) {
+        Ok(members) => DecimalTree::Object(members).write_json(&mut text)?,
+        Err(RepeatedName { pairs, place }) => {
+            for pair in &pairs {
+                push_pair(pair.name.as_str(), &pair.value, &mut text)?;
+            }
+            write!(text, "repeated at {place}")?;
         }
     }
     Ok(text)
 }
 
-#[test]
-fn names_rise_in_whatever_order_they_come(rt: HostRuntime) -> Result<(), Fail> {
-    for (names, wanted) in [
-        (["b", "a", "c"], "a,b,c,"),
-        (["c", "b", "a"], "a,b,c,"),
-        (["aa", "", "a"], ",a,aa,"),
-        (["é", "z", "Z"], "Z,z,é,"),
-        (["10", "9", "1"], "1,10,9,"),
-    ] {
-        let object = object_of(rt.alloc(), &names)?;
-        assert_eq!(rt; names_of(rt.alloc(), &object)?.as_str(), wanted);
+// The members `0`, `1` and so on with these values.
+fn numbered(alloc: Global, count: u64) -> Result<Members, Fail> {
+    let mut members = Members::new(alloc);
+    for number in 0..count {
+        let value = DecimalTree::Number(Decimal::from(number));
+        if members
+            .insert(format!(in alloc; "{number}")?, value)
+            .is_err()
+        {
+            return Err("not inserted")?;
+        }
     }
-    Ok(())
+    Ok(members)
+}
+
+fn found(members: Members, mut text: String) -> Result<String, Fail> {
+    write!(text, "{} {}", members.is_empty(), members.len())?;
+    let names = ["", "0", "999", "1000"];
+    let values = names.map(|name| value_of(members.get(name)));
+    let object = DecimalTree::Object(members);
+    for (name, value) in names.into_iter().zip(values) {
+        let is_found = object.is_object() && object.find(name).is_some();
+        write!(text, " {value:?} {is_found}")?;
+    }
+    Ok(text)
+}
+
+// The coefficient of a number.
+fn value_of(tree: Option<&DecimalTree>) -> Option<i128> {
+    tree.and_then(|tree| tree.as_number())
+        .map(|number| number.coefficient())
 }
 
 #[test]
-fn a_thousand_members_are_found(rt: HostRuntime) -> Result<(), Fail> {
-    let mut members = Members::new(rt.alloc());
-    for i in 0..1000u64 {
-        let name = format!(in rt.alloc(); "{i}")?;
-        insert(
-            rt.alloc(),
-            &mut members,
-            name.as_str(),
-            number(i128::from(i), 0)?,
-        )?;
-    }
-    let object = DecimalTree::Object(members);
-    assert!(rt; object.is_object());
-    assert_eq!(rt; Object::len(&object), 1000);
-    let found = object.find("999").and_then(|tree| tree.as_number());
-    assert_eq!(rt; found.ok_or("a number")?.coefficient(), 999);
-    assert!(rt; object.find("1000").is_none());
-    Ok(())
+fn members(rt: HostRuntime) -> Result<(), Fail> {
+    check(&rt, rt.alloc(), answer, CALLS)
 }

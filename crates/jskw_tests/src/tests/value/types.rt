@@ -1,97 +1,105 @@
 // Types and sets of them.
-use crate::tests::trees::decimal_of;
-use crate::tests::{TYPES, pair};
-use jskw_value::{DecimalJson, DecimalTree, Json, JsonType, JsonTypeSet, Node, SerdeJson};
+use super::table::check;
+use jskw_value::{Json, JsonType, JsonTypeSet, Node};
 use serde_json::Value;
-use std::alloc::{AllocError, Global};
+use std::alloc::Global;
 use std::str::FromStr;
 use std::test::Fail;
 
-#[test]
-fn names_of_types(rt: HostRuntime) {
-    for (name, json_type) in TYPES {
-        assert!(rt; JsonType::from_str(name) == Ok(json_type), "{name}");
-    }
-    for name in [
-        "", "Array", "ARRAY", "int", "strings", "integer ", "bool", "float",
-    ] {
-        assert!(rt; JsonType::from_str(name) == Err(()), "{name}");
+const TYPES: [JsonType; 7] = [
+    JsonType::Array,
+    JsonType::Boolean,
+    JsonType::Integer,
+    JsonType::Null,
+    JsonType::Number,
+    JsonType::Object,
+    JsonType::String,
+];
+
+// `named`: a text, and the type of that name. `set`: names of types, and the set that has them.
+const CALLS: &str = "named array|Ok(Array)
+named boolean|Ok(Boolean)
+named integer|Ok(Integer)
+named null|Ok(Null)
+named number|Ok(Number)
+named object|Ok(Object)
+named string|Ok(String)
+named |Err(())
+named Array|Err(())
+named ARRAY|Err(())
+named int|Err(())
+named strings|Err(())
+named integer |Err(())
+named bool|Err(())
+named float|Err(())
+set |
+set array| Array
+set boolean| Boolean
+set integer| Integer
+set null| Null
+set number| Number
+set object| Object
+set string| String
+set null array| Array Null
+set string null array| Array Null String
+set integer string null array| Array Integer Null String
+set object integer string null array| Array Integer Null Object String
+set boolean object integer string null array| Array Boolean Integer Null Object String
+set number boolean object integer string null array| Array Boolean Integer Null Number Object String";
+
+fn answer(alloc: Global, call: &str, asked: &str) -> Result<String, Fail> {
+    match call {
+        "named" => Ok(format!(in alloc; "{:?}", JsonType::from_str(asked))?),
+        _ => set_of(alloc, asked),
     }
 }
 
-#[test]
-fn a_set_has_what_was_inserted(rt: HostRuntime) {
+// A set of one type is made of it; types are inserted into one of more.
+fn set_of(alloc: Global, names: &str) -> Result<String, Fail> {
+    if let Ok(alone) = JsonType::from_str(names) {
+        return set_text(alloc, JsonTypeSet::from(alone));
+    }
     let mut set = JsonTypeSet::empty();
-    for (name, json_type) in TYPES {
-        assert!(rt; !set.contains(json_type), "{name}");
-        let alone = JsonTypeSet::from(json_type);
-        for (other, other_type) in TYPES {
-            assert_eq!(rt;
-                alone.contains(other_type),
-                name == other,
-                "{name} and {other}"
-            );
+    for name in names.split(' ') {
+        if let Ok(json_type) = JsonType::from_str(name) {
+            set = set.insert(json_type);
         }
-        set = set.insert(json_type);
-        assert!(rt; set.contains(json_type), "{name}");
     }
+    set_text(alloc, set)
 }
 
-// The names of the types that a lawful node is of, each behind a blank.
-fn types_of<F: Json>(alloc: Global, node: &F::Node) -> Result<String, AllocError> {
-    let mut names = String::new(alloc);
+// The types of a set, each behind a blank.
+fn set_text(alloc: Global, set: JsonTypeSet) -> Result<String, Fail> {
+    let mut text = String::new(alloc);
+    for json_type in TYPES {
+        if set.contains(json_type) {
+            write!(text, " {json_type:?}")?;
+        }
+    }
+    Ok(text)
+}
+
+// The types that a node is of, each behind a blank. It is never of the type of an empty set, and a
+// node with a float is asked nothing.
+pub(super) fn types_of<F: Json>(alloc: Global, node: &F::Node) -> Result<String, Fail> {
+    let mut types = JsonTypeSet::empty();
     if node.is_lawful() {
-        for (name, json_type) in TYPES {
+        if types.contains_value_type::<F>(node) {
+            return Err("of no type")?;
+        }
+        for json_type in TYPES {
             if JsonTypeSet::from(json_type).contains_value_type::<F>(node) {
-                names.push(' ')?;
-                names.push_str(name)?;
+                types = types.insert(json_type);
             }
         }
     }
-    Ok(names)
+    set_text(alloc, types)
 }
 
-// Values, each with the names of its types.
-const VALUES: &str = r#"null| null
-true| boolean
-1| integer number
--9223372036854775808| integer number
-"1"| string
-[1]| array
-{}| object
-1.0|"#;
-
 #[test]
-fn values_are_of_their_types(rt: HostRuntime) -> Result<(), Fail> {
-    for line in VALUES.lines() {
-        let (text, names) = pair(line)?;
-        let value = Value::from_str(rt.alloc(), text)?;
-        assert_eq!(rt; types_of::<SerdeJson>(rt.alloc(), &value)?.as_str(), names);
-    }
+fn types(rt: HostRuntime) -> Result<(), Fail> {
+    check(&rt, rt.alloc(), answer, CALLS)?;
     let number = Value::from_str(rt.alloc(), "2")?;
     assert!(rt; JsonType::from(&number) == JsonType::Number);
-    assert!(rt; number.is_lawful());
-    assert!(rt; !JsonTypeSet::empty().contains_value_type::<SerdeJson>(&number));
-    Ok(())
-}
-
-// Decimals by coefficient and scale.
-const DECIMALS: &str = "10e-1| integer number
-15e-1| number
-1e-0| integer number
-0e-18| integer number
-1e-18| number";
-
-#[test]
-fn a_zero_fraction_makes_an_integer(rt: HostRuntime) -> Result<(), Fail> {
-    for line in DECIMALS.lines() {
-        let (decimal, names) = pair(line)?;
-        let tree = DecimalTree::Number(decimal_of(decimal)?);
-        assert_eq!(rt; types_of::<DecimalJson>(rt.alloc(), &tree)?.as_str(), names);
-    }
-    assert_eq!(rt;
-        types_of::<DecimalJson>(rt.alloc(), &DecimalTree::Null)?.as_str(),
-        " null"
-    );
     Ok(())
 }

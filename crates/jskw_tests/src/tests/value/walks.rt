@@ -127,23 +127,28 @@ fn walked<N: Node>(alloc: Global, node: &N) -> Result<String, AllocError> {
     Ok(text)
 }
 
-#[test]
-fn walks_give_every_member_once_in_order(rt: HostRuntime) -> Result<(), Fail> {
-    let value = Value::from_str(rt.alloc(), "{\"y\":null,\"z\":[1],\"x\":{}}")?;
-    assert_eq!(rt; walked(rt.alloc(), &value)?.as_str(), "x{}ynullz[1]");
-    let point = Point {
+// How a point that is an object and one that is an array compare with values.
+fn compared(alloc: Global) -> Result<String, Fail> {
+    let pair = Point {
         is_array: false,
         is_object: true,
     };
-    assert_eq!(rt; walked(rt.alloc(), &point)?.as_str(), "xnullynull");
-    let same = Value::from_str(rt.alloc(), "{\"y\":null,\"x\":null}")?;
-    assert!(rt; point.equals_value(&same));
-    assert!(rt; !point.equals_value(&value));
     let nulls = Point {
         is_array: true,
         is_object: false,
     };
-    assert!(rt; nulls.equals_value(&Value::from_str(rt.alloc(), "[null]")?));
-    assert!(rt; !nulls.equals(&point));
+    let same = Value::from_str(alloc, "{\"y\":null,\"x\":null}")?;
+    let other = Value::from_str(alloc, "{\"y\":null,\"z\":[1],\"x\":{}}")?;
+    let array = Value::from_str(alloc, "[null]")?;
+    let (value, point) = (walked(alloc, &other)?, walked(alloc, &pair)?);
+    let (is_pair, is_other) = (pair.equals_value(&same), pair.equals_value(&other));
+    let (is_array, are_equal) = (nulls.equals_value(&array), nulls.equals(&pair));
+    Ok(format!(in alloc; "{value} {point} {is_pair} {is_other} {is_array} {are_equal}")?)
+}
+
+#[test]
+fn walks_give_every_member_once_in_order(rt: HostRuntime) -> Result<(), Fail> {
+    let wanted = "x{}ynullz[1] xnullynull true false true false";
+    assert!(rt; compared(rt.alloc())?.as_str() == wanted);
     Ok(())
 }

@@ -1,0 +1,145 @@
+//! Errors as lines: the kind as a row has it, both locations and the value at fault.
+use jskw_report::{EnumOptions, TypeKind, ValidationError, ValidationErrorKind};
+use jskw_value::{Json, JsonType, JsonTypeSet, Node, SerdeJson};
+use serde_json::Value;
+use std::alloc::{AllocError, Global};
+
+/// Where a schema and its instance stand: what all of their locations begin with. A row's own
+/// locations are without them.
+#[derive(Clone, Copy)]
+pub(crate) struct Place {
+    pub(crate) schema: &'static str,
+    pub(crate) instance: &'static str,
+}
+
+impl Place {
+    /// The keyword location without its beginning, or a question mark if it has another one.
+    pub(crate) fn by<'t>(self, location: &'t str) -> &'t str {
+        location.strip_prefix(self.schema).unwrap_or("?")
+    }
+
+    /// The same of an instance's location.
+    pub(crate) fn at<'t>(self, location: &'t str) -> &'t str {
+        location.strip_prefix(self.instance).unwrap_or("?")
+    }
+}
+
+// The types in the order of their names.
+const TYPES: [(&str, JsonType); 7] = [
+    ("array", JsonType::Array),
+    ("boolean", JsonType::Boolean),
+    ("integer", JsonType::Integer),
+    ("null", JsonType::Null),
+    ("number", JsonType::Number),
+    ("object", JsonType::Object),
+    ("string", JsonType::String),
+];
+
+/// Appends the line of an error of an instance, with its message if that is claimed.
+pub(crate) fn push_error<F: Json>(
+    alloc: Global,
+    text: &mut String,
+    has_message: bool,
+    place: Place,
+    error: &ValidationError<F>,
+) -> Result<(), AllocError> {
+    push_kind(alloc, text, error.kind())?;
+    let at = place.at(error.instance_path().as_str());
+    let by = place.by(error.schema_path().as_str());
+    write!(text, " at {at} by {by} of ")?;
+    error.instance().write_json(text)?;
+    push_message(text, has_message, error.message(alloc)?.as_str())
+}
+
+/// The line of why a schema does not compile. The value at fault is written with its floats.
+pub(crate) fn refusal(
+    alloc: Global,
+    has_message: bool,
+    place: Place,
+    error: &ValidationError<SerdeJson>,
+) -> Result<String, AllocError> {
+    let mut text = String::from_str(alloc, "refused: ")?;
+    push_kind(alloc, &mut text, error.kind())?;
+    let at = error.instance_path().as_str();
+    let by = place.by(error.schema_path().as_str());
+    let value = error.instance().to_string(alloc)?;
+    write!(text, " at {at} by {by} of {value}")?;
+    push_message(&mut text, has_message, error.message(alloc)?.as_str())?;
+    Ok(text)
+}
+
+// Appends the end of a line, with the message before it if that is claimed.
+fn push_message(text: &mut String, has_message: bool, message: &str) -> Result<(), AllocError> {
+    if has_message {
+        write!(text, ", {message}")?;
+    }
+    text.push('\n')
+}
+
+// Appends the keyword of a kind and its payload as JSON, `true` for one without.
+fn push_kind(
+    alloc: Global,
+    text: &mut String,
+    kind: &ValidationErrorKind,
+) -> Result<(), AllocError> {
+    write!(text, "{} ", kind.keyword())?;
+    match kind {
+        ValidationErrorKind::CompileError { message } => write!(text, "\"{message}\""),
+        ValidationErrorKind::Constant { expected_value } => expected_value.write_json(text),
+        ValidationErrorKind::Enum { options } => push_options(text, options),
+        ValidationErrorKind::Required { property } => {
+            Value::String(String::from_str(alloc, property)?).write_json(text)
+        }
+        ValidationErrorKind::WrongType { kind } => push_types(text, *kind),
+        _ => push_limit(text, kind),
+    }
+}
+
+// Appends the limit of a kind that has one.
+fn push_limit(text: &mut String, kind: &ValidationErrorKind) -> Result<(), AllocError> {
+    match kind {
+        ValidationErrorKind::AdditionalItems { limit } => write!(text, "{limit}"),
+        ValidationErrorKind::MinItems { limit }
+        | ValidationErrorKind::MaxItems { limit }
+        | ValidationErrorKind::MinProperties { limit }
+        | ValidationErrorKind::MaxProperties { limit } => write!(text, "{limit}"),
+        ValidationErrorKind::Minimum { limit }
+        | ValidationErrorKind::Maximum { limit }
+        | ValidationErrorKind::ExclusiveMinimum { limit }
+        | ValidationErrorKind::ExclusiveMaximum { limit } => write!(text, "{limit}"),
+        ValidationErrorKind::MultipleOf { multiple_of } => write!(text, "{multiple_of}"),
+        _ => text.push_str("true"),
+    }
+}
+
+// Appends the options of an `enum`.
+fn push_options(text: &mut String, options: &EnumOptions) -> Result<(), AllocError> {
+    match options {
+        EnumOptions::Listed(options) => options.write_json(text),
+        EnumOptions::TypeNames => text.push_str("\"typeNames\""),
+    }
+}
+
+// Appends the type that an instance was to be of, or those of a set as an array.
+fn push_types(text: &mut String, kind: TypeKind) -> Result<(), AllocError> {
+    match kind {
+        TypeKind::Single(json_type) => push_names(text, JsonTypeSet::from(json_type)),
+        TypeKind::Multiple(types) => {
+            text.push('[')?;
+            push_names(text, types)?;
+            text.push(']')
+        }
+    }
+}
+
+// Appends the names of the types of a set, with a comma between each two.
+fn push_names(text: &mut String, types: JsonTypeSet) -> Result<(), AllocError> {
+    let mut comma = "";
+    for (name, json_type) in TYPES {
+        if types.contains(json_type) {
+            write!(text, "{comma}\"{name}\"")?;
+            comma = ",";
+        }
+    }
+    Ok(())
+}

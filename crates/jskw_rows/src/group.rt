@@ -1,0 +1,231 @@
+//! Groups of rows: a schema under a setting, and tests of it.
+use crate::members::{Members, is_true, items, known, lines, member, number, text};
+use crate::requests::{self, request_of};
+use crate::row::{self, Most, Row, check_decimals, check_run};
+use crate::setting::settings_of;
+use crate::stop::Stop;
+use crate::tally::Tally;
+use crate::wanted::{Wanted, claims_of, of_refusal, of_test};
+use jskw_report::Settings;
+use serde_json::Value;
+use std::alloc::Global;
+
+const GROUP: [&str; 10] = [
+    "description",
+    "drafts",
+    "vocabularies",
+    "overridden",
+    "objectLayer",
+    "schema",
+    "fused",
+    "handsOnRequired",
+    "refused",
+    "tests",
+];
+
+const TEST: [&str; 9] = [
+    "description",
+    "data",
+    "each",
+    "decimals",
+    "valid",
+    "errors",
+    "float",
+    "evaluation",
+    "applications",
+];
+
+// A group in one of its drafts.
+#[derive(Clone, Copy)]
+struct Group<'g, 's> {
+    members: &'g Members,
+    draft: &'g str,
+    settings: &'s Settings,
+}
+
+/// Asks the rows of a group.
+pub(crate) fn check<'v>(tally: &mut Tally, group: &'v Value) -> Result<(), Stop<'v>> {
+    if group.get("requests").is_some() {
+        return requests::check(tally, group);
+    }
+    let members = known(group, &GROUP)?;
+    take_names(tally, members)?;
+    if !members.contains_key("drafts") {
+        return check_draft(tally, members, "2020-12");
+    }
+    for draft in items(members, "drafts")? {
+        check_draft(tally, members, draft.as_str().unwrap_or("?"))?;
+    }
+    Ok(())
+}
+
+// Takes the name of a group that is refused, or of each of its tests.
+fn take_names<'v>(tally: &mut Tally, members: &'v Members) -> Result<(), Stop<'v>> {
+    let group = text(members, "description")?;
+    match (members.get("refused"), members.get("tests")) {
+        (Some(_), None) => tally.take_name(group, "refused"),
+        (None, Some(_)) => {
+            for test in items(members, "tests")? {
+                tally.take_name(group, text(known(test, &TEST)?, "description")?)?;
+            }
+            Ok(())
+        }
+        _ => Err(Stop::Wrong("a group has one of", "refused, tests")),
+    }
+}
+
+// Asks the rows of a group in one draft.
+fn check_draft<'v>(
+    tally: &mut Tally,
+    members: &'v Members,
+    draft: &'v str,
+) -> Result<(), Stop<'v>> {
+    let settings = settings_of(tally.alloc, members, draft)?;
+    let group = Group {
+        members,
+        draft,
+        settings: &settings,
+    };
+    if let Some(refused) = members.get("refused") {
+        let wanted = of_refusal(tally.alloc, refused)?;
+        return check_row(tally, group, members, &Value::Null, &wanted);
+    }
+    for test in items(members, "tests")? {
+        check_test(tally, group, known(test, &TEST)?)?;
+    }
+    Ok(())
+}
+
+// Asks a test of its instances.
+fn check_test<'v>(
+    tally: &mut Tally,
+    group: Group<'v, '_>,
+    test: &'v Members,
+) -> Result<(), Stop<'v>> {
+    match (test.get("data"), test.get("each")) {
+        (Some(instance), None) => check_instance(tally, group, test, instance),
+        (None, Some(_)) => {
+            for instance in items(test, "each")? {
+                check_instance(tally, group, test, instance)?;
+            }
+            Ok(())
+        }
+        _ => Err(Stop::Wrong("a test has one of", "data, each")),
+    }
+}
+
+// Asks a test of one instance.
+fn check_instance<'v>(
+    tally: &mut Tally,
+    group: Group<'v, '_>,
+    test: &'v Members,
+    instance: &Value,
+) -> Result<(), Stop<'v>> {
+    let wanted = of_test(tally.alloc, test, instance)?;
+    check_row(tally, group, test, instance, &wanted)
+}
+
+// Asks a row. `run` is asked too where it can be: it has no object layer, and reads no decimals.
+fn check_row<'v>(
+    tally: &mut Tally,
+    group: Group<'v, '_>,
+    test: &'v Members,
+    instance: &Value,
+    wanted: &Wanted,
+) -> Result<(), Stop<'v>> {
+    let alloc = tally.alloc;
+    let schema = member(group.members, "schema")?;
+    let (object_layer, by_run) = layer_of(group.members)?;
+    let has_decimals = is_true(test, "decimals")?;
+    let request = request_of(alloc, group.members, group.draft, schema, instance)?;
+    take_question(tally, request.as_str(), object_layer, has_decimals)?;
+    let name = name_of(alloc, group, test, instance)?;
+    let leaves = leaves_of(alloc, test, wanted)?;
+    let whole = whole_of(alloc, group.members, leaves.as_str())?;
+    let row = Row {
+        name: name.as_str(),
+        settings: group.settings,
+        object_layer,
+        schema,
+        claims: claims_of(test),
+        most: most_of(test)?,
+        whole: whole.as_str(),
+        leaves: leaves.as_str(),
+    };
+    if has_decimals {
+        return check_decimals(tally, &row, instance);
+    }
+    row::check(tally, &row, instance)?;
+    if by_run {
+        check_run(tally, row.name, request.as_str(), wanted.output.as_str())?;
+    }
+    Ok(())
+}
+
+// Takes what a row asks.
+fn take_question(
+    tally: &mut Tally,
+    request: &str,
+    layer: bool,
+    decimals: bool,
+) -> Result<(), Stop<'static>> {
+    let alloc = tally.alloc;
+    let question = format!(in alloc; "{request}, object layer: {layer}, decimals: {decimals}")?;
+    tally.take_question(question.as_str())
+}
+
+// The name of a row.
+fn name_of<'v>(
+    alloc: Global,
+    group: Group<'v, '_>,
+    test: &'v Members,
+    instance: &Value,
+) -> Result<String, Stop<'v>> {
+    let (draft, of_group) = (group.draft, text(group.members, "description")?);
+    let (test, instance) = (text(test, "description")?, instance.to_string(alloc)?);
+    Ok(format!(in alloc; "{of_group}: {test}: {instance}, draft {draft}")?)
+}
+
+// The wanted lines of the keywords one by one: the answer, and the evaluation if it is claimed.
+fn leaves_of<'v>(alloc: Global, test: &'v Members, wanted: &Wanted) -> Result<String, Stop<'v>> {
+    let (answer, evaluation) = (wanted.answer.as_str(), lines(alloc, test, "evaluation")?);
+    Ok(format!(in alloc; "{answer}{evaluation}")?)
+}
+
+// The wanted lines of the whole schema: what it says of itself before those.
+fn whole_of<'v>(alloc: Global, group: &'v Members, leaves: &str) -> Result<String, Stop<'v>> {
+    let fused = if is_true(group, "fused")? {
+        "fused\n"
+    } else {
+        ""
+    };
+    let hands_on = is_true(group, "handsOnRequired")?;
+    let hands_on = if hands_on { "hands on required\n" } else { "" };
+    Ok(format!(in alloc; "{fused}{hands_on}{leaves}")?)
+}
+
+// Whether the schema of a group is compiled with an object layer, and whether `run`, which has
+// none, is asked too: both, unless the group says that they differ.
+fn layer_of<'v>(group: &'v Members) -> Result<(bool, bool), Stop<'v>> {
+    match group.get("objectLayer") {
+        None => Ok((true, true)),
+        Some(Value::Bool(layer)) => Ok((*layer, !*layer)),
+        Some(_) => Err(Stop::Wrong("no truth value", "objectLayer")),
+    }
+}
+
+// How many subschemas the observers may apply, if the test says so.
+fn most_of<'v>(test: &'v Members) -> Result<Option<Most>, Stop<'v>> {
+    let Some(value) = test.get("applications") else {
+        return Ok(None);
+    };
+    let members = known(value, &["untilFirst", "ofAll", "collected"])?;
+    Ok(Some(Most {
+        until_first: number(members, "untilFirst")?,
+        of_all: number(members, "ofAll")?,
+        collected: match members.get("collected") {
+            None => 1,
+            Some(_) => number(members, "collected")?,
+        },
+    }))
+}

@@ -1,0 +1,93 @@
+//! Asks each row of the files of a folder in every way that there is to ask it, and prints the rows
+//! whose answers differ from the wanted ones. `README.md` beside `src/` says what a row is.
+//!
+//! The one argument is the folder, the current one by default; its files whose names end in `.json`
+//! are read. The status is 0 if no row differs and no group is wrong, else 1.
+#![tactic(auto)]
+
+mod answer;
+mod error_lines;
+mod group;
+mod leaves;
+mod members;
+mod representations;
+mod requests;
+mod row;
+mod setting;
+mod stop;
+mod tally;
+mod tree_lines;
+mod wanted;
+mod whole;
+
+use serde_json::Value;
+use std::alloc::AllocError;
+use std::process::ExitCode;
+use std::{env, fs, io};
+use stop::Stop;
+use tally::Tally;
+
+// The names of the files of rows in a folder, sorted.
+fn file_names(rt: &HostRuntime, folder: &str) -> io::Result<Vec<String>> {
+    let mut names = Vec::new(rt.alloc());
+    for entry in fs::read_dir(rt, folder)? {
+        let entry = entry?;
+        if entry.file_name().ends_with(".json") {
+            names.push(String::from_str(rt.alloc(), entry.file_name())?)?;
+        }
+    }
+    names.sort()?;
+    Ok(names)
+}
+
+// Asks the rows of a file's text, which is an array of groups.
+fn check_text(tally: &mut Tally, text: &str) -> Result<(), AllocError> {
+    match Value::from_str(tally.alloc, text) {
+        Ok(Value::Array(groups)) => {
+            for group in &groups {
+                check_group(tally, group)?;
+            }
+            Ok(())
+        }
+        Err(error) if error.is_memory() => Err(AllocError),
+        _ => tally.tell_wrong("the file", "no JSON array"),
+    }
+}
+
+// Asks the rows of a group, and tells of it if it is wrong.
+fn check_group(tally: &mut Tally, value: &Value) -> Result<(), AllocError> {
+    let (what, with) = match group::check(tally, value) {
+        Ok(()) => return Ok(()),
+        Err(Stop::Memory(error)) => return Err(error),
+        Err(Stop::Wrong(what, with)) => (what, with),
+    };
+    let what = format!(in tally.alloc; "{what}: {with}")?;
+    let group = value.get("description").and_then(Value::as_str);
+    tally.tell_wrong(group.unwrap_or("no description"), what.as_str())
+}
+
+// Asks the rows of a file, and prints those that differ and how many there are.
+fn check_file(rt: &HostRuntime, tally: &mut Tally, folder: &str, name: &str) -> io::Result<()> {
+    let path = format!(in rt.alloc(); "{folder}/{name}")?;
+    let text = fs::read_to_string(rt, path.as_str())?;
+    tally.file = String::from_str(rt.alloc(), name)?;
+    tally.told = String::new(rt.alloc());
+    let before = tally.rows;
+    check_text(tally, text.as_str())?;
+    let rows = tally.rows.saturating_sub(before);
+    println!(rt; "{}{name}: {rows} rows", tally.told)
+}
+
+fn main(rt: HostRuntime) -> io::Result<ExitCode> {
+    let folder = match env::args(&rt)?.nth(1) {
+        Some(folder) => folder,
+        None => String::from_str(rt.alloc(), ".")?,
+    };
+    let mut tally = Tally::new(rt.alloc());
+    for name in &file_names(&rt, folder.as_str())? {
+        check_file(&rt, &mut tally, folder.as_str(), name.as_str())?;
+    }
+    let (rows, differing, wrong) = (tally.rows, tally.differing, tally.wrong);
+    println!(rt; "{rows} rows, {differing} answers differ, {wrong} groups are wrong")?;
+    Ok(ExitCode::from(if differing == 0 && wrong == 0 { 0 } else { 1 }))
+}

@@ -1,0 +1,85 @@
+//! Requests, and what `run` writes for them.
+use crate::members::{Members, items, known, lines, text};
+use crate::row::check_run;
+use crate::stop::Stop;
+use crate::tally::Tally;
+use jskw_service::{StdSink, StdSource, run, status};
+use serde_json::Value;
+use std::alloc::{AllocError, Global};
+
+/// What `run` writes for a request, and its status in a line behind it.
+pub(crate) fn output(alloc: Global, request: &str) -> Result<String, AllocError> {
+    let mut reader = StdSource::new(request.as_bytes());
+    let mut writer = StdSink::new(Vec::new(alloc));
+    let status = status(&run(alloc, &mut reader, &mut writer));
+    let written = writer.into_inner();
+    let text = std::str::from_utf8(written.as_slice()).unwrap_or("no text\n");
+    format!(in alloc; "{text}status {status}\n")
+}
+
+/// The request of a row.
+pub(crate) fn request_of(
+    alloc: Global,
+    group: &Members,
+    draft: &str,
+    schema: &Value,
+    instance: &Value,
+) -> Result<String, AllocError> {
+    let mut request = format!(in alloc; "{{\"draft\":\"{draft}\"")?;
+    for name in ["vocabularies", "overridden"] {
+        if let Some(value) = group.get(name) {
+            push_member(alloc, &mut request, name, value)?;
+        }
+    }
+    push_member(alloc, &mut request, "schema", schema)?;
+    push_member(alloc, &mut request, "instance", instance)?;
+    request.push('}')?;
+    Ok(request)
+}
+
+// Appends a member behind another one.
+fn push_member(
+    alloc: Global,
+    request: &mut String,
+    name: &str,
+    value: &Value,
+) -> Result<(), AllocError> {
+    let value = value.to_string(alloc)?;
+    write!(request, ",\"{name}\":{value}")
+}
+
+/// Asks the requests of a group of them.
+pub(crate) fn check<'v>(tally: &mut Tally, group: &'v Value) -> Result<(), Stop<'v>> {
+    let group = known(group, &["description", "requests"])?;
+    let name = text(group, "description")?;
+    for request in items(group, "requests")? {
+        let request = known(request, &["description", "request", "output"])?;
+        check_request(tally, name, request)?;
+    }
+    Ok(())
+}
+
+// Asks a request.
+fn check_request<'v>(
+    tally: &mut Tally,
+    group: &'v str,
+    members: &'v Members,
+) -> Result<(), Stop<'v>> {
+    let description = text(members, "description")?;
+    tally.take_name(group, description)?;
+    let request = text(members, "request")?;
+    tally.take_question(request)?;
+    let lines = lines(tally.alloc, members, "output")?;
+    let status = status_of(lines.as_str());
+    let wanted = format!(in tally.alloc; "{lines}status {status}\n")?;
+    let name = format!(in tally.alloc; "{group}: {description}")?;
+    Ok(check_run(tally, name.as_str(), request, wanted.as_str())?)
+}
+
+// The status that goes with an output.
+fn status_of(output: &str) -> u8 {
+    if output == "valid\n" {
+        return 0;
+    }
+    if output.starts_with("refused") { 2 } else { 1 }
+}

@@ -1,0 +1,89 @@
+//! A row, and how it is asked.
+use crate::answer::Claims;
+use crate::representations::{Keys0, KeysMax, decimals_of};
+use crate::stop::Stop;
+use crate::tally::Tally;
+use crate::{leaves, requests, whole};
+use jskw_report::Settings;
+use jskw_value::{DecimalJson, DecimalTree, Json, SerdeJson};
+use serde_json::Value;
+use std::alloc::AllocError;
+
+/// How many subschemas the observers of a row may apply.
+#[derive(Clone, Copy)]
+pub(crate) struct Most {
+    /// `is_valid` and `validate`.
+    pub(crate) until_first: u64,
+    /// `collect_errors` and `evaluate_instance`.
+    pub(crate) of_all: u64,
+    /// `collect_errors`, no less than this.
+    pub(crate) collected: u64,
+}
+
+/// A schema under a setting, an instance, and what is wanted.
+#[derive(Clone, Copy)]
+pub(crate) struct Row<'r> {
+    pub(crate) name: &'r str,
+    pub(crate) settings: &'r Settings,
+    pub(crate) object_layer: bool,
+    pub(crate) schema: &'r Value,
+    pub(crate) claims: Claims,
+    pub(crate) most: Option<Most>,
+    /// The wanted lines of the whole schema, and of its keywords one by one.
+    pub(crate) whole: &'r str,
+    pub(crate) leaves: &'r str,
+}
+
+/// Asks a row over an instance without decimals.
+pub(crate) fn check(tally: &mut Tally, row: &Row<'_>, instance: &Value) -> Result<(), AllocError> {
+    check_over::<SerdeJson>(tally, row, instance, "over serde_json")?;
+    match DecimalTree::from_value(tally.alloc, instance)? {
+        Some(tree) => check_tree(tally, row, &tree),
+        None => Ok(()),
+    }
+}
+
+/// Asks a row over an instance in which each text stands for a decimal.
+pub(crate) fn check_decimals(
+    tally: &mut Tally,
+    row: &Row<'_>,
+    instance: &Value,
+) -> Result<(), Stop<'static>> {
+    let tree = decimals_of(tally.alloc, instance)?;
+    Ok(check_tree(tally, row, &tree)?)
+}
+
+/// Asks the service.
+pub(crate) fn check_run(
+    tally: &mut Tally,
+    name: &str,
+    request: &str,
+    wanted: &str,
+) -> Result<(), AllocError> {
+    let found = requests::output(tally.alloc, request)?;
+    tally.compare(name, "by run", wanted, found.as_str())
+}
+
+// Asks a row over each representation whose nodes are trees of decimals.
+fn check_tree(tally: &mut Tally, row: &Row<'_>, tree: &DecimalTree) -> Result<(), AllocError> {
+    check_over::<DecimalJson>(tally, row, tree, "over decimals")?;
+    check_over::<Keys0>(tally, row, tree, "over decimals, by lookups")?;
+    check_over::<KeysMax>(tally, row, tree, "over decimals, by walks")
+}
+
+// Asks a row over one representation: the whole schema, and its keywords one by one.
+fn check_over<F: Json>(
+    tally: &mut Tally,
+    row: &Row<'_>,
+    instance: &F::Node,
+    way: &str,
+) -> Result<(), AllocError> {
+    let found = whole::answer::<F>(tally.alloc, row, instance)?;
+    tally.compare(row.name, way, row.whole, found.as_str())?;
+    if leaves::has_leaves_alone::<F>(tally.alloc, row) {
+        let found = leaves::answer::<F>(tally.alloc, row, instance)?;
+        let way = format!(in tally.alloc; "{way}, each keyword by itself")?;
+        tally.compare(row.name, way.as_str(), row.leaves, found.as_str())?;
+    }
+    Ok(())
+}

@@ -1,0 +1,23 @@
+//! Why a group of rows can't be asked.
+use std::alloc::{AllocError, AllocFailed};
+
+/// Why a group of rows can't be asked.
+#[derive(Drop)]
+pub(crate) enum Stop<'v> {
+    /// What is wrong, and with which member or text of the group.
+    Wrong(&'static str, &'v str),
+    /// Memory ran out.
+    Memory(AllocError),
+}
+
+impl From<AllocError> for Stop<'_> {
+    fn from(error: AllocError) -> Self {
+        Stop::Memory(error)
+    }
+}
+
+impl<T: Drop> From<AllocFailed<T>> for Stop<'_> {
+    fn from(_error: AllocFailed<T>) -> Self {
+        Stop::Memory(AllocError)
+    }
+}
