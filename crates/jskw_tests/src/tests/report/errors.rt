@@ -47,11 +47,21 @@ fn over_both(alloc: Global, call: &str, asked: &str) -> Result<String, Fail> {
 
 fn answer<F: Json>(alloc: Global, call: &str, item: &F::Node) -> Result<String, AllocError> {
     let by = member_location(alloc, "items")?;
-    let answer = judged::<F>(alloc, call.starts_with("holds"), few_items(), &by, item);
+    answer_by::<F>(alloc, call, &by, item)
+}
+
+// The keyword location and the item are lent for one lifetime, which all errors have.
+fn answer_by<'i, F: Json>(
+    alloc: Global,
+    call: &str,
+    by: &'i Location,
+    item: &'i F::Node,
+) -> Result<String, AllocError> {
+    let answer = judged::<F>(alloc, call.starts_with("holds"), few_items(), by, item);
     match call {
         "append" => {
-            let kind = ValidationErrorKind::UniqueItems;
-            appended(alloc, answer, judged::<F>(alloc, false, kind, &by, item))
+            let other = judged::<F>(alloc, false, ValidationErrorKind::UniqueItems, by, item);
+            appended(alloc, answer, other)
         }
         "describe" => described(alloc, answer),
         "holds_unit" | "fails_unit" => evaluated(alloc, answer),
