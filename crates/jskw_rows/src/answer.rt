@@ -49,10 +49,10 @@ impl Said {
         place: Place,
         answer: Result<(), Fault<F>>,
     ) -> Result<(), AllocError> {
-        match answer {
-            Err(Fault::Memory(error)) => Err(error),
+        match &answer {
+            Err(Fault::Memory(_)) => Err(AllocError),
             Err(Fault::Invalid(error)) if self.first.is_empty() => {
-                push_error(alloc, &mut self.first, true, place, &error)
+                push_error(alloc, &mut self.first, true, place, error)
             }
             _ => Ok(()),
         }

@@ -134,12 +134,19 @@ fn push_types(text: &mut String, kind: TypeKind) -> Result<(), AllocError> {
 
 // Appends the names of the types of a set, with a comma between each two.
 fn push_names(text: &mut String, types: JsonTypeSet) -> Result<(), AllocError> {
-    let mut comma = "";
+    let mut is_first = true;
     for (name, json_type) in TYPES {
         if types.contains(json_type) {
-            write!(text, "{comma}\"{name}\"")?;
-            comma = ",";
+            push_name(text, is_first, name)?;
+            is_first = false;
         }
     }
     Ok(())
+}
+
+fn push_name(text: &mut String, is_first: bool, name: &str) -> Result<(), AllocError> {
+    if !is_first {
+        text.push(',')?;
+    }
+    write!(text, "\"{name}\"")
 }

@@ -20,6 +20,7 @@ mod tree_lines;
 mod wanted;
 mod whole;
 
+use jskw_service::read_value;
 use serde_json::Value;
 use std::alloc::AllocError;
 use std::process::ExitCode;
@@ -42,16 +43,14 @@ fn file_names(rt: &HostRuntime, folder: &str) -> io::Result<Vec<String>> {
 
 // Asks the rows of a file's text, which is an array of groups.
 fn check_text(tally: &mut Tally, text: &str) -> Result<(), AllocError> {
-    match Value::from_str(tally.alloc, text) {
-        Ok(Value::Array(groups)) => {
-            for group in &groups {
-                check_group(tally, group)?;
-            }
-            Ok(())
-        }
-        Err(error) if error.is_memory() => Err(AllocError),
-        _ => tally.tell_wrong("the file", "no JSON array"),
+    let value = read_value(tally.alloc, text.as_bytes())?;
+    let Some(Value::Array(groups)) = &value else {
+        return tally.tell_wrong("the file", "no JSON array");
+    };
+    for group in groups {
+        check_group(tally, group)?;
     }
+    Ok(())
 }
 
 // Asks the rows of a group, and tells of it if it is wrong.
