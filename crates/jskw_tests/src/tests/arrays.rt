@@ -65,6 +65,9 @@ fn shape_text(
     shape: &ArrayShapeValidator<DecimalJson>,
     instance: &DecimalTree,
 ) -> Result<String, AllocError> {
+    if !instance.is_lawful() {
+        return String::from_str(alloc, "a float");
+    }
     let holds = shape.is_valid(instance, &mut ValidationContext::new());
     let mut text = format!(in alloc; "{holds} ")?;
     let root = Location::new(alloc);
@@ -115,6 +118,9 @@ fn item(alloc: Global, name: &str, item: &str) -> Result<String, Fail> {
 }
 
 fn item_text<T: ItemType>(alloc: Global, item: DecimalTree) -> Result<String, AllocError> {
+    if !item.is_lawful() {
+        return String::from_str(alloc, "a float");
+    }
     let mut ctx = ValidationContext::new();
     let matches = T::matches::<DecimalJson>(&item);
     let by_type = T::compile_type::<DecimalJson>(Location::new(alloc)).is_valid(&item, &mut ctx);
@@ -123,6 +129,9 @@ fn item_text<T: ItemType>(alloc: Global, item: DecimalTree) -> Result<String, Al
         Location::new(alloc),
     );
     let array = DecimalTree::Array(Vec::from_array(alloc, [item])?);
+    if !array.is_lawful() {
+        return String::from_str(alloc, "a float");
+    }
     let by_items = items.is_valid(&array, &mut ctx);
     format!(in alloc; "{matches} {by_type} {by_items}")
 }
@@ -152,6 +161,9 @@ fn additional(alloc: Global, _: &str, schema: &str) -> Result<String, Fail> {
     let ctx: Context<DecimalJson> = Context::new(alloc, &settings);
     let compiled = additional_items::compile(alloc, &ctx, parent, value);
     let instance = tree_of(alloc, "[1,1,1]")?;
+    if !instance.is_lawful() {
+        return Err("a float")?;
+    }
     let mut counted = ValidationContext::new();
     match &compiled {
         None => return Ok(String::from_str(alloc, "not compiled")?),
@@ -192,6 +204,9 @@ fn below_text(
     node: &SchemaNode<DecimalJson>,
     instance: &DecimalTree,
 ) -> Result<String, AllocError> {
+    if !instance.is_lawful() {
+        return String::from_str(alloc, "a float");
+    }
     let mut text = format!(in alloc; "{} ", node.location().as_str())?;
     let mut location = LazyLocation::new(alloc);
     location.push(3)?;

@@ -34,6 +34,9 @@ fn is_option(alloc: Global, quote: &str, asked: &str) -> Result<String, Fail> {
         return Err("not compiled")?;
     };
     let instance = tree_of(alloc, instance)?;
+    if !instance.is_lawful() {
+        return Err("a float")?;
+    }
     let holds = validator.is_valid(&instance, &mut ValidationContext::new());
     Ok(format!(in alloc; "{holds}")?)
 }

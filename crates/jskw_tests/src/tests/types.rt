@@ -1,6 +1,5 @@
 // Validators that are made for a location, and the two ways to tell an integer.
 use super::value::table::{check, decimal_of, tree_of};
-use jskw_leaf::LeafValidator;
 use jskw_leaf::boolean::FalseValidator;
 use jskw_leaf::legacy::type_draft_4;
 use jskw_leaf::required::compile_with_path;
@@ -54,6 +53,9 @@ fn said<V: Validate<DecimalJson> + Drop>(
     validator: V,
     item: &DecimalTree,
 ) -> Result<String, AllocError> {
+    if !item.is_lawful() {
+        return String::from_str(alloc, "a float");
+    }
     let mut location = LazyLocation::new(alloc);
     location.push(7)?;
     let first = validator.validate(item, &mut location, &mut ValidationContext::new());
@@ -84,17 +86,24 @@ fn required(alloc: Global, _: &str, names: &str) -> Result<String, Fail> {
     let names = Value::from_str(alloc, names)?;
     let object = tree_of(alloc, r#"{"b":1}"#)?;
     let at = Location::new(alloc).join(alloc, LocationSegment::Name("a"))?;
-    let compiled: Option<Result<LeafValidator<DecimalJson>, CompileFault>> = compile_with_path(
-        alloc, &names, at,
-    );
-    Ok(match compiled.ok_or("nothing is asserted")? {
-        Ok(validator) => said(alloc, validator, &object)?,
-        Err(CompileFault::Bad(error)) => {
+    Ok(required_text(alloc, &names, at, &object)?)
+}
+
+fn required_text(
+    alloc: Global,
+    names: &Value,
+    at: Location,
+    object: &DecimalTree,
+) -> Result<String, AllocError> {
+    match compile_with_path::<DecimalJson>(alloc, names, at) {
+        None => String::from_str(alloc, "nothing is asserted"),
+        Some(Ok(validator)) => said(alloc, validator, object),
+        Some(Err(CompileFault::Memory(error))) => Err(error),
+        Some(Err(CompileFault::Bad(error))) => {
             let message = error.message(alloc)?;
-            format!(in alloc; "{message} at {}", error.schema_path().as_str())?
+            format!(in alloc; "{message} at {}", error.schema_path().as_str())
         }
-        Err(CompileFault::Memory(error)) => Err(error)?,
-    })
+    }
 }
 
 #[test]
