@@ -1,6 +1,7 @@
 //! A value with exact decimals.
 
 use crate::compiled;
+use jskw_array::SchemaNode;
 use jskw_report::{Fault, LazyLocation, ValidationContext, ValidationError};
 use jskw_value::{Decimal, DecimalJson, DecimalTree, Member, Members, Node};
 use serde_json::Value;
@@ -20,12 +21,21 @@ pub(crate) fn print_example(rt: &HostRuntime) -> io::Result<()> {
     let Some(prices) = prices(rt.alloc(), &[2000, 2001])? else {
         return println!(rt; "a price is out of range");
     };
-    // true of every tree of decimals; asked here for the proof
-    if !prices.is_lawful() {
+    print_first(rt, &node, &prices)
+}
+
+// Prints the first error of an instance.
+fn print_first(
+    rt: &HostRuntime,
+    node: &SchemaNode<DecimalJson>,
+    instance: &DecimalTree,
+) -> io::Result<()> {
+    // false of no tree of decimals; asked here for the proof
+    if !instance.is_lawful() {
         return Ok(());
     }
     let (mut location, mut ctx) = (LazyLocation::new(rt.alloc()), ValidationContext::new());
-    match node.validate(&prices, &mut location, &mut ctx) {
+    match node.validate(instance, &mut location, &mut ctx) {
         Ok(()) => println!(rt; "valid"),
         Err(Fault::Invalid(error)) => print_error(rt, &error),
         Err(Fault::Memory(error)) => Err(error)?,

@@ -1,6 +1,7 @@
 //! An evaluation tree.
 
 use crate::compiled;
+use jskw_array::SchemaNode;
 use jskw_report::{Annotations, EvaluationNode, ValidationContext};
 use jskw_value::{Node, SerdeJson};
 use serde_json::Value;
@@ -16,16 +17,24 @@ pub(crate) fn print_example(rt: &HostRuntime) -> io::Result<()> {
     let Ok(node) = compiled::<SerdeJson>(rt.alloc(), &schema) else {
         return println!(rt; "the schema does not compile");
     };
-    match Value::from_str(rt.alloc(), "[5, 10, 25]") {
-        Ok(instance) if instance.is_lawful() => {
-            let mut ctx = ValidationContext::new();
-            print_tree(
-                rt,
-                &node.evaluate_instance(rt.alloc(), &instance, &mut ctx)?,
-            )
-        }
-        _ => println!(rt; "the instance is not JSON without floats"),
+    let Ok(instance) = Value::from_str(rt.alloc(), "[5, 10, 25]") else {
+        return println!(rt; "the instance is not JSON");
+    };
+    print_evaluation(rt, &node, &instance)
+}
+
+// Prints the tree of an instance.
+fn print_evaluation(
+    rt: &HostRuntime,
+    node: &SchemaNode<SerdeJson>,
+    instance: &Value,
+) -> io::Result<()> {
+    if !instance.is_lawful() {
+        return println!(rt; "not checked: it holds a float");
     }
+    let mut ctx = ValidationContext::new();
+    let tree = node.evaluate_instance(rt.alloc(), instance, &mut ctx)?;
+    print_tree(rt, &tree)
 }
 
 // Prints a node and those below it.
