@@ -7,6 +7,7 @@ use jskw_array::items::{
     ItemsTypeValidator, NumberItems, StringItems, array_shape_fusion,
 };
 use jskw_array::{SchemaNode, additional_items};
+use jskw_report::compiler::member_of;
 use jskw_report::{
     Context, Draft, EvaluationNode, LazyLocation, Location, LocationSegment, Settings, Validate,
     ValidationContext, VocabularySet,
@@ -47,7 +48,9 @@ fn shape(alloc: Global, _: &str, instance: &str) -> Result<String, Fail> {
     let schema = r#"{"type":"array","minItems":1,"maxItems":2,"items":{"type":"integer"}}"#;
     let schema = Value::from_str(alloc, schema)?;
     let parent = schema.as_object().ok_or("no object")?;
-    let items = parent.get("items").ok_or("no items")?;
+    let Some(items) = member_of(parent, "items") else {
+        return Err("no items")?;
+    };
     let settings = settings_of(alloc, Draft::Draft202012);
     let ctx: Context<DecimalJson> = Context::new(alloc, &settings);
     if !array_shape_fusion(&ctx, parent) {
