@@ -23,7 +23,7 @@ use Rattle.jskw_report.specs.declared.keyword.KeywordName.TheVariants as word
 use Rattle.jskw_report.specs.Sibling.{is_true, is_handed_on}
 
 -- the type of the instances that the assertion is about, if it isn't all of them
-abbrev assertion_subject : Assertion → Option JsonType
+abbrev pub assertion_subject : Assertion → Option JsonType
 assertion_subject (size MinItems n) = Some Array
 assertion_subject (size MaxItems n) = Some Array
 assertion_subject (size MinProperties n) = Some Object
@@ -36,7 +36,7 @@ assertion_subject (at_most n) = Some Array
 assertion_subject _ = None
 
 -- the type of the instances that the keyword is about, if it isn't all of them
-abbrev subject : Keyword → Option JsonType
+abbrev pub subject : Keyword → Option JsonType
 subject (assertion q a) = assertion_subject a
 subject _ = Some Array
 
@@ -128,12 +128,12 @@ all_hold-nil : (s : Schema) (n : ℕ) → IsTrue (list_all (holds s) (drop n [])
 all_hold-nil s n = ap (list_all (holds s)) (drop-nil n)
 
 -- the tree is of another type than that one
-abbrev IsOther : Option JsonType → Tree → Type 0
+abbrev pub IsOther : Option JsonType → Tree → Type 0
 IsOther None t = ⊥
 IsOther (Some j) t = json_type t ≢ j
 
 -- a keyword holds of a tree of another type than the one that it is about
-holds_of_other : (k : Keyword) (t : Tree) → IsOther (subject k) t → IsTrue (keyword_holds k t)
+pub holds_of_other : (k : Keyword) (t : Tree) → IsOther (subject k) t → IsTrue (keyword_holds k t)
 holds_of_other (assertion q (limit r n)) (tree.number m) h = absurd (h refl)
 holds_of_other (assertion q (limit r n)) _ h = refl
 holds_of_other (assertion q (multiple_of m)) (tree.number n) h = absurd (h refl)
