@@ -1,3 +1,4 @@
 pub mod Limit
 pub mod Meaning
 pub mod Names
+pub mod QuickSet

@@ -47,6 +47,8 @@ pub mod min_properties;
 pub mod minmax;
 pub mod multiple_of;
 pub mod number;
+pub mod quick_set;
 
 pub use keywords::compile;
 pub use number::NumberValidator;
+pub use quick_set::QuickSet;

@@ -15,16 +15,20 @@ ghost use Rattle.jskw_value.specs.Tree.{is_lawful, number as number_tree};
 ghost use Rattle.jskw_report.specs.Compile.{Compiles, Makes, reading};
 ghost use Rattle.jskw_report.specs.Errors.{kind_of};
 ghost use Rattle.jskw_report.specs.Fail.{limit_kind};
+ghost use Rattle.jskw_report.specs.Holds.{stands_in};
 ghost use Rattle.jskw_report.specs.Keyword.{Relation};
+ghost use Rattle.jskw_report.specs.Meaning.{placed};
 ghost use Rattle.jskw_report.specs.Keyword as relation;
 ghost use Rattle.jskw_report.specs.Read.{limit_keyword, limit_word};
 ghost use Rattle.jskw_report.specs.Setting.{is_after_draft_4};
 ghost use Rattle.jskw_report.specs.declared.keyword.KeywordName.TheVariants as word;
 ghost use Rattle.jskw_number.specs.Limit.{allows, stands_to};
+ghost use Rattle.jskw_number.specs.QuickSet.{Accepts, in_range};
 ghost use Rattle.jskw_number.specs.Meaning.{limit_of, number_assertion, number_keyword, placed_limit};
 
 use crate::helpers::{WholeNumber, whole_number};
 use crate::number::NumberValidator;
+use crate::quick_set::{IntegerRange, QuickSet};
 use jskw_report::{
     Assertion, CompilationResult, Context, KeywordName, Location, ValidationErrorKind,
 };
@@ -91,6 +95,12 @@ pub trait LimitTest {
     fn allows(ordering: Ordering) -> bool
         ensures { result ≡ allows relation ordering };
 
+    /// Returns integers that are within the limit, which must be from -2^63 to 2^64-1.
+    fn integers(limit: i128) -> IntegerRange
+        requires low { negsuc 9223372036854775807 ≤ℤ limit }
+        requires high { limit <ℤ pos 18446744073709551616 }
+        ensures { (z : ℤ) → in_range result z ≡ true → stands_in relation z 0 limit ≡ true };
+
     /// Returns the kind of error for a number that is not within the limit.
     fn kind<'k>(limit: i128) -> ValidationErrorKind<'k>
         ensures { kind_of result ≡ limit_kind relation limit };
@@ -143,6 +153,17 @@ impl<T, R> Limit<T, R> {
     }
 }
 
+impl<T: Whole, R: LimitTest> Limit<T, R> {
+    /// Returns values that are within the limit, among them all that are no numbers.
+    #[tactic(auto, using(crate::proofs::QuickSets::accepted_limit))]
+    pub fn quick_set(&self) -> QuickSet
+        ensures { Accepts result
+            (placed (placed_limit R.relation (T.whole self.now.limit) self.now.location)) }
+    {
+        QuickSet::but_numbers(R::integers(self.limit.to_i128()))
+    }
+}
+
 impl<T: Whole, R: LimitTest> Assertion for Limit<T, R> {
     ghost asserts = { λ v. placed_limit R.relation (T.whole v.limit) v.location };
 
@@ -185,6 +206,11 @@ impl LimitTest for AtLeast {
         ordering.is_ge()
     }
 
+    #[tactic(auto, using(crate::proofs::QuickSets::whole_limits))]
+    fn integers(limit: i128) -> IntegerRange {
+        IntegerRange::at_least(limit)
+    }
+
     fn kind<'k>(limit: i128) -> ValidationErrorKind<'k> {
         ValidationErrorKind::Minimum { limit }
     }
@@ -215,6 +241,11 @@ impl LimitTest for AtMost {
 
     fn allows(ordering: Ordering) -> bool {
         ordering.is_le()
+    }
+
+    #[tactic(auto, using(crate::proofs::QuickSets::whole_limits))]
+    fn integers(limit: i128) -> IntegerRange {
+        IntegerRange::at_most(limit)
     }
 
     fn kind<'k>(limit: i128) -> ValidationErrorKind<'k> {
@@ -249,6 +280,11 @@ impl LimitTest for Above {
         ordering.is_gt()
     }
 
+    #[tactic(auto, using(crate::proofs::QuickSets::whole_limits))]
+    fn integers(limit: i128) -> IntegerRange {
+        IntegerRange::at_least(limit + 1)
+    }
+
     fn kind<'k>(limit: i128) -> ValidationErrorKind<'k> {
         ValidationErrorKind::ExclusiveMinimum { limit }
     }
@@ -279,6 +315,11 @@ impl LimitTest for Below {
 
     fn allows(ordering: Ordering) -> bool {
         ordering.is_lt()
+    }
+
+    #[tactic(auto, using(crate::proofs::QuickSets::whole_limits))]
+    fn integers(limit: i128) -> IntegerRange {
+        IntegerRange::at_most(limit - 1)
     }
 
     fn kind<'k>(limit: i128) -> ValidationErrorKind<'k> {

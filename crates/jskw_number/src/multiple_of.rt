@@ -13,12 +13,15 @@ ghost use Rattle.serde_json.specs.View.{view, members_view};
 ghost use Rattle.jskw_report.specs.Compile.{Compiles, Makes, reading};
 ghost use Rattle.jskw_report.specs.KeywordValue.{divisor_value};
 ghost use Rattle.jskw_report.specs.Kind as kind;
+ghost use Rattle.jskw_report.specs.Meaning.{placed};
 ghost use Rattle.jskw_report.specs.Read.{divisor_keyword, keyword_location};
 ghost use Rattle.jskw_report.specs.declared.keyword.KeywordName.TheVariants as word;
+ghost use Rattle.jskw_number.specs.QuickSet.{Accepts};
 ghost use Rattle.jskw_number.specs.Meaning.{multiple_of_integer, number_keyword};
 
 use crate::helpers::{size_limit, whole_number};
 use crate::number::NumberValidator;
+use crate::quick_set::{IntegerRange, QuickSet};
 use jskw_report::{
     Assertion, CompilationResult, CompileFault, Context, KeywordName, Location, ValidationErrorKind,
 };
@@ -33,6 +36,16 @@ use std::num::NonZeroU64;
 pub struct MultipleOfIntegerValidator {
     multiple_of: NonZeroU64,
     location: Location,
+}
+
+impl MultipleOfIntegerValidator {
+    /// Returns values that the keyword accepts, among them all that are no numbers.
+    #[tactic(auto, using(crate::proofs::QuickSets::accepted_multiple))]
+    pub fn quick_set(&self) -> QuickSet
+        ensures { Accepts result (placed (multiple_of_integer self.now)) }
+    {
+        QuickSet::but_numbers(IntegerRange::multiples_of(self.multiple_of))
+    }
 }
 
 #[tactic(auto, using(crate::proofs::Divisors::divides))]

@@ -1,5 +1,7 @@
 //! The validators of this crate as one type.
 ghost use Rattle.jskw_number.specs.Meaning.{number_assertion, number_error, number_fails_once};
+ghost use Rattle.jskw_number.specs.Meaning.{number_keyword};
+ghost use Rattle.jskw_number.specs.QuickSet.{Accepts};
 
 use crate::max_items::MaxItemsValidator;
 use crate::max_properties::MaxPropertiesValidator;
@@ -7,6 +9,7 @@ use crate::min_items::MinItemsValidator;
 use crate::min_properties::MinPropertiesValidator;
 use crate::minmax::{ExclusiveMaximum, ExclusiveMinimum, Maximum, Minimum};
 use crate::multiple_of::MultipleOfIntegerValidator;
+use crate::quick_set::QuickSet;
 use jskw_report::{Assertion, Location, ValidationErrorKind};
 use jskw_value::Json;
 
@@ -59,6 +62,29 @@ macro_rules! whichever {
             $(NumberValidator::$variant($validator) => $answer,)+
         }
     };
+}
+
+impl NumberValidator {
+    /// Returns values that the keyword accepts, among them all values that it does not concern.
+    pub fn quick_set(&self) -> QuickSet
+        ensures { Accepts result (number_keyword self.now) }
+    {
+        match self {
+            NumberValidator::MinItems(_) | NumberValidator::MaxItems(_) => QuickSet::but_arrays(),
+            NumberValidator::MinProperties(_) | NumberValidator::MaxProperties(_) => {
+                QuickSet::but_objects()
+            }
+            NumberValidator::MinimumU64(v) => v.quick_set(),
+            NumberValidator::MinimumI64(v) => v.quick_set(),
+            NumberValidator::MaximumU64(v) => v.quick_set(),
+            NumberValidator::MaximumI64(v) => v.quick_set(),
+            NumberValidator::ExclusiveMinimumU64(v) => v.quick_set(),
+            NumberValidator::ExclusiveMinimumI64(v) => v.quick_set(),
+            NumberValidator::ExclusiveMaximumU64(v) => v.quick_set(),
+            NumberValidator::ExclusiveMaximumI64(v) => v.quick_set(),
+            NumberValidator::MultipleOfInteger(v) => v.quick_set(),
+        }
+    }
 }
 
 impl Assertion for NumberValidator {

@@ -1,0 +1,157 @@
+-- Ranges of integers within limits and among multiples, and sets of values that keywords accept.
+use Rattle.std.proofs.Common.{◌≡◌, ℕ, zero, suc, ◌^◌, ◌*◌, ◌%◌, ◌==◌, ◌&&◌, ◌||◌, ℤ, pos, negsuc, ◌*ℤ◌, ◌+ℤ◌, Bool, true, false, if◌then◌else◌, Some, None, refl, ap, sym, subst, ◌∙◌, arith}
+use Rattle.std.proofs.lemmas.Bool.{and_parts, true≢false}
+use Rattle.std.proofs.Math.IntN.{*ℤ-one, one}
+use Rattle.std.proofs.lemmas.Int.{ints}
+use Rattle.std.specs.Option.{option_map_or}
+use Rattle.std.specs.Prelude.{int_le, int_lt, nat_lt, unsigned_abs}
+use Rattle.jskw_value.specs.Number.{Num, exact, float, is_multiple_of}
+use Rattle.jskw_value.specs.Tree.{Tree, null, boolean, number, string, array, object, is_array, is_object}
+use Rattle.jskw_value.specs.Types as types
+use Rattle.jskw_value.specs.declared.types.JsonTypeSet.{JsonTypeSet}
+use Rattle.jskw_value.specs.declared.types.JsonType.TheVariants.{Array, Boolean, Integer, Null, Number, Object, String}
+use Rattle.jskw_report.specs.Holds.{keyword_holds, is_integer, is_of, limit_holds, multiple_holds, size_holds, stands_in}
+use Rattle.jskw_report.specs.Keyword.{Keyword, Integers, by_value, as_written, Relation, Minimum, Maximum, ExclusiveMinimum, ExclusiveMaximum, Size, MinItems, MaxItems, MinProperties, MaxProperties}
+use Rattle.jskw_number.specs.declared.quick_set.IntegerRange.{IntegerRange}
+use Rattle.jskw_number.specs.declared.quick_set.QuickSet.{QuickSet}
+use Rattle.jskw_number.specs.QuickSet.{Accepts, divides, has_number, in_range, is_in}
+use Rattle.jskw_report.proofs.Elsewhere.{IsOther, holds_of_other, subject}
+
+times_one : (n : ℤ) → n *ℤ pos (10 ^ 0) ≡ n
+unfolding one
+times_one n = let power : 10 ^ 0 ≡ 1 = omega arith in rw power (*ℤ-one n)
+
+next_above : (z n : ℤ) (b : Bool) → int_lt n z ≡ b → int_le (n +ℤ pos 1) z ≡ true → int_lt n z ≡ true
+next_above z n true e h = e
+next_above z n false e h = absurd (omega (arith, ints, e, h))
+
+next_below : (z n : ℤ) (b : Bool) → int_lt z n ≡ b → int_le z (n +ℤ negsuc 0) ≡ true → int_lt z n ≡ true
+next_below z n true e h = e
+next_below z n false e h = absurd (omega (arith, ints, e, h))
+
+-- ---- integers within a limit
+
+pub at_least : (z n : ℤ) → int_le n z ≡ true → stands_in Minimum z 0 n ≡ true
+at_least z n h = rw (times_one n) h
+
+pub at_most : (z n : ℤ) → int_le z n ≡ true → stands_in Maximum z 0 n ≡ true
+at_most z n h = rw (times_one n) h
+
+pub above : (z n : ℤ) → int_le (n +ℤ pos 1) z ≡ true → stands_in ExclusiveMinimum z 0 n ≡ true
+above z n h = rw (times_one n) (next_above z n (int_lt n z) refl h)
+
+pub below : (z n : ℤ) → int_le z (n +ℤ negsuc 0) ≡ true → stands_in ExclusiveMaximum z 0 n ≡ true
+below z n h = rw (times_one n) (next_below z n (int_lt z n) refl h)
+
+pub ruleset whole_limits = (at_least, at_most, above, below)
+
+-- ---- two ranges
+
+-- the integers of `both` are those of a range cut by the divisor of the other, then from its lower bound on, then up to
+-- its upper bound
+pub in_both : (range other divided above both : IntegerRange) → ((z : ℤ) → in_range divided z ≡ true → (in_range range z && divides other.divisor z) ≡ true)
+    → ((z : ℤ) → in_range above z ≡ true → (in_range divided z && int_le other.low z) ≡ true)
+    → ((z : ℤ) → in_range both z ≡ true → (in_range above z && int_le z other.high) ≡ true)
+    → (z : ℤ) → in_range both z ≡ true → (in_range range z && in_range other z) ≡ true
+in_both range other divided above both d l u z h =
+    let upper = and_parts (in_range above z) (int_le z other.high) (u z h) in
+    let lower = and_parts (in_range divided z) (int_le other.low z) (l z upper.0) in
+    let whole = and_parts (in_range range z) (divides other.divisor z) (d z lower.0) in
+    rw whole.0 (rw lower.1 (rw upper.1 (rw whole.1 refl)))
+
+-- ---- numbers of a range
+
+-- an integer of the range is in it as itself
+whole_in : (g : IntegerRange) (c : ℤ) → has_number g (exact c zero) ≡ true → in_range g c ≡ true
+whole_in g (pos n) h = go (nat_lt n (2 ^ 63)) h
+  where
+    go : (b : Bool) → option_map_or (in_range g) (if b then Some (pos n) else None) false ≡ true → in_range g (pos n) ≡ true
+    go true h = h
+    go false h = absurd (true≢false (sym h))
+whole_in g (negsuc n) h = go (nat_lt n (2 ^ 63)) h
+  where
+    go : (b : Bool) → option_map_or (in_range g) (if b then Some (negsuc n) else None) false ≡ true → in_range g (negsuc n) ≡ true
+    go true h = h
+    go false h = absurd (true≢false (sym h))
+
+-- a range within a limit, as a set beside all that is no number
+pub accepted_limit : (q : QuickSet) (g : IntegerRange) (r : Relation) (n : ℤ) → ((m : Num) → is_in q (number m) ≡ has_number g m) → ((z : ℤ) → in_range g z ≡ true → stands_in r z 0 n ≡ true)
+    → (t : Tree) → is_in q t ≡ true → limit_holds r n t ≡ true
+accepted_limit q g r n e within (number (exact c zero)) h = within c (whole_in g c (sym (e (exact c zero)) ∙ h))
+accepted_limit q g r n e within (number (exact c (suc k))) h = absurd (true≢false (sym h ∙ e (exact c (suc k))))
+accepted_limit q g r n e within (number float) h = absurd (true≢false (sym h ∙ e float))
+accepted_limit q g r n e within null h = refl
+accepted_limit q g r n e within (boolean b) h = refl
+accepted_limit q g r n e within (string s) h = refl
+accepted_limit q g r n e within (array ts) h = refl
+accepted_limit q g r n e within (object ms) h = refl
+
+-- and a range of multiples
+pub accepted_multiple : (q : QuickSet) (g : IntegerRange) (d : ℕ) → ((m : Num) → is_in q (number m) ≡ has_number g m) → ((z : ℤ) → in_range g z ≡ true → is_multiple_of z 0 d ≡ true)
+    → (t : Tree) → is_in q t ≡ true → multiple_holds d t ≡ true
+accepted_multiple q g d e within (number (exact c zero)) h = within c (whole_in g c (sym (e (exact c zero)) ∙ h))
+accepted_multiple q g d e within (number (exact c (suc k))) h = absurd (true≢false (sym h ∙ e (exact c (suc k))))
+accepted_multiple q g d e within (number float) h = absurd (true≢false (sym h ∙ e float))
+accepted_multiple q g d e within null h = refl
+accepted_multiple q g d e within (boolean b) h = refl
+accepted_multiple q g d e within (string s) h = refl
+accepted_multiple q g d e within (array ts) h = refl
+accepted_multiple q g d e within (object ms) h = refl
+
+-- a multiple of d is one of d * 10 ^ 0
+pub multiple_whole : (z : ℤ) (d : ℕ) → (unsigned_abs z % d == 0) ≡ true → is_multiple_of z 0 d ≡ true
+multiple_whole z d h = let one : d * 10 ^ 0 ≡ d = omega arith in rw one h
+
+-- ---- sets by type
+
+-- an integer written without a fraction is one by each rule
+whole_is_integer : (rule : Integers) (c : ℤ) → is_integer rule (number (exact c zero)) ≡ true
+whole_is_integer by_value c = let none : unsigned_abs c % 1 ≡ 0 = omega arith in rw none refl
+whole_is_integer as_written c = refl
+
+number_of : (rule : Integers) (c : ℤ) (n i : Bool) → (n || i) ≡ true → (n || (i && is_integer rule (number (exact c zero)))) ≡ true
+number_of rule c true i h = refl
+number_of rule c false i h = rw (whole_is_integer rule c) (rw h refl)
+
+pub accepted_types : (q : QuickSet) (s : JsonTypeSet) → q.arrays ≡ types.contains s Array → q.booleans ≡ types.contains s Boolean → q.nulls ≡ types.contains s Null → q.objects ≡ types.contains s Object → q.strings ≡ types.contains s String
+    → ((z : ℤ) → in_range q.integers z ≡ true → (types.contains s Number || types.contains s Integer) ≡ true)
+    → (rule : Integers) (t : Tree) → is_in q t ≡ true → is_of rule s t ≡ true
+accepted_types q s a b n o st i rule null h = rw (sym n ∙ h) refl
+accepted_types q s a b n o st i rule (boolean x) h = rw (sym b ∙ h) refl
+accepted_types q s a b n o st i rule (string x) h = rw (sym st ∙ h) refl
+accepted_types q s a b n o st i rule (array ts) h = rw (sym a ∙ h) refl
+accepted_types q s a b n o st i rule (object ms) h = rw (sym o ∙ h) refl
+accepted_types q s a b n o st i rule (number (exact c zero)) h = number_of rule c (types.contains s Number) (types.contains s Integer) (i c (whole_in q.integers c h))
+accepted_types q s a b n o st i rule (number (exact c (suc k))) h = absurd (true≢false (sym h))
+accepted_types q s a b n o st i rule (number float) h = absurd (true≢false (sym h))
+
+-- ---- what a keyword is not about
+
+pub but_arrays : (k : Keyword) (t : Tree) → subject k ≡ Some Array → is_array t ≡ false → keyword_holds k t ≡ true
+but_arrays k t about other = holds_of_other k t (subst (λ o. IsOther o t) (sym about) (go t other))
+  where
+    go : (t : Tree) → is_array t ≡ false → IsOther (Some Array) t
+    go (array ts) h e = absurd (true≢false h)
+    go null h e = cc
+    go (boolean x) h e = cc
+    go (number n) h e = cc
+    go (string x) h e = cc
+    go (object ms) h e = cc
+
+pub but_objects : (k : Keyword) (t : Tree) → subject k ≡ Some Object → is_object t ≡ false → keyword_holds k t ≡ true
+but_objects k t about other = holds_of_other k t (subst (λ o. IsOther o t) (sym about) (go t other))
+  where
+    go : (t : Tree) → is_object t ≡ false → IsOther (Some Object) t
+    go (object ms) h e = absurd (true≢false h)
+    go null h e = cc
+    go (boolean x) h e = cc
+    go (number n) h e = cc
+    go (string x) h e = cc
+    go (array ts) h e = cc
+
+-- the sets of all values but arrays, and but objects
+pub without_arrays : (q : QuickSet) (k : Keyword) → subject k ≡ Some Array → ((t : Tree) → is_in q t ≡ true → is_array t ≡ false) → Accepts q k
+without_arrays q k about none t h = but_arrays k t about (none t h)
+
+pub without_objects : (q : QuickSet) (k : Keyword) → subject k ≡ Some Object → ((t : Tree) → is_in q t ≡ true → is_object t ≡ false) → Accepts q k
+without_objects q k about none t h = but_objects k t about (none t h)
