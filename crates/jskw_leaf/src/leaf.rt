@@ -1,5 +1,6 @@
 //! The validators of the keywords without subschemas as one type.
 ghost use Rattle.jskw_report.specs.Meaning.{one};
+ghost use Rattle.jskw_number.specs.QuickSet.{Accepts};
 ghost use Rattle.jskw_leaf.specs.Meaning.{leaf_keyword};
 
 use crate::boolean::FalseValidator;
@@ -20,7 +21,7 @@ use crate::type_::{
     NullTypeValidator, NumberTypeValidator, ObjectTypeValidator, StringTypeValidator,
 };
 use crate::unique_items::UniqueItemsValidator;
-use jskw_number::NumberValidator;
+use jskw_number::{NumberValidator, QuickSet};
 use jskw_report::{
     EvaluationResult, Fault, LazyLocation, Validate, ValidationContext, ValidationError,
 };
@@ -116,6 +117,34 @@ macro_rules! whichever {
             $(LeafValidator::$variant($validator) => $answer,)+
         }
     };
+}
+
+impl<F: Json> LeafValidator<F> {
+    /// Returns values that the keyword accepts: those that it does not concern, those of its types,
+    /// the integers within its limit. The keyword may accept more.
+    pub fn quick_set(&self) -> QuickSet
+        ensures { Accepts result (leaf_keyword self.now) }
+    {
+        match self {
+            LeafValidator::Number(v) => v.quick_set(),
+            LeafValidator::MultipleTypes(v) => v.quick_set(),
+            LeafValidator::ArrayType(v) => v.quick_set(),
+            LeafValidator::BooleanType(v) => v.quick_set(),
+            LeafValidator::IntegerType(v) => v.quick_set(),
+            LeafValidator::NullType(v) => v.quick_set(),
+            LeafValidator::NumberType(v) => v.quick_set(),
+            LeafValidator::ObjectType(v) => v.quick_set(),
+            LeafValidator::StringType(v) => v.quick_set(),
+            LeafValidator::MultipleTypesDraft4(v) => v.quick_set(),
+            LeafValidator::IntegerTypeDraft4(v) => v.quick_set(),
+            LeafValidator::UniqueItems(_) => QuickSet::but_arrays(),
+            LeafValidator::Required(_) => QuickSet::but_objects(),
+            LeafValidator::SingleItemRequired(_) => QuickSet::but_objects(),
+            LeafValidator::Required2(_) => QuickSet::but_objects(),
+            LeafValidator::Required3(_) => QuickSet::but_objects(),
+            _ => QuickSet::none(),
+        }
+    }
 }
 
 impl<F: Json> Validate<F> for LeafValidator<F> {

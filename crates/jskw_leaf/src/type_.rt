@@ -20,9 +20,11 @@ ghost use Rattle.jskw_report.specs.Read.{keyword_location, type_keyword};
 ghost use Rattle.jskw_report.specs.Setting.{is_after_draft_4};
 ghost use Rattle.jskw_report.specs.declared.error.TypeKind.TheVariants.{Single, Multiple};
 ghost use Rattle.jskw_report.specs.declared.keyword.KeywordName.TheVariants.{TypeKeyword};
+ghost use Rattle.jskw_number.specs.QuickSet.{Accepts};
 ghost use Rattle.jskw_leaf.specs.Meaning.{leaf_keyword, multiple_types, single_type, type_at};
 
 use crate::leaf::LeafValidator;
+use jskw_number::QuickSet;
 use jskw_report::{
     Assertion, CompilationResult, CompileFault, Context, EnumOptions, KeywordName, Location,
     TypeKind, ValidationErrorKind,
@@ -38,6 +40,15 @@ use std::str::FromStr;
 pub struct MultipleTypesValidator {
     types: JsonTypeSet,
     location: Location,
+}
+
+impl MultipleTypesValidator {
+    /// Returns values of the types.
+    pub fn quick_set(&self) -> QuickSet
+        ensures { Accepts result (placed (multiple_types self.now)) }
+    {
+        QuickSet::of_types(self.types)
+    }
 }
 
 impl Assertion for MultipleTypesValidator {
@@ -94,6 +105,13 @@ impl<T: TypeTest> SingleTypeValidator<T> {
     {
         let test = PhantomData;
         SingleTypeValidator { location, test }
+    }
+
+    /// Returns values of the type.
+    pub fn quick_set(&self) -> QuickSet
+        ensures { Accepts result (placed (single_type T.json_type T.rule self.now)) }
+    {
+        QuickSet::of_types(JsonTypeSet::from(T::json_type()))
     }
 }
 

@@ -7,15 +7,18 @@ ghost use Rattle.jskw_value.specs.declared.types.JsonType.TheVariants.{Integer};
 ghost use Rattle.jskw_report.specs.Compile.{Makes, Compiles, reading};
 ghost use Rattle.jskw_report.specs.Keyword.{as_written};
 ghost use Rattle.jskw_report.specs.Kind.{WrongType};
+ghost use Rattle.jskw_report.specs.Meaning.{placed};
 ghost use Rattle.jskw_report.specs.Read.{integers_of, keyword_location, type_keyword};
 ghost use Rattle.jskw_report.specs.Setting.{is_after_draft_4};
 ghost use Rattle.jskw_report.specs.declared.error.TypeKind.TheVariants.{Multiple};
 ghost use Rattle.jskw_report.specs.declared.keyword.KeywordName.TheVariants.{TypeKeyword};
 ghost use Rattle.jskw_report.specs.declared.settings.Draft.TheVariants.{Draft4};
+ghost use Rattle.jskw_number.specs.QuickSet.{Accepts};
 ghost use Rattle.jskw_leaf.specs.Meaning.{multiple_types_draft_4, leaf_keyword};
 
 use crate::leaf::LeafValidator;
 use crate::type_::{SingleTypeValidator, TypeTest, single_validator, type_kind};
+use jskw_number::QuickSet;
 use jskw_report::{
     Assertion, CompilationResult, Context, KeywordName, Location, TypeKind, ValidationErrorKind,
 };
@@ -28,6 +31,15 @@ use std::alloc::Global;
 pub struct MultipleTypesValidator {
     types: JsonTypeSet,
     location: Location,
+}
+
+impl MultipleTypesValidator {
+    /// Returns values of the types.
+    pub fn quick_set(&self) -> QuickSet
+        ensures { Accepts result (placed (multiple_types_draft_4 self.now)) }
+    {
+        QuickSet::of_types(self.types)
+    }
 }
 
 impl Assertion for MultipleTypesValidator {
