@@ -3,20 +3,30 @@ use Rattle.std.proofs.Common.{◌≡◌, ℕ, ◌+◌, ◌<◌, ◌≤◌, ◌==
 use Rattle.std.proofs.Math.Bool.{and-false, and-true}
 use Rattle.std.proofs.lemmas.Cmp.{nat_list_eq_equiv}
 use Rattle.std.proofs.lemmas.List.{at_drop_all, drop_all}
+use Rattle.std.proofs.lemmas.Option.{same_Some}
 use Rattle.std.proofs.lemmas.Map.Entries.{length-keys_of}
 use Rattle.std.proofs.lemmas.Map.Keys.{IsDistinct-head, IsDistinct-tail}
 use Rattle.std.proofs.lemmas.Slice.Eq.{bytes_eq-Decides}
 use Rattle.std.specs.Cmp.Lexicographic.{pointwise}
 use Rattle.std.specs.List.{list_all, list_any, IsDistinct, AllByRecursion}
 use Rattle.std.specs.Map.{keys_of}
+use Rattle.std.specs.Option.{option_map_or}
 use Rattle.std.specs.Str.{bytes_eq}
 use Rattle.jskw_value.specs.Equality.{equal, has_equal, unique, items_alike, members_alike, AreAmong, AreMembers}
-use Rattle.jskw_value.specs.Number.{num_equal}
-use Rattle.jskw_value.specs.Tree.{Tree, array, object, Items, no_items, item, Members, no_members, member, item_list, member_list, items, members, names, get, has_name, is_array, is_object}
+use Rattle.jskw_value.specs.Number.{Num, num_equal}
+use Rattle.jskw_value.specs.Tree.{Tree, number, array, object, Items, no_items, item, Members, no_members, member, item_list, member_list, items, members, names, get, has_name, as_number, is_array, is_object}
 use Rattle.jskw_value.proofs.Alike.{names_found}
 use Rattle.jskw_value.proofs.Depth.{item_depth}
 use Rattle.jskw_value.proofs.Lists.{at_index}
 use Rattle.jskw_value.proofs.SameNames.{same_length}
+
+-- ---- numbers
+
+-- a number equals the numbers of its value alone
+pub equal_number : (t u : Tree) (n : Num) → as_number t ≡ Some n
+    → equal t u ≡ option_map_or (num_equal n) (as_number u) false
+equal_number (number m) u n e = ap (λ x. option_map_or (num_equal x) (as_number u) false) (same_Some m n e)
+equal_number _ u n e = cc
 
 -- ---- arrays
 
@@ -118,6 +128,6 @@ any_step p ts i t h e = at_index (list_any p) ts i t h e
 pub any_end : (p : Tree → Bool) (ts : List Tree) (n : ℕ) → length ts ≤ n → list_any p (drop n ts) ≡ false
 any_end p ts n h = at_drop_all (list_any p) ts n h
 
-pub ruleset by_level = (equal_arrays, equal_objects)
+pub ruleset by_level = (equal_number, equal_arrays, equal_objects)
 
 pub ruleset by_index = (pointwise_step, pointwise_end, pointwise_length, item_depth)

@@ -1,13 +1,14 @@
 -- Numbers over powers of ten: equality by value is an equivalence, and a number written alike is equal.
-use Rattle.std.specs.Prelude.{◌≡◌, ℕ, zero, suc, pred, ◌*◌, ◌^◌, ◌<◌, ℤ, pos, negsuc, ◌*ℤ◌, neg_ℤ, nat_abs, true, ◌≢◌}
+use Rattle.std.specs.Prelude.{◌≡◌, ℕ, zero, suc, pred, ◌*◌, ◌^◌, ◌<◌, ◌==◌, ℤ, pos, negsuc, ◌*ℤ◌, neg_ℤ, nat_abs, nat_lt, Bool, true, false, Some, None, option_and_then, if◌then◌else◌, ◌≢◌}
 use Rattle.std.specs.Ordering.{int_eq}
 use Rattle.std.proofs.Common.{refl, sym, ◌∙◌, ap, ap₂, arith}
 use Rattle.std.proofs.lemmas.Bool.{and_from, and_parts}
 use Rattle.std.proofs.lemmas.Bool.Decides.{Decides-eqb, Decides-int_eq, Decides-like, same_from_decides}
 use Rattle.std.proofs.lemmas.Cmp.{int_eq_equiv}
+use Rattle.std.proofs.lemmas.Option.{same_Some}
 use Rattle.std.proofs.Math.Nat.{mul_right_comm, zero-mul, eq_of_mul-eq-mul_right}
 use Rattle.std.proofs.Math.IntN.{neg_ℤ-neg_ℤ, pos-ne-negsuc}
-use Rattle.jskw_value.specs.Number.{Num, exact, float, is_exact, num_equal, num_same}
+use Rattle.jskw_value.specs.Number.{Num, exact, float, is_exact, num_equal, num_same, u64_of, whole}
 use Rattle.jskw_value.proofs.Powers.{ten_pow_low}
 
 -- ---- scaling
@@ -61,6 +62,11 @@ scaled_above a b (suc n) h = same_from_decides _ _ (Decides-int_eq (a *ℤ pos (
 scaled : (a b : ℤ) (k : ℕ) → int_eq (a *ℤ pos (10 ^ k)) (b *ℤ pos (10 ^ k)) ≡ int_eq a b
 scaled a b k = scaled_above a b (10 ^ k) (ten_pow_low k)
 
+-- of one scale, the coefficients decide
+pub same_scale : (c d : ℤ) (k l : ℕ) → k ≡ l → int_eq c d ≡ int_eq (c *ℤ pos (10 ^ l)) (d *ℤ pos (10 ^ k))
+same_scale c d k l e =
+    sym (scaled c d k) ∙ ap (λ j. int_eq (c *ℤ pos (10 ^ j)) (d *ℤ pos (10 ^ k))) e
+
 -- ---- by value
 
 -- where c L = d K and d M = e L, also c M = e K
@@ -101,3 +107,24 @@ num_same_is _ _ h = cc
 pub num_same_refl : (n : Num) → num_same n n ≡ true
 num_same_refl (exact c k) = and_from _ _ (int_eq_equiv.refl c) ((Decides-eqb k k).1 refl)
 num_same_refl float = refl
+
+-- ---- as words
+
+-- a number that is written as a word is that word
+word_is : (m : Num) (a : ℕ) → option_and_then u64_of (whole m) ≡ Some a → m ≡ exact (pos a) zero
+word_is (exact (pos c) zero) a e = go (nat_lt c (2 ^ 64)) e
+  where
+    go : (b : Bool) → (if b then Some c else None) ≡ Some a → exact (pos c) zero ≡ exact (pos a) zero
+    go true e = ap (λ x. exact (pos x) zero) (same_Some c a e)
+    go false e = cc
+word_is (exact (negsuc c) zero) a e = cc
+word_is (exact c (suc k)) a e = cc
+word_is float a e = cc
+
+-- numbers that are written as words are equal exactly where the words are
+pub equal_words : (m n : Num) (a b : ℕ) → option_and_then u64_of (whole m) ≡ Some a
+    → option_and_then u64_of (whole n) ≡ Some b → (a == b) ≡ num_equal m n
+equal_words m n a b h k =
+    let words : int_eq (pos a) (pos b) ≡ (a == b) = same_from_decides _ _ (Decides-int_eq (pos a) (pos b))
+    (Decides-like _ (ap pos) (pos-injective a b) (Decides-eqb a b)) in
+    sym (ap₂ num_equal (word_is m a h) (word_is n b k) ∙ scaled (pos a) (pos b) 0 ∙ words)

@@ -1,23 +1,37 @@
 -- Names in JSON pointers, one character at a time.
-use Rattle.std.proofs.Common.{◌≡◌, ℕ, suc, ◌<◌, ◌≤◌, List, [], ◌∷◌, ◌++◌, length, get_or, refl, sym, ap, ap₂, ◌∙◌, append_assoc, append-nil, inl, inr, arith}
+use Rattle.std.proofs.Common.{◌≡◌, ℕ, suc, ◌<◌, ◌≤◌, List, [], ◌∷◌, ◌++◌, length, get_or, refl, sym, ap, ap₂, subst, ◌∙◌, append-nil, inl, inr, arith}
 use Rattle.std.proofs.lemmas.Bool.{cases_lt, ne_eqb}
 use Rattle.std.proofs.lemmas.Grind.{common_steps, flat_map-append}
 use Rattle.std.proofs.lemmas.Str.{encode_ascii, inside_one}
 use Rattle.std.specs.Char.{encode_utf8}
 use Rattle.jskw_value.specs.Pointer.{escape, escape_byte}
-use Rattle.jskw_value.proofs.Texts.{lemmas}
+use Rattle.jskw_value.specs.Text.{AppendsPart, AppendsUpTo}
+use Rattle.jskw_value.proofs.Texts.{part_of_next, part_so_far, up_to_end, up_to_more, up_to_nothing}
 
 -- nothing to escape
-pub escape_nil : (rest : List ℕ) → length rest ≡ 0 → escape rest ≡ []
+escape_nil : (rest : List ℕ) → length rest ≡ 0 → escape rest ≡ []
 escape_nil [] e = refl
 escape_nil (b ∷ bs) e = absurd (omega (arith, e))
 
+-- the next character of what is left
+next_escaped : (a b rest more all : List ℕ) (c : ℕ) → AppendsUpTo a b (escape rest) all → rest ≡ encode_utf8 c ++ more
+    → AppendsUpTo a b (escape (encode_utf8 c) ++ escape more) all
+next_escaped a b rest more all c h e =
+    subst (λ z. AppendsUpTo a b z all) (ap escape e ∙ flat_map-append escape_byte (encode_utf8 c) more) h
+
 -- one character more of the name, one character less to go
-pub append_escaped : (all out rest more new : List ℕ) (c : ℕ) → all ≡ out ++ escape rest → rest ≡ encode_utf8 c ++ more
-    → new ≡ out ++ escape (encode_utf8 c) → all ≡ new ++ escape more
-append_escaped all out rest more new c a e n =
-    a ∙ ap (λ x. out ++ escape x) e ∙ ap (λ x. out ++ x) (flat_map-append escape_byte (encode_utf8 c) more)
-    ∙ rw (n, append_assoc)
+pub append_escaped : (a b new rest more all : List ℕ) (c : ℕ) → AppendsUpTo a b (escape rest) all
+    → rest ≡ encode_utf8 c ++ more → new ≡ b ++ escape (encode_utf8 c) → AppendsUpTo a new (escape more) all
+append_escaped a b new rest more all c h e n = up_to_more a b new _ (escape more) all (next_escaped a b rest more all c h e) n
+
+-- a beginning of one character more
+pub begin_escaped : (a b new rest more all : List ℕ) (c : ℕ) → AppendsUpTo a b (escape rest) all
+    → rest ≡ encode_utf8 c ++ more → AppendsPart b new (escape (encode_utf8 c)) → AppendsPart a new all
+begin_escaped a b new rest more all c h e k = part_of_next a b new _ (escape more) all (next_escaped a b rest more all c h e) k
+
+-- the whole name
+pub all_escaped : (a b rest all : List ℕ) → AppendsUpTo a b (escape rest) all → length rest ≡ 0 → b ≡ a ++ all
+all_escaped a b rest all h e = up_to_end a b all (subst (λ z. AppendsUpTo a b z all) (escape_nil rest e) h)
 
 -- another byte stays
 escape_byte_plain : (b : ℕ) → (b ≡ 126 → ⊥) → (b ≡ 47 → ⊥) → escape_byte b ≡ b ∷ []
@@ -41,4 +55,4 @@ escape_plain c h k = elim (cases_lt c 128) [
   ])
 ]
 
-pub ruleset by_character = (append_escaped, escape_nil, lemmas, common_steps)
+pub ruleset by_character = (all_escaped, up_to_nothing, part_so_far, common_steps)

@@ -49,8 +49,22 @@ impl Decimal {
         self.scale
     }
 
-    /// Whether the two have the same mathematical value (Core 4.2.2, "Instance Equality").
+    /// Returns whether the two have the same mathematical value (Core 4.2.2, "Instance Equality").
+    #[inline(always)]
     pub fn equals(&self, other: &Decimal) -> bool
+        ensures { result ≡ num_equal (value self.now) (value other.now) }
+    {
+        // most numbers of a list have one scale, and then need no multiplication
+        if self.scale == other.scale {
+            self.coefficient == other.coefficient
+        } else {
+            self.equals_scaled(other)
+        }
+    }
+
+    // Returns whether the two have the same mathematical value, whatever their scales.
+    #[inline(never)]
+    fn equals_scaled(&self, other: &Decimal) -> bool
         ensures { result ≡ num_equal (value self.now) (value other.now) }
     {
         self.shifted(other.scale) == other.shifted(self.scale)

@@ -16,7 +16,7 @@ use serde_json::Value;
 use std::alloc::{AllocError, Global};
 
 /// A JSON value whose numbers are decimals. It is always lawful.
-#[derive(Drop)]
+#[derive(Debug, Drop)]
 pub enum DecimalTree {
     /// null
     Null,
@@ -36,6 +36,7 @@ pub enum DecimalTree {
 pub type Members = MemberList<DecimalTree>;
 
 /// The representation whose nodes are trees of decimals.
+#[derive(Clone, Copy, Debug, PartialEq, Eq)]
 pub struct DecimalJson;
 
 impl DecimalTree {

@@ -1,24 +1,28 @@
 //! Equality of nodes, of one representation or two.
-ghost use Rattle.std.specs.Prelude.{◌≡◌, ◌==◌, ◌&&◌, IsTrue, false, length, option_map};
+ghost use Rattle.std.specs.Prelude.{◌≡◌, ◌==◌, ◌&&◌, IsTrue, None, false, length, option_map};
 ghost use Rattle.std.specs.Cmp.Lexicographic.{pointwise};
 ghost use Rattle.std.specs.List.{list_all, IsDistinct};
 ghost use Rattle.std.specs.Option.{option_map_or};
 ghost use Rattle.std.specs.Str.{bytes_eq};
 ghost use Rattle.jskw_value.specs.Equality.{equal, has_equal, AreMembers};
 ghost use Rattle.jskw_value.specs.Number.{num_equal};
-ghost use Rattle.jskw_value.specs.Tree.{is_array, is_object, items, members, names, get};
+ghost use Rattle.jskw_value.specs.Tree.{as_number, is_array, is_object, items, members, names, get};
 ghost use Rattle.jskw_value.specs.Walk.{left};
 
 use crate::json::{Array, JsonNumber, Node, Object};
 use crate::walk::Walk;
 
-// Whether two nodes are one value.
+// Returns whether two nodes are one value. In line, so that the loops over items and members compare
+// scalars without a call.
+#[inline(always)]
 #[cycle(equal)]
 #[tactic(auto, using(crate::proofs::Equal::by_level))]
 pub(crate) fn equal_nodes<N: Node, M: Node>(left: &N, right: &M) -> bool
     ensures { result ≡ equal (N.tree left.now) (M.tree right.now) }
 {
-    if left.is_array() {
+    if let Some(number) = left.as_number() {
+        equals_number(number, right)
+    } else if left.is_array() {
         right.is_array() && equal_arrays(left, right)
     } else if left.is_object() {
         right.is_object() && equal_objects(left, right)
@@ -104,33 +108,52 @@ fn next_or_find<'a, M: Node>(object: &'a M, walk: &mut Walk<'a, M>, name: &str) 
     object.find(name)
 }
 
-// Whether two nodes are one value, where the left one is neither an array nor an object.
+// Returns whether two nodes are one value, where the left one is a string, a boolean or null.
+#[inline(always)]
 fn equal_leaves<N: Node, M: Node>(left: &N, right: &M) -> bool
+    requires number { as_number (N.tree left.now) ≡ None }
     requires array { is_array (N.tree left.now) ≡ false }
     requires object { is_object (N.tree left.now) ≡ false }
     ensures { result ≡ equal (N.tree left.now) (M.tree right.now) }
 {
-    if let Some(a) = left.as_boolean() {
-        return right.as_boolean() == Some(a);
-    }
-    if let Some(a) = left.as_number() {
-        return match right.as_number() {
-            Some(b) => equal_numbers(a, b),
-            None => false,
-        };
-    }
     if let Some(a) = left.as_string() {
         return match right.as_string() {
             Some(b) => a == b,
             None => false,
         };
     }
+    if let Some(a) = left.as_boolean() {
+        return right.as_boolean() == Some(a);
+    }
     right.is_null()
 }
 
-// Whether two numbers have the same mathematical value; a float has none.
+// Returns whether a node is a number of the same mathematical value as this one.
+#[inline(always)]
+fn equals_number<A: JsonNumber, M: Node>(number: &A, node: &M) -> bool
+    ensures { result ≡ option_map_or (num_equal (A.number number.now))
+        (as_number (M.tree node.now)) false }
+{
+    match node.as_number() {
+        Some(other) => equal_numbers(number, other),
+        None => false,
+    }
+}
+
+// Returns whether two numbers have the same mathematical value; a float has none.
+#[inline(always)]
+#[tactic(auto, using(crate::proofs::Numbers::equal_words))]
 fn equal_numbers<A: JsonNumber, B: JsonNumber>(left: &A, right: &B) -> bool
     ensures { result ≡ num_equal (A.number left.now) (B.number right.now) }
 {
-    left.is_lawful() && right.is_lawful() && left.decimal().equals(&right.decimal())
+    if !left.is_lawful() || !right.is_lawful() {
+        return false;
+    }
+    // words are compared faster than decimals
+    if let Some(a) = left.as_u64() {
+        if let Some(b) = right.as_u64() {
+            return a == b;
+        }
+    }
+    left.decimal().equals(&right.decimal())
 }

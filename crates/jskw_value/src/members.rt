@@ -15,7 +15,7 @@ use std::cmp::Ordering;
 use std::marker::Model;
 
 /// A value beside its name.
-#[derive(Drop)]
+#[derive(Debug, Drop)]
 pub struct Member<V> {
     /// the name
     pub name: String,
@@ -34,13 +34,13 @@ impl<V> Member<V> {
 
 /// Members with distinct names, in the rising order of the bytes of these. Contracts see them as a
 /// list.
-#[derive(Drop)]
+#[derive(Debug, Drop)]
 pub struct MemberList<V> {
     list: Vec<Member<V>>,
 }
 
 /// Why a member was not inserted, with its name and value.
-#[derive(Drop)]
+#[derive(Debug, Drop)]
 pub enum InsertFault<V> {
     /// The name is there already.
     Repeated(String, V),
@@ -49,7 +49,7 @@ pub enum InsertFault<V> {
 }
 
 /// Why pairs of names and values are not the members of an object: a name stands twice.
-#[derive(Drop)]
+#[derive(Debug, Drop)]
 pub struct RepeatedName<V> {
     /// all the pairs, sorted by their names
     pub pairs: Vec<Member<V>>,

@@ -10,7 +10,7 @@ pub trait Nullability {
 }
 
 /// Null is taken.
-#[derive(Drop)]
+#[derive(Clone, Copy, PartialEq, Eq, Debug, Drop)]
 pub struct Nullable;
 
 impl Nullability for Nullable {
@@ -20,7 +20,7 @@ impl Nullability for Nullable {
 }
 
 /// Null is not taken.
-#[derive(Drop)]
+#[derive(Clone, Copy, PartialEq, Eq, Debug, Drop)]
 pub struct NotNullable;
 
 impl Nullability for NotNullable {
