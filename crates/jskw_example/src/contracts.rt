@@ -1,13 +1,8 @@
 //! A function whose contract follows from those of the library.
 ghost use Rattle.std.specs.Prelude.{◌≡◌, IfSome, is_some};
-ghost use Rattle.jskw_value.specs.Serde.{value_tree};
-ghost use Rattle.jskw_value.specs.Tree.{is_lawful};
-ghost use Rattle.jskw_report.specs.Holds.{holds};
+ghost use Rattle.lotsibegn.specs.{holds, is_lawful, value_tree};
 
-use jskw_array::SchemaNode;
-use jskw_report::ValidationContext;
-use jskw_value::{Node, SerdeJson};
-use serde_json::Value;
+use lotsibegn::{Node, SchemaNode, SerdeJson, ValidationContext, Value};
 
 /// Returns whether the instance is valid, or None if it holds a float.
 pub(crate) fn verdict(schema: &SchemaNode<SerdeJson>, instance: &Value) -> Option<bool>

@@ -1,10 +1,10 @@
 //! A value with exact decimals.
 
 use crate::compiled;
-use jskw_array::SchemaNode;
-use jskw_report::{Fault, LazyLocation, ValidationContext, ValidationError};
-use jskw_value::{Decimal, DecimalJson, DecimalTree, Member, Members, Node};
-use serde_json::Value;
+use lotsibegn::{
+    Decimal, DecimalJson, DecimalTree, Fault, LazyLocation, Member, Members, Node, SchemaNode,
+    ValidationContext, ValidationError, Value,
+};
 use std::alloc::{AllocError, Global};
 use std::io;
 

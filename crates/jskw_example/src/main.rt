@@ -7,14 +7,10 @@ mod decimals;
 mod tree;
 
 use contracts::verdict;
-use jskw_array::SchemaNode;
-use jskw_array::compiler::compile;
-use jskw_report::{
-    CompilationResult, CompileFault, Context, Draft, LazyLocation, Settings, ValidationContext,
-    VocabularySet,
+use lotsibegn::{
+    CompilationResult, CompileFault, Context, Draft, Json, LazyLocation, Node, SchemaNode,
+    SerdeJson, Settings, ValidationContext, Value, VocabularySet, compile,
 };
-use jskw_value::{Json, Node, SerdeJson};
-use serde_json::Value;
 use std::alloc::Global;
 use std::io;
 

@@ -1,10 +1,9 @@
 //! An evaluation tree.
 
 use crate::compiled;
-use jskw_array::SchemaNode;
-use jskw_report::{Annotations, EvaluationNode, ValidationContext};
-use jskw_value::{Node, SerdeJson};
-use serde_json::Value;
+use lotsibegn::{
+    Annotations, EvaluationNode, Node, SchemaNode, SerdeJson, ValidationContext, Value,
+};
 use std::io;
 
 const SCHEMA: &str = r#"{"contains": {"minimum": 10}, "minContains": 1, "maxContains": 2}"#;
