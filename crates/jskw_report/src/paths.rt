@@ -56,7 +56,10 @@ impl Location {
     pub fn join(&self, alloc: Global, segment: LocationSegment) -> Result<Location, AllocError>
         ensures { IfOk result (λ l. l ≡ segment_location self.now segment.entry) }
     {
-        let mut text = String::from_str(alloc, self.text.as_str())?;
+        // with room for the segment, so that the text seldom grows
+        let room = self.text.len().saturating_add(room_for(segment));
+        let mut text = String::with_capacity(alloc, room)?;
+        text.push_str(self.text.as_str())?;
         match segment {
             LocationSegment::Name(name) => push_name(&mut text, name)?,
             LocationSegment::Index(index) => push_index(&mut text, index)?,
@@ -71,6 +74,14 @@ impl Location {
         Ok(Location {
             text: String::from_str(alloc, self.text.as_str())?,
         })
+    }
+}
+
+// The bytes of the segment in a pointer, if it is a short index or a name without escapes.
+fn room_for(segment: LocationSegment) -> usize {
+    match segment {
+        LocationSegment::Name(name) => name.len().saturating_add(1),
+        LocationSegment::Index(_) => 7,
     }
 }
 
