@@ -1,4 +1,5 @@
-//! `enum` (Validation 6.1.2): the instance equals one of the schema's values.
+//! `enum` (JSON Schema Validation 6.1.2): the instance equals one of the options, the items of the
+//! schema's array.
 ghost use Rattle.std.specs.Prelude.{◌≡◌, IsSome, refl};
 ghost use Rattle.serde_json.specs.Find.{as_array};
 ghost use Rattle.serde_json.specs.View.{view, items_view};
@@ -25,8 +26,8 @@ pub use strings::{BigStringEnumValidator, SmallStringEnumValidator};
 pub use table::TableEnumValidator;
 pub use values::BigEnumValidator;
 
-/// The validator of a few options of any types. An instance of a type that no option has is compared
-/// with none.
+/// The validator of at most 8 options of any types. Compares an instance with each option, unless
+/// no option has its type.
 #[derive(Drop)]
 pub struct EnumValidator {
     options: Value,
@@ -92,7 +93,7 @@ impl Assertion for SingleValueEnumValidator {
     }
 }
 
-// Whether an option that the value lists equals the instance.
+// Returns whether one of the options equals the instance. `options` is the value of `enum`.
 #[inline(never)]
 fn is_listed<F: Json>(options: &Value, instance: &F::Node) -> bool
     ensures { result ≡ is_option (options_of (view options.now)) (F.Node.tree instance.now) }
@@ -103,7 +104,7 @@ fn is_listed<F: Json>(options: &Value, instance: &F::Node) -> bool
     }
 }
 
-// Whether one of the items equals the instance.
+// Returns whether one of the items equals the instance.
 fn is_among<F: Json>(items: &[Value], instance: &F::Node) -> bool
     ensures { result ≡ is_option (items_view items.now) (F.Node.tree instance.now) }
 {
@@ -115,7 +116,8 @@ fn is_among<F: Json>(items: &[Value], instance: &F::Node) -> bool
     false
 }
 
-// The kind of the error where the instance is none of the options that a value lists.
+// Returns the kind of error for an instance that equals none of the options. `options` is the value
+// of `enum`.
 #[tactic(auto, using(crate::proofs::Options::listed))]
 fn not_among<'i>(options: &'i Value) -> ValidationErrorKind<'i>
     requires { IsSome (as_array (view options.now)) }

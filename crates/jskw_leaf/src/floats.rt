@@ -23,6 +23,7 @@ pub(crate) fn first_float(value: &Value) -> Option<&Value>
     }
 }
 
+// Returns the first float of the items, by index.
 #[cycle(first_float)]
 fn float_in_items(items: &Vec<Value>) -> Option<&Value>
     ensures { option_map (λ v. view v.now) result ≡ first_float_item (items_view items.now.items) }
@@ -35,6 +36,7 @@ fn float_in_items(items: &Vec<Value>) -> Option<&Value>
     None
 }
 
+// Returns the first float of the members, in the order of the bytes of their names.
 #[cycle(first_float)]
 fn float_in_members(members: &Map<String, Value>) -> Option<&Value>
     ensures { option_map (λ v. view v.now) result

@@ -23,6 +23,7 @@ pub(crate) fn is_in_table(table: &[String], text: &str) -> bool
     table.binary_search_by(|entry| compare(entry, text)).is_ok()
 }
 
+// Returns how the entry compares to the text, by their bytes.
 fn compare(entry: &String, text: &str) -> Ordering
     ensures { result ≡ text_against text.now entry.now }
 {

@@ -21,7 +21,7 @@ use jskw_value::{Json, JsonType};
 use serde_json::{Map, Value};
 use std::alloc::Global;
 
-/// Returns the bound on a size that `value` is, or `None` if it is none. A bound is a number that
+/// Returns the bound on a size that `value` is, or `None` if it is not one. A bound is a number that
 /// `serde_json` holds as a `u64`: an integer from 0 to 2^64-1, written without a fraction or an
 /// exponent (JSON Schema Validation 6.4, 6.5). `2.0` is not a bound, in any draft.
 pub fn size_limit(value: &Value) -> Option<u64>

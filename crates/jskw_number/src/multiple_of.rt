@@ -96,6 +96,7 @@ pub fn compile<'a, F: Json>(
     Some(make(alloc, ctx, schema))
 }
 
+// Reads the divisor, and returns its validator.
 fn make<'a, F: Json>(
     alloc: Global,
     ctx: &Context<'_, F>,

@@ -38,6 +38,7 @@ pub fn compile<'a, F: Json>(
     Some(const_validator(alloc, ctx, schema))
 }
 
+// Reads the value of `const`. Refuses one that contains a float.
 fn const_validator<'a, F: Json>(
     alloc: Global,
     ctx: &Context<'_, F>,

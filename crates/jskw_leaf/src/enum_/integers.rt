@@ -1,4 +1,4 @@
-//! Options that are integers of 64 bits with a sign.
+//! Options that are integers from -2^63 to 2^63-1.
 ghost use Rattle.std.specs.Prelude.{◌≡◌, IfOk, zero};
 ghost use Rattle.std.specs.List.Sorted.{IsSorted, IsPermutation};
 ghost use Rattle.std.specs.Ordering.{int_cmp};
@@ -14,7 +14,7 @@ use serde_json::Value;
 use std::alloc::{AllocError, Global};
 use std::cmp::Ordering;
 
-/// Integers from -2^63 to 2^63 - 1 in rising order, for a binary search. A number is looked up by its
+/// A table of integers from -2^63 to 2^63-1, sorted for a binary search. Looks a number up by its
 /// value: 1.0 is 1.
 #[derive(Drop)]
 pub struct SortedIntegers {
@@ -22,7 +22,8 @@ pub struct SortedIntegers {
     ghost sorted: { IsSorted int_cmp integers.items },
 }
 
-/// The validator of integers, and of null if `N` says so.
+/// The validator of integers from -2^63 to 2^63-1, and of null too if `N` is
+/// [`Nullable`](jskw_value::Nullable).
 pub type IntegerEnumValidator<N> = TableEnumValidator<SortedIntegers, N>;
 
 impl OptionTable for SortedIntegers {
@@ -53,7 +54,8 @@ impl OptionTable for SortedIntegers {
     }
 }
 
-// Whether the integer is one of the sorted ones: words are compared faster than decimals.
+// Returns whether the sorted table has the integer. It is faster than `is_in_table`, since it
+// compares machine words.
 #[inline(never)]
 fn has_word(table: &[i64], integer: &i64) -> bool
     requires { IsSorted int_cmp table.now }
@@ -62,7 +64,7 @@ fn has_word(table: &[i64], integer: &i64) -> bool
     table.binary_search(integer).is_ok()
 }
 
-// Whether the number is one of the sorted integers, by its value.
+// Returns whether the sorted table has an integer of the number's value.
 #[inline(never)]
 fn is_in_table(table: &[i64], number: &Decimal) -> bool
     requires { IsSorted int_cmp table.now }
@@ -73,6 +75,7 @@ fn is_in_table(table: &[i64], number: &Decimal) -> bool
         .is_ok()
 }
 
+// Returns how the entry compares to the number.
 #[tactic(auto, using(crate::proofs::Tables::reversed))]
 fn compare(entry: i64, number: &Decimal) -> Ordering
     ensures { result ≡ integer_against number.now.coefficient number.now.scale entry }
@@ -80,7 +83,7 @@ fn compare(entry: i64, number: &Decimal) -> Ordering
     number.cmp_whole(i128::from(entry)).reverse()
 }
 
-// The integers among the items.
+// Returns the integers among the items.
 fn integers_of(alloc: Global, items: &[Value]) -> Result<Vec<i64>, AllocError>
     ensures { IfOk result (λ v. v.items ≡ picked integer_of (items_view items.now)) }
 {

@@ -1,4 +1,4 @@
-//! The validator of options.
+//! Compiles `enum`.
 ghost use Rattle.std.specs.Prelude.{◌≡◌, true, IfOk};
 ghost use Rattle.serde_json.specs.Data.{array, item, no_items};
 ghost use Rattle.serde_json.specs.View.{view, items_view, members_view};
@@ -23,19 +23,22 @@ use jskw_value::{Json, JsonType, JsonTypeSet};
 use serde_json::{Map, Value};
 use std::alloc::{AllocError, Global};
 
-// Up to so many strings are compared one by one.
+// The largest number of strings that are compared one by one.
 const STRING_ENUM_THRESHOLD: usize = 10;
 
-// Up to so many options of any types are compared one by one.
+// The largest number of options of any types that are compared one by one.
 const ENUM_THRESHOLD: usize = 8;
 
-/// Compiles `enum` to a validator chosen by the number and the types of the options. Always returns
-/// Some. Takes time in proportion to the size of the options, and the logarithm of their number.
+/// Compiles `enum`. Always returns `Some`. The validator depends on the number and the types of the
+/// options. The time grows with the size of the options times the logarithm of their number.
 ///
 /// # Errors
 ///
-/// A value that isn't an array is an error of the type array. An array that holds a float is an error
-/// with the message `Not a whole number of 64 bits`, whose value at fault is the first float.
+/// Fails if memory runs out, or if the value is not an array without floats:
+///
+/// - If it is not an array, the kind is `WrongType` with the type array.
+/// - If it contains a float, the kind is `CompileError` with the message `Not a whole number of 64
+///   bits`, and the value at fault is the first float, depth first.
 #[tactic(auto, unfolding(jskw_report::specs::Read::asserted))]
 pub fn compile<'a, F: Json>(
     alloc: Global,
@@ -50,6 +53,7 @@ pub fn compile<'a, F: Json>(
     Some(enum_validator(alloc, ctx, schema))
 }
 
+// Reads the value of `enum`. Refuses one that is not an array, or contains a float.
 #[tactic(auto, using(crate::proofs::Options::as_value))]
 fn enum_validator<'a, F: Json>(
     alloc: Global,
@@ -68,7 +72,8 @@ fn enum_validator<'a, F: Json>(
     Ok(validator_of(alloc, schema, items.as_slice(), location)?)
 }
 
-// The validator of these items of the options, by their number and types.
+// Returns the validator for the number and the types of the options. `items` are the items of
+// `options`.
 #[tactic(auto, using(crate::proofs::Values::all_taken))]
 fn validator_of<F: Json>(
     alloc: Global,
@@ -100,7 +105,7 @@ fn validator_of<F: Json>(
     }))
 }
 
-// The validator of the only item.
+// Returns the validator of one option. `value` is the only item of `options`.
 fn one_value<F: Json>(
     options: &Value,
     value: &Value,
@@ -116,7 +121,7 @@ fn one_value<F: Json>(
     }))
 }
 
-// The validator of items that are strings or null.
+// Returns the validator of options that are strings or null. `items` are the items of `options`.
 fn strings<F: Json>(
     alloc: Global,
     options: &Value,
@@ -143,7 +148,7 @@ fn strings<F: Json>(
     }
 }
 
-// The validator of items that are integers or null.
+// Returns the validator of options that are integers or null. `items` are the items of `options`.
 fn integers<F: Json>(
     alloc: Global,
     options: &Value,
@@ -165,7 +170,7 @@ fn integers<F: Json>(
     }
 }
 
-// Whether each item is null or can stand in a table of the type.
+// Returns whether each item is null or a value that a table `T` can contain.
 fn are_all<T: OptionTable>(items: &[Value]) -> bool
     ensures { result ≡ only T.takes (items_view items.now) }
 {
@@ -177,7 +182,7 @@ fn are_all<T: OptionTable>(items: &[Value]) -> bool
     true
 }
 
-// Whether an item is null.
+// Returns whether one of the items is null.
 fn has_null(items: &[Value]) -> bool
     ensures { result ≡ has_null (items_view items.now) }
 {
@@ -189,7 +194,7 @@ fn has_null(items: &[Value]) -> bool
     false
 }
 
-// The types of the items.
+// Returns the set of the types of the items.
 pub(super) fn types_of(items: &[Value]) -> JsonTypeSet
     ensures { result ≡ option_types no_types (items_view items.now) }
 {

@@ -11,13 +11,15 @@ use jskw_value::{Json, KeyHead, Node, PropertyName};
 use serde_json::Value;
 use std::alloc::{AllocError, Global};
 
-/// A few strings. An instance is compared with each, by its first bytes first.
+/// A table of at most 10 strings. Compares an instance with each: its first bytes, and then the rest
+/// only if these are equal.
 #[derive(Drop)]
 pub struct FewStrings {
     names: Vec<PropertyName>,
 }
 
-/// The validator of a few strings, and of null if `N` says so.
+/// The validator of at most 10 strings, and of null too if `N` is
+/// [`Nullable`](jskw_value::Nullable).
 pub type SmallStringEnumValidator<N> = TableEnumValidator<FewStrings, N>;
 
 impl OptionTable for FewStrings {
@@ -45,14 +47,15 @@ impl OptionTable for FewStrings {
     }
 }
 
-/// Many strings, in rising order, for a binary search.
+/// A table of more than 10 strings, sorted by their bytes for a binary search.
 #[derive(Drop)]
 pub struct SortedStrings {
     texts: Vec<String>,
     ghost sorted: { IsSorted string_cmp texts.items },
 }
 
-/// The validator of many strings, and of null if `N` says so.
+/// The validator of more than 10 strings, and of null too if `N` is
+/// [`Nullable`](jskw_value::Nullable).
 pub type BigStringEnumValidator<N> = TableEnumValidator<SortedStrings, N>;
 
 impl OptionTable for SortedStrings {
@@ -80,7 +83,7 @@ impl OptionTable for SortedStrings {
     }
 }
 
-// Whether the text is one of the names.
+// Returns whether the text is one of the names.
 #[inline(never)]
 fn is_one_of(names: &[PropertyName], text: &str) -> bool
     ensures { result ≡ some_text names.now text.now }
@@ -94,7 +97,7 @@ fn is_one_of(names: &[PropertyName], text: &str) -> bool
     false
 }
 
-// The strings among the items, as names.
+// Returns the strings among the items, each with its first bytes beside it.
 fn names_of(alloc: Global, items: &[Value]) -> Result<Vec<PropertyName>, AllocError>
     ensures { IfOk result (λ v. v.items ≡ picked as_str (items_view items.now)) }
 {
@@ -107,7 +110,7 @@ fn names_of(alloc: Global, items: &[Value]) -> Result<Vec<PropertyName>, AllocEr
     Ok(names)
 }
 
-// The strings among the items.
+// Returns the strings among the items.
 fn texts_of(alloc: Global, items: &[Value]) -> Result<Vec<String>, AllocError>
     ensures { IfOk result (λ v. map string_bytes v.items ≡ picked as_str (items_view items.now)) }
 {

@@ -1,4 +1,4 @@
-//! Options in a table, and perhaps null (Validation 6.1.2).
+//! Options in a table, which may leave out null (JSON Schema Validation 6.1.2).
 ghost use Rattle.std.specs.Prelude.{◌≡◌, Bool, IfOk, IsSome, IsTrue, refl, true};
 ghost use Rattle.serde_json.specs.Data.{Data, Items, array};
 ghost use Rattle.serde_json.specs.Find.{as_array};
@@ -14,35 +14,37 @@ use serde_json::Value;
 use std::alloc::{AllocError, Global};
 use std::marker::{Model, PhantomData};
 
-/// A table of options, of one type or of any.
+/// A table in which an instance is looked up. Implemented for options of one type and of any types.
 pub trait OptionTable: Sized {
-    /// Which values of a schema can stand in the table.
+    /// The values of a schema that the table can contain.
     ghost takes: { Data → Bool };
 
-    /// Which instances equal one of the options.
+    /// The instances that equal an option in the table.
     ghost has: { Self → Tree → Bool };
 
-    /// Whether null is an option that the table leaves out.
+    /// For the items of `enum`: whether null is among them and left out of the table.
     ghost leaves_out_null: { Items → Bool };
 
-    /// Returns whether a value of a schema can stand in the table.
+    /// Returns whether the table can contain this value of a schema.
     fn takes(value: &Value) -> bool
         ensures { result ≡ takes (view value.now) };
 
-    /// Makes the table of the items of the options, each of which can stand in it or is null.
+    /// Creates the table. `options` is the value of `enum`, and `items` are its items: each must be
+    /// null or a value that the table can contain. Fails only if memory runs out.
     fn new(alloc: Global, options: &Value, items: &[Value]) -> Result<Self, AllocError>
         requires { only takes (items_view items.now) ≡ true }
         ensures { let all = items_view items.now in
             IfOk result (λ table. AreOptions (has table) (leaves_out_null all) all) };
 
-    /// Returns whether the instance equals an option of the table. The instance is lawful.
+    /// Returns whether the instance equals an option in the table. The instance must be lawful: it
+    /// contains no float. Allocates nothing.
     fn has<F: Json>(&self, instance: &F::Node) -> bool
         requires { IsTrue (is_lawful (F.Node.tree instance.now)) }
         ensures { result ≡ has self.now (F.Node.tree instance.now) };
 }
 
-// The options that a value lists, with a table of them. If `N` says so, null is an option that isn't in
-// the table. Contracts see the value.
+// The value of `enum`, with a table of its items. If `N` is `Nullable`, null is an option that the
+// table leaves out. In contracts it is the value.
 #[derive(Drop)]
 pub(crate) struct Listed<T: OptionTable, N: Nullability> {
     options: Value,
@@ -72,7 +74,7 @@ impl<T: OptionTable, N: Nullability> Model for Listed<T, N> {
 }
 
 impl<T: OptionTable, N: Nullability> Listed<T, N> {
-    // Whether the instance equals one of the options.
+    // Returns whether the instance equals one of the options.
     fn accepts<F: Json>(&self, instance: &F::Node) -> bool
         requires { IsTrue (is_lawful (F.Node.tree instance.now)) }
         ensures { result ≡ is_option (options_of (view self.now)) (F.Node.tree instance.now) }
@@ -80,7 +82,7 @@ impl<T: OptionTable, N: Nullability> Listed<T, N> {
         self.table.has::<F>(instance) || (N::ACCEPTS_NULL && instance.is_null())
     }
 
-    // The value, which is an array.
+    // Returns the value of `enum`, an array.
     fn options(&self) -> &Value
         ensures value { view result.now ≡ view self.now }
         ensures array { IsSome (as_array (view result.now)) }
@@ -89,7 +91,8 @@ impl<T: OptionTable, N: Nullability> Listed<T, N> {
     }
 }
 
-/// The validator of options in a table, and of null if `N` says so.
+/// The validator of the options in a table `T`. If `N` is [`Nullable`](jskw_value::Nullable), null
+/// is an option too.
 #[derive(Drop)]
 pub struct TableEnumValidator<T: OptionTable, N: Nullability> {
     listed: Listed<T, N>,
@@ -99,8 +102,9 @@ pub struct TableEnumValidator<T: OptionTable, N: Nullability> {
 impl<T: OptionTable, N: Nullability> TableEnumValidator<T, N> {
     ghost use Rattle.jskw_leaf.specs.Meaning.{among_at, enum_table};
 
-    // Makes the validator of the value's options, which are these items. Each can stand in the table or
-    // is null, and `N` says whether null is among them and left out of the table.
+    // Creates the validator. `options` is the value of `enum`, and `items` are its items: each must
+    // be null or a value that the table can contain. `N` must be `Nullable` exactly if null is among
+    // them and left out of the table. `location` is the keyword location.
     pub(super) fn compile(
         alloc: Global,
         options: &Value,

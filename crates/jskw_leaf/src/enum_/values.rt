@@ -1,4 +1,4 @@
-//! Many options of any types.
+//! More than 8 options of any types.
 ghost use Rattle.std.specs.Prelude.{◌≡◌, IfOk, IsTrue, true, false};
 ghost use Rattle.std.specs.List.{list_all};
 ghost use Rattle.std.specs.List.Sorted.{IsNonDecreasingBy};
@@ -16,16 +16,17 @@ use jskw_value::{Json, JsonTypeSet, Node, NotNullable};
 use serde_json::Value;
 use std::alloc::{AllocError, Global};
 
-/// An option beside the fingerprint of the whole of it.
+/// An option with its fingerprint.
 #[derive(Drop)]
 pub struct PrintedValue {
     print: u64,
     value: Value,
 }
 
-/// Many options of any types, null among them, sorted by their fingerprints under the seed that the
-/// whole list of them makes. To look an instance up takes its fingerprint, a binary search, and a
-/// comparison with each option of that fingerprint: most often with one or none.
+/// A table of more than 8 options of any types, null included, sorted by their fingerprints. The
+/// seed of the fingerprints comes from the whole list. A lookup takes the fingerprint of the
+/// instance, a binary search, and a comparison with each option of that fingerprint: in most cases
+/// one or none.
 #[derive(Drop)]
 pub struct SortedValues {
     types: JsonTypeSet,
@@ -37,8 +38,8 @@ pub struct SortedValues {
     ghost sorted: { IsNonDecreasingBy (λ o. o.print) options.items },
 }
 
-/// The validator of many options of any types. An instance of a type that no option has isn't looked
-/// up.
+/// The validator of more than 8 options of any types. An instance whose type no option has is not
+/// looked up.
 pub type BigEnumValidator = TableEnumValidator<SortedValues, NotNullable>;
 
 impl OptionTable for SortedValues {
@@ -69,7 +70,7 @@ impl OptionTable for SortedValues {
     }
 }
 
-// The items beside their fingerprints under a seed.
+// Returns the items with their fingerprints under the seed.
 fn printed(alloc: Global, items: &[Value], seed: u64) -> Result<Vec<PrintedValue>, AllocError>
     ensures same { IfOk result (λ v. (t : Tree) → has_value v.items t
         ≡ is_option (items_view items.now) t) }
@@ -85,8 +86,8 @@ fn printed(alloc: Global, items: &[Value], seed: u64) -> Result<Vec<PrintedValue
     Ok(options)
 }
 
-// Whether one of the options equals the instance. They are sorted by their fingerprints under the
-// seed.
+// Returns whether one of the options equals the instance. The options must be sorted by their
+// fingerprints, which are those under the seed.
 #[inline(never)]
 fn is_among<F: Json>(options: &[PrintedValue], seed: u64, instance: &F::Node) -> bool
     requires printed { list_all (is_printed seed) options.now ≡ true }
@@ -98,8 +99,8 @@ fn is_among<F: Json>(options: &[PrintedValue], seed: u64, instance: &F::Node) ->
     starts_with_equal::<F>(&options[start..], print, instance)
 }
 
-// Whether one of the options equals the instance. Those of this fingerprint come first, and none of the
-// others equals the instance.
+// Returns whether one of the options equals the instance. The options with this fingerprint must
+// come first, and no other may equal the instance.
 fn starts_with_equal<F: Json>(options: &[PrintedValue], print: u64, instance: &F::Node) -> bool
     requires { IsRun print (F.Node.tree instance.now) options.now }
     ensures { result ≡ has_value options.now (F.Node.tree instance.now) }

@@ -121,6 +121,7 @@ pub fn compile<'a, F: Json>(
     Some(type_validator(alloc, ctx, schema))
 }
 
+// Reads the value of `type`, and returns its validator in Draft 4.
 fn type_validator<'a, F: Json>(
     alloc: Global,
     ctx: &Context<'_, F>,

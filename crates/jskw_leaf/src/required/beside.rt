@@ -1,4 +1,5 @@
-//! When the keywords beside `required` let it be handed on to the object layer.
+//! The rule by which `required` is handed on to the object layer: it depends on the keywords beside
+//! it.
 ghost use Rattle.std.specs.Prelude.{◌≡◌, not};
 ghost use Rattle.serde_json.specs.View.{view, members_view};
 ghost use Rattle.jskw_report.specs.Sibling.{has_few_members, has_items, is_absent, is_false};
@@ -59,6 +60,7 @@ fn requires_two_of_properties<F: Json>(ctx: &Context<'_, F>, parent: &Map<String
         && !has_object(parent, "additionalProperties")
 }
 
+// Returns whether the member `name` is an array of `count` items.
 fn has_items(parent: &Map<String, Value>, name: &str, count: usize) -> bool
     ensures { result
         ≡ member_passes (has_items count) name.now (members_view parent.now.entries) }
@@ -69,6 +71,7 @@ fn has_items(parent: &Map<String, Value>, name: &str, count: usize) -> bool
     }
 }
 
+// Returns whether the value is an array of `count` items.
 fn is_array_of(value: &Value, count: usize) -> bool
     ensures { result ≡ has_items count (view value.now) }
 {
@@ -78,24 +81,28 @@ fn is_array_of(value: &Value, count: usize) -> bool
     }
 }
 
+// Returns whether `parent` has a member `name`.
 fn has_member(parent: &Map<String, Value>, name: &str) -> bool
     ensures { result ≡ not (is_absent name.now (members_view parent.now.entries)) }
 {
     member_of(parent, name).is_some()
 }
 
+// Returns whether the member `name` is `false`.
 fn has_false(parent: &Map<String, Value>, name: &str) -> bool
     ensures { result ≡ member_passes is_false name.now (members_view parent.now.entries) }
 {
     matches!(member_of(parent, name), Some(Value::Bool(false)))
 }
 
+// Returns whether the member `name` is an object.
 fn has_object(parent: &Map<String, Value>, name: &str) -> bool
     ensures { result ≡ member_passes is_object name.now (members_view parent.now.entries) }
 {
     matches!(member_of(parent, name), Some(Value::Object(_)))
 }
 
+// Returns whether the member `name` is an object of fewer than 15 members.
 fn has_small_object(parent: &Map<String, Value>, name: &str) -> bool
     ensures { result ≡ member_passes has_few_members name.now (members_view parent.now.entries) }
 {
@@ -105,6 +112,7 @@ fn has_small_object(parent: &Map<String, Value>, name: &str) -> bool
     }
 }
 
+// Returns whether the value is an object of fewer than 15 members.
 fn has_few_members(value: &Value) -> bool
     ensures { result ≡ has_few_members (view value.now) }
 {

@@ -54,6 +54,7 @@ fn walk_finds_all<F: Json, L: Names<F>>(names: &L, object: &F::Node) -> bool
     found == count
 }
 
+// Looks each name up, until one is missing.
 #[tactic(auto, using(crate::proofs::Counting::all_step, crate::proofs::Counting::all_end))]
 fn lookups_find_all<F: Json, L: Names<F>>(names: &L, object: &F::Node) -> bool
     requires { IsTrue (is_object (F.Node.tree object.now)) }
@@ -141,6 +142,7 @@ fn found_by_walk<F: Json, L: Names<F>>(names: &L, object: &F::Node) -> u32
     found
 }
 
+// Returns the mask of the name at the index.
 fn bit(place: usize) -> u32
     requires { place ≤ 16 }
     ensures value { result ≡ 2 ^ place }
@@ -149,6 +151,7 @@ fn bit(place: usize) -> u32
     1 << place
 }
 
+// Returns whether the mask has the name at the index.
 fn has_bit(mask: u32, place: usize) -> bool
     requires { place ≤ 16 }
     ensures { result ≡ (bit_at mask place == 1) }

@@ -63,6 +63,7 @@ pub fn compile_with_path<'a, F: Json>(
     Some(required_validator(alloc, schema, location))
 }
 
+// Reads the value of `required`. Refuses one that is not an array of strings.
 fn required_validator<'a, F: Json>(
     alloc: Global,
     schema: &'a Value,

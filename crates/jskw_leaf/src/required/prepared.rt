@@ -36,6 +36,7 @@ impl<F: Json> PreparedName<F> {
         })
     }
 
+    // Returns the name.
     pub(crate) fn as_str(&self) -> &str
         ensures { result.now ≡ self.now }
     {
