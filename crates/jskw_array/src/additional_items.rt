@@ -22,7 +22,8 @@ use std::alloc::Global;
 /// The validator of `additionalItems` of a schema.
 pub type AdditionalItemsObjectValidator<F> = Rest<F>;
 
-/// The validator of `additionalItems` of `false`: no item without a schema in `items` is allowed.
+/// The validator of `additionalItems` of `false`. It accepts an array with no more items than
+/// `items` has schemas, and every non-array.
 #[derive(Drop)]
 pub struct AdditionalItemsBooleanValidator {
     pub(crate) items_count: usize,
@@ -51,13 +52,14 @@ impl Assertion for AdditionalItemsBooleanValidator {
     }
 }
 
-/// Compiles `additionalItems`: the value is a schema, for the items behind the schemas of `items`.
-/// The keyword asserts nothing, and its value is not read, if `items` of `parent` is not an array;
-/// `true` asserts nothing either.
+/// Compiles `additionalItems`, whose value is a schema for the items behind those that `items` has
+/// schemas for. Returns `None` if it asserts nothing: if `items` of `parent` is not an array (the
+/// value is not checked then), or if the value is `true`.
 ///
 /// # Errors
 ///
-/// The error of [`compile`](crate::compiler::compile) for the schema.
+/// Fails if memory runs out, or if the schema has an error, as
+/// [`compile`](crate::compiler::compile) says.
 #[cycle(compile)]
 pub fn compile<'a, F: Json>(
     alloc: Global,

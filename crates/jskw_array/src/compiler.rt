@@ -34,13 +34,17 @@ use jskw_value::{Json, JsonType, JsonTypeSet};
 use serde_json::{Map, Value};
 use std::alloc::{AllocError, Global};
 
-/// Compiles the schema at the keyword location of `ctx`: a boolean, or an object with its keywords
-/// in their order, subschemas included.
+/// Compiles a schema and its subschemas: a boolean, or an object (JSON Schema Core 4.3). `ctx` has
+/// its keyword location and the settings. Keywords that are not active and unknown members are
+/// ignored.
 ///
 /// # Errors
 ///
-/// The first value that its keyword does not accept, or that is neither an object nor a boolean
-/// where a schema must be; or [`CompileFault::Memory`].
+/// - [`CompileFault::Bad`] with the error of the first value, in the order of
+///   [`KeywordName`], that its keyword does not accept, as the keyword's module says, or that is
+///   neither an object nor a boolean where a schema must be. The kind is `WrongType` with the types
+///   boolean and object in the second case.
+/// - [`CompileFault::Memory`] if memory runs out. This says nothing about the schema.
 #[cycle(compile)]
 pub fn compile<'a, F: Json>(
     alloc: Global,

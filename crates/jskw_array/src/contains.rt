@@ -1,4 +1,5 @@
-//! `contains` (Core 10.3.1.3) with `minContains` and `maxContains` (Validation 6.4.4, 6.4.5).
+//! `contains` (JSON Schema Core 10.3.1.3) with `minContains` and `maxContains` (JSON Schema
+//! Validation 6.4.4, 6.4.5).
 ghost use Rattle.std.specs.Prelude.{◌≡◌, IfOk};
 ghost use Rattle.serde_json.specs.View.{view, members_view};
 ghost use Rattle.jskw_value.specs.Pointer.{member_location};
@@ -32,15 +33,18 @@ pub type MaxContainsValidator<F> = Matching<F>;
 /// The validator of `contains` with `minContains` and `maxContains`.
 pub type MinMaxContainsValidator<F> = Matching<F>;
 
-/// Compiles `contains`: the value is a schema. From 2019-09 on, with the validation vocabulary, the
-/// siblings `minContains` and `maxContains` are read too.
+/// Compiles `contains`, whose value is a schema. Always returns `Some`. From 2019-09 on, with the
+/// validation vocabulary, reads the siblings `minContains` and `maxContains` too, overridden or
+/// not.
 ///
 /// # Errors
 ///
-/// The first of: a bad `minContains`, as in
-/// [`fail_on_non_positive_integer`](jskw_number::helpers::fail_on_non_positive_integer), a bad
-/// `maxContains`, each at its own keyword location, and the error of
-/// [`compile`](crate::compiler::compile) for the schema.
+/// Fails if memory runs out, or with the first of these errors:
+///
+/// - `minContains`, then `maxContains`, is not an integer from 0 to 2^64-1, as
+///   [`fail_on_non_positive_integer`](jskw_number::helpers::fail_on_non_positive_integer) says. The
+///   error is at the location of that keyword.
+/// - The schema has an error, as [`compile`](crate::compiler::compile) says.
 #[cycle(compile)]
 pub fn compile<'a, F: Json>(
     alloc: Global,

@@ -1,5 +1,5 @@
-//! A schema for each item: `prefixItems` (Core 10.3.1.1), and `items` of an array of schemas (Draft 7
-//! Validation 6.4.1). An instance that is not an array has no items.
+//! A schema for each item: `prefixItems` (JSON Schema Core 10.3.1.1), and `items` of an array of
+//! schemas (Draft 7 Validation 6.4.1). A non-array has no items.
 ghost use Rattle.std.specs.Prelude.{Result};
 ghost use Rattle.jskw_report.specs.Compile.{Makes};
 ghost use Rattle.jskw_report.specs.Keyword.{Schemas};
@@ -18,7 +18,8 @@ use jskw_report::{
 use jskw_value::{Array, Json, Node};
 use std::alloc::{AllocError, Global};
 
-/// The validator of a list of schemas, each for the item at its index.
+/// The validator of a list of schemas, each for the item at its index. It accepts an array in which
+/// each item that has a schema is valid, and every non-array.
 #[cycle(schema)]
 #[derive(Drop)]
 pub struct Each<F: Json> {

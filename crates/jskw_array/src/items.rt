@@ -1,5 +1,5 @@
-//! `items`: of one schema, for every item that `prefixItems` has none for (Core 10.3.1.2), or of an
-//! array of schemas, each for the item of its index (Draft 7 Validation 6.4.1).
+//! `items`: one schema, for every item that `prefixItems` has no schema for (JSON Schema Core
+//! 10.3.1.2), or an array of schemas, each for the item at its index (Draft 7 Validation 6.4.1).
 ghost use Rattle.std.specs.Prelude.{◌≡◌, Some, false, if◌then◌else◌, length};
 ghost use Rattle.std.specs.Prelude.{nat_lt};
 ghost use Rattle.serde_json.specs.Data.{string};
@@ -71,12 +71,14 @@ pub(crate) fn items_unit<N: Node>(
 }
 
 /// Compiles `items`. The value is an array of schemas, each for the item at its index, or one
-/// schema, an object or `false`; in 2020-12 this is for the items behind those of an array
-/// `prefixItems`. Every other value asserts nothing.
+/// schema: an object or `false`. In 2020-12 one schema is for the items behind those that an array
+/// `prefixItems` of `parent` has schemas for. Returns `None` for any other value: it asserts
+/// nothing.
 ///
 /// # Errors
 ///
-/// The error of [`compile`](crate::compiler::compile) for one of the schemas.
+/// Fails if memory runs out, or if a schema has an error, as
+/// [`compile`](crate::compiler::compile) says.
 #[cycle(compile)]
 pub fn compile<'a, F: Json>(
     alloc: Global,
@@ -103,15 +105,16 @@ pub fn compile<'a, F: Json>(
     Some(of_schema(start, false, compiled))
 }
 
-// Whether the value is one schema that asserts something: an object or `false`.
+// Returns whether the value is one schema that asserts something: an object or `false`.
 pub(crate) fn is_items_schema(value: &Value) -> bool
     ensures { result ≡ is_items_schema (view value.now) }
 {
     matches!(value, Value::Object(_) | Value::Bool(false))
 }
 
-// Whether the value of `items` is checked in place: it is the `type` of a number, a string or a
-// boolean alone, which is read, and no array of schemas of `prefixItems` comes before it.
+// Returns whether the items are tested in place: the value of `items` has only an active `type`,
+// which names a number, an integer, a string or a boolean, and no array `prefixItems` comes before
+// it.
 fn is_bare<F: Json>(ctx: &Context<'_, F>, parent: &Map<String, Value>, schema: &Value) -> bool
     ensures { result
         ≡ is_bare ctx.now.setting (members_view parent.now.entries) (view schema.now) }
@@ -121,8 +124,8 @@ fn is_bare<F: Json>(ctx: &Context<'_, F>, parent: &Map<String, Value>, schema: &
         && !(ctx.draft() == Draft::Draft202012 && has_array(parent, "prefixItems"))
 }
 
-// Whether the value is an object of a single member: `type`, with a name that items are checked
-// against in place.
+// Returns whether the value is an object whose only member is `type`, with the name of a type that
+// items are tested for in place.
 fn is_only_type(value: &Value) -> bool
     ensures { result ≡ is_only_type (view value.now) }
 {
@@ -138,7 +141,7 @@ fn is_only_type(value: &Value) -> bool
     }
 }
 
-// Whether the value is the name of a type that items are checked against in place.
+// Returns whether the value is the name of a type that items are tested for in place.
 #[tactic(auto, using(crate::proofs::BareTypes::no_text, crate::proofs::BareTypes::of_text))]
 fn is_inlined_type(value: &Value) -> bool
     ensures { result ≡ is_inlined_type (view value.now) }
@@ -149,14 +152,14 @@ fn is_inlined_type(value: &Value) -> bool
     }
 }
 
-// Whether the type of this name is one that items are checked against in place.
+// Returns whether this is the name of a type that items are tested for in place.
 fn is_inlined_name(name: &str) -> bool
     ensures { result ≡ is_inlined_type (string name.now) }
 {
     matches!(name, "number" | "string" | "boolean" | "integer")
 }
 
-// Whether `parent` has an array under the name.
+// Returns whether the member `name` of `parent` is an array.
 fn has_array(parent: &Map<String, Value>, name: &str) -> bool
     ensures { result ≡ member_passes is_list name.now (members_view parent.now.entries) }
 {

@@ -1,4 +1,4 @@
-//! What the observers of a node have in common, as the contract of a function.
+//! How the observers of a node agree, as the contract of a function.
 ghost use Rattle.std.specs.Prelude.{IsTrue};
 ghost use Rattle.jskw_value.specs.Tree.{is_lawful};
 ghost use Rattle.jskw_array.specs.Agreement.{Agree};
@@ -8,9 +8,10 @@ use jskw_report::{Fault, LazyLocation, ValidationContext, ValidationError};
 use jskw_value::Json;
 use std::alloc::AllocError;
 
-/// What `is_valid`, `validate` and `collect_errors` answer of one instance: `validate` is Ok exactly
-/// where `is_valid` is true, and its error is the first that `collect_errors` appends. Want of
-/// memory of either says nothing of the instance.
+/// Returns what `is_valid`, `validate` and `collect_errors` return for one instance, which must be
+/// lawful. The law: `validate` returns `Ok` exactly if `is_valid` returns true, and its error is
+/// the first that `collect_errors` appends. If memory runs out in one of them, its result says
+/// nothing about the instance.
 pub fn observers_agree<'i, F: Json>(
     node: &'i SchemaNode<F>,
     instance: &'i F::Node,

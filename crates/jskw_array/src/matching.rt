@@ -1,5 +1,5 @@
-//! The items that match one schema: `contains` (Core 10.3.1.3) with `minContains` and `maxContains`
-//! (Validation 6.4.4, 6.4.5). Every instance that is not an array passes.
+//! The items that match one schema: `contains` (JSON Schema Core 10.3.1.3) with `minContains` and
+//! `maxContains` (JSON Schema Validation 6.4.4, 6.4.5).
 ghost use Rattle.std.specs.Prelude.{◌≡◌, IfOk, IsTrue, count_by, length, sum_by};
 ghost use Rattle.jskw_value.specs.Tree.{is_lawful, items};
 ghost use Rattle.jskw_report.specs.Applications.{needed};
@@ -64,7 +64,8 @@ impl ItemBounds {
     }
 }
 
-/// The validator of `contains`: a schema, and how many items must match it.
+/// The validator of `contains`: a schema, and how many items must match it. It accepts an array in
+/// which that many items do, and every non-array.
 #[cycle(schema)]
 #[derive(Drop)]
 pub struct Matching<F: Json> {
@@ -101,8 +102,8 @@ impl<F: Json> Matching<F> {
         self.bounds.failing_location(matches)
     }
 
-    // The unit of an instance of which the items at the indices `matches` match. `children` are the
-    // nodes of these items.
+    // Returns the unit for an instance whose items at the indices `matches` match. `children` are
+    // the nodes of these items.
     fn unit<'i>(
         &'i self,
         alloc: Global,

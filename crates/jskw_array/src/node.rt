@@ -31,10 +31,13 @@ use jskw_value::Json;
 use std::alloc::{AllocError, Global};
 use std::marker::Model;
 
-/// A compiled schema over the representation `F`. It has the observers of `Validate`, here for the
-/// whole schema. Each of them has one condition: the instance is lawful, that is, it contains no
-/// float; `Node::is_lawful` returns whether it is. Contracts see a node as the schema that it was
-/// compiled from, keyword by keyword.
+/// A compiled schema over the representation `F`. It keeps no reference to the schema's value, the
+/// settings or the context, and validating changes nothing in it: one node serves for any number of
+/// instances.
+///
+/// Each of its observers has one condition: the instance is lawful, that is, it contains no float;
+/// `Node::is_lawful` returns whether it is. In contracts a node is the schema that it was compiled
+/// from, keyword by keyword.
 #[cycle(schema)]
 #[derive(Drop)]
 pub struct SchemaNode<F: Json> {
@@ -121,15 +124,16 @@ impl<F: Json> SchemaNode<F> {
         }
     }
 
-    /// The schema's keyword location (Core 12.3.1).
+    /// Returns the schema's keyword location (JSON Schema Core 12.3.1).
     pub fn location(&self) -> &Location
         ensures { result.now ≡ schema_location self.now }
     {
         &self.location
     }
 
-    /// Returns whether the `required` of the schema or of a subschema is handed on: then it asserts
-    /// nothing here, and is left to the keywords of objects.
+    /// Returns whether the `required` of the schema or of a subschema is handed on: it asserts
+    /// nothing here, and is left to the object layer, as
+    /// [`is_handed_on`](jskw_leaf::required::is_handed_on) says.
     pub fn hands_on_required(&self) -> bool
         ensures { result ≡ hands_on_required self.now }
     {
@@ -170,7 +174,8 @@ impl<F: Json> SchemaNode<F> {
         self.units()
     }
 
-    /// Returns whether the instance is valid. Allocates no memory, and stops at the first failure.
+    /// Returns whether the instance, which must be lawful, is valid (JSON Schema Core 7.6). Stops
+    /// at the first failure. Allocates nothing.
     #[cycle(is_valid)]
     pub fn is_valid(&self, instance: &F::Node, ctx: &mut ValidationContext) -> bool
         requires { IsTrue (is_lawful (F.Node.tree instance.now)) }
@@ -187,9 +192,13 @@ impl<F: Json> SchemaNode<F> {
         }
     }
 
-    /// Returns Ok if the instance is valid, and otherwise its first error. [`Fault::Memory`] says
-    /// nothing about the instance. `location` is the instance location, and unchanged at every
-    /// return.
+    /// Returns `Ok` if the instance, which must be lawful, is valid. `location` is the location of
+    /// the instance (JSON Schema Core 12.3.3), and is unchanged at every return.
+    ///
+    /// # Errors
+    ///
+    /// - [`Fault::Invalid`] with the first error if the instance is invalid.
+    /// - [`Fault::Memory`] if memory runs out. This says nothing about the instance.
     #[cycle(validate)]
     pub fn validate<'i>(
         &'i self,
@@ -231,9 +240,9 @@ impl<F: Json> SchemaNode<F> {
         answer
     }
 
-    /// Appends every error, in order. If memory runs out, the list keeps its old entries, followed
-    /// by a beginning of the errors. `location` is the instance location, and unchanged at every
-    /// return.
+    /// Appends all errors of the instance, which must be lawful, to `errors`, in order. `location`
+    /// is the location of the instance (JSON Schema Core 12.3.3), and is unchanged at every return.
+    /// If memory runs out, `errors` keeps its old entries, followed by a beginning of the new ones.
     #[cycle(collect_errors)]
     pub fn collect_errors<'i>(
         &'i self,
@@ -278,7 +287,8 @@ impl<F: Json> SchemaNode<F> {
         answer
     }
 
-    /// Returns the evaluation tree of a whole instance (Core 12.3). Fails only if memory runs out.
+    /// Returns the evaluation tree of a whole instance, which must be lawful (JSON Schema Core
+    /// 12.3). Fails only if memory runs out.
     pub fn evaluate_instance(
         &self,
         alloc: Global,
@@ -294,8 +304,9 @@ impl<F: Json> SchemaNode<F> {
         self.evaluate_instance_below(alloc, instance, &mut location, ctx)
     }
 
-    /// Returns the evaluation tree of the instance at `location`, which is unchanged at every
-    /// return. Fails only if memory runs out.
+    /// Returns the evaluation tree of the instance at `location`, as part of a larger one. The
+    /// instance must be lawful. `location` is unchanged at every return. Fails only if memory runs
+    /// out.
     #[cycle(evaluate)]
     pub fn evaluate_instance_below(
         &self,
@@ -372,7 +383,7 @@ fn evaluate_refusal<F: Json>(
     EvaluationNode::new(alloc, result, schema_path, &path)
 }
 
-// Whether the `required` of some schema, or of a subschema of it, is handed on.
+// Returns whether the `required` of some schema, or of a subschema of it, is handed on.
 #[tactic(auto, using(crate::proofs::Units::each_hands_on_at, crate::proofs::Units::each_hands_on_end))]
 pub(crate) fn some_hands_on<F: Json>(nodes: &[SchemaNode<F>]) -> bool
     ensures { result ≡ each_hands_on (schemas_of nodes.now) }

@@ -1,4 +1,4 @@
-//! `prefixItems` (Core 10.3.1.1): a list of schemas, each for the item at its index.
+//! `prefixItems` (JSON Schema Core 10.3.1.1): a list of schemas, each for the item at its index.
 ghost use Rattle.std.specs.Prelude.{◌≡◌, length, option_map};
 ghost use Rattle.serde_json.specs.View.{view, members_view};
 ghost use Rattle.jskw_value.specs.Tree.{items};
@@ -56,12 +56,16 @@ fn annotation(schemas: usize, items: usize) -> Option<Annotations>
     Some(Annotations::Index(schemas - 1))
 }
 
-/// Compiles `prefixItems`: the value is an array of schemas, each for the item at its index.
+/// Compiles `prefixItems`, whose value is an array of schemas, each for the item at its index.
+/// Always returns `Some`.
 ///
 /// # Errors
 ///
-/// If the value is not an array, an error of the type `array` at the keyword location; otherwise
-/// the error of [`compile`](crate::compiler::compile) for one of the schemas.
+/// Fails if memory runs out, or with the first of these errors:
+///
+/// - The value is not an array: the kind is `WrongType` with the type array, at the location of
+///   `prefixItems`.
+/// - A schema has an error, as [`compile`](crate::compiler::compile) says.
 #[cycle(compile)]
 pub fn compile<'a, F: Json>(
     alloc: Global,

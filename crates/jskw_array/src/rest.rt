@@ -1,5 +1,5 @@
-//! One schema for the items from an index on: `items` (Core 10.3.1.2), and `additionalItems` (Draft 7
-//! Validation 6.4.2). An instance that is not an array has no items.
+//! One schema for the items from an index on: `items` (JSON Schema Core 10.3.1.2), and
+//! `additionalItems` (Draft 7 Validation 6.4.2). A non-array has no items.
 ghost use Rattle.std.specs.Prelude.{◌≡◌, IfOk, IsTrue, length};
 ghost use Rattle.jskw_value.specs.Tree.{is_lawful, items};
 ghost use Rattle.jskw_report.specs.Applications.{keyword_needed, keyword_pairs};
@@ -26,7 +26,8 @@ use jskw_report::{
 use jskw_value::{Array, Json, Node};
 use std::alloc::{AllocError, Global};
 
-/// The validator of one schema for the items from an index on.
+/// The validator of one schema for the items from an index on. It accepts an array in which each of
+/// these items is valid, and every non-array.
 #[cycle(schema)]
 #[derive(Drop)]
 pub struct Rest<F: Json> {

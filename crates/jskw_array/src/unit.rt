@@ -1,5 +1,5 @@
-//! The units of a schema: its keywords in order, where the first four may be one unit, and the walks
-//! over them.
+//! The units of a schema: its keywords in order, where the first four may be one unit, and the
+//! walks over them.
 ghost use Rattle.std.specs.Prelude.{◌≡◌, ◌++◌, IfOk, IfSome, IsTrue, is_some};
 ghost use Rattle.jskw_value.specs.Tree.{is_lawful};
 ghost use Rattle.jskw_report.specs.Applications.{all_needed, all_pairs};
@@ -137,7 +137,7 @@ impl<F: Json> Unit<F> {
         }
     }
 
-    // Whether the `required` of a subschema is handed on.
+    // Returns whether the `required` of a subschema is handed on.
     fn hands_on_required(&self) -> bool
         ensures { result ≡ unit_hands_on self.now }
     {
@@ -148,7 +148,7 @@ impl<F: Json> Unit<F> {
     }
 }
 
-// Whether every keyword holds of the instance.
+// Returns whether every keyword holds of the instance.
 #[inline(never)]
 #[cycle(is_valid)]
 pub(crate) fn units_are_valid<F: Json>(
@@ -239,7 +239,7 @@ pub(crate) fn evaluate_units<F: Json>(
     Ok(())
 }
 
-// Whether the `required` of a subschema of some keyword is handed on.
+// Returns whether the `required` of a subschema of some keyword is handed on.
 #[tactic(auto, using(crate::proofs::Units::hand_on_end))]
 pub(crate) fn some_unit_hands_on<F: Json>(units: &[Unit<F>]) -> bool
     ensures { result ≡ all_hand_on (keywords_of units.now) }

@@ -132,7 +132,7 @@ impl<F: Json> Validator<F> {
         }
     }
 
-    // Whether the `required` of a subschema is handed on.
+    // Returns whether the `required` of a subschema is handed on.
     #[tactic(auto, using(crate::proofs::Meant::each_delegates, crate::proofs::Meant::rest_delegates))]
     pub(crate) fn hands_on_required(&self) -> bool
         ensures { result ≡ keyword_hands_on (validator_keyword self.now) }

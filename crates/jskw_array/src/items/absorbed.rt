@@ -31,7 +31,8 @@ use jskw_value::{Array, Json, Node};
 use serde_json::{Map, Value};
 use std::alloc::{AllocError, Global};
 
-/// `type` of `array`, `minItems` and `maxItems` beside fused `items`.
+/// The validators of `type` of `array`, `minItems` and `maxItems` in the fused shape: those that
+/// the schema has.
 #[derive(Drop)]
 pub struct AbsorbedKeywords {
     type_: ArrayTypeValidator,
@@ -40,7 +41,8 @@ pub struct AbsorbedKeywords {
 }
 
 impl AbsorbedKeywords {
-    // Compiles those of `parent`, which has the fused shape. Fails only if memory runs out.
+    // Compiles the keywords of `parent`, which must have the fused shape. Fails only if memory runs
+    // out.
     pub(crate) fn compile<'a, F: Json>(
         alloc: Global,
         ctx: &Context<'_, F>,
@@ -61,7 +63,7 @@ impl AbsorbedKeywords {
         })
     }
 
-    // The number of items of an array that they accept, None for every other instance.
+    // Returns the number of items if the instance is an array that passes all three, else `None`.
     pub(crate) fn valid_count<N: Node>(&self, instance: &N) -> Option<usize>
         ensures holds { is_some result ≡ all_hold (absorbed_keywords self.now) (N.tree instance.now) }
         ensures count { IfSome result (λ n. n ≡ length (items (N.tree instance.now))) }
@@ -78,7 +80,8 @@ impl AbsorbedKeywords {
         }
     }
 
-    // Whether `minItems` holds of an array of `count` items, of a non-array if there is no count.
+    // Returns whether `minItems` holds for an array of `count` items, or for a non-array if `count`
+    // is `None`.
     fn min_items_hold(&self, count: Option<u64>) -> bool
         ensures { (t : Tree) → count ≡ count_of t
             → result ≡ all_hold (optional min_items self.now.min_items) t }
@@ -89,7 +92,8 @@ impl AbsorbedKeywords {
         }
     }
 
-    // Whether `maxItems` holds of an array of `count` items, of a non-array if there is no count.
+    // Returns whether `maxItems` holds for an array of `count` items, or for a non-array if `count`
+    // is `None`.
     fn max_items_hold(&self, count: Option<u64>) -> bool
         ensures { (t : Tree) → count ≡ count_of t
             → result ≡ all_hold (optional max_items self.now.max_items) t }
@@ -100,7 +104,7 @@ impl AbsorbedKeywords {
         }
     }
 
-    // Their first error.
+    // Returns the first error of the three, or `Ok`.
     pub(crate) fn validate<'i, F: Json>(
         &'i self,
         instance: &'i F::Node,
@@ -115,7 +119,7 @@ impl AbsorbedKeywords {
         validate_bound(&self.max_items, instance, location)
     }
 
-    // Appends their errors, in order.
+    // Appends the errors of the three, in order.
     pub(crate) fn collect_errors<'i, F: Json>(
         &'i self,
         instance: &'i F::Node,
@@ -131,7 +135,7 @@ impl AbsorbedKeywords {
         append_first(validate_bound(&self.max_items, instance, location), errors)
     }
 
-    // Appends their nodes over the instance at `path`.
+    // Appends the evaluation nodes of the three for the instance at `path`.
     pub(crate) fn evaluate<F: Json>(
         &self,
         alloc: Global,
@@ -152,8 +156,8 @@ impl AbsorbedKeywords {
         self.evaluate_counts::<F>(alloc, instance, count, path, children)
     }
 
-    /// Returns the node of `type` over an instance at `instance_location`. `is_array` must be
-    /// whether the instance is an array. Fails only if memory runs out.
+    /// Returns the evaluation node of `type` for an instance at `instance_location`. `is_array`
+    /// must be true exactly if the instance is an array. Fails only if memory runs out.
     pub fn evaluate_type<F: Json>(
         &self,
         alloc: Global,
@@ -175,9 +179,9 @@ impl AbsorbedKeywords {
         )
     }
 
-    /// Appends the nodes of `minItems` and `maxItems`, as far as the schema has them, over an
-    /// instance at `instance_location`. `count` must be the number of items, None for a non-array.
-    /// If memory runs out, a beginning of them is appended.
+    /// Appends the evaluation nodes of `minItems` and `maxItems`, if the schema has them, for an
+    /// instance at `instance_location`. `count` must be the number of items, or `None` for a
+    /// non-array. If memory runs out, a beginning of the nodes is appended.
     pub fn evaluate_counts<F: Json>(
         &self,
         alloc: Global,

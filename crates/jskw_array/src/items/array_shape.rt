@@ -1,6 +1,6 @@
 //! The fused shape of an array: `type` of `array`, `minItems`, `maxItems` and `items` of one schema
-//! (Validation 6.1.1, 6.4.1, 6.4.2, Core 10.3.1.2), with no other keyword of items beside them. The
-//! type and the length are tested once, and then the items.
+//! (JSON Schema Validation 6.1.1, 6.4.1, 6.4.2, Core 10.3.1.2), with no other keyword of items
+//! beside them. The type and the length are tested once, and then the items.
 ghost use Rattle.std.specs.Prelude.{◌≡◌, IsTrue, Result, Some};
 ghost use Rattle.serde_json.specs.Find.{get_member};
 ghost use Rattle.serde_json.specs.View.{view, members_view};
@@ -43,7 +43,8 @@ impl<F: Json> ArrayShapeValidator<F> {
     ///
     /// # Errors
     ///
-    /// The error of [`compile`](crate::compiler::compile) for the schema `items`.
+    /// Fails if memory runs out, or if the schema `items` has an error, as
+    /// [`compile`](crate::compiler::compile) says.
     #[cycle(compile)]
     pub fn compile<'a>(
         alloc: Global,
@@ -66,7 +67,7 @@ impl<F: Json> ArrayShapeValidator<F> {
         with_items(absorbed, location, compiled)
     }
 
-    /// The keywords that are checked with `items`.
+    /// Returns the keywords that are checked with `items`: `type`, `minItems` and `maxItems`.
     pub fn absorbed(&self) -> &AbsorbedKeywords
         ensures { result.now ≡ self.now.absorbed }
     {

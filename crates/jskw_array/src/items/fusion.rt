@@ -1,4 +1,4 @@
-//! Whether the keywords of a schema have the fused shape of an array.
+//! The test for the fused shape of an array.
 ghost use Rattle.std.specs.List.{list_all};
 ghost use Rattle.std.specs.Prelude.{◌≡◌};
 ghost use Rattle.serde_json.specs.View.{view, members_view};
@@ -30,7 +30,7 @@ pub fn array_shape_fusion<F: Json>(ctx: &Context<'_, F>, parent: &Map<String, Va
         && lacks_other_keywords(parent)
 }
 
-// Whether `type` is present, active and `array`.
+// Returns whether `type` is present, active and `array`.
 fn has_type_array<F: Json>(ctx: &Context<'_, F>, parent: &Map<String, Value>) -> bool
     ensures { result ≡ has_keyword ctx.now.setting (members_view parent.now.entries)
         word.TypeKeyword (is_string (type_name Array)) }
@@ -41,14 +41,14 @@ fn has_type_array<F: Json>(ctx: &Context<'_, F>, parent: &Map<String, Value>) ->
     }
 }
 
-// Whether the value is the name of the type array.
+// Returns whether the value is the name of the type array.
 fn is_array_name(value: &Value) -> bool
     ensures { result ≡ is_string (type_name Array) (view value.now) }
 {
     value.as_str() == Some("array")
 }
 
-// Whether `items` is present, active and one schema that asserts something.
+// Returns whether `items` is present, active and one schema that asserts something.
 fn has_items<F: Json>(ctx: &Context<'_, F>, parent: &Map<String, Value>) -> bool
     ensures { result ≡ has_keyword ctx.now.setting (members_view parent.now.entries) word.Items
         is_items_schema }
@@ -59,7 +59,7 @@ fn has_items<F: Json>(ctx: &Context<'_, F>, parent: &Map<String, Value>) -> bool
     }
 }
 
-// Whether the keyword is absent, or active and a bound on a size.
+// Returns whether the keyword is absent, or active and a bound on a size.
 fn takes_size<F: Json>(
     ctx: &Context<'_, F>,
     parent: &Map<String, Value>,
@@ -73,7 +73,7 @@ fn takes_size<F: Json>(
     }
 }
 
-// Whether no other keyword of items is present.
+// Returns whether no other keyword of items is present.
 fn lacks_other_keywords(parent: &Map<String, Value>) -> bool
     ensures { result ≡ list_all (λ name. is_absent name (members_view parent.now.entries))
         unfused_names }
@@ -85,7 +85,7 @@ fn lacks_other_keywords(parent: &Map<String, Value>) -> bool
         && is_absent(parent, "uniqueItems")
 }
 
-// Whether no member has the name.
+// Returns whether no member has the name.
 fn is_absent(parent: &Map<String, Value>, name: &str) -> bool
     ensures { result ≡ is_absent name.now (members_view parent.now.entries) }
 {

@@ -1,5 +1,5 @@
-//! `items` of a schema with `type` alone (Core 10.3.1.2, Validation 6.1.1): each item is tested in
-//! place, which applies no subschema.
+//! `items` of a schema that has only `type` (JSON Schema Core 10.3.1.2, Validation 6.1.1): each
+//! item is tested in place, and no subschema is applied.
 ghost use Rattle.std.specs.Prelude.{◌≡◌, IfOk, IsTrue, Some, length, true};
 ghost use Rattle.serde_json.specs.Data.{member, no_members, object, string};
 ghost use Rattle.serde_json.specs.View.{view};
@@ -42,12 +42,12 @@ use std::marker::PhantomData;
 
 /// A type that items are tested for in place.
 pub trait ItemType: TypeTest {
-    /// The validator of the type, which fails at the location: that of `type` in a schema.
+    /// Returns the validator of the type. `location` is the keyword location of `type` in `items`.
     fn compile_type<F: Json>(location: Location) -> LeafValidator<F>
         ensures { leaf_keyword result ≡ placed (type_at Self.json_type Self.rule location) };
 }
 
-/// Items of the type number.
+/// Tests items for the type number.
 pub type NumberItems = NumberType;
 
 impl ItemType for NumberItems {
@@ -56,7 +56,7 @@ impl ItemType for NumberItems {
     }
 }
 
-/// Items of the type string.
+/// Tests items for the type string.
 pub type StringItems = StringType;
 
 impl ItemType for StringItems {
@@ -65,7 +65,7 @@ impl ItemType for StringItems {
     }
 }
 
-/// Items of the type boolean.
+/// Tests items for the type boolean.
 pub type BooleanItems = BooleanType;
 
 impl ItemType for BooleanItems {
@@ -74,7 +74,7 @@ impl ItemType for BooleanItems {
     }
 }
 
-/// Items of the type integer, of which a number with a zero fraction is one.
+/// Tests items for the type integer after Draft 4: a number whose fractional part is zero.
 pub type IntegerItems = IntegerType;
 
 impl ItemType for IntegerItems {
@@ -83,7 +83,7 @@ impl ItemType for IntegerItems {
     }
 }
 
-/// Items of the type integer of Draft 4, of which a number written without a fraction is one.
+/// Tests items for the type integer of Draft 4: a number that is written without a fraction.
 pub type IntegerItemsDraft4 = type_draft_4::IntegerType;
 
 impl ItemType for IntegerItemsDraft4 {
@@ -92,7 +92,8 @@ impl ItemType for IntegerItemsDraft4 {
     }
 }
 
-/// The validator of `items` of a schema with `type` alone. No subschema is applied.
+/// The validator of `items` of a schema that has only `type`. It accepts an array whose items are
+/// all of the type, and every non-array. It applies no subschema.
 #[derive(Drop)]
 pub struct ItemsTypeValidator<T: ItemType, F: Json> {
     // that of `items`
@@ -103,7 +104,8 @@ pub struct ItemsTypeValidator<T: ItemType, F: Json> {
 }
 
 impl<T: ItemType, F: Json> ItemsTypeValidator<T, F> {
-    /// Returns the validator of the `items` at `location` and the `type` at `type_location`.
+    /// Creates the validator. The arguments are the keyword locations of `items` and of the `type`
+    /// in it.
     pub fn new(location: Location, type_location: Location) -> ItemsTypeValidator<T, F>
         ensures { items_type T.json_type T.rule result
             ≡ bare_items location (type_at T.json_type T.rule type_location) }
@@ -115,7 +117,7 @@ impl<T: ItemType, F: Json> ItemsTypeValidator<T, F> {
         }
     }
 
-    // Whether each of the `count` items is of the type.
+    // Returns whether each of the `count` items is of the type.
     pub(crate) fn holds_of(&self, count: usize, instance: &F::Node) -> bool
         requires lawful { IsTrue (is_lawful (F.Node.tree instance.now)) }
         requires count { count ≡ length (items (F.Node.tree instance.now)) }
@@ -130,7 +132,7 @@ impl<T: ItemType, F: Json> ItemsTypeValidator<T, F> {
         true
     }
 
-    // The evaluation of an item, as of a schema that has `type` alone.
+    // Returns the evaluation of an item by a schema that has only `type`.
     fn evaluate_item(
         &self,
         alloc: Global,
