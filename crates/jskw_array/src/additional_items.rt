@@ -84,7 +84,7 @@ pub fn compile<'a, F: Json>(
     }
 }
 
-// The validator of `false`. Fails only if memory runs out.
+// Compiles `additionalItems` of `false`. Fails only if memory runs out.
 fn no_more<'a, F: Json>(
     alloc: Global,
     ctx: &Context<'_, F>,

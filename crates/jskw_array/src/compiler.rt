@@ -62,7 +62,7 @@ pub fn compile<'a, F: Json>(
     }
 }
 
-// A schema that is an object.
+// Compiles a schema that is an object.
 #[cycle(compile)]
 fn compile_object<'a, F: Json>(
     alloc: Global,
@@ -82,7 +82,7 @@ fn compile_object<'a, F: Json>(
     Ok(SchemaNode::of_keywords(location, hands_on, units))
 }
 
-// A schema that is an object with the fused shape.
+// Compiles a schema that is an object with the fused shape.
 #[cycle(compile)]
 fn compile_fused<'a, F: Json>(
     alloc: Global,
@@ -108,7 +108,7 @@ fn compile_fused<'a, F: Json>(
 // The number of keywords of the fused shape, which are the first of all keywords.
 const FUSED: usize = 4;
 
-// The schema of a fused shape and of the keywords behind it, if these were compiled.
+// Returns the node of a fused shape and of the keywords behind it, if these were compiled.
 fn of_fused<'a, F: Json>(
     alloc: Global,
     location: Location,
@@ -127,7 +127,7 @@ fn of_fused<'a, F: Json>(
     Ok(SchemaNode::of_keywords(location, hands_on, units))
 }
 
-// The fault of a value that is neither a boolean nor an object.
+// Returns the fault for a value that is neither a boolean nor an object.
 fn no_schema<'a>(alloc: Global, location: &Location, value: &'a Value) -> CompileFault<'a>
     ensures { Makes (λ (s : Schema). s) (Err result)
         (wrong (of_types Boolean Object) location.now (view value.now)) }
@@ -138,7 +138,7 @@ fn no_schema<'a>(alloc: Global, location: &Location, value: &'a Value) -> Compil
     CompileFault::wrong(alloc, ValidationErrorKind::of_types(types), location, value)
 }
 
-// The given keywords of an object, in their order.
+// Compiles the given keywords of an object, in order.
 #[cycle(compile)]
 fn compile_keywords<'a, F: Json>(
     alloc: Global,
@@ -186,7 +186,7 @@ fn push_unit<F: Json>(
     Ok(())
 }
 
-// One keyword of an object, None if it is absent, inactive or asserts nothing.
+// Compiles a keyword of an object. Returns `None` if it is absent, inactive or asserts nothing.
 #[tactic(auto, using(crate::proofs::Readings::with_subschemas))]
 #[cycle(compile)]
 fn compile_keyword<'a, F: Json>(
@@ -277,7 +277,7 @@ fn compile_each<'a, F: Json>(
     Ok(nodes)
 }
 
-// The context of the value of a keyword. Fails only if memory runs out.
+// Returns the context of the value of a keyword. Fails only if memory runs out.
 fn below<'s, F: Json>(
     alloc: Global,
     ctx: &Context<'s, F>,
@@ -291,7 +291,7 @@ fn below<'s, F: Json>(
     ctx.new_at_location(alloc, LocationSegment::Name(keyword.as_str()))
 }
 
-// The number of schemas in the array under a name, None if there is no array.
+// Returns the number of schemas in the array under a name, or `None` if there is no array.
 pub(crate) fn schema_count(parent: &Map<String, Value>, name: &str) -> Option<usize>
     ensures { result ≡ schema_count (get_member name.now (members_view parent.now.entries)) }
 {
@@ -301,7 +301,7 @@ pub(crate) fn schema_count(parent: &Map<String, Value>, name: &str) -> Option<us
     }
 }
 
-// The number of items of an array, None for other values.
+// Returns the number of items of an array, or `None` for other values.
 fn item_count(value: &Value) -> Option<usize>
     ensures { result ≡ schema_count (Some (view value.now)) }
 {

@@ -64,7 +64,7 @@ pub fn compile<'a, F: Json>(
     }
 }
 
-// The bounds beside `contains` in `parent`, as far as they are read, or the first fault.
+// Reads the bounds beside `contains` in `parent`. Fails with the first fault.
 fn bounds_beside<'a, F: Json>(
     alloc: Global,
     ctx: &Context<'_, F>,
@@ -78,7 +78,8 @@ fn bounds_beside<'a, F: Json>(
     Ok(bounds_between(alloc, ctx, min_contains, max_contains)?)
 }
 
-// A bound beside `contains` in `parent`, None if it is absent or not read.
+// Reads the bound `name` beside `contains` in `parent`. Returns `None` if it is absent, or if the
+// settings have no bounds of `contains`.
 fn bound_beside<'a, F: Json>(
     alloc: Global,
     ctx: &Context<'_, F>,
@@ -103,7 +104,8 @@ fn bound_beside<'a, F: Json>(
     }
 }
 
-// The bounds that were read, with the locations of their failures. Fails only if memory runs out.
+// Returns the bounds that were read, with the keyword locations of their errors. Fails only if
+// memory runs out.
 fn bounds_between<F: Json>(
     alloc: Global,
     ctx: &Context<'_, F>,
@@ -144,7 +146,7 @@ fn bounds_between<F: Json>(
     }
 }
 
-// The validator of these bounds and a schema that was compiled.
+// Returns the validator of the bounds and of a schema, if that was compiled.
 fn of_schema<'a, F: Json>(
     bounds: ItemBounds,
     compiled: CompilationResult<'a, SchemaNode<F>>,

@@ -90,7 +90,7 @@ impl<F: Json> Validate<F> for Each<F> {
     }
 }
 
-// The validator of schemas that were compiled.
+// Returns the validator of the schemas, if they were compiled.
 pub(crate) fn of_schemas<'a, F: Json>(
     is_prefix: bool,
     compiled: CompilationResult<'a, Vec<SchemaNode<F>>>,

@@ -50,8 +50,8 @@ pub type ItemsObjectValidator<F> = Rest<F>;
 /// The validator of `items` of one schema, for the items behind those of `prefixItems`.
 pub type ItemsObjectSkipPrefixValidator<F> = Rest<F>;
 
-// The unit of `items` of one schema from `start` on, with the nodes of these items. The annotation
-// is whether there are any.
+// Returns the evaluation of `items` of one schema for the items from `start` on. `nodes` are the
+// nodes of these items. The annotation is whether there are any.
 pub(crate) fn items_unit<N: Node>(
     alloc: Global,
     start: usize,
@@ -166,7 +166,8 @@ fn has_array(parent: &Map<String, Value>, name: &str) -> bool
     matches!(member_of(parent, name), Some(Value::Array(_)))
 }
 
-// The index at which `items` of one schema begins: in 2020-12 behind the schemas of `prefixItems`.
+// Returns the index from which `items` of one schema applies: in 2020-12 the number of schemas in
+// `prefixItems`, else 0.
 fn items_start<F: Json>(ctx: &Context<'_, F>, parent: &Map<String, Value>) -> usize
     ensures { result ≡ items_start ctx.now.setting (members_view parent.now.entries) }
 {

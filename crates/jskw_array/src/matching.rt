@@ -33,8 +33,8 @@ pub struct ItemBounds {
 }
 
 impl ItemBounds {
-    // The number of matches that decides the answer: one more than the upper bound, or else the
-    // lower bound.
+    // Returns the number of matches at which the result is known: one more than the upper bound, or
+    // the lower bound if there is no upper one.
     fn deciding_count(&self) -> u64
         ensures { result ≡ deciding_count (bounds_of self.now) }
     {
@@ -44,7 +44,8 @@ impl ItemBounds {
         }
     }
 
-    // The keyword location at which `contains` fails, None if it holds.
+    // Returns the keyword location of the error for this number of matches, or `None` if it is
+    // within the bounds.
     fn failing_location(&self, matches: u64) -> Option<&Location>
         ensures { locations_of result ≡ failing_bound (bounds_of self.now) matches }
     {
@@ -74,8 +75,8 @@ pub struct Matching<F: Json> {
 }
 
 impl<F: Json> Matching<F> {
-    // The keyword location at which `contains` fails, None if it holds. The schema is applied to no
-    // more items than the answer needs.
+    // Returns the keyword location of the error for the instance, or `None` if it is valid. Applies
+    // the schema to no more items than the result needs.
     #[inline(never)]
     #[cycle(is_valid)]
     fn failing_location(&self, instance: &F::Node, ctx: &mut ValidationContext) -> Option<&Location>

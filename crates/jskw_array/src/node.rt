@@ -89,7 +89,7 @@ impl<F: Json> Model for SchemaNode<F> {
 }
 
 impl<F: Json> SchemaNode<F> {
-    // `true`, which has no keywords, or `false`.
+    // Creates the node of a boolean schema. That of `true` has no keywords.
     pub(crate) fn of_boolean(alloc: Global, location: Location, accepts: bool) -> SchemaNode<F>
         ensures { result ≡ boolean_schema location accepts }
     {
@@ -106,7 +106,8 @@ impl<F: Json> SchemaNode<F> {
         }
     }
 
-    // The schema of these keywords. `hands_on` is whether its own `required` is handed on.
+    // Creates the node of a schema with these keywords. `hands_on` is whether its own `required` is
+    // handed on.
     pub(crate) fn of_keywords(
         location: Location,
         hands_on: bool,
@@ -154,7 +155,7 @@ impl<F: Json> SchemaNode<F> {
         }
     }
 
-    // The units of the schema, None for `false`.
+    // Returns the units of the schema, or `None` for `false`.
     fn units(&self) -> Option<&[Unit<F>]>
         ensures { HasUnits self.now result }
     {
@@ -164,7 +165,7 @@ impl<F: Json> SchemaNode<F> {
         }
     }
 
-    // Counts one application of the schema, and returns its units, None for `false`.
+    // Counts one application of the schema, and returns its units, or `None` for `false`.
     fn apply(&self, ctx: &mut ValidationContext) -> Option<&[Unit<F>]>
         ensures units { HasUnits self.now result }
         ensures applied { min (ctx.old + 1) u64.MAX ≤ ctx.new }
@@ -219,7 +220,7 @@ impl<F: Json> SchemaNode<F> {
         validate_units(units, instance, location, ctx)
     }
 
-    // `validate` of the item at `index` of the instance at `location`.
+    // Returns `validate` for the item at `index` of the instance at `location`.
     #[cycle(validate)]
     pub(crate) fn validate_item<'i>(
         &'i self,
@@ -264,7 +265,7 @@ impl<F: Json> SchemaNode<F> {
         collect_units(units, instance, location, ctx, errors)
     }
 
-    // `collect_errors` of the item at `index` of the instance at `location`.
+    // Appends all errors of the item at `index` of the instance at `location`.
     #[cycle(collect_errors)]
     pub(crate) fn collect_item<'i>(
         &'i self,
@@ -332,7 +333,7 @@ impl<F: Json> SchemaNode<F> {
         EvaluationNode::new(alloc, result, self.location(), &path)
     }
 
-    // The evaluation tree of the item at `index` of the instance at `location`.
+    // Returns the evaluation tree of the item at `index` of the instance at `location`.
     #[cycle(evaluate)]
     pub(crate) fn evaluate_item(
         &self,
@@ -355,7 +356,7 @@ impl<F: Json> SchemaNode<F> {
     }
 }
 
-// The error of `false`.
+// Returns the error of the schema `false`.
 fn refuse<'i, F: Json>(
     schema_path: &'i Location,
     instance: &'i F::Node,
@@ -368,7 +369,7 @@ fn refuse<'i, F: Json>(
     fail_unless(false, kind, schema_path, instance, location)
 }
 
-// The evaluation tree of `false`.
+// Returns the evaluation tree of the schema `false`.
 fn evaluate_refusal<F: Json>(
     alloc: Global,
     schema_path: &Location,

@@ -26,7 +26,8 @@ use std::alloc::Global;
 /// The validator of `prefixItems`.
 pub type PrefixItemsValidator<F> = Each<F>;
 
-// The unit of `prefixItems` of `schemas` schemas, with the nodes of the items.
+// Returns the evaluation of `prefixItems` with this number of schemas. `nodes` are the nodes of the
+// items.
 pub(crate) fn prefix_unit<N: Node>(
     alloc: Global,
     schemas: usize,
@@ -43,7 +44,8 @@ pub(crate) fn prefix_unit<N: Node>(
     unit
 }
 
-// True if every item has a schema, otherwise the largest index that has one, None if none has.
+// Returns the annotation: true if every item has a schema, else the largest index that has one, or
+// `None` if no item has one.
 fn annotation(schemas: usize, items: usize) -> Option<Annotations>
     ensures { option_map annotation_of result ≡ prefix_annotation schemas items }
 {
@@ -87,7 +89,7 @@ pub fn compile<'a, F: Json>(
     ))
 }
 
-// The fault of a value that is not an array.
+// Refuses a value that is not an array.
 fn no_array<'a, F: Json>(
     alloc: Global,
     ctx: &Context<'_, F>,

@@ -39,7 +39,7 @@ pub struct Rest<F: Json> {
 }
 
 impl<F: Json> Rest<F> {
-    // `is_valid` of an array that is known to have `count` items.
+    // Returns `is_valid` for an array of `count` items, so that they are not counted again.
     #[inline(never)]
     #[cycle(is_valid)]
     pub(crate) fn holds_of(
@@ -62,7 +62,7 @@ impl<F: Json> Rest<F> {
         true
     }
 
-    // The unit of `additionalItems`.
+    // Returns the evaluation of `additionalItems`: its errors, and no nodes below.
     fn evaluate_as_errors(
         &self,
         alloc: Global,
@@ -140,7 +140,7 @@ impl<F: Json> Validate<F> for Rest<F> {
     }
 }
 
-// The validator of a schema that was compiled, for the items from `start` on.
+// Returns the validator of a schema, if that was compiled, for the items from `start` on.
 pub(crate) fn of_schema<'a, F: Json>(
     start: usize,
     is_additional: bool,

@@ -22,7 +22,7 @@ use jskw_report::{
 use jskw_value::Json;
 use std::alloc::{AllocError, Global};
 
-// What a schema asks of an instance at one time: one keyword, or the four of the fused shape.
+// A part of a schema that is checked as one: one keyword, or the four of the fused shape.
 #[cycle(schema)]
 #[derive(Drop)]
 pub(crate) enum Unit<F: Json> {
@@ -107,7 +107,7 @@ impl<F: Json> Unit<F> {
         }
     }
 
-    // The keyword location of the node that `evaluate` gives.
+    // Returns the keyword location of the unit's evaluation node.
     fn location(&self) -> &Location
         ensures { result.now ≡ unit_location self.now }
     {
@@ -117,8 +117,8 @@ impl<F: Json> Unit<F> {
         }
     }
 
-    // Appends the nodes of `type`, `minItems` and `maxItems` of the fused shape, over the instance
-    // at `path`.
+    // Appends the evaluation nodes of `type`, `minItems` and `maxItems` for the instance at `path`,
+    // if the unit is the fused shape.
     fn evaluate_absorbed(
         &self,
         alloc: Global,
@@ -169,7 +169,7 @@ pub(crate) fn units_are_valid<F: Json>(
     true
 }
 
-// The first error of the keywords.
+// Returns the first error of the keywords, or `Ok`.
 #[cycle(validate)]
 pub(crate) fn validate_units<'i, F: Json>(
     units: &'i [Unit<F>],
@@ -212,7 +212,7 @@ pub(crate) fn collect_units<'i, F: Json>(
     Ok(())
 }
 
-// Appends the nodes of the keywords over the instance at `path`.
+// Appends the evaluation nodes of the keywords for the instance at `path`, the text of `location`.
 #[cycle(evaluate)]
 pub(crate) fn evaluate_units<F: Json>(
     alloc: Global,

@@ -106,7 +106,7 @@ impl<F: Json> Validate<F> for Validator<F> {
 }
 
 impl<F: Json> Validator<F> {
-    // `is_valid` of an array that is known to have `count` items.
+    // Returns `is_valid` for an array of `count` items, so that they are not counted again.
     #[cycle(is_valid)]
     pub(crate) fn holds_of(
         &self,

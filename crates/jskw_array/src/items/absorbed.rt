@@ -215,7 +215,7 @@ impl AbsorbedKeywords {
     }
 }
 
-// The validator of `minItems`, if `parent` has it.
+// Compiles `minItems`, if `parent` has it.
 fn compile_min_items<'a, F: Json>(
     alloc: Global,
     ctx: &Context<'_, F>,
@@ -232,7 +232,7 @@ fn compile_min_items<'a, F: Json>(
     Ok(Some(MinItemsValidator::compile(alloc, ctx, value)?))
 }
 
-// The validator of `maxItems`, if `parent` has it.
+// Compiles `maxItems`, if `parent` has it.
 fn compile_max_items<'a, F: Json>(
     alloc: Global,
     ctx: &Context<'_, F>,
@@ -249,7 +249,7 @@ fn compile_max_items<'a, F: Json>(
     Ok(Some(MaxItemsValidator::compile(alloc, ctx, value)?))
 }
 
-// The error of an assertion.
+// Returns the error of the assertion, or `Ok` if it holds.
 fn validate_assertion<'i, F: Json, A: Assertion>(
     assertion: &'i A,
     instance: &'i F::Node,
@@ -269,7 +269,7 @@ fn validate_assertion<'i, F: Json, A: Assertion>(
     )
 }
 
-// The error of a bound, if there is one.
+// Returns the error of the bound, or `Ok` if it holds or there is none.
 fn validate_bound<'i, F: Json, A: Assertion>(
     bound: &'i Option<A>,
     instance: &'i F::Node,
@@ -285,7 +285,7 @@ fn validate_bound<'i, F: Json, A: Assertion>(
     }
 }
 
-// The node of an assertion, by whether it holds.
+// Returns the evaluation node of the assertion. `holds` must be whether it holds for the instance.
 fn evaluate_assertion<F: Json, A: Assertion>(
     alloc: Global,
     assertion: &A,
@@ -309,7 +309,8 @@ fn evaluate_assertion<F: Json, A: Assertion>(
     EvaluationNode::new(alloc, result, assertion.location(), instance_location)
 }
 
-// The unit of an assertion, by whether it holds.
+// Returns the evaluation of an assertion: valid if `holds`, else with the error made of the other
+// arguments.
 #[tactic(auto, unfolding(jskw_report::specs::Evaluation::of_errors))]
 fn evaluate_unless<'i, F: Json>(
     alloc: Global,
@@ -330,7 +331,8 @@ fn evaluate_unless<'i, F: Json>(
     evaluate_first::<F>(alloc, Err(Fault::Invalid(error)))
 }
 
-// Appends the node of a bound, if there is one.
+// Appends the evaluation node of the bound, if there is one. `holds` must be whether it holds for
+// the instance.
 fn evaluate_bound<F: Json, A: Assertion>(
     alloc: Global,
     bound: &Option<A>,

@@ -75,7 +75,7 @@ impl<F: Json> ArrayShapeValidator<F> {
     }
 }
 
-// The shape of the other keywords and of `items`, if that was compiled.
+// Returns the validator of the other keywords and of `items`, if that was compiled.
 fn with_items<'a, F: Json>(
     absorbed: AbsorbedKeywords,
     location: Location,

@@ -238,7 +238,7 @@ pub(crate) fn compile_inline<'a, F: Json>(
     Ok(typed_items(only_type(schema), ctx.draft(), location, type_location))
 }
 
-// The value of the schema's one member.
+// Returns the name of the type in a schema that has only `type`.
 fn only_type(schema: &Value) -> &str
     requires { IsTrue (is_only_type (view schema.now)) }
     ensures { view schema.now
@@ -250,7 +250,7 @@ fn only_type(schema: &Value) -> &str
     value.as_str().unwrap_or("")
 }
 
-// The validator of items of the type `name`.
+// Returns the validator of items of the type with this name.
 fn typed_items<F: Json>(
     name: &str,
     draft: Draft,
