@@ -1,9 +1,9 @@
-//! Loops written by hand, one for each schema that the validators are measured against. Each makes
-//! the tests of its schema over the values of `serde_json`. No value has a float, so that each
-//! number is an integer.
+//! Loops written by hand, to compare the validators with: one for each measured schema. Each tests
+//! what its schema does, on values of `serde_json`. The values have no floats, so that each number
+//! is an integer.
 use serde_json::{Map, Value};
 
-/// Whether a value is an array of integers.
+/// Returns whether the value is an array of integers.
 pub(crate) fn integers(value: &Value) -> bool {
     let Value::Array(items) = value else {
         return false;
@@ -16,7 +16,7 @@ pub(crate) fn integers(value: &Value) -> bool {
     true
 }
 
-/// Whether a value is an array of strings.
+/// Returns whether the value is an array of strings.
 pub(crate) fn strings(value: &Value) -> bool {
     let Value::Array(items) = value else {
         return false;
@@ -29,7 +29,7 @@ pub(crate) fn strings(value: &Value) -> bool {
     true
 }
 
-/// Whether a value is an array of arrays of integers.
+/// Returns whether the value is an array of arrays of integers.
 pub(crate) fn matrix(value: &Value) -> bool {
     let Value::Array(rows) = value else {
         return false;
@@ -42,7 +42,7 @@ pub(crate) fn matrix(value: &Value) -> bool {
     true
 }
 
-/// Whether a value is an array of arrays of arrays of integers.
+/// Returns whether the value is an array of arrays of arrays of integers.
 pub(crate) fn cube(value: &Value) -> bool {
     let Value::Array(layers) = value else {
         return false;
@@ -55,17 +55,17 @@ pub(crate) fn cube(value: &Value) -> bool {
     true
 }
 
-// so many items an array has in the schemas with bounds
+// The bounds on the number of items in the schemas with bounds.
 const FEWEST: usize = 1;
 
 const MOST: usize = 10_000;
 
-// Whether an array has neither too few items nor too many.
+// Returns whether an array has 1 to 10,000 items.
 fn is_bounded(items: &[Value]) -> bool {
     FEWEST <= items.len() && items.len() <= MOST
 }
 
-/// Whether a value is an array of integers, neither too few nor too many.
+/// Returns whether the value is an array of integers, of 1 to 10,000 items.
 pub(crate) fn bounded_integers(value: &Value) -> bool {
     match value {
         Value::Array(items) => is_bounded(items) && integers(value),
@@ -73,7 +73,7 @@ pub(crate) fn bounded_integers(value: &Value) -> bool {
     }
 }
 
-/// Whether a value is an array of strings, neither too few nor too many.
+/// Returns whether the value is an array of strings, of 1 to 10,000 items.
 pub(crate) fn bounded_strings(value: &Value) -> bool {
     match value {
         Value::Array(items) => is_bounded(items) && strings(value),
@@ -81,7 +81,7 @@ pub(crate) fn bounded_strings(value: &Value) -> bool {
     }
 }
 
-/// Whether a value is an array of arrays of integers, of all of them neither too few nor too many.
+/// Returns whether the value is an array of 1 to 10,000 arrays of 1 to 10,000 integers each.
 pub(crate) fn bounded_matrix(value: &Value) -> bool {
     let Value::Array(rows) = value else {
         return false;
@@ -97,7 +97,7 @@ pub(crate) fn bounded_matrix(value: &Value) -> bool {
     true
 }
 
-/// Whether a value is an array of tuples.
+/// Returns whether the value is an array of tuples.
 pub(crate) fn tuples(value: &Value) -> bool {
     let Value::Array(items) = value else {
         return false;
@@ -110,8 +110,8 @@ pub(crate) fn tuples(value: &Value) -> bool {
     true
 }
 
-// Whether a value is an array of an integer, a string and a boolean, of which the last may be absent,
-// the last two or all.
+// Returns whether the value is an array of an integer, a string and a boolean, or a beginning of
+// one.
 fn is_tuple(value: &Value) -> bool {
     let Value::Array(parts) = value else {
         return false;
@@ -127,7 +127,7 @@ fn is_tuple(value: &Value) -> bool {
     }
 }
 
-/// Whether a value is an array of objects with the members `id`, `name` and `email`.
+/// Returns whether the value is an array of objects with the members `id`, `name` and `email`.
 pub(crate) fn objects(value: &Value) -> bool {
     let Value::Array(items) = value else {
         return false;
@@ -143,7 +143,7 @@ pub(crate) fn objects(value: &Value) -> bool {
     true
 }
 
-// Whether three of the names are those, of which none stands there twice.
+// Returns whether `id`, `name` and `email` are among the names. A map has each name once.
 fn has_names(members: &Map<String, Value>) -> bool {
     let mut found = 0usize;
     for name in members.keys() {
@@ -154,7 +154,7 @@ fn has_names(members: &Map<String, Value>) -> bool {
     found == 3
 }
 
-/// Whether no two items of an array are equal. What is no array has no items.
+/// Returns whether no two items of the array are equal; true for a non-array.
 pub(crate) fn unique(value: &Value) -> bool {
     let Value::Array(items) = value else {
         return true;
@@ -167,7 +167,7 @@ pub(crate) fn unique(value: &Value) -> bool {
     true
 }
 
-// Whether a value is one of some others. Numbers that are not below 0 are compared as such.
+// Returns whether the value equals one of the others. Compares integers of at least 0 as `u64`.
 fn occurs(value: &Value, others: &[Value]) -> bool {
     let Some(number) = value.as_u64() else {
         return others.contains(value);
@@ -180,7 +180,7 @@ fn occurs(value: &Value, others: &[Value]) -> bool {
     false
 }
 
-/// Whether a value is an integer of at least 0.
+/// Returns whether the value is an integer of at least 0.
 pub(crate) fn scalar(value: &Value) -> bool {
     match value {
         Value::Number(number) => number.as_u64().is_some(),

@@ -6,8 +6,8 @@ use serde_json::Value;
 use std::alloc::{AllocError, Global};
 use std::io;
 
-/// What a call answers of a text, and what it takes. None if there is no call of the name, or the
-/// text isn't what it takes.
+/// Times the call of this name on a text. Returns `None` if there is no such call, or if it does
+/// not take the text.
 pub(crate) fn time_call(
     rt: &HostRuntime,
     span: u128,
@@ -41,8 +41,7 @@ pub(crate) fn time_call(
     Ok(Some(timing))
 }
 
-/// The settings of a draft with all vocabularies, under which these names are overridden. What is no
-/// string is left out.
+/// Returns the settings of a draft with all vocabularies. The strings among `names` are overridden.
 pub(crate) fn settings_of(
     alloc: Global,
     draft: Draft,
@@ -57,14 +56,14 @@ pub(crate) fn settings_of(
     Ok(Settings::new(draft, VocabularySet::all(), overridden))
 }
 
-// Whether a call accepts, and what it takes.
+// Times a call.
 fn time<F: Fn() -> bool>(rt: &HostRuntime, span: u128, call: F) -> io::Result<Timing>
     requires { F.IsAlwaysCallable call }
 {
     fastest(rt, span, 1, |calls| count_accepted(calls, &call))
 }
 
-// How many of so many calls accept.
+// Makes `calls` calls, and returns how many return true.
 fn count_accepted<F: Fn() -> bool>(calls: usize, call: &F) -> usize
     requires { F.IsAlwaysCallable call.now }
 {
@@ -77,12 +76,12 @@ fn count_accepted<F: Fn() -> bool>(calls: usize, call: &F) -> usize
     count
 }
 
-// Whether the value can be made one of decimals.
+// Returns whether a tree of decimals can be made of the value.
 fn has_decimals(alloc: Global, value: &Value) -> bool {
     matches!(DecimalTree::from_value(alloc, value), Ok(Some(_)))
 }
 
-// Whether a member of each of these names can be inserted, one behind the other and into none.
+// Inserts a member of each name, one by one. Returns whether all could be inserted.
 fn inserts_all(alloc: Global, names: &[Value]) -> bool {
     let mut members = Members::new(alloc);
     for name in names {
@@ -96,7 +95,7 @@ fn inserts_all(alloc: Global, names: &[Value]) -> bool {
     true
 }
 
-// Whether members of these names can be taken all at once.
+// Makes the members of these names at once. Returns whether this succeeds.
 fn takes_pairs(alloc: Global, names: &[Value]) -> bool {
     let mut pairs = Vec::new(alloc);
     for name in names {

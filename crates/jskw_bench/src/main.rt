@@ -1,11 +1,13 @@
-//! Times schemas over the values of `serde_json`. A line `check` has the answers of the cases behind
-//! it printed, and a line `time` the nanoseconds of a compile and of a call of `is_valid` too. At a
-//! line `sizes` it prints how many bytes values take. A line `under` with a draft and an array of
-//! names behind it, a tab before each, has the cases behind it compiled under this draft and with
-//! these names overridden, in place of Draft 2020-12 and none. Each other line is a case: its name, a
-//! schema and an instance, with a tab between each two. The name of a loop written by hand may
-//! follow, which makes the tests of the schema; then it has to answer as the schema does, and its
-//! nanoseconds are printed last.
+//! Times schemas over the values of `serde_json`. The lines of standard input say what to do:
+//!
+//! - `check`: print the results of the cases that follow.
+//! - `time`: print the nanoseconds of a compile and of a call of `is_valid` too.
+//! - `sizes`: print how many bytes a node, a validator and a location take.
+//! - `under`, a draft and an array of names, with tabs between: compile the cases that follow under
+//!   this draft and with these names overridden, in place of Draft 2020-12 and none.
+//! - Any other line is a case: its name, a schema and an instance, with tabs between. The name of a
+//!   loop written by hand may follow, which tests the same as the schema. Its result has to be that
+//!   of the schema, and its nanoseconds are printed last.
 //!
 //! In place of the schema there may be the name of another call, and then a text in place of the
 //! instance:
@@ -32,15 +34,16 @@ use std::io;
 use std::mem::size_of;
 use timing::{Instance, Timing, fastest, instances, time_test};
 
-// for so many nanoseconds a call is repeated each time
+// The nanoseconds for which a call is repeated each time.
 const SPAN: u128 = 1_000_000;
 
+// Returns the compiled schema, or `None` if it is refused.
 fn compiled(alloc: Global, settings: &Settings, schema: &Value) -> Option<SchemaNode<SerdeJson>> {
     let ctx: Context<SerdeJson> = Context::new(alloc, settings);
     compile(alloc, &ctx, schema).ok()
 }
 
-// How many of so many calls compile the schema.
+// Compiles the schema `calls` times, and returns how many times this succeeds.
 fn count_compiled(alloc: Global, settings: &Settings, schema: &Value, calls: usize) -> usize {
     let mut count = 0usize;
     for _ in 0..calls {
@@ -51,14 +54,14 @@ fn count_compiled(alloc: Global, settings: &Settings, schema: &Value, calls: usi
     count
 }
 
-// What a compile takes.
+// Times a compile.
 fn time_compile(rt: &HostRuntime, settings: &Settings, schema: &Value) -> io::Result<Timing> {
     let alloc = rt.alloc();
     let batch = |calls: usize| count_compiled(alloc, settings, schema, calls);
     fastest(rt, SPAN, 1, batch)
 }
 
-// What a schema answers of the instances, and what a call of its `is_valid` takes.
+// Times `is_valid` of a compiled schema.
 fn time_is_valid(
     rt: &HostRuntime,
     span: u128,
@@ -70,7 +73,7 @@ fn time_is_valid(
     })
 }
 
-// The same of a schema that is yet to be compiled, None where it is refused.
+// Times `is_valid` of a schema. Returns `None` if it is refused.
 fn time_schema(
     rt: &HostRuntime,
     settings: &Settings,
@@ -84,7 +87,7 @@ fn time_schema(
     }
 }
 
-// The same of the loop of a name, None where no loop has the name.
+// Times the loop of this name. Returns `None` if there is none.
 fn time_by_hand(
     rt: &HostRuntime,
     span: u128,
@@ -115,7 +118,7 @@ fn time_by_hand(
     Ok(Some(timing))
 }
 
-// The word for the answer of a schema, and of the loop that goes with it.
+// Returns the word for the result of a schema: `differs` if the loop's result is another one.
 fn word(is_valid: &Timing, by_hand: Option<&Timing>) -> &'static str {
     let answer = is_valid.answer();
     if by_hand.is_some_and(|timing| timing.answer() != answer) {
@@ -134,8 +137,8 @@ fn print_nanoseconds(rt: &HostRuntime, timing: &Timing) -> io::Result<()> {
     print!(rt; "\t{}.{:03}", picoseconds / 1000, picoseconds % 1000)
 }
 
-// Prints how many bytes a schema node, a keyword's validator and a location take, what they own not
-// counted.
+// Prints how many bytes a schema node, a keyword's validator and a location take, without what they
+// own.
 fn print_sizes(rt: &HostRuntime) -> io::Result<()> {
     let node = size_of::<SchemaNode<SerdeJson>>();
     let validator = size_of::<Validator<SerdeJson>>();
@@ -143,7 +146,7 @@ fn print_sizes(rt: &HostRuntime) -> io::Result<()> {
     println!(rt; "sizes\t{node}\t{validator}\t{location}")
 }
 
-// Makes a call of a text, and prints whether it could.
+// Makes a call on a text, and prints whether it succeeded.
 fn run_call(
     rt: &HostRuntime,
     name: &str,
@@ -163,7 +166,8 @@ fn run_call(
     println!(rt; "")
 }
 
-// Whether the word in place of a schema is the name of a call. No schema is written so.
+// Returns whether the word in place of a schema is the name of a call. No schema is written like
+// one.
 fn is_call(word: &str) -> bool {
     matches!(
         word,
@@ -171,6 +175,7 @@ fn is_call(word: &str) -> bool {
     )
 }
 
+// Runs a case and prints its line.
 fn run_case(rt: &HostRuntime, settings: &Settings, line: &str, is_timed: bool) -> io::Result<()> {
     let alloc = rt.alloc();
     let mut parts = line.split('\t');
@@ -206,7 +211,7 @@ fn run_case(rt: &HostRuntime, settings: &Settings, line: &str, is_timed: bool) -
     println!(rt; "")
 }
 
-// The draft of a name, else 2020-12.
+// Returns the draft of this name, or 2020-12 if there is none.
 fn draft_of(name: &str) -> Draft {
     match name {
         "4" => Draft::Draft4,
@@ -217,7 +222,7 @@ fn draft_of(name: &str) -> Draft {
     }
 }
 
-// The settings of a draft's name and an array of names, with a tab between them.
+// Returns the settings of a draft's name and an array of overridden names, with a tab between.
 fn settings_from(alloc: Global, text: &str) -> io::Result<Settings> {
     let mut parts = text.split('\t');
     let draft = draft_of(parts.next().unwrap_or(""));

@@ -1,4 +1,4 @@
-//! Asks for answers over equal instances, and times it.
+//! Times calls over equal instances.
 ghost use Rattle.std.specs.Prelude.{IsTrue};
 ghost use Rattle.jskw_value.specs.Serde.{value_tree};
 ghost use Rattle.jskw_value.specs.Tree.{is_lawful};
@@ -9,13 +9,13 @@ use std::alloc::{AllocError, Global};
 use std::io;
 use std::time::Instant;
 
-// equal instances, so that no two calls in a row are the same
+// The number of equal instances. There are several, so that no two calls in a row are the same.
 const COPIES: usize = 4;
 
-// so many batches of calls are timed at most
+// The largest number of batches that are timed.
 const BATCHES: usize = 30;
 
-// and no other once they have taken so many nanoseconds
+// The nanoseconds of all batches after which no other is timed.
 const LIMIT: u128 = 1_000_000_000;
 
 /// A value without a float.
@@ -26,6 +26,7 @@ pub(crate) struct Instance {
 }
 
 impl Instance {
+    // Returns the instance, or `None` if the value has a float.
     fn new(value: Value) -> Option<Instance> {
         if value.is_lawful() {
             Some(Instance { value })
@@ -35,7 +36,7 @@ impl Instance {
     }
 }
 
-/// Equal instances of a text, None where it is no JSON or has a float.
+/// Returns equal instances of a text, or `None` if it is not JSON or has a float.
 pub(crate) fn instances(alloc: Global, text: &str) -> Result<Option<Vec<Instance>>, AllocError> {
     let mut instances = Vec::new(alloc);
     for _ in 0..COPIES {
@@ -50,7 +51,7 @@ pub(crate) fn instances(alloc: Global, text: &str) -> Result<Option<Vec<Instance
     Ok(Some(instances))
 }
 
-/// What a batch of calls answered and took.
+/// What a batch of calls returned, and how long it took.
 #[derive(Clone, Copy)]
 pub(crate) struct Timing {
     calls: usize,
@@ -59,7 +60,7 @@ pub(crate) struct Timing {
 }
 
 impl Timing {
-    /// Whether each call accepted; None where some did and some did not.
+    /// Returns true if each call accepted its instance, false if none did, and `None` otherwise.
     pub(crate) fn answer(&self) -> Option<bool> {
         if self.accepted == self.calls {
             Some(true)
@@ -70,13 +71,13 @@ impl Timing {
         }
     }
 
-    /// The picoseconds of a call.
+    /// Returns the picoseconds of one call.
     pub(crate) fn picoseconds(&self) -> u128 {
         self.nanoseconds.saturating_mul(1000) / (self.calls as u128).max(1)
     }
 }
 
-/// What a test answers of the instances, and what a call of it takes, as [`fastest`] has it.
+/// Times a test of the instances, as [`fastest`] does.
 pub(crate) fn time_test<F: Fn(&Instance) -> bool>(
     rt: &HostRuntime,
     span: u128,
@@ -93,8 +94,8 @@ pub(crate) fn time_test<F: Fn(&Instance) -> bool>(
     )
 }
 
-// How many calls accept their instance, of so many rounds over the instances. Where a round begins
-// depends on the answers of those before, so that each call has to be made.
+// Returns how many calls accept their instance in `rounds` rounds over the instances. Where a round
+// begins depends on the results of those before, so that each call has to be made.
 fn accepted<F: Fn(&Instance) -> bool>(rounds: usize, instances: &[Instance], accepts: &F) -> usize
     requires { F.IsAlwaysCallable accepts.now }
 {
@@ -114,9 +115,10 @@ fn accepted<F: Fn(&Instance) -> bool>(rounds: usize, instances: &[Instance], acc
     count
 }
 
-/// The fastest of some equal batches, each of which takes at least about so many nanoseconds: of
-/// thirty, or of fewer where these take more than a second.
-/// `batch` makes so many rounds of so many calls, and answers how many of the calls accepted.
+/// Returns the fastest of 30 equal batches, or of fewer if these take more than a second. Each
+/// takes about `span` nanoseconds or more.
+///
+/// `batch` makes that many rounds of `calls` calls, and returns how many calls accepted.
 pub(crate) fn fastest<F: Fn(usize) -> usize>(
     rt: &HostRuntime,
     span: u128,
@@ -148,6 +150,7 @@ pub(crate) fn fastest<F: Fn(usize) -> usize>(
     Ok(best)
 }
 
+// Times one batch.
 fn time_batch<F: Fn(usize) -> usize>(
     rt: &HostRuntime,
     rounds: usize,

@@ -1,4 +1,4 @@
-//! Devices over memory, which take no more of it and fail where they are told to.
+//! Devices over memory for tests. They allocate nothing, and fail after a given number of calls.
 ghost use Rattle.std.specs.Prelude.{◌≡◌, ◌<◌, ◌≤◌, [], Some, false, take};
 ghost use Rattle.jskw_service.specs.declared.memory.TheConstants.{ROOM};
 
@@ -15,7 +15,8 @@ pub struct SliceSource<'a> {
 }
 
 impl<'a> SliceSource<'a> {
-    /// At most `piece` bytes a call, and a fault once `calls` calls have succeeded.
+    /// Creates a source of these bytes: at most `piece` bytes a call, and a fault once `calls`
+    /// calls have succeeded.
     pub fn new(rest: &'a [u8], piece: usize, calls: usize) -> SliceSource<'a>
         requires { 0 < piece }
         ensures rest { result.rest.now ≡ rest.now }
@@ -64,7 +65,8 @@ pub struct ArraySink {
 }
 
 impl ArraySink {
-    /// At most `piece` bytes a call, and a fault once `calls` calls have succeeded.
+    /// Creates an empty sink: at most `piece` bytes a call, and a fault once `calls` calls have
+    /// succeeded.
     pub fn new(piece: usize, calls: usize) -> ArraySink
         requires { 0 < piece }
         ensures empty { take result.len result.bytes ≡ [] }
@@ -79,6 +81,7 @@ impl ArraySink {
         }
     }
 
+    /// Returns the bytes that were written.
     pub fn written(&self) -> &[u8]
         ensures { result.now ≡ take self.now.len self.now.bytes }
     {

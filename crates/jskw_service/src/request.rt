@@ -63,7 +63,7 @@ fn settings_of(alloc: Global, members: &Map<String, Value>) -> Result<Option<Set
     Ok(Some(Settings::new(draft, vocabularies, overridden)))
 }
 
-// The default is Draft 2020-12.
+// Returns the draft of the member `draft`, or 2020-12 if there is none.
 fn draft_of(member: Option<&Value>) -> Option<Draft>
     ensures { result ≡ draft_of (option_map (λ x. view x.now) member.entry) }
 {
@@ -74,6 +74,7 @@ fn draft_of(member: Option<&Value>) -> Option<Draft>
     }
 }
 
+// Returns the draft of this name.
 fn draft_named(name: &str) -> Option<Draft>
     ensures { result ≡ draft_named name.now }
 {
@@ -87,7 +88,7 @@ fn draft_named(name: &str) -> Option<Draft>
     }
 }
 
-// The default is all vocabularies.
+// Returns the vocabularies of the member `vocabularies`, or all if there is none.
 fn vocabularies_of(member: Option<&Value>) -> Option<VocabularySet>
     ensures { result ≡ vocabularies_of (option_map (λ x. view x.now) member.entry) }
 {
@@ -98,6 +99,7 @@ fn vocabularies_of(member: Option<&Value>) -> Option<VocabularySet>
     }
 }
 
+// Returns the set of the items, or `None` if one is not the name of a vocabulary.
 fn vocabulary_set(items: &[Value]) -> Option<VocabularySet>
     ensures { result ≡ vocabulary_set (items_view items.now) }
 {
@@ -108,6 +110,7 @@ fn vocabulary_set(items: &[Value]) -> Option<VocabularySet>
     Some(vocabularies)
 }
 
+// Returns the vocabulary that the item names.
 fn vocabulary_of(item: &Value) -> Option<Vocabulary>
     ensures { result ≡ vocabulary_of (view item.now) }
 {
@@ -117,6 +120,7 @@ fn vocabulary_of(item: &Value) -> Option<Vocabulary>
     }
 }
 
+// Returns the vocabulary of this name.
 fn vocabulary_named(name: &str) -> Option<Vocabulary>
     ensures { result ≡ vocabulary_named name.now }
 {
@@ -144,6 +148,7 @@ pub fn overridden_of(
     }
 }
 
+// Copies the items, or returns `None` if one is not a string.
 fn texts_of(alloc: Global, items: &[Value]) -> Result<Option<Vec<String>>, AllocError>
     ensures { IfOk result (λ o. option_map (λ names. map string_bytes names.items) o
         ≡ texts_of (items_view items.now)) }
@@ -158,6 +163,7 @@ fn texts_of(alloc: Global, items: &[Value]) -> Result<Option<Vec<String>>, Alloc
     Ok(Some(texts))
 }
 
+// Returns the text of a string.
 fn text_of(item: &Value) -> Option<&str>
     ensures { option_map (λ s. s.now) result ≡ text_of (view item.now) }
 {

@@ -5,7 +5,7 @@ use crate::{Reply, Verdict, reply_to};
 use std::alloc::Global;
 use std::test::Fail;
 
-// Whether the bytes are refused as no request.
+// Returns whether the bytes are refused: they are not a request.
 fn is_refused(alloc: Global, input: &[u8]) -> Result<bool, Fail> {
     let reply: Reply = reply_to(alloc, input)?;
     Ok(reply.verdict() == Verdict::Refused && reply.text() == b"refused: request\n".as_slice())

@@ -13,7 +13,9 @@ const BLOCK: usize = 65536;
 // Why reading stopped before the end.
 #[derive(Clone, Copy, Debug, PartialEq, Eq)]
 pub(crate) enum ReadFault {
+    // Memory ran out.
     Memory,
+    // The device failed.
     Device,
 }
 

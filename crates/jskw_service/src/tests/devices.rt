@@ -14,7 +14,7 @@ const REQUEST: &[u8] = b"{\"schema\":false,\"instance\":null}";
 
 const REPLY: &[u8] = b"falseSchema\t\t\n";
 
-// A reader or writer of the standard library that fails once, after so many calls, and works before
+// A reader or writer of the standard library that fails once, after `calls` calls, and works before
 // and afterwards. If it has no error to give, it moves no byte then.
 #[derive(Drop)]
 struct FailsOnce<T> {
@@ -34,7 +34,7 @@ impl<T> FailsOnce<T> {
         }
     }
 
-    // What this call gives, if it is the one that fails.
+    // Returns what this call gives, if it is the one that fails.
     fn fault(&mut self) -> io::Result<Option<usize>>
         ensures { IfOk result (λ found. IfSome found (λ n. n ≡ 0)) }
     {
@@ -75,8 +75,8 @@ impl<W: Write> Write for FailsOnce<W> {
     }
 }
 
-// A run over a device that fails after so many calls: how it ends, its status, and whether it wrote
-// what it should have.
+// Runs over a device that fails after `calls` calls. Returns how the run ends, its status, and
+// whether it wrote what it should have.
 fn ended(
     alloc: Global,
     device: &str,
@@ -127,8 +127,8 @@ fn text_of(
     Ok(format!(in alloc; "{outcome:?} {} {is_written}", status(&outcome))?)
 }
 
-// The least number of calls after which the run does not end with the fault of the device, and how
-// it ends then.
+// Returns the least number of calls after which the run does not end with the fault of the device,
+// and how it ends then.
 fn ends_at(alloc: Global, device: &str, error: Option<ErrorKind>) -> Result<String, Fail> {
     let is_reader = device.starts_with("reader");
     let fault = if is_reader {
