@@ -16,7 +16,7 @@ use Rattle.jskw_array.specs.declared.items.array_shape.ArrayShapeValidator.{Arra
 abbrev pub count_of : Tree → Option ℕ
 count_of t = if is_array t then Some (length (items t)) else None
 
--- the list is the old one followed by all of these, or, where memory was wanting, by a beginning of them
+-- the list is the old one followed by all of these, or, if memory ran out, by a beginning of them
 abbrev pub Extends : {A E : Type 0} → List A → List A → List A → Result Unit E → Type 0
 Extends old new all (Ok u) = new ≡ old ++ all
 Extends {A} old new all (Err e) = (done : List A) × (rest : List A) × (new ≡ old ++ done) × (done ++ rest ≡ all)

@@ -34,7 +34,7 @@ bare_schema q a = schema_object q no_marks (keyword a.location (placed a) no_key
 abbrev pub bare_items : Pointer → Placed → Keyword
 bare_items q a = items_from 0 (bare_schema q a) true
 
--- T tells the type j by the rule; F, N, O and P are the types of a representation
+-- T tests for the type j by the rule; F, N, O and P are the types of a representation
 abbrev pub items_type : {T F N O P : Type 0} → JsonType → Integers → ItemsTypeValidator T F N O P → Keyword
 items_type j rule v = bare_items v.location (single_type j rule v.validator)
 

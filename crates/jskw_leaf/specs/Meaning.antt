@@ -40,7 +40,7 @@ false_schema v = false_at v.location
 abbrev pub type_at : JsonType → Integers → Pointer → Placed
 type_at j rule q = record { location = q; claim = type_is (Single j) rule }
 
--- T tells the type j by the rule
+-- T tests for the type j by the rule
 abbrev pub single_type : {T : Type 0} → JsonType → Integers → SingleTypeValidator T → Placed
 single_type j rule v = type_at j rule v.location
 
@@ -80,7 +80,7 @@ enum_any v = among_at v.location v.options
 abbrev pub enum_single : SingleValueEnumValidator → Placed
 enum_single v = among_at v.location v.options
 
--- T is the table that they stand in, and N tells whether null is among them
+-- T is the table of them, and N says whether null is among them
 abbrev pub enum_table : {T N : Type 0} → TableEnumValidator T N → Placed
 enum_table v = among_at v.location v.listed
 

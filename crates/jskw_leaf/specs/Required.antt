@@ -16,7 +16,7 @@ use Rattle.jskw_report.specs.Kind.{Required}
 abbrev pub is_among : List (List ℕ) → List ℕ → Bool
 is_among names name = list_any (bytes_eq name) names
 
--- bit i of the mask tells whether the tree has the name at index i
+-- bit i of the mask is whether the tree has the name at index i
 abbrev pub Marks : ℕ → Tree → List (List ℕ) → Type 0
 Marks mask t names = (i : ℕ) (name : List ℕ) → slice_get names i ≡ Some name → bit_at mask i ≡ cond (has_name t name) 1 0
 

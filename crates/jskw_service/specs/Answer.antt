@@ -63,7 +63,7 @@ output_of (float_at p) = line (codes "refused: float" ∷ p ∷ [])
 output_of (errors []) = line (codes "valid" ∷ [])
 output_of (errors (f ∷ fs)) = error_lines (f ∷ fs)
 
--- what is written where memory is wanting
+-- what is written if memory runs out
 abbrev pub memory_line : List ℕ
 memory_line = line (codes "refused: memory" ∷ [])
 

@@ -14,7 +14,7 @@ pub record AnswersAll (said : Verdict) (text : List ℕ) (before after : Option 
   pub says : said ≡ verdict input
   pub writes : text ≡ output input
 
--- the text says that memory was wanting
+-- the text says that memory ran out
 pub record RefusesForMemory (said : Verdict) (text : List ℕ) : Type 0 where
   pub says : said ≡ Refused
   pub writes : text ≡ memory_line
