@@ -26,7 +26,9 @@ use std::alloc::{AllocError, Global};
 #[cycle(schema)]
 #[derive(Drop)]
 pub(crate) enum Unit<F: Json> {
+    // One keyword.
     Keyword(PlacedValidator<F>),
+    // `type` of `array`, `minItems`, `maxItems` and `items`.
     Shape(Box<ArrayShapeValidator<F>>),
 }
 
