@@ -14,7 +14,7 @@ use lotsibegn::{
 use std::alloc::Global;
 use std::io;
 
-// Compiles a schema of Draft 2020-12 that no other code checks the keywords of objects for.
+// Compiles a schema of Draft 2020-12. No other code checks the keywords of objects.
 fn compiled<F: Json>(alloc: Global, schema: &Value) -> CompilationResult<'_, SchemaNode<F>> {
     let settings = Settings::new(Draft::Draft202012, VocabularySet::all(), Vec::new(alloc));
     let ctx = Context::new(alloc, &settings).with_object_layer(false);
