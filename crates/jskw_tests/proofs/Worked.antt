@@ -1,6 +1,6 @@
 -- The words in which the worked rows are written.
 use Prim.Native.String.{String}
-use Rattle.std.specs.Prelude.{ℕ, zero, suc, decimal, ℤ, negsuc, ◌-◌, List, [], ◌∷◌, map, codes, Bool, true, false, Ok, Err, Option, Some, None}
+use Rattle.std.specs.Prelude.{◌≡◌, ℕ, zero, suc, decimal, ℤ, negsuc, ◌-◌, List, [], ◌∷◌, map, codes, Bool, true, false, Ok, Err, Option, Some, None}
 use Rattle.std.specs.Float.{nan}
 use Rattle.serde_json.specs.Data.{unsigned, negative, float, Data, boolean, number, string, array, object, Items, no_items, item, Members, no_members, put}
 use Rattle.serde_json.specs.Find.{get_member}
@@ -27,6 +27,20 @@ use Rattle.jskw_report.specs.Sibling.{is_fused}
 -- a string as antt writes it
 abbrev pub Text : Type 0
 Text = String
+
+-- ---- rows
+
+-- what is asked, and what is wanted
+abbrev pub Row : Type 0 → Type 0
+Row A = A × A
+
+-- the row of these two
+abbrev pub row : {A : Type 0} → A → A → Row A
+row asked wanted = (asked, wanted)
+
+-- every row has what is wanted
+abbrev pub Right : {A : Type 0} → List (Row A) → Type 0
+Right rows = map (λ r. r.0) rows ≡ map (λ r. r.1) rows
 
 -- ---- JSON values
 
