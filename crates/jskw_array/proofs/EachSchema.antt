@@ -7,7 +7,7 @@ use Rattle.jskw_value.specs.Pointer.{Pointer, item_location}
 use Rattle.jskw_report.proofs.Gathering.{drop_here}
 use Rattle.jskw_report.specs.Keyword.{Schema, Schemas, no_schemas, schema}
 use Rattle.jskw_report.specs.KeywordValue.{Refusal, map_ok, join_ok}
-use Rattle.jskw_report.specs.Read.{read, read_each}
+use Rattle.jskw_report.specs.Read.{Reading, read, read_each}
 use Rattle.jskw_report.specs.Setting.{Setting}
 use Rattle.jskw_array.specs.Meaning.{schemas_of}
 
@@ -18,7 +18,7 @@ append_schemas no_schemas ss = ss
 append_schemas (schema s rs) ss = schema s (append_schemas rs ss)
 
 -- one schema more
-pub schemas_of_more : (ns : List Schema) (n : Schema) → schemas_of (ns ++ n ∷ []) ≡ append_schemas (schemas_of ns) (schema n no_schemas)
+schemas_of_more : (ns : List Schema) (n : Schema) → schemas_of (ns ++ n ∷ []) ≡ append_schemas (schemas_of ns) (schema n no_schemas)
 schemas_of_more [] n = refl
 schemas_of_more (m ∷ ns) n = ap (schema m) (schemas_of_more ns n)
 
@@ -44,24 +44,51 @@ after_made done s (Err e) = refl
 
 -- ---- the turn at the index i
 
-module _ (done : Schemas) (all : Result Schemas Refusal) (s : Setting) (p : Pointer) (vs : List Value) (i : ℕ) where
+module _ (ns : List Schema) (all : Result Schemas Refusal) (s : Setting) (p : Pointer) (vs : List Value) (i : ℕ) where
+  abbrev done : Schemas
+  done = schemas_of ns
+
   -- nothing is left
   pub each_end : length vs ≤ i → after done (read_each (items_view (drop i vs)) s p i) ≡ all → all ≡ Ok done
   each_end end e = sym e ∙ ap (λ xs. after done (read_each (items_view xs) s p i)) (drop_all i vs end) ∙ ap Ok (append_none done)
 
   module _ (v : Value) (within : i < length vs) (is : v ≡ get_or vs i v) (e : after done (read_each (items_view (drop i vs)) s p i) ≡ all) where
+    abbrev here : Reading
+    here = read (view v) s (item_location p i)
+
     abbrev rest : Result Schemas Refusal
     rest = read_each (items_view (drop (i + 1) vs)) s p (i + 1)
 
-    step : after done (join_ok schema (read (view v) s (item_location p i)) rest) ≡ all
-    step = ap (λ j. after done (join_ok schema (read (view v) s (item_location p i)) (read_each (items_view (drop (i + 1) vs)) s p j))) (omega arith)
+    step : after done (join_ok schema here rest) ≡ all
+    step = ap (λ j. after done (join_ok schema here (read_each (items_view (drop (i + 1) vs)) s p j))) (omega arith)
         ∙ ap (λ xs. after done (read_each (items_view xs) s p i)) (sym (drop_here vs i v within is)) ∙ e
 
-    pub each_made : (n : Schema) → read (view v) s (item_location p i) ≡ Ok n → after (append_schemas done (schema n no_schemas)) rest ≡ all
-    each_made n r = sym (after_made done n rest) ∙ ap (λ x. after done (join_ok schema x rest)) (sym r) ∙ step
+    held : (a b : List Schema) → ◌≡◌ {A = Result (List Schema) Refusal} (Ok a) (Ok b) → a ≡ b
+    held a b f = ap kept f
+      where
+        kept : Result (List Schema) Refusal → List Schema
+        kept (Ok ms) = ms
+        kept (Err x) = a
 
-    pub each_refused : (f : Refusal) → read (view v) s (item_location p i) ≡ Err f → all ≡ Err f
-    each_refused f r = sym step ∙ ap (λ x. after done (join_ok schema x rest)) r
+    more : (new : List Schema) (r : Reading) → map_ok (λ n. ns ++ n ∷ []) r ≡ Ok new → after done (join_ok schema r rest) ≡ after (schemas_of new) rest
+    more new (Ok n) f = after_made done n rest ∙ ap (λ ss. after ss rest) (sym (schemas_of_more ns n) ∙ ap schemas_of (held (ns ++ n ∷ []) new f))
+    more new (Err x) f = cc
+
+    -- with it the schemas are these
+    pub each_made : (new : List Schema) → map_ok (λ n. ns ++ n ∷ []) here ≡ Ok new → after (schemas_of new) rest ≡ all
+    each_made new f = sym (more new here f) ∙ step
+
+    refused : (x : Refusal) (r : Reading) → map_ok (λ n. ns ++ n ∷ []) r ≡ Err x → after done (join_ok schema r rest) ≡ Err x
+    refused x (Ok n) f = cc
+    refused x (Err y) f = ap (λ z. Err z) (ap kept f)
+      where
+        kept : Result (List Schema) Refusal → Refusal
+        kept (Ok ms) = y
+        kept (Err z) = z
+
+    -- it is refused
+    pub each_refused : (x : Refusal) → map_ok (λ n. ns ++ n ∷ []) here ≡ Err x → all ≡ Err x
+    each_refused x f = sym step ∙ refused x here f
 
 -- of a whole vector
 abbrev pub schemas_in : Vec Schema Global → Schemas

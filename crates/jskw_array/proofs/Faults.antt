@@ -1,16 +1,9 @@
 -- A fault that is handed on is the refusal of the whole.
-use Rattle.std.proofs.Common.{◌≡◌, ◌∙◌, Option, Some, Result, Ok, Err, true, IsErrAnd, ap, sym, subst}
-use Rattle.serde_json.specs.Data.{Data, Members}
-use Rattle.serde_json.specs.Find.{get_member}
-use Rattle.jskw_report.proofs.Reading.{read_standing}
-use Rattle.jskw_report.specs.Compile.{Compiles, Makes, reading, refusal_of}
-use Rattle.jskw_report.specs.Keyword.{Keyword}
+use Rattle.std.proofs.Common.{◌≡◌, Option, Result, Ok, Err, IsErrAnd, sym, subst}
+use Rattle.jskw_report.specs.Compile.{Compiles, Makes, refusal_of}
 use Rattle.jskw_report.specs.KeywordValue.{Refusal}
-use Rattle.jskw_report.specs.Read.{part_named, read_word}
-use Rattle.jskw_report.specs.Setting.{Spot, name_of, stands}
 use Rattle.jskw_report.specs.declared.error.CompileFault.{CompileFault}
 use Rattle.jskw_report.specs.declared.error.CompileFault.TheVariants.{Bad, Memory}
-use Rattle.jskw_report.specs.declared.keyword.KeywordName.{KeywordName}
 
 -- the whole is refused where a part of it is
 pub refused_whole : {V W K L : Type 0} (means : V → K) (whole : W → L) (x : CompileFault) (part : Result K Refusal) (all : Result L Refusal)
@@ -30,9 +23,3 @@ handed_on means whole x r part all is made then = passed_on whole x r all is (re
 -- what is read may be written otherwise
 pub compiles_as : {V K : Type 0} (means : V → K) (r : Option (Result V CompileFault)) (a b : Option (Result K Refusal)) → a ≡ b → Compiles means r b → Compiles means r a
 compiles_as means r a b e made = subst (Compiles means r) (sym e) made
-
--- the keyword w, which is there and active, is v
-pub compiles_active : {V : Type 0} (means : V → Keyword) (o : Option (Result V CompileFault)) (w v : KeywordName) (spot : Spot) (ms : Members) (d : Data)
-    → get_member (name_of w) ms ≡ Some d → stands spot.setting w ≡ true → w ≡ v → Compiles means o (reading v spot ms d) → Compiles means o (read_word w spot.setting spot.location ms (part_named (name_of w) ms))
-compiles_active means o w v spot ms d found active is made =
-    compiles_as means o _ _ (read_standing w spot.setting spot.location ms d found active ∙ ap (λ x. reading x spot ms d) is) made

@@ -195,7 +195,7 @@ abbrev pub items_value : Setting → Pointer → Members → Data → Result Key
 items_value s p ms d = map_ok (λ sub. items_from (items_start s ms) sub (is_bare s ms d)) (read d s (keyword_location p word.Items))
 
 module _ (spot : Spot) (ms : Members) (d : Data) (h : is_fused spot.setting ms ≡ true) (at : get_member (name_of word.Items) ms ≡ Some d) where
-  is_one : (is_items_schema d ≡ true) × (stands spot.setting word.Items ≡ true)
+  pub is_one : (is_items_schema d ≡ true) × (stands spot.setting word.Items ≡ true)
   is_one = passed spot.setting ms word.Items is_items_schema d (fused_items spot.setting ms h) at
 
   pub items_reads : reading word.Items spot ms d ≡ Some (items_value spot.setting spot.location ms d)

@@ -70,21 +70,8 @@ module _ (s : Setting) (ms : Members) (d : Data) (bare : is_bare s ms d ≡ true
   pub bare_stands : stands s word.TypeKeyword ≡ true
   bare_stands = parts.1
 
-  bare_start : items_start s ms ≡ 0
+  pub bare_start : items_start s ms ≡ 0
   bare_start = start_of (is_2020_12 s.draft) (get_member (name_of word.PrefixItems) ms) parts.2
-
-pub items_bare : (spot : Spot) (ms : Members) (d : Data) → is_items_schema d ≡ true → is_bare spot.setting ms d ≡ true
-    → reading word.Items spot ms d ≡ asserts (λ sub. items_from 0 sub true) (read d spot.setting (keyword_location spot.location word.Items))
-items_bare spot ms d h bare =
-    items_of_one spot ms d h
-    ∙ ap (λ n. asserts (λ sub. items_from n sub (is_bare spot.setting ms d)) (read d spot.setting (keyword_location spot.location word.Items))) (bare_start spot.setting ms d bare)
-    ∙ ap (λ b. asserts (λ sub. items_from 0 sub b) (read d spot.setting (keyword_location spot.location word.Items))) bare
-
-pub items_of_schema : (spot : Spot) (ms : Members) (d : Data) → is_items_schema d ≡ true → is_bare spot.setting ms d ≡ false
-    → reading word.Items spot ms d ≡ asserts (λ sub. items_from (items_start spot.setting ms) sub false) (read d spot.setting (keyword_location spot.location word.Items))
-items_of_schema spot ms d h bare =
-    items_of_one spot ms d h
-    ∙ ap (λ b. asserts (λ sub. items_from (items_start spot.setting ms) sub b) (read d spot.setting (keyword_location spot.location word.Items))) bare
 
 -- ---- `prefixItems`
 
@@ -175,11 +162,10 @@ pub read_boolean : (b : Bool) (s : Setting) (p : Pointer) → read (boolean b) s
 read_boolean true s p = refl
 read_boolean false s p = refl
 
--- a keyword with subschemas is one of four
-pub with_subschemas : (w : KeywordName) → is_leaf w ≡ false
-    → (w ≡ word.Items → ⊥) → (w ≡ word.PrefixItems → ⊥) → (w ≡ word.AdditionalItems → ⊥) → (w ≡ word.Contains → ⊥) → ⊥
-with_subschemas word.Items e not_items not_prefix not_additional not_contains = not_items refl
-with_subschemas word.PrefixItems e not_items not_prefix not_additional not_contains = not_prefix refl
-with_subschemas word.AdditionalItems e not_items not_prefix not_additional not_contains = not_additional refl
-with_subschemas word.Contains e not_items not_prefix not_additional not_contains = not_contains refl
-with_subschemas _ e not_items not_prefix not_additional not_contains = absurd (cc)
+-- a keyword other than these four has no subschemas
+pub others_are_leaves : (w : KeywordName) → (w ≡ word.Items → ⊥) → (w ≡ word.PrefixItems → ⊥) → (w ≡ word.AdditionalItems → ⊥) → (w ≡ word.Contains → ⊥) → is_leaf w ≡ true
+others_are_leaves word.Items not_items not_prefix not_additional not_contains = absurd (not_items refl)
+others_are_leaves word.PrefixItems not_items not_prefix not_additional not_contains = absurd (not_prefix refl)
+others_are_leaves word.AdditionalItems not_items not_prefix not_additional not_contains = absurd (not_additional refl)
+others_are_leaves word.Contains not_items not_prefix not_additional not_contains = absurd (not_contains refl)
+others_are_leaves _ not_items not_prefix not_additional not_contains = refl

@@ -1,23 +1,25 @@
 -- A schema's keywords that are compiled one after another are those that are read.
-use Rattle.std.proofs.Common.{◌≡◌, ℕ, ◌+◌, ◌<◌, ◌≤◌, List, length, drop, get_or, Option, Some, None, Result, Ok, Err, refl, ap, sym, subst, ◌∙◌}
+use Rattle.std.proofs.Common.{◌≡◌, ℕ, ◌+◌, ◌<◌, ◌≤◌, List, [], IfOk, length, drop, get_or, Bool, true, false, Option, Some, None, Result, Ok, Err, if◌then◌else◌, refl, ap, sym, ◌∙◌}
 use Rattle.std.proofs.lemmas.List.{at_drop_more, drop_all}
-use Rattle.serde_json.specs.Data.{Members}
-use Rattle.jskw_value.specs.Pointer.{Pointer, member_location}
+use Rattle.serde_json.specs.Data.{Data, Members, depth, members_depth}
+use Rattle.serde_json.specs.Find.{get_member}
+use Rattle.jskw_value.specs.Pointer.{Pointer}
 use Rattle.jskw_report.proofs.Appended.{append_append, append_none}
-use Rattle.jskw_report.specs.Compile.{Makes, Compiles}
-use Rattle.jskw_report.specs.KeywordValue.{Refusal, map_ok}
+use Rattle.jskw_report.proofs.Reading.{read_absent, read_not_standing, read_standing}
+use Rattle.jskw_report.specs.Compile.{Compiles, Makes, reading}
+use Rattle.jskw_report.specs.KeywordValue.{Refusal}
 use Rattle.jskw_report.specs.Keyword.{Keyword, Keywords, no_keywords, keyword, append_keywords}
-use Rattle.jskw_report.specs.Read.{Asserts, Part, before, read_word, read_words}
-use Rattle.jskw_report.specs.Setting.{Setting, name_of}
+use Rattle.jskw_report.specs.Read.{Asserts, Part, before, keyword_location, part_named, read_word, read_words}
+use Rattle.jskw_report.specs.Setting.{Setting, Spot, name_of, stands}
 use Rattle.jskw_report.specs.declared.error.CompileFault.{CompileFault}
-use Rattle.jskw_report.specs.declared.error.CompileFault.TheVariants.{Bad, Memory}
 use Rattle.jskw_report.specs.declared.keyword.KeywordName.{KeywordName}
+use Rattle.jskw_array.proofs.Depths.{member_depth}
+use Rattle.jskw_array.proofs.Faults.{refused_whole}
+use Rattle.jskw_array.specs.Siblings.{active_member}
+use Rattle.jskw_array.specs.Units.{after, keywords_of}
+use Rattle.jskw_array.specs.declared.unit.Unit.{Unit as TheUnit}
 
 -- ---- keywords that are put together
-
--- those that were read after others
-abbrev pub after : Keywords → Result Keywords Refusal → Result Keywords Refusal
-after done r = map_ok (append_keywords done) r
 
 pub after_none : (r : Result Keywords Refusal) → after no_keywords r ≡ r
 after_none (Ok ks) = refl
@@ -31,38 +33,98 @@ after_made : (done : Keywords) (q : Pointer) (k : Keyword) (r : Result Keywords 
 after_made done q k (Ok ks) = ap Ok (append_append done (keyword q k no_keywords) ks)
 after_made done q k (Err e) = refl
 
+-- ---- one keyword behind others, by what was made of it
+
+module _ {V : Type 0} (means : V → Keyword) (done : Keywords) (q : Pointer) where
+  pub appends_nothing : (read : Asserts) → Compiles means None read → after done (before q read (Ok no_keywords)) ≡ Ok done
+  appends_nothing None c = ap Ok (append_none done)
+  appends_nothing (Some r) c = absurd c
+
+  pub appends_one : (v : V) (read : Asserts) → Compiles means (Some (Ok v)) read → after done (before q read (Ok no_keywords)) ≡ Ok (append_keywords done (keyword q (means v) no_keywords))
+  appends_one v None c = absurd c
+  appends_one v (Some r) c = ap (λ x. after done (before q (Some x) (Ok no_keywords))) c
+
+  pub appends_refused : {W : Type 0} (whole : W → Keywords) (x : CompileFault) (read : Asserts) → Compiles means (Some (Err x)) read → Makes whole (Err x) (after done (before q read (Ok no_keywords)))
+  appends_refused whole x None c = absurd c
+  appends_refused whole x (Some r) c = refused_whole means whole x r _ c (λ e f. ap (λ y. after done (before q (Some y) (Ok no_keywords))) f)
+
 -- ---- the turn at the keyword of index i
 
-module _ {V : Type 0} (means : V → Keyword) (done : Keywords) (all : Result Keywords Refusal) (s : Setting) (p : Pointer) (ms : Members) (parts : List ℕ → Option Part) (ws : List KeywordName) (i : ℕ) (w : KeywordName)
+module _ (done : Keywords) (all : Result Keywords Refusal) (s : Setting) (p : Pointer) (ms : Members) (parts : List ℕ → Option Part) (ws : List KeywordName) (i : ℕ) (w : KeywordName)
     (within : i < length ws) (e : after done (read_words (drop i ws) s p ms parts) ≡ all) where
   abbrev read_here : Asserts
   read_here = read_word (get_or ws i w) s p ms (parts (name_of (get_or ws i w)))
 
+  abbrev here : Pointer
+  here = keyword_location p (get_or ws i w)
+
   abbrev rest : Result Keywords Refusal
   rest = read_words (drop (i + 1) ws) s p ms parts
 
-  step : after done (before (member_location p (name_of (get_or ws i w))) read_here rest) ≡ all
+  step : after done (before here read_here rest) ≡ all
   step = ap (after done) (sym (at_drop_more (λ xs. read_words xs s p ms parts) ws i w within)) ∙ e
 
-  silent : (read : Asserts) → Compiles means None read → after done (before (member_location p (name_of (get_or ws i w))) read rest) ≡ all → after done rest ≡ all
-  silent None c f = f
-  silent (Some r) c f = absurd c
+  -- it asserts nothing
+  pub turn_silent : read_here ≡ None → after done rest ≡ all
+  turn_silent none = ap (λ read. after done (before here read rest)) (sym none) ∙ step
 
-  pub turn_silent : Compiles means None read_here → after done rest ≡ all
-  turn_silent c = silent read_here c step
+  held : (a : Keywords) (b : Keywords) → ◌≡◌ {A = Result Keywords Refusal} (Ok a) (Ok b) → a ≡ b
+  held a b f = ap (λ r. kept r) f
+    where
+      kept : Result Keywords Refusal → Keywords
+      kept (Ok ks) = ks
+      kept (Err x) = a
 
-  made : (v : V) (read : Asserts) → Compiles means (Some (Ok v)) read → after done (before (member_location p (name_of (get_or ws i w))) read rest) ≡ all
-      → after (append_keywords done (keyword (member_location p (name_of (get_or ws i w))) (means v) no_keywords)) rest ≡ all
-  made v None c f = absurd c
-  made v (Some r) c f = sym (after_made done (member_location p (name_of (get_or ws i w))) (means v) rest) ∙ ap (λ x. after done (before (member_location p (name_of (get_or ws i w))) (Some x) rest)) (sym c) ∙ f
+  more : (new : Keywords) (read : Asserts) → after done (before here read (Ok no_keywords)) ≡ Ok new → after done (before here read rest) ≡ after new rest
+  more new None f = ap (λ ks. after ks rest) (sym (append_none done) ∙ held (append_keywords done no_keywords) new f)
+  more new (Some (Ok k)) f = after_made done here k rest ∙ ap (λ ks. after ks rest) (held (append_keywords done (keyword here k no_keywords)) new f)
+  more new (Some (Err x)) f = cc
 
-  pub turn_made : (v : V) (r : Result V CompileFault) → r ≡ Ok v → Compiles means (Some r) read_here → after (append_keywords done (keyword (member_location p (name_of (get_or ws i w))) (means v) no_keywords)) rest ≡ all
-  turn_made v r is c = made v read_here (subst (λ x. Compiles means (Some x) read_here) is c) step
+  -- with it the keywords are these
+  pub turn_made : (new : Keywords) → after done (before here read_here (Ok no_keywords)) ≡ Ok new → after new rest ≡ all
+  turn_made new f = sym (more new read_here f) ∙ step
 
-  refused : {W : Type 0} (whole : W → Keywords) (x : CompileFault) (read : Asserts) → Compiles means (Some (Err x)) read → after done (before (member_location p (name_of (get_or ws i w))) read rest) ≡ all → Makes whole (Err x) all
-  refused whole (Memory m) read c f = tt
-  refused whole (Bad b) None c f = absurd c
-  refused whole (Bad b) (Some r) c f = sym f ∙ ap (λ y. after done (before (member_location p (name_of (get_or ws i w))) (Some y) rest)) c
+  refused : (x : Refusal) (read : Asserts) → after done (before here read (Ok no_keywords)) ≡ Err x → after done (before here read rest) ≡ Err x
+  refused x None f = cc
+  refused x (Some (Ok k)) f = cc
+  refused x (Some (Err y)) f = f
 
-  pub turn_refused : {W : Type 0} (whole : W → Keywords) (x : CompileFault) (r : Result V CompileFault) → r ≡ Err x → Compiles means (Some r) read_here → Makes whole (Err x) all
-  turn_refused whole x r is c = refused whole x read_here (subst (λ y. Compiles means (Some y) read_here) is c) step
+  -- it is refused
+  pub turn_refused : (x : Refusal) → after done (before here read_here (Ok no_keywords)) ≡ Err x → all ≡ Err x
+  turn_refused x f = sym step ∙ refused x read_here f
+
+-- ---- a keyword that is present and active
+
+module _ (w : KeywordName) (spot : Spot) (ms : Members) where
+  pub active_reads : (d : Data) → active_member spot.setting ms w ≡ Some d → read_word w spot.setting spot.location ms (part_named (name_of w) ms) ≡ reading w spot ms d
+  active_reads d = go (stands spot.setting w) refl
+    where
+      go : (b : Bool) → stands spot.setting w ≡ b → (if b then get_member (name_of w) ms else None) ≡ Some d → read_word w spot.setting spot.location ms (part_named (name_of w) ms) ≡ reading w spot ms d
+      go true active at = read_standing w spot.setting spot.location ms d at active
+      go false active at = cc
+
+  pub inactive_reads : active_member spot.setting ms w ≡ None → read_word w spot.setting spot.location ms (part_named (name_of w) ms) ≡ None
+  inactive_reads = go (stands spot.setting w) (get_member (name_of w) ms) refl refl
+    where
+      go : (b : Bool) (o : Option Data) → stands spot.setting w ≡ b → get_member (name_of w) ms ≡ o → (if b then o else None) ≡ None → read_word w spot.setting spot.location ms (part_named (name_of w) ms) ≡ None
+      go b None active at e = read_absent w spot.setting spot.location ms at
+      go true (Some d) active at e = cc
+      go false (Some d) active at e = read_not_standing w spot.setting spot.location ms d at active
+
+  pub active_depth : (d : Data) → active_member spot.setting ms w ≡ Some d → depth d ≤ members_depth ms
+  active_depth d = go (stands spot.setting w)
+    where
+      go : (b : Bool) → (if b then get_member (name_of w) ms else None) ≡ Some d → depth d ≤ members_depth ms
+      go true at = member_depth (name_of w) ms d at
+      go false at = cc
+
+-- ---- units
+
+-- what is said of an Ok, said otherwise
+pub ok_then : {A E : Type 0} {P Q : A → Type 0} (r : Result A E) → ((a : A) → P a → Q a) → IfOk r P → IfOk r Q
+ok_then (Ok a) also is = also a is
+ok_then (Err e) also is = tt
+
+-- the first keywords of all
+pub after_empty : {F N O P : Type 0} (us : List (TheUnit F N O P)) → us ≡ [] → (r : Result Keywords Refusal) → after (keywords_of us) r ≡ r
+after_empty us empty r = ap (λ xs. after (keywords_of xs) r) empty ∙ after_none r

@@ -1,13 +1,18 @@
 -- What the units of a node stand for.
-use Rattle.std.specs.Prelude.{◌≡◌, List, [], ◌∷◌, Bool, true, false}
+use Rattle.std.specs.Prelude.{◌≡◌, List, [], ◌∷◌, Bool, true, false, Result}
 use Rattle.jskw_value.specs.Pointer.{Pointer}
 use Rattle.jskw_report.specs.Keyword.{Keywords, no_keywords, keyword, append_keywords, all_hand_on, keyword_hands_on}
+use Rattle.jskw_report.specs.KeywordValue.{Refusal, map_ok}
 use Rattle.jskw_report.specs.Meaning.{Meaning, one}
 use Rattle.jskw_array.specs.Fused.{absorbed_keywords, shape_keywords, shape_meaning}
 use Rattle.jskw_array.specs.Meaning.{validator_keyword}
 use Rattle.jskw_array.specs.declared.items.array_shape.ArrayShapeValidator.{ArrayShapeValidator}
 use Rattle.jskw_array.specs.declared.unit.Unit.{Unit as TheUnit}
 use Rattle.jskw_array.specs.declared.unit.Unit.TheVariants.{Keyword as OfKeyword, Shape}
+
+-- keywords that are read after others, or their refusal
+abbrev pub after : Keywords → Result Keywords Refusal → Result Keywords Refusal
+after done r = map_ok (append_keywords done) r
 
 -- F, N, O and P are the types of a representation
 module _ {F N O P : Type 0} where

@@ -13,7 +13,7 @@ use crate::compiler::{compile_at, schema_count};
 use crate::rest::{Rest, of_schema};
 use crate::validator::Validator;
 use jskw_report::{
-    Assertion, CompilationResult, Context, KeywordName, Location, ValidationErrorKind,
+    Assertion, CompilationResult, CompileFault, Context, KeywordName, Location, ValidationErrorKind,
 };
 use jskw_value::{Json, Node};
 use serde_json::{Map, Value};
@@ -60,6 +60,7 @@ impl Assertion for AdditionalItemsBooleanValidator {
 ///
 /// Fails if memory runs out, or if the schema has an error, as
 /// [`compile`](crate::compiler::compile) says.
+#[inline(never)]
 #[cycle(compile)]
 pub fn compile<'a, F: Json>(
     alloc: Global,
@@ -75,28 +76,31 @@ pub fn compile<'a, F: Json>(
         return None;
     };
     match schema.as_bool() {
-        Some(true) => None,
-        Some(false) => Some(no_more(alloc, ctx, items_count)),
-        None => {
-            let keyword = KeywordName::AdditionalItems;
-            Some(of_schema(items_count, true, compile_at(alloc, ctx, keyword, schema)))
-        }
+        Some(true) => return None,
+        Some(false) => return no_more(alloc, ctx, items_count),
+        None => {}
     }
+    let keyword = KeywordName::AdditionalItems;
+    Some(of_schema(items_count, true, compile_at(alloc, ctx, keyword, schema)))
 }
 
 // Compiles `additionalItems` of `false`. Fails only if memory runs out.
+#[inline(never)]
 fn no_more<'a, F: Json>(
     alloc: Global,
     ctx: &Context<'_, F>,
     items_count: usize,
-) -> CompilationResult<'a, Validator<F>>
-    ensures { Makes validator_keyword result (Ok (assertion
-        (keyword_location ctx.now.location word.AdditionalItems) (at_most items_count))) }
+) -> Option<CompilationResult<'a, Validator<F>>>
+    ensures { Compiles validator_keyword result (Some (Ok (assertion
+        (keyword_location ctx.now.location word.AdditionalItems) (at_most items_count)))) }
 {
-    let location = ctx.keyword_location(alloc, KeywordName::AdditionalItems)?;
-    let validator = AdditionalItemsBooleanValidator {
-        items_count,
-        location,
-    };
-    Ok(Validator::AdditionalItemsBoolean(validator))
+    match ctx.keyword_location(alloc, KeywordName::AdditionalItems) {
+        Ok(location) => Some(Ok(Validator::AdditionalItemsBoolean(
+            AdditionalItemsBooleanValidator {
+                items_count,
+                location,
+            },
+        ))),
+        Err(error) => Some(Err(CompileFault::Memory(error))),
+    }
 }

@@ -1,30 +1,30 @@
 //! Compiles schemas, keyword by keyword.
-ghost use Rattle.std.specs.Prelude.{◌≡◌, ◌++◌, [], ◌∷◌, Err, IfOk, IsTrue, Result, Some, false};
-ghost use Rattle.std.specs.Prelude.{true};
+ghost use Rattle.std.specs.Prelude.{◌≡◌, ◌++◌, [], ◌∷◌, Err, IfOk, IsTrue, Ok, Result, Some};
+ghost use Rattle.std.specs.Prelude.{option_map, true};
 ghost use Rattle.serde_json.specs.Data.{object};
 ghost use Rattle.serde_json.specs.Find.{get_member};
 ghost use Rattle.serde_json.specs.View.{view, items_view, members_view};
 ghost use Rattle.jskw_value.specs.declared.types.JsonType.TheVariants.{Boolean, Object};
-ghost use Rattle.jskw_report.specs.Compile.{Compiles, Makes};
-ghost use Rattle.jskw_report.specs.Keyword.{Keywords, Schema, append_keywords};
+ghost use Rattle.jskw_report.specs.Compile.{Compiles, Makes, reading};
+ghost use Rattle.jskw_report.specs.Keyword.{Keywords, Schema, no_keywords};
 ghost use Rattle.jskw_report.specs.KeywordValue.{Refusal, map_ok, of_types, wrong};
-ghost use Rattle.jskw_report.specs.Read.{Asserts, keyword_location, part_named};
-ghost use Rattle.jskw_report.specs.Read.{read, read_each, read_word, read_words, whole};
-ghost use Rattle.jskw_report.specs.Setting.{keywords, name_of};
+ghost use Rattle.jskw_report.specs.Read.{Asserts, Reading, before, keyword_location, part_named};
+ghost use Rattle.jskw_report.specs.Read.{read, read_each, read_words};
+ghost use Rattle.jskw_report.specs.Setting.{keywords};
 ghost use Rattle.jskw_report.specs.Sibling.{is_fused};
-ghost use Rattle.jskw_leaf.specs.Meaning.{leaf_keyword};
-ghost use Rattle.jskw_array.specs.Fused.{shape_keywords};
+ghost use Rattle.jskw_leaf.specs.Names.{is_leaf};
+ghost use Rattle.jskw_array.specs.Fused.{fused_words, shape_keywords};
 ghost use Rattle.jskw_array.specs.Meaning.{schemas_of, validator_keyword};
-ghost use Rattle.jskw_array.specs.Units.{begin_fused, keywords_of};
+ghost use Rattle.jskw_array.specs.Siblings.{active_member, schema_count};
+ghost use Rattle.jskw_array.specs.Units.{after, begin_fused, keywords_of};
 ghost use Rattle.jskw_array.specs.declared.unit.Unit.TheVariants as unit;
-ghost use Rattle.jskw_array.specs.Siblings.{schema_count};
 
 use crate::items::{ArrayShapeValidator, array_shape_fusion};
 use crate::node::SchemaNode;
 use crate::unit::{PlacedValidator, Unit};
 use crate::validator::Validator;
 use crate::{additional_items, contains, items, prefix_items};
-use jskw_leaf::{LeafValidator, is_leaf, required};
+use jskw_leaf::required;
 use jskw_report::compiler::member_of;
 use jskw_report::{
     CompilationResult, CompileFault, Context, KeywordName, Location, LocationSegment,
@@ -54,80 +54,106 @@ pub fn compile<'a, F: Json>(
     ensures { Makes (λ s. s) result
         (read (view schema.now) ctx.now.setting ctx.now.location) }
 {
-    let location = ctx.location().copy(alloc)?;
     match schema {
-        Value::Bool(accepts) => Ok(SchemaNode::of_boolean(alloc, location, *accepts)),
-        Value::Object(parent) => compile_object(alloc, ctx, location, parent),
-        _ => Err(no_schema(alloc, &location, schema)),
+        Value::Bool(accepts) => {
+            let location = ctx.location().copy(alloc)?;
+            Ok(SchemaNode::of_boolean(alloc, location, *accepts))
+        }
+        Value::Object(parent) => compile_object(alloc, ctx, parent),
+        _ => Err(no_schema(alloc, ctx.location(), schema)),
     }
 }
 
 // Compiles a schema that is an object.
+#[inline(never)]
 #[cycle(compile)]
 fn compile_object<'a, F: Json>(
     alloc: Global,
     ctx: &Context<'_, F>,
-    location: Location,
     parent: &'a Map<String, Value>,
 ) -> CompilationResult<'a, SchemaNode<F>>
-    requires { location ≡ ctx.now.location }
     ensures { let ms = members_view parent.now.entries in Makes (λ s. s) result
         (read (object ms) ctx.now.setting ctx.now.location) }
 {
-    let hands_on = required::is_handed_on(ctx, parent);
-    if array_shape_fusion(ctx, parent) {
-        return compile_fused(alloc, ctx, location, hands_on, parent);
-    }
-    let units = compile_keywords(alloc, ctx, parent, &KeywordName::ALL)?;
-    Ok(SchemaNode::of_keywords(location, hands_on, units))
+    let mut units = Vec::with_capacity(alloc, parent.len().min(KeywordName::ALL.len()))?;
+    push_units(alloc, ctx, parent, &mut units)?;
+    // a unit takes some hundred bytes
+    units.shrink_to_fit();
+    let location = ctx.location().copy(alloc)?;
+    Ok(SchemaNode::of_keywords(location, required::is_handed_on(ctx, parent), units))
 }
 
-// Compiles a schema that is an object with the fused shape.
+// Appends the units of an object to an empty vector: its keywords in their order, where the first
+// four may be one unit.
+#[inline(never)]
 #[cycle(compile)]
-fn compile_fused<'a, F: Json>(
+fn push_units<'a, F: Json>(
     alloc: Global,
     ctx: &Context<'_, F>,
-    location: Location,
-    hands_on: bool,
     parent: &'a Map<String, Value>,
-) -> CompilationResult<'a, SchemaNode<F>>
-    requires location { location ≡ ctx.now.location }
-    requires fused { IsTrue (is_fused ctx.now.setting (members_view parent.now.entries)) }
-    ensures { let ms = members_view parent.now.entries in Makes (λ s. s) result
-        (whole ctx.now.location (record { hands_on = hands_on; fused = true })
-        (read_words keywords ctx.now.setting ctx.now.location ms (λ name. part_named name ms))) }
+    units: &mut Vec<Unit<F>>,
+) -> CompilationResult<'a, ()>
+    requires { units.old.items ≡ [] }
+    ensures made { let ms = members_view parent.now.entries in
+        Makes (λ _. keywords_of units.new.items) result
+        (read_words keywords ctx.now.setting ctx.now.location ms (λ name. part_named name ms)) }
+    ensures fused { IfOk result (λ _. begin_fused units.new.items
+        ≡ is_fused ctx.now.setting (members_view parent.now.entries)) }
 {
-    let Some(items) = member_of(parent, KeywordName::Items.as_str()) else {
-        unreachable!();
-    };
-    let shape = ArrayShapeValidator::compile(alloc, ctx, parent, items)?;
-    let units = compile_keywords(alloc, ctx, parent, &KeywordName::ALL[FUSED..]);
-    of_fused(alloc, location, hands_on, shape, units)
+    if !array_shape_fusion(ctx, parent) {
+        return push_keywords(alloc, ctx, parent, &KeywordName::ALL, units);
+    }
+    push_shape(alloc, ctx, parent, units)?;
+    push_keywords(alloc, ctx, parent, &KeywordName::ALL[FUSED..], units)
 }
 
 // The number of keywords of the fused shape, which are the first of all keywords.
 const FUSED: usize = 4;
 
-// Returns the node of a fused shape and of the keywords behind it, if these were compiled.
-fn of_fused<'a, F: Json>(
+// Appends the unit of an object with the fused shape to an empty vector.
+#[inline(never)]
+#[cycle(compile)]
+fn push_shape<'a, F: Json>(
     alloc: Global,
-    location: Location,
-    hands_on: bool,
-    shape: ArrayShapeValidator<F>,
-    compiled: CompilationResult<'a, Vec<Unit<F>>>,
-) -> CompilationResult<'a, SchemaNode<F>>
-    ensures { (read : Result Keywords Refusal)
-        → Makes (λ units. keywords_of units.items) compiled.entry read → Makes (λ s. s) result
-        (whole location (record { hands_on = hands_on; fused = true })
-        (map_ok (append_keywords (shape_keywords shape)) read)) }
+    ctx: &Context<'_, F>,
+    parent: &'a Map<String, Value>,
+    units: &mut Vec<Unit<F>>,
+) -> CompilationResult<'a, ()>
+    requires empty { units.old.items ≡ [] }
+    requires fused { IsTrue (is_fused ctx.now.setting (members_view parent.now.entries)) }
+    ensures made { let ms = members_view parent.now.entries in
+        Makes (λ _. keywords_of units.new.items) result
+        (read_words fused_words ctx.now.setting ctx.now.location ms (λ name. part_named name ms)) }
+    ensures fused { IfOk result (λ _. begin_fused units.new.items ≡ true) }
 {
-    let mut units = compiled?;
-    units.insert(0, Unit::Shape(Box::new(alloc, shape)?))?;
-    units.shrink_to_fit();
-    Ok(SchemaNode::of_keywords(location, hands_on, units))
+    let Some(items) = member_of(parent, KeywordName::Items.as_str()) else {
+        unreachable!();
+    };
+    push_compiled(
+        alloc,
+        ArrayShapeValidator::compile(alloc, ctx, parent, items),
+        units,
+    )
+}
+
+// Appends a fused shape, if it was compiled, to an empty vector.
+#[inline(never)]
+fn push_compiled<'a, F: Json>(
+    alloc: Global,
+    compiled: CompilationResult<'a, ArrayShapeValidator<F>>,
+    units: &mut Vec<Unit<F>>,
+) -> CompilationResult<'a, ()>
+    requires { units.old.items ≡ [] }
+    ensures made { (read : Result Keywords Refusal) → Makes shape_keywords compiled.entry read
+        → Makes (λ _. keywords_of units.new.items) result read }
+    ensures fused { IfOk result (λ _. begin_fused units.new.items ≡ true) }
+{
+    units.push(Unit::Shape(Box::new(alloc, compiled?)?))?;
+    Ok(())
 }
 
 // Returns the fault for a value that is neither a boolean nor an object.
+#[inline(never)]
 fn no_schema<'a>(alloc: Global, location: &Location, value: &'a Value) -> CompileFault<'a>
     ensures { Makes (λ (s : Schema). s) (Err result)
         (wrong (of_types Boolean Object) location.now (view value.now)) }
@@ -138,35 +164,76 @@ fn no_schema<'a>(alloc: Global, location: &Location, value: &'a Value) -> Compil
     CompileFault::wrong(alloc, ValidationErrorKind::of_types(types), location, value)
 }
 
-// Compiles the given keywords of an object, in order.
+// Appends a unit for each of the given keywords that asserts something, in their order.
+#[inline(never)]
 #[cycle(compile)]
-fn compile_keywords<'a, F: Json>(
+fn push_keywords<'a, F: Json>(
     alloc: Global,
     ctx: &Context<'_, F>,
     parent: &'a Map<String, Value>,
     keywords: &[KeywordName],
-) -> CompilationResult<'a, Vec<Unit<F>>>
+    units: &mut Vec<Unit<F>>,
+) -> CompilationResult<'a, ()>
     ensures made { let ms = members_view parent.now.entries in
-        Makes (λ units. keywords_of units.items) result
+        Makes (λ _. keywords_of units.new.items) result
+        (after (keywords_of units.old.items)
         (read_words keywords.now ctx.now.setting ctx.now.location ms
-        (λ name. part_named name ms)) }
-    ensures plain { IfOk result (λ units. begin_fused units.items ≡ false) }
+        (λ name. part_named name ms))) }
+    ensures fused { IfOk result (λ _. begin_fused units.new.items
+        ≡ begin_fused units.old.items) }
 {
-    let mut units = Vec::new(alloc);
     for &keyword in keywords {
-        match compile_keyword(alloc, ctx, parent, keyword) {
-            None => {}
-            Some(Ok(validator)) => push_unit(alloc, ctx, keyword, validator, &mut units)?,
-            Some(Err(fault)) => return Err(fault),
-        }
+        let Some(schema) = active_member(ctx, parent, keyword) else {
+            continue;
+        };
+        let compiled = compile_keyword(alloc, ctx, parent, keyword, schema);
+        push_unit(alloc, ctx, keyword, compiled, units)?;
     }
-    // a validator takes some hundred bytes, and a vector grows by more than one
-    units.shrink_to_fit();
-    Ok(units)
+    Ok(())
+}
+
+// Returns the value of a keyword, if it is present and active.
+fn active_member<'a, F: Json>(
+    ctx: &Context<'_, F>,
+    parent: &'a Map<String, Value>,
+    keyword: KeywordName,
+) -> Option<&'a Value>
+    ensures { option_map (λ value. view value.now) result
+        ≡ active_member ctx.now.setting (members_view parent.now.entries) keyword }
+{
+    let value = member_of(parent, keyword.as_str())?;
+    if keyword.stands(ctx) {
+        Some(value)
+    } else {
+        None
+    }
+}
+
+// Appends the unit of a keyword that was compiled, if it asserts something.
+#[inline(never)]
+#[tactic(auto, using(crate::proofs::Turns::appends_nothing, crate::proofs::Turns::appends_refused))]
+fn push_unit<'a, F: Json>(
+    alloc: Global,
+    ctx: &Context<'_, F>,
+    keyword: KeywordName,
+    compiled: Option<CompilationResult<'a, Validator<F>>>,
+    units: &mut Vec<Unit<F>>,
+) -> CompilationResult<'a, ()>
+    ensures made { (read : Asserts) → Compiles validator_keyword compiled.entry read
+        → Makes (λ _. keywords_of units.new.items) result (after (keywords_of units.old.items)
+        (before (keyword_location ctx.now.location keyword) read (Ok no_keywords))) }
+    ensures fused { IfOk result (λ _. begin_fused units.new.items
+        ≡ begin_fused units.old.items) }
+{
+    match compiled {
+        None => Ok(()),
+        Some(Ok(validator)) => Ok(push_validator(alloc, ctx, keyword, validator, units)?),
+        Some(Err(fault)) => Err(fault),
+    }
 }
 
 // Appends a keyword with its validator.
-fn push_unit<F: Json>(
+fn push_validator<F: Json>(
     alloc: Global,
     ctx: &Context<'_, F>,
     keyword: KeywordName,
@@ -186,43 +253,43 @@ fn push_unit<F: Json>(
     Ok(())
 }
 
-// Compiles a keyword of an object. Returns `None` if it is absent, inactive or asserts nothing.
-#[tactic(auto, using(crate::proofs::Readings::with_subschemas))]
+// Compiles a keyword of an object. Returns `None` if it asserts nothing.
+#[inline(never)]
+#[tactic(auto, using(crate::proofs::Readings::others_are_leaves))]
 #[cycle(compile)]
 fn compile_keyword<'a, F: Json>(
     alloc: Global,
     ctx: &Context<'_, F>,
     parent: &'a Map<String, Value>,
     keyword: KeywordName,
+    schema: &'a Value,
 ) -> Option<CompilationResult<'a, Validator<F>>>
-    ensures { let ms = members_view parent.now.entries in Compiles validator_keyword result
-        (read_word keyword ctx.now.setting ctx.now.location ms
-        (part_named (name_of keyword) ms)) }
+    ensures { Compiles validator_keyword result
+        (reading keyword ctx.now (members_view parent.now.entries) (view schema.now)) }
 {
-    let schema = member_of(parent, keyword.as_str())?;
-    if !keyword.stands(ctx) {
-        return None;
-    }
-    if is_leaf(keyword) {
-        return of_leaf(jskw_leaf::compile(alloc, ctx, parent, keyword, schema));
-    }
     match keyword {
         KeywordName::Items => items::compile(alloc, ctx, parent, schema),
         KeywordName::PrefixItems => prefix_items::compile(alloc, ctx, parent, schema),
         KeywordName::AdditionalItems => additional_items::compile(alloc, ctx, parent, schema),
         KeywordName::Contains => contains::compile(alloc, ctx, parent, schema),
-        _ => unreachable!(),
+        _ => compile_leaf(alloc, ctx, parent, keyword, schema),
     }
 }
 
-// Wraps the validator of a keyword without subschemas.
-fn of_leaf<'a, F: Json>(
-    compiled: Option<CompilationResult<'a, LeafValidator<F>>>,
+// Compiles a keyword without subschemas. Returns `None` if it asserts nothing.
+#[inline(never)]
+fn compile_leaf<'a, F: Json>(
+    alloc: Global,
+    ctx: &Context<'_, F>,
+    parent: &'a Map<String, Value>,
+    keyword: KeywordName,
+    schema: &'a Value,
 ) -> Option<CompilationResult<'a, Validator<F>>>
-    ensures { (read : Asserts) → Compiles leaf_keyword compiled.entry read
-        → Compiles validator_keyword result read }
+    requires { is_leaf keyword ≡ true }
+    ensures { Compiles validator_keyword result
+        (reading keyword ctx.now (members_view parent.now.entries) (view schema.now)) }
 {
-    match compiled? {
+    match jskw_leaf::compile(alloc, ctx, parent, keyword, schema)? {
         Ok(validator) => Some(Ok(Validator::Leaf(validator))),
         Err(fault) => Some(Err(fault)),
     }
@@ -272,9 +339,23 @@ fn compile_each<'a, F: Json>(
     let mut nodes = Vec::with_capacity(alloc, schemas.len())?;
     for index in 0..schemas.len() {
         let item = ctx.new_at_location(alloc, LocationSegment::Index(index))?;
-        nodes.push(compile(alloc, &item, &schemas[index])?)?;
+        push_node(compile(alloc, &item, &schemas[index]), &mut nodes)?;
     }
     Ok(nodes)
+}
+
+// Appends a schema that was compiled.
+#[inline(never)]
+fn push_node<'a, F: Json>(
+    compiled: CompilationResult<'a, SchemaNode<F>>,
+    nodes: &mut Vec<SchemaNode<F>>,
+) -> CompilationResult<'a, ()>
+    ensures { (read : Reading) → Makes (λ s. s) compiled.entry read
+        → Makes (λ _. nodes.new.items) result
+        (map_ok (λ s. nodes.old.items ++ s ∷ []) read) }
+{
+    nodes.push(compiled?)?;
+    Ok(())
 }
 
 // Returns the context of the value of a keyword. Fails only if memory runs out.

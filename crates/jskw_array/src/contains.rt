@@ -45,6 +45,7 @@ pub type MinMaxContainsValidator<F> = Matching<F>;
 ///   [`fail_on_non_positive_integer`](jskw_number::helpers::fail_on_non_positive_integer) says. The
 ///   error is at the location of that keyword.
 /// - The schema has an error, as [`compile`](crate::compiler::compile) says.
+#[inline(never)]
 #[cycle(compile)]
 pub fn compile<'a, F: Json>(
     alloc: Global,
@@ -55,16 +56,18 @@ pub fn compile<'a, F: Json>(
     ensures { Compiles validator_keyword result
         (reading word.Contains ctx.now (members_view parent.now.entries) (view schema.now)) }
 {
-    match bounds_beside(alloc, ctx, parent) {
-        Ok(bounds) => {
-            let compiled = compile_at(alloc, ctx, KeywordName::Contains, schema);
-            Some(of_schema(bounds, compiled))
-        }
-        Err(fault) => Some(Err(fault)),
-    }
+    let bounds = match bounds_beside(alloc, ctx, parent) {
+        Ok(bounds) => bounds,
+        Err(fault) => return Some(Err(fault)),
+    };
+    of_schema(
+        bounds,
+        compile_at(alloc, ctx, KeywordName::Contains, schema),
+    )
 }
 
 // Reads the bounds beside `contains` in `parent`. Fails with the first fault.
+#[inline(never)]
 fn bounds_beside<'a, F: Json>(
     alloc: Global,
     ctx: &Context<'_, F>,
@@ -147,16 +150,17 @@ fn bounds_between<F: Json>(
 }
 
 // Returns the validator of the bounds and of a schema, if that was compiled.
+#[inline(never)]
 fn of_schema<'a, F: Json>(
     bounds: ItemBounds,
     compiled: CompilationResult<'a, SchemaNode<F>>,
-) -> CompilationResult<'a, Validator<F>>
+) -> Option<CompilationResult<'a, Validator<F>>>
     ensures { (read : Reading) → Makes (λ s. s) compiled.entry read
-        → Makes validator_keyword result
-        (map_ok (λ sub. contains_keyword sub (bounds_of bounds)) read) }
+        → Compiles validator_keyword result
+        (Some (map_ok (λ sub. contains_keyword sub (bounds_of bounds)) read)) }
 {
-    Ok(Validator::Matching(Matching {
-        node: compiled?,
-        bounds,
-    }))
+    match compiled {
+        Ok(node) => Some(Ok(Validator::Matching(Matching { node, bounds }))),
+        Err(fault) => Some(Err(fault)),
+    }
 }

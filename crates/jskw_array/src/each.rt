@@ -1,7 +1,7 @@
 //! A schema for each item: `prefixItems` (JSON Schema Core 10.3.1.1), and `items` of an array of
 //! schemas (Draft 7 Validation 6.4.1). A non-array has no items.
-ghost use Rattle.std.specs.Prelude.{Result};
-ghost use Rattle.jskw_report.specs.Compile.{Makes};
+ghost use Rattle.std.specs.Prelude.{Result, Some};
+ghost use Rattle.jskw_report.specs.Compile.{Compiles, Makes};
 ghost use Rattle.jskw_report.specs.Keyword.{Schemas};
 ghost use Rattle.jskw_report.specs.KeywordValue.{Refusal, map_ok};
 ghost use Rattle.jskw_report.specs.Meaning.{one};
@@ -91,16 +91,17 @@ impl<F: Json> Validate<F> for Each<F> {
 }
 
 // Returns the validator of the schemas, if they were compiled.
+#[inline(never)]
 pub(crate) fn of_schemas<'a, F: Json>(
     is_prefix: bool,
     compiled: CompilationResult<'a, Vec<SchemaNode<F>>>,
-) -> CompilationResult<'a, Validator<F>>
+) -> Option<CompilationResult<'a, Validator<F>>>
     ensures { (read : Result Schemas Refusal)
         → Makes (λ nodes. schemas_of nodes.items) compiled.entry read
-        → Makes validator_keyword result (map_ok (each_of is_prefix) read) }
+        → Compiles validator_keyword result (Some (map_ok (each_of is_prefix) read)) }
 {
-    Ok(Validator::Each(Each {
-        nodes: compiled?,
-        is_prefix,
-    }))
+    match compiled {
+        Ok(nodes) => Some(Ok(Validator::Each(Each { nodes, is_prefix }))),
+        Err(fault) => Some(Err(fault)),
+    }
 }

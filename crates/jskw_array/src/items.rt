@@ -1,14 +1,16 @@
 //! `items`: one schema, for every item that `prefixItems` has no schema for (JSON Schema Core
 //! 10.3.1.2), or an array of schemas, each for the item at its index (Draft 7 Validation 6.4.1).
-ghost use Rattle.std.specs.Prelude.{◌≡◌, Some, false, if◌then◌else◌, length};
+ghost use Rattle.std.specs.Prelude.{◌≡◌, IsTrue, Some, false, if◌then◌else◌, length};
 ghost use Rattle.std.specs.Prelude.{nat_lt};
 ghost use Rattle.serde_json.specs.Data.{string};
 ghost use Rattle.serde_json.specs.View.{view, members_view};
 ghost use Rattle.jskw_value.specs.Tree.{is_array, items};
-ghost use Rattle.jskw_report.specs.Compile.{Compiles, reading};
+ghost use Rattle.jskw_report.specs.Compile.{Compiles, Makes, reading};
 ghost use Rattle.jskw_report.specs.Evaluation.{flag, of_children, valid_unit};
 ghost use Rattle.jskw_report.specs.EvaluationView.{result_of};
-ghost use Rattle.jskw_report.specs.Read.{items_start};
+ghost use Rattle.jskw_report.specs.Keyword.{items_from};
+ghost use Rattle.jskw_report.specs.KeywordValue.{map_ok};
+ghost use Rattle.jskw_report.specs.Read.{items_start, keyword_location, read};
 ghost use Rattle.jskw_report.specs.Setting.{stands};
 ghost use Rattle.jskw_report.specs.Sibling.{is_array as is_list, is_bare, is_inlined_type};
 ghost use Rattle.jskw_report.specs.Sibling.{is_items_schema, is_only_type, member_passes};
@@ -79,6 +81,7 @@ pub(crate) fn items_unit<N: Node>(
 ///
 /// Fails if memory runs out, or if a schema has an error, as
 /// [`compile`](crate::compiler::compile) says.
+#[inline(never)]
 #[cycle(compile)]
 pub fn compile<'a, F: Json>(
     alloc: Global,
@@ -91,18 +94,42 @@ pub fn compile<'a, F: Json>(
 {
     if let Some(schemas) = schema.as_array() {
         let keyword = KeywordName::Items;
-        let compiled = compile_each_at(alloc, ctx, keyword, schemas.as_slice());
-        return Some(of_schemas(false, compiled));
+        return of_schemas(
+            false,
+            compile_each_at(alloc, ctx, keyword, schemas.as_slice()),
+        );
     }
     if !is_items_schema(schema) {
         return None;
     }
+    Some(compile_schema(alloc, ctx, parent, schema))
+}
+
+// Compiles `items` of one schema, an object or `false`.
+#[inline(never)]
+#[cycle(compile)]
+pub(crate) fn compile_schema<'a, F: Json>(
+    alloc: Global,
+    ctx: &Context<'_, F>,
+    parent: &'a Map<String, Value>,
+    schema: &'a Value,
+) -> CompilationResult<'a, Validator<F>>
+    requires { IsTrue (is_items_schema (view schema.now)) }
+    ensures { let ms = members_view parent.now.entries in Makes validator_keyword result
+        (map_ok (λ sub. items_from (items_start ctx.now.setting ms) sub
+        (is_bare ctx.now.setting ms (view schema.now)))
+        (read (view schema.now) ctx.now.setting
+        (keyword_location ctx.now.location word.Items))) }
+{
     if is_bare(ctx, parent, schema) {
-        return Some(compile_inline(alloc, ctx, schema));
+        return compile_inline(alloc, ctx, schema);
     }
     let start = items_start(ctx, parent);
-    let compiled = compile_at(alloc, ctx, KeywordName::Items, schema);
-    Some(of_schema(start, false, compiled))
+    of_schema(
+        start,
+        false,
+        compile_at(alloc, ctx, KeywordName::Items, schema),
+    )
 }
 
 // Returns whether the value is one schema that asserts something: an object or `false`.

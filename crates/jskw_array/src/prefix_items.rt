@@ -1,5 +1,5 @@
 //! `prefixItems` (JSON Schema Core 10.3.1.1): a list of schemas, each for the item at its index.
-ghost use Rattle.std.specs.Prelude.{◌≡◌, length, option_map};
+ghost use Rattle.std.specs.Prelude.{◌≡◌, Err, length, option_map};
 ghost use Rattle.serde_json.specs.View.{view, members_view};
 ghost use Rattle.jskw_value.specs.Tree.{items};
 ghost use Rattle.jskw_value.specs.declared.types.JsonType.TheVariants.{Array};
@@ -7,6 +7,7 @@ ghost use Rattle.jskw_report.specs.Compile.{Compiles, Makes, reading};
 ghost use Rattle.jskw_report.specs.Evaluation.{of_children, prefix_annotation};
 ghost use Rattle.jskw_report.specs.EvaluationParts.{annotation_of};
 ghost use Rattle.jskw_report.specs.EvaluationView.{result_of};
+ghost use Rattle.jskw_report.specs.Keyword.{Keyword};
 ghost use Rattle.jskw_report.specs.KeywordValue.{of_type, wrong};
 ghost use Rattle.jskw_report.specs.Read.{keyword_location};
 ghost use Rattle.jskw_report.specs.declared.keyword.KeywordName.TheVariants as word;
@@ -68,6 +69,7 @@ fn annotation(schemas: usize, items: usize) -> Option<Annotations>
 /// - The value is not an array: the kind is `WrongType` with the type array, at the location of
 ///   `prefixItems`.
 /// - A schema has an error, as [`compile`](crate::compiler::compile) says.
+#[inline(never)]
 #[cycle(compile)]
 pub fn compile<'a, F: Json>(
     alloc: Global,
@@ -80,25 +82,24 @@ pub fn compile<'a, F: Json>(
 {
     let _ = parent;
     let Some(schemas) = schema.as_array() else {
-        return Some(no_array(alloc, ctx, schema));
+        return Some(Err(no_array(alloc, ctx, schema)));
     };
     let keyword = KeywordName::PrefixItems;
-    Some(of_schemas(
+    of_schemas(
         true,
         compile_each_at(alloc, ctx, keyword, schemas.as_slice()),
-    ))
+    )
 }
 
 // Refuses a value that is not an array.
-fn no_array<'a, F: Json>(
-    alloc: Global,
-    ctx: &Context<'_, F>,
-    value: &'a Value,
-) -> CompilationResult<'a, Validator<F>>
-    ensures { Makes validator_keyword result (wrong (of_type Array)
+#[inline(never)]
+fn no_array<'a, F: Json>(alloc: Global, ctx: &Context<'_, F>, value: &'a Value) -> CompileFault<'a>
+    ensures { Makes (λ (k : Keyword). k) (Err result) (wrong (of_type Array)
         (keyword_location ctx.now.location word.PrefixItems) (view value.now)) }
 {
-    let location = ctx.keyword_location(alloc, KeywordName::PrefixItems)?;
     let kind = ValidationErrorKind::of_type(JsonType::Array);
-    Err(CompileFault::wrong(alloc, kind, &location, value))
+    match ctx.keyword_location(alloc, KeywordName::PrefixItems) {
+        Ok(location) => CompileFault::wrong(alloc, kind, &location, value),
+        Err(error) => CompileFault::Memory(error),
+    }
 }

@@ -141,6 +141,7 @@ impl<F: Json> Validate<F> for Rest<F> {
 }
 
 // Returns the validator of a schema, if that was compiled, for the items from `start` on.
+#[inline(never)]
 pub(crate) fn of_schema<'a, F: Json>(
     start: usize,
     is_additional: bool,

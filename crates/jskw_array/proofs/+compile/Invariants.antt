@@ -1,60 +1,65 @@
-use Rattle.std.proofs.Common.{◌≡◌, ◌+◌, ◌*◌, false, drop}
+use Rattle.std.proofs.Common.{◌≡◌, ◌+◌, ◌*◌, drop}
 use Rattle.serde_json.specs.Data.{depth, items_depth, members_depth}
 use Rattle.serde_json.specs.View.{view, items_view, members_view}
 use Rattle.jskw_report.specs.Read.{part_named, read_each, read_words}
 use Rattle.jskw_array.specs.Meaning.{schemas_of}
-use Rattle.jskw_array.specs.Units.{begin_fused, keywords_of}
+use Rattle.jskw_array.specs.Units.{after, begin_fused, keywords_of}
 use Rattle.jskw_array.proofs.EachSchema.{after as after_schemas}
-use Rattle.jskw_array.proofs.Turns.{after}
 use Rattle.jskw_array.proofs.+compile.Given as goal
 
 abbrev pub decreases-compiler::compile : goal.decreases-compiler::compile
-decreases-compiler::compile g l = 7 * depth (view l.schema.now)
+decreases-compiler::compile g l = 10 * depth (view l.schema.now)
 
 abbrev pub decreases-compiler::compile_at : goal.decreases-compiler::compile_at
-decreases-compiler::compile_at g l = 7 * depth (view l.schema.now) + 1
+decreases-compiler::compile_at g l = 10 * depth (view l.schema.now) + 1
 
 abbrev pub decreases-compiler::compile_each : goal.decreases-compiler::compile_each
-decreases-compiler::compile_each g l = 7 * items_depth (items_view l.schemas.now) + 1
+decreases-compiler::compile_each g l = 10 * items_depth (items_view l.schemas.now) + 1
 
 abbrev pub decreases-compiler::compile_each_at : goal.decreases-compiler::compile_each_at
-decreases-compiler::compile_each_at g l = 7 * items_depth (items_view l.schemas.now) + 2
+decreases-compiler::compile_each_at g l = 10 * items_depth (items_view l.schemas.now) + 2
 
 abbrev pub decreases-items::compile : goal.decreases-items::compile
-decreases-items::compile g l = 7 * depth (view l.schema.now) + 2
+decreases-items::compile g l = 10 * depth (view l.schema.now) + 3
+
+abbrev pub decreases-items::compile_schema : goal.decreases-items::compile_schema
+decreases-items::compile_schema g l = 10 * depth (view l.schema.now) + 2
 
 abbrev pub decreases-prefix_items::compile : goal.decreases-prefix_items::compile
-decreases-prefix_items::compile g l = 7 * depth (view l.schema.now) + 2
+decreases-prefix_items::compile g l = 10 * depth (view l.schema.now) + 2
 
 abbrev pub decreases-additional_items::compile : goal.decreases-additional_items::compile
-decreases-additional_items::compile g l = 7 * depth (view l.schema.now) + 2
+decreases-additional_items::compile g l = 10 * depth (view l.schema.now) + 2
 
 abbrev pub decreases-contains::compile : goal.decreases-contains::compile
-decreases-contains::compile g l = 7 * depth (view l.schema.now) + 2
+decreases-contains::compile g l = 10 * depth (view l.schema.now) + 2
 
 abbrev pub decreases-compiler::compile_keyword : goal.decreases-compiler::compile_keyword
-decreases-compiler::compile_keyword g l = 7 * members_depth (members_view l.parent.now.entries) + 3
+decreases-compiler::compile_keyword g l = 10 * depth (view l.schema.now) + 4
 
 abbrev pub decreases-items::array_shape::ArrayShapeValidator::compile : goal.decreases-items::array_shape::ArrayShapeValidator::compile
-decreases-items::array_shape::ArrayShapeValidator::compile g l = 7 * depth (view l.items.now) + 3
+decreases-items::array_shape::ArrayShapeValidator::compile g l = 10 * depth (view l.items.now) + 3
 
-abbrev pub decreases-compiler::compile_fused : goal.decreases-compiler::compile_fused
-decreases-compiler::compile_fused g l = 7 * members_depth (members_view l.parent.now.entries) + 5
+abbrev pub decreases-compiler::push_shape : goal.decreases-compiler::push_shape
+decreases-compiler::push_shape g l = 10 * members_depth (members_view l.parent.now.entries) + 4
 
-abbrev pub decreases-compiler::compile_keywords : goal.decreases-compiler::compile_keywords
-decreases-compiler::compile_keywords g l = 7 * members_depth (members_view l.parent.now.entries) + 4
+abbrev pub decreases-compiler::push_keywords : goal.decreases-compiler::push_keywords
+decreases-compiler::push_keywords g l = 10 * members_depth (members_view l.parent.now.entries) + 5
+
+abbrev pub decreases-compiler::push_units : goal.decreases-compiler::push_units
+decreases-compiler::push_units g l = 10 * members_depth (members_view l.parent.now.entries) + 6
 
 abbrev pub decreases-compiler::compile_object : goal.decreases-compiler::compile_object
-decreases-compiler::compile_object g l = 7 * members_depth (members_view l.parent.now.entries) + 6
+decreases-compiler::compile_object g l = 10 * members_depth (members_view l.parent.now.entries) + 7
 
--- those that are made, with those that are still to be read
-abbrev pub invariant-compiler::compile_keywords-loop-keyword : goal.invariant-compiler::compile_keywords-loop-keyword
-invariant-compiler::compile_keywords-loop-keyword g l =
+-- those that are appended, with those that are still to be read
+abbrev pub invariant-compiler::push_keywords-loop-keyword : goal.invariant-compiler::push_keywords-loop-keyword
+invariant-compiler::push_keywords-loop-keyword g l =
     let ms = members_view l.parent.entries in
     record {
       left : after (keywords_of l.units.items) (read_words (drop l.keyword-index l.keywords) l.ctx.setting l.ctx.location ms (λ name. part_named name ms))
-          ≡ read_words l.keywords l.ctx.setting l.ctx.location ms (λ name. part_named name ms);
-      plain : begin_fused l.units.items ≡ false;
+          ≡ after (keywords_of l.initial.units.items) (read_words l.keywords l.ctx.setting l.ctx.location ms (λ name. part_named name ms));
+      fused : begin_fused l.units.items ≡ begin_fused l.initial.units.items;
     }
 
 abbrev pub invariant-compiler::compile_each-loop-index : goal.invariant-compiler::compile_each-loop-index

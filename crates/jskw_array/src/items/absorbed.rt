@@ -43,6 +43,7 @@ pub struct AbsorbedKeywords {
 impl AbsorbedKeywords {
     // Compiles the keywords of `parent`, which must have the fused shape. Fails only if memory runs
     // out.
+    #[inline(never)]
     pub(crate) fn compile<'a, F: Json>(
         alloc: Global,
         ctx: &Context<'_, F>,

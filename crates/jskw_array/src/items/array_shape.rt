@@ -45,6 +45,7 @@ impl<F: Json> ArrayShapeValidator<F> {
     ///
     /// Fails if memory runs out, or if the schema `items` has an error, as
     /// [`compile`](crate::compiler::compile) says.
+    #[inline(never)]
     #[cycle(compile)]
     pub fn compile<'a>(
         alloc: Global,
@@ -61,10 +62,11 @@ impl<F: Json> ArrayShapeValidator<F> {
     {
         let location = ctx.keyword_location(alloc, KeywordName::Items)?;
         let absorbed = AbsorbedKeywords::compile(alloc, ctx, parent)?;
-        let Some(compiled) = items::compile(alloc, ctx, parent, items) else {
-            unreachable!();
-        };
-        with_items(absorbed, location, compiled)
+        with_items(
+            absorbed,
+            location,
+            items::compile_schema(alloc, ctx, parent, items),
+        )
     }
 
     /// Returns the keywords that are checked with `items`: `type`, `minItems` and `maxItems`.
@@ -76,6 +78,7 @@ impl<F: Json> ArrayShapeValidator<F> {
 }
 
 // Returns the validator of the other keywords and of `items`, if that was compiled.
+#[inline(never)]
 fn with_items<'a, F: Json>(
     absorbed: AbsorbedKeywords,
     location: Location,

@@ -221,6 +221,7 @@ impl<T: ItemType, F: Json> Validate<F> for ItemsTypeValidator<T, F> {
 }
 
 // Compiles `items` of a schema with an active `type` alone. Fails only if memory runs out.
+#[inline(never)]
 pub(crate) fn compile_inline<'a, F: Json>(
     alloc: Global,
     ctx: &Context<'_, F>,
