@@ -30,7 +30,7 @@ fn print_first(
     node: &SchemaNode<DecimalJson>,
     instance: &DecimalTree,
 ) -> io::Result<()> {
-    // false of no tree of decimals; asked here for the proof
+    // Always true for a tree of decimals. The proof of the next call needs the test.
     if !instance.is_lawful() {
         return Ok(());
     }
