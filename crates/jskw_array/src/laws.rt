@@ -1,8 +1,14 @@
-//! How the observers of a node agree, as the contract of a function.
-ghost use Rattle.std.specs.Prelude.{IsTrue};
+//! Laws of compiled schemas. Each law is the contract of a function.
+ghost use Rattle.std.specs.Prelude.{◌≡◌, IsTrue};
 ghost use Rattle.jskw_value.specs.Tree.{is_lawful};
-ghost use Rattle.jskw_array.specs.Agreement.{Agree};
+ghost use Rattle.jskw_report.specs.Fail.{fail};
+ghost use Rattle.jskw_report.specs.Holds.{holds};
+ghost use Rattle.jskw_report.specs.Observe.{Appends, IsFirst};
+ghost use Rattle.jskw_report.specs.Paths.{path_of};
+ghost use Rattle.jskw_array.specs.Agreement.{Agree, RejectsNonArrays};
+ghost use Rattle.jskw_array.specs.Fused.{shape_meaning};
 
+use crate::items::ArrayShapeValidator;
 use crate::node::SchemaNode;
 use jskw_report::{Fault, LazyLocation, ValidationContext, ValidationError};
 use jskw_value::Json;
@@ -20,10 +26,24 @@ pub fn observers_agree<'i, F: Json>(
     errors: &mut Vec<ValidationError<'i, F>>,
 ) -> (bool, Result<(), Fault<'i, F>>, Result<(), AllocError>)
     requires { IsTrue (is_lawful (F.Node.tree instance.now)) }
-    ensures { Agree F.Node.tree result.0 result.1 result.2 errors.old.items errors.new.items }
+    ensures agree { Agree F.Node.tree result.0 result.1 result.2 errors.old.items
+        errors.new.items }
+    ensures valid { result.0 ≡ holds node.now (F.Node.tree instance.now) }
+    ensures first { IsFirst F.Node.tree
+        (fail node.now (F.Node.tree instance.now) (path_of location.old)) result.1 }
+    ensures appended { Appends F.Node.tree errors.old.items errors.new.items
+        (fail node.now (F.Node.tree instance.now) (path_of location.old)) result.2 }
 {
     let is_valid = node.is_valid(instance, ctx);
     let first = node.validate(instance, location, ctx);
     let all = node.collect_errors(instance, location, ctx, errors);
     (is_valid, first, all)
+}
+
+/// The fused shape accepts no instance that is not an array, because `type` of `array` is one of its
+/// keywords.
+pub fn fused_shape_rejects_non_arrays<F: Json>(shape: &ArrayShapeValidator<F>)
+    ensures { RejectsNonArrays (shape_meaning shape.now) }
+{
+    let _ = shape;
 }

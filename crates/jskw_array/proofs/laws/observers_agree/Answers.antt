@@ -5,8 +5,15 @@ use Rattle.jskw_report.specs.Paths.{path_of}
 use Rattle.jskw_array.proofs.Agreed.{agreed}
 use Rattle.jskw_array.proofs.laws.observers_agree.Goals as goal
 
-pub returns : goal.returns
-returns g c =
+pub returns-clause-appended : goal.returns-clause-appended
+returns-clause-appended g c =
+    let tree = g.F.Node.Rooted.tree in
+    let s = c.args.node.now in
+    let t = tree c.args.instance.now in
+    subst (λ q. Appends tree c.args.errors.now.items c.collect_errors-all.new.errors.items (fail s t (path_of q)) c.collect_errors-all.result) c.validate-first.ensures.location c.collect_errors-all.ensures.appended
+
+pub returns-clause-agree : goal.returns-clause-agree
+returns-clause-agree g c =
     let tree = g.F.Node.Rooted.tree in
     let s = c.args.node.now in
     let t = tree c.args.instance.now in
