@@ -1,3 +1,4 @@
+pub mod Accepted
 pub mod Agreed
 pub mod Bare
 pub mod BareReading

@@ -15,7 +15,7 @@ use Rattle.jskw_array.specs.declared.each.Each.{Each}
 use Rattle.jskw_array.specs.declared.rest.Rest.{Rest}
 
 -- what is said of either of two things
-either : {A B : Type 0} (f : A → B) (z : B) (b : Bool) (x y : A) → f x ≡ z → f y ≡ z → f (if b then x else y) ≡ z
+pub either : {A B : Type 0} (f : A → B) (z : B) (b : Bool) (x y : A) → f x ≡ z → f y ≡ z → f (if b then x else y) ≡ z
 either f z true x y e d = e
 either f z false x y e d = d
 

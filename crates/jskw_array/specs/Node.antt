@@ -2,7 +2,11 @@
 use Rattle.std.specs.Prelude.{◌≡◌, List, Option, Some, None, Bool, true, false}
 use Rattle.std.specs.Borrow.{Bor}
 use Rattle.jskw_value.specs.Pointer.{Pointer}
+use Rattle.jskw_value.specs.Tree.{Tree}
+use Rattle.jskw_report.specs.Holds.{holds}
 use Rattle.jskw_report.specs.Keyword.{Schema, false_schema, schema_location, schema_object, Marks, no_marks, no_keywords}
+use Rattle.jskw_number.specs.QuickSet.{is_in}
+use Rattle.jskw_number.specs.declared.quick_set.QuickSet.{QuickSet}
 use Rattle.jskw_array.specs.Units.{begin_fused, keywords_of}
 use Rattle.jskw_array.specs.declared.node.Assertions.{Assertions}
 use Rattle.jskw_array.specs.declared.node.Assertions.TheVariants.{Never, Keywords}
@@ -28,3 +32,7 @@ module _ {F N O P : Type 0} where
 abbrev pub boolean_schema : Pointer → Bool → Schema
 boolean_schema q true = schema_object q no_marks no_keywords
 boolean_schema q false = false_schema q
+
+-- every tree of the set is valid against the schema
+abbrev pub AllValid : QuickSet → Schema → Type 0
+AllValid q s = (t : Tree) → is_in q t ≡ true → holds s t ≡ true

@@ -1,6 +1,6 @@
 //! A compiled schema: the validators of its keywords, in the order in which a schema is read.
 ghost use Rattle.std.specs.Prelude.{◌≡◌, ◌+◌, ◌≤◌, [], IfOk, IfSome, IsTrue};
-ghost use Rattle.std.specs.Prelude.{is_some, min};
+ghost use Rattle.std.specs.Prelude.{if◌then◌else◌, is_some, min, true};
 ghost use Rattle.jskw_value.specs.Pointer.{item_location};
 ghost use Rattle.jskw_value.specs.Tree.{is_lawful};
 ghost use Rattle.jskw_report.specs.Applications.{needed, pairs};
@@ -19,9 +19,11 @@ ghost use Rattle.jskw_array.specs.Units.{keywords_of};
 
 use crate::items::ArrayShapeValidator;
 use crate::unit::{
-    Unit, collect_units, evaluate_units, some_unit_hands_on, units_are_valid, validate_units,
+    Unit, collect_units, evaluate_units, quick_set_of, some_unit_hands_on, units_are_valid,
+    validate_units,
 };
 pub use crate::validator::Validator;
+use jskw_number::QuickSet;
 use jskw_report::validator::{append_first, evaluate_first, fail_unless};
 use jskw_report::{
     EvaluationNode, EvaluationResult, Fault, LazyLocation, Location, Validate, ValidationContext,
@@ -46,6 +48,8 @@ pub struct SchemaNode<F: Json> {
     hands_on: bool,
     // the `required` of this schema or of a subschema is handed on
     hands_on_any: bool,
+    // values that are valid against the schema, tested before its keywords
+    accepted: QuickSet,
     assertions: Assertions<F>,
 }
 
@@ -69,12 +73,13 @@ impl<F: Json> Model for SchemaNode<F> {
 
     ghost use Rattle.std.specs.Prelude.{◌≡◌};
     ghost use Rattle.jskw_report.specs.Applications.{height};
-    ghost use Rattle.jskw_array.specs.Node.{schema_of};
+    ghost use Rattle.jskw_array.specs.Node.{AllValid, schema_of};
 
     ghost view = { λ n. schema_of n.location n.hands_on n.assertions };
 
-    ghost invariant = { λ n. n.hands_on_any
-        ≡ hands_on_required (schema_of n.location n.hands_on n.assertions) };
+    ghost invariant = { λ n.
+        (n.hands_on_any ≡ hands_on_required (schema_of n.location n.hands_on n.assertions))
+        × AllValid n.accepted (schema_of n.location n.hands_on n.assertions) };
 
     ghost size = { height };
 
@@ -93,15 +98,16 @@ impl<F: Json> SchemaNode<F> {
     pub(crate) fn of_boolean(alloc: Global, location: Location, accepts: bool) -> SchemaNode<F>
         ensures { result ≡ boolean_schema location accepts }
     {
-        let assertions = if accepts {
-            Assertions::Keywords(Vec::new(alloc))
+        let (accepted, assertions) = if accepts {
+            (QuickSet::all(), Assertions::Keywords(Vec::new(alloc)))
         } else {
-            Assertions::Never
+            (QuickSet::none(), Assertions::Never)
         };
         SchemaNode {
             location,
             hands_on: false,
             hands_on_any: false,
+            accepted,
             assertions,
         }
     }
@@ -117,10 +123,12 @@ impl<F: Json> SchemaNode<F> {
             (keywords_of units.items) }
     {
         let hands_on_any = hands_on || some_unit_hands_on(units.as_slice());
+        let accepted = quick_set_of(units.as_slice());
         SchemaNode {
             location,
             hands_on,
             hands_on_any,
+            accepted,
             assertions: Assertions::Keywords(units),
         }
     }
@@ -175,10 +183,39 @@ impl<F: Json> SchemaNode<F> {
         self.units()
     }
 
+    // Applies the schema to an instance that is known to be valid without a look at the keywords.
+    // Returns whether it is; if not, nothing is applied.
+    #[inline(always)]
+    fn accepts(&self, instance: &F::Node, ctx: &mut ValidationContext) -> bool
+        requires { IsTrue (is_lawful (F.Node.tree instance.now)) }
+        ensures valid { result ≡ true → holds self.now (F.Node.tree instance.now) ≡ true }
+        ensures applied { result ≡ true → min (ctx.old + 1) u64.MAX ≤ ctx.new }
+        ensures counted { CountsUpTo ctx.old ctx.new (if result then 1 else 0) }
+    {
+        let accepted = self.accepted.contains(instance);
+        if accepted {
+            ctx.count_one();
+        }
+        accepted
+    }
+
     /// Returns whether the instance, which must be lawful, is valid (JSON Schema Core 7.6). Stops
     /// at the first failure. Allocates nothing.
+    #[inline(always)]
     #[cycle(is_valid)]
     pub fn is_valid(&self, instance: &F::Node, ctx: &mut ValidationContext) -> bool
+        requires { IsTrue (is_lawful (F.Node.tree instance.now)) }
+        ensures answer { result ≡ holds self.now (F.Node.tree instance.now) }
+        ensures applied { min (ctx.old + 1) u64.MAX ≤ ctx.new }
+        ensures counted { CountsUpTo ctx.old ctx.new (needed self.now (F.Node.tree instance.now)) }
+    {
+        self.accepts(instance, ctx) || self.keywords_are_valid(instance, ctx)
+    }
+
+    // `is_valid` by the keywords.
+    #[inline(never)]
+    #[cycle(is_valid)]
+    fn keywords_are_valid(&self, instance: &F::Node, ctx: &mut ValidationContext) -> bool
         requires { IsTrue (is_lawful (F.Node.tree instance.now)) }
         ensures answer { result ≡ holds self.now (F.Node.tree instance.now) }
         ensures applied { min (ctx.old + 1) u64.MAX ≤ ctx.new }
@@ -235,6 +272,9 @@ impl<F: Json> SchemaNode<F> {
         ensures location { location.new ≡ location.old }
         ensures counted { CountsUpTo ctx.old ctx.new (needed self.now (F.Node.tree item.now)) }
     {
+        if self.accepts(item, ctx) {
+            return Ok(());
+        }
         location.push(index)?;
         let answer = self.validate(item, location, ctx);
         location.pop();
@@ -282,6 +322,9 @@ impl<F: Json> SchemaNode<F> {
         ensures location { location.new ≡ location.old }
         ensures counted { CountsUpTo ctx.old ctx.new (pairs self.now (F.Node.tree item.now)) }
     {
+        if self.accepts(item, ctx) {
+            return Ok(());
+        }
         location.push(index)?;
         let answer = self.collect_errors(item, location, ctx, errors);
         location.pop();

@@ -1,20 +1,23 @@
 //! The units of a schema: its keywords in order, where the first four may be one unit, and the
 //! walks over them.
-ghost use Rattle.std.specs.Prelude.{◌≡◌, ◌++◌, IfOk, IfSome, IsTrue, is_some};
-ghost use Rattle.jskw_value.specs.Tree.{is_lawful};
+ghost use Rattle.std.specs.Prelude.{◌≡◌, ◌++◌, IfOk, IfSome, IsTrue, is_some, true};
+ghost use Rattle.jskw_value.specs.Tree.{Tree, is_lawful};
 ghost use Rattle.jskw_report.specs.Applications.{all_needed, all_pairs};
 ghost use Rattle.jskw_report.specs.Evaluation.{units as units_of};
 ghost use Rattle.jskw_report.specs.Fail.{all_fail};
 ghost use Rattle.jskw_report.specs.Holds.{all_hold};
 ghost use Rattle.jskw_report.specs.Keyword.{all_hand_on};
+ghost use Rattle.jskw_report.specs.Meaning.{meaning_holds};
 ghost use Rattle.jskw_report.specs.Observe.{Appends, CountsUpTo, IsFirst};
 ghost use Rattle.jskw_report.specs.Paths.{path_of};
+ghost use Rattle.jskw_number.specs.QuickSet.{is_in};
 ghost use Rattle.jskw_array.specs.Fused.{Extends};
 ghost use Rattle.jskw_array.specs.Units.{IsShape, absorbed_by, is_shape, keywords_of};
 ghost use Rattle.jskw_array.specs.Units.{unit_hands_on, unit_location, unit_meaning};
 
 use crate::items::ArrayShapeValidator;
 use crate::validator::Validator;
+use jskw_number::QuickSet;
 use jskw_report::{
     EvaluationNode, EvaluationResult, Fault, LazyLocation, Location, Validate, ValidationContext,
     ValidationError,
@@ -139,6 +142,17 @@ impl<F: Json> Unit<F> {
         }
     }
 
+    // Returns values of which the unit holds.
+    fn quick_set(&self) -> QuickSet
+        ensures { (t : Tree) → is_in result t ≡ true
+            → meaning_holds (unit_meaning self.now) t ≡ true }
+    {
+        match self {
+            Unit::Keyword(keyword) => keyword.validator.quick_set(),
+            Unit::Shape(_) => QuickSet::none(),
+        }
+    }
+
     // Returns whether the `required` of a subschema is handed on.
     fn hands_on_required(&self) -> bool
         ensures { result ≡ unit_hands_on self.now }
@@ -252,4 +266,16 @@ pub(crate) fn some_unit_hands_on<F: Json>(units: &[Unit<F>]) -> bool
         }
     }
     false
+}
+
+// Returns values of which every keyword holds.
+#[tactic(auto, using(crate::proofs::Accepted::accepted_end))]
+pub(crate) fn quick_set_of<F: Json>(units: &[Unit<F>]) -> QuickSet
+    ensures { (t : Tree) → is_in result t ≡ true → all_hold (keywords_of units.now) t ≡ true }
+{
+    let mut accepted = QuickSet::all();
+    for unit in units {
+        accepted = accepted.and(unit.quick_set());
+    }
+    accepted
 }

@@ -6,6 +6,7 @@ ghost use Rattle.jskw_report.specs.Holds.{keyword_holds};
 ghost use Rattle.jskw_report.specs.Keyword.{keyword_hands_on};
 ghost use Rattle.jskw_report.specs.Meaning.{one};
 ghost use Rattle.jskw_report.specs.Observe.{CountsUpTo};
+ghost use Rattle.jskw_number.specs.QuickSet.{Accepts};
 ghost use Rattle.jskw_array.specs.Meaning.{validator_keyword};
 
 use crate::additional_items::AdditionalItemsBooleanValidator;
@@ -17,6 +18,7 @@ use crate::matching::Matching;
 use crate::node::some_hands_on;
 use crate::rest::Rest;
 use jskw_leaf::LeafValidator;
+use jskw_number::QuickSet;
 use jskw_report::{
     EvaluationResult, Fault, LazyLocation, Validate, ValidationContext, ValidationError,
 };
@@ -129,6 +131,16 @@ impl<F: Json> Validator<F> {
             Validator::ItemsIntegerDraft4(v) => v.holds_of(count, instance),
             Validator::Rest(v) => v.holds_of(count, instance, ctx),
             _ => self.is_valid(instance, ctx),
+        }
+    }
+
+    // Returns values that the keyword accepts: one with subschemas accepts everything but arrays.
+    pub(crate) fn quick_set(&self) -> QuickSet
+        ensures { Accepts result (validator_keyword self.now) }
+    {
+        match self {
+            Validator::Leaf(v) => v.quick_set(),
+            _ => QuickSet::but_arrays(),
         }
     }
 

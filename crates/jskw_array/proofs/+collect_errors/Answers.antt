@@ -14,12 +14,23 @@ use Rattle.jskw_array.specs.Fused.{absorbed_keywords, shape_keywords}
 use Rattle.jskw_array.specs.Heights.{each_is_as_high, rest_is_as_high}
 use Rattle.jskw_array.specs.Meaning.{each_keyword, rest_keyword, validator_keyword}
 use Rattle.jskw_array.specs.Units.{keywords_of, unit_meaning}
-use Rattle.jskw_array.proofs.Keywords.{fail_at, items_height, items_keywords, keywords_end, pairs_at, schema_fails, schema_height, schema_pairs, unit_height, unit_tall}
+use Rattle.jskw_array.proofs.Accepted.{counted_within, no_errors}
+use Rattle.jskw_array.proofs.Keywords.{fail_at, items_height, items_keywords, keywords_end, one_pair, pairs_at, schema_fails, schema_height, schema_pairs, unit_height, unit_tall}
 use Rattle.jskw_array.proofs.Meant.{absurd-of, each_fails_of, each_meets, each_no_assertion, rest_fails_of, rest_meets, rest_no_assertion}
 use Rattle.jskw_array.proofs.Meetings.{each_fails_at, each_fails_end, each_pairs_at, entered, fails_at, height_at, sum_at}
 use Rattle.jskw_array.proofs.+collect_errors.Goals as goal
 
 -- ---- an item
+
+pub node::SchemaNode::collect_item-returns-then-accepts-clause-appended : goal.node::SchemaNode::collect_item-returns-then-accepts-clause-appended
+node::SchemaNode::collect_item-returns-then-accepts-clause-appended g t c =
+    let old = failures_of g.F.Node.Rooted.tree c.args.errors.now.items in
+    let none = no_errors c.args.self.now (g.F.Node.Rooted.tree c.args.item.now) (item_location (path_of c.args.location.now) c.args.index) (c.accepts.ensures.valid c.if-accepts.true) in
+    sym (ap (λ fs. old ++ fs) none ∙ append-nil old)
+
+pub node::SchemaNode::collect_item-returns-then-accepts-clause-counted : goal.node::SchemaNode::collect_item-returns-then-accepts-clause-counted
+node::SchemaNode::collect_item-returns-then-accepts-clause-counted g t c =
+    counted_within _ _ _ c.accepts.result c.if-accepts.true (one_pair c.args.self.now (g.F.Node.Rooted.tree c.args.item.now)) c.accepts.ensures.counted
 
 pub node::SchemaNode::collect_item-returns-in_err-push-clause-appended : goal.node::SchemaNode::collect_item-returns-in_err-push-clause-appended
 node::SchemaNode::collect_item-returns-in_err-push-clause-appended g t c =

@@ -6,6 +6,7 @@ use Rattle.jskw_report.specs.Meaning.{meaning_holds, meaning_needed}
 use Rattle.jskw_array.specs.Fused.{shape_keywords}
 use Rattle.jskw_array.specs.Heights.{each_is_as_high, rest_is_as_high}
 use Rattle.jskw_array.specs.Units.{keywords_of, unit_meaning}
+use Rattle.jskw_array.proofs.Accepted.{counted_within, one_needed}
 use Rattle.jskw_array.proofs.Keywords.{hold_at, items_height, needed_at, only_holds, only_lower, only_needs, schema_height, unit_height, unit_tall}
 use Rattle.jskw_array.proofs.Meant.{each_holds_of, each_needs, rest_holds_of, rest_needs}
 use Rattle.jskw_array.proofs.Meetings.{each_holds_end, height_at}
@@ -115,23 +116,27 @@ unit::UnitValidate::is_valid-is_valid-requires-in-Shape g t c κs within =
 
 -- ---- a node
 
-pub node::SchemaNode::is_valid-units_are_valid-requires : goal.node::SchemaNode::is_valid-units_are_valid-requires
-node::SchemaNode::is_valid-units_are_valid-requires g t c κs within =
+pub node::SchemaNode::is_valid-returns-then-accepts-clause-counted : goal.node::SchemaNode::is_valid-returns-then-accepts-clause-counted
+node::SchemaNode::is_valid-returns-then-accepts-clause-counted g t c =
+    counted_within _ _ _ c.accepts.result c.if-accepts.true (one_needed c.args.self.now (g.F.Node.Rooted.tree c.args.instance.now)) c.accepts.ensures.counted
+
+pub node::SchemaNode::keywords_are_valid-units_are_valid-requires : goal.node::SchemaNode::keywords_are_valid-units_are_valid-requires
+node::SchemaNode::keywords_are_valid-units_are_valid-requires g t c κs within =
     let below = schema_height c.args.self.now c.in-Some.units c.in-Some.ensures.units in
     (omega (arith, below, c.decreases), search rules)
 
-pub node::SchemaNode::is_valid-is_valid-requires : goal.node::SchemaNode::is_valid-is_valid-requires
-node::SchemaNode::is_valid-is_valid-requires g t c κs within =
+pub node::SchemaNode::keywords_are_valid-is_valid-requires : goal.node::SchemaNode::keywords_are_valid-is_valid-requires
+node::SchemaNode::keywords_are_valid-is_valid-requires g t c κs within =
     let below = only_lower c.args.self.now c.in-Some.units c.in-Some.ensures.units c.unit-item.result (omega arith) (omega arith) c.unit-item.is in
     (omega (arith, below, c.decreases), search rules)
 
-pub node::SchemaNode::is_valid-returns-in-len1-clause-answer : goal.node::SchemaNode::is_valid-returns-in-len1-clause-answer
-node::SchemaNode::is_valid-returns-in-len1-clause-answer g t c =
+pub node::SchemaNode::keywords_are_valid-returns-in-len1-clause-answer : goal.node::SchemaNode::keywords_are_valid-returns-in-len1-clause-answer
+node::SchemaNode::keywords_are_valid-returns-in-len1-clause-answer g t c =
     let whole = only_holds c.args.self.now c.in-Some.units c.in-Some.ensures.units c.unit-item.result (omega arith) (omega arith) c.unit-item.is (g.F.Node.Rooted.tree c.args.instance.now) in
     c.is_valid.ensures.answer ∙ sym whole
 
-pub node::SchemaNode::is_valid-returns-in-len1-clause-counted : goal.node::SchemaNode::is_valid-returns-in-len1-clause-counted
-node::SchemaNode::is_valid-returns-in-len1-clause-counted g t c =
+pub node::SchemaNode::keywords_are_valid-returns-in-len1-clause-counted : goal.node::SchemaNode::keywords_are_valid-returns-in-len1-clause-counted
+node::SchemaNode::keywords_are_valid-returns-in-len1-clause-counted g t c =
     let whole = only_needs c.args.self.now c.in-Some.units c.in-Some.ensures.units c.unit-item.result (omega arith) (omega arith) c.unit-item.is (g.F.Node.Rooted.tree c.args.instance.now) in
     let first = c.apply.ensures.counted in
     let rest = c.is_valid.ensures.counted in

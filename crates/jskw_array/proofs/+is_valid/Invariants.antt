@@ -9,37 +9,40 @@ use Rattle.jskw_array.proofs.Keywords.{unit_tall}
 use Rattle.jskw_array.proofs.+is_valid.Given as goal
 
 abbrev pub decreases-node::SchemaNode::is_valid : goal.decreases-node::SchemaNode::is_valid
-decreases-node::SchemaNode::is_valid g l = 10 * height l.self.now
+decreases-node::SchemaNode::is_valid g l = 10 * height l.self.now + 1
+
+abbrev pub decreases-node::SchemaNode::keywords_are_valid : goal.decreases-node::SchemaNode::keywords_are_valid
+decreases-node::SchemaNode::keywords_are_valid g l = 10 * height l.self.now
 
 abbrev pub decreases-unit::units_are_valid : goal.decreases-unit::units_are_valid
-decreases-unit::units_are_valid g l = 10 * all_height (keywords_of l.units.now) + 7
+decreases-unit::units_are_valid g l = 10 * all_height (keywords_of l.units.now) + 8
 
 abbrev pub decreases-unit::UnitValidate::is_valid : goal.decreases-unit::UnitValidate::is_valid
-decreases-unit::UnitValidate::is_valid g l = 10 * unit_tall l.self.now + 6
+decreases-unit::UnitValidate::is_valid g l = 10 * unit_tall l.self.now + 7
 
 abbrev pub decreases-items::array_shape::ArrayShapeValidatorValidate::is_valid : goal.decreases-items::array_shape::ArrayShapeValidatorValidate::is_valid
-decreases-items::array_shape::ArrayShapeValidatorValidate::is_valid g l = 10 * keyword_height (validator_keyword l.self.now.items.validator) + 5
+decreases-items::array_shape::ArrayShapeValidatorValidate::is_valid g l = 10 * keyword_height (validator_keyword l.self.now.items.validator) + 6
 
 abbrev pub decreases-validator::Validator::holds_of : goal.decreases-validator::Validator::holds_of
-decreases-validator::Validator::holds_of g l = 10 * keyword_height (validator_keyword l.self.now) + 4
+decreases-validator::Validator::holds_of g l = 10 * keyword_height (validator_keyword l.self.now) + 5
 
 abbrev pub decreases-validator::ValidatorValidate::is_valid : goal.decreases-validator::ValidatorValidate::is_valid
-decreases-validator::ValidatorValidate::is_valid g l = 10 * keyword_height (validator_keyword l.self.now) + 3
+decreases-validator::ValidatorValidate::is_valid g l = 10 * keyword_height (validator_keyword l.self.now) + 4
 
 abbrev pub decreases-each::EachValidate::is_valid : goal.decreases-each::EachValidate::is_valid
-decreases-each::EachValidate::is_valid g l = 10 * keyword_height (each_keyword l.self.now) + 1
+decreases-each::EachValidate::is_valid g l = 10 * keyword_height (each_keyword l.self.now) + 2
 
 abbrev pub decreases-rest::RestValidate::is_valid : goal.decreases-rest::RestValidate::is_valid
-decreases-rest::RestValidate::is_valid g l = 10 * keyword_height (rest_keyword l.self.now) + 2
+decreases-rest::RestValidate::is_valid g l = 10 * keyword_height (rest_keyword l.self.now) + 3
 
 abbrev pub decreases-rest::Rest::holds_of : goal.decreases-rest::Rest::holds_of
-decreases-rest::Rest::holds_of g l = 10 * keyword_height (rest_keyword l.self.now) + 1
+decreases-rest::Rest::holds_of g l = 10 * keyword_height (rest_keyword l.self.now) + 2
 
 abbrev pub decreases-matching::MatchingValidate::is_valid : goal.decreases-matching::MatchingValidate::is_valid
-decreases-matching::MatchingValidate::is_valid g l = 10 * height l.self.now.node + 2
+decreases-matching::MatchingValidate::is_valid g l = 10 * height l.self.now.node + 3
 
 abbrev pub decreases-matching::Matching::failing_location : goal.decreases-matching::Matching::failing_location
-decreases-matching::Matching::failing_location g l = 10 * height l.self.now.node + 1
+decreases-matching::Matching::failing_location g l = 10 * height l.self.now.node + 2
 
 abbrev pub invariant-each::EachValidate::is_valid-loop-index : goal.invariant-each::EachValidate::is_valid-loop-index
 invariant-each::EachValidate::is_valid-loop-index g l =

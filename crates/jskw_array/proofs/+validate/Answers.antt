@@ -15,10 +15,21 @@ use Rattle.jskw_array.specs.Fused.{absorbed_keywords, shape_keywords}
 use Rattle.jskw_array.specs.Heights.{each_is_as_high, rest_is_as_high}
 use Rattle.jskw_array.specs.Meaning.{schemas_of}
 use Rattle.jskw_array.specs.Units.{keywords_of, unit_meaning}
+use Rattle.jskw_array.proofs.Accepted.{counted_within, no_errors, one_needed}
 use Rattle.jskw_array.proofs.Keywords.{fail_at, items_height, items_keywords, keywords_end, needed_at, schema_fails, schema_height, schema_needs, unit_empty, unit_height, unit_tall}
 use Rattle.jskw_array.proofs.Meant.{absurd-of, each_fails_of, each_needs, each_no_assertion, rest_fails_of, rest_needs, rest_no_assertion}
 use Rattle.jskw_array.proofs.Meetings.{each_fails_at, each_fails_end, each_needed_at, fails_at, height_at, until_at}
 use Rattle.jskw_array.proofs.+validate.Goals as goal
+
+-- ---- an item
+
+pub node::SchemaNode::validate_item-returns-then-accepts-clause-first : goal.node::SchemaNode::validate_item-returns-then-accepts-clause-first
+node::SchemaNode::validate_item-returns-then-accepts-clause-first g t c =
+    no_errors c.args.self.now (g.F.Node.Rooted.tree c.args.item.now) (item_location (path_of c.args.location.now) c.args.index) (c.accepts.ensures.valid c.if-accepts.true)
+
+pub node::SchemaNode::validate_item-returns-then-accepts-clause-counted : goal.node::SchemaNode::validate_item-returns-then-accepts-clause-counted
+node::SchemaNode::validate_item-returns-then-accepts-clause-counted g t c =
+    counted_within _ _ _ c.accepts.result c.if-accepts.true (one_needed c.args.self.now (g.F.Node.Rooted.tree c.args.item.now)) c.accepts.ensures.counted
 
 -- ---- a schema for each item
 

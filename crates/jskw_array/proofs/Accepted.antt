@@ -1,0 +1,84 @@
+-- The values that a schema is known to accept, by its keywords.
+use Rattle.std.proofs.Common.{◌≡◌, ◌≢◌, ℕ, ◌+◌, ◌<◌, ◌≤◌, List, [], ◌∷◌, length, get_or, drop, Bool, true, false, ◌&&◌, Some, if◌then◌else◌, refl, sym, ap, ◌∙◌, arith}
+use Rattle.std.proofs.lemmas.Bool.{and_parts, true≢false}
+use Rattle.jskw_value.specs.Pointer.{Pointer}
+use Rattle.jskw_value.specs.Tree.{Tree, is_array}
+use Rattle.jskw_value.specs.declared.types.JsonType.TheVariants.{Array}
+use Rattle.jskw_report.proofs.Elsewhere.{subject}
+use Rattle.jskw_report.proofs.Fails.{holds_empty}
+use Rattle.jskw_report.specs.Applications.{needed}
+use Rattle.jskw_report.specs.Fail.{Failure, fail, is_empty}
+use Rattle.jskw_report.specs.Holds.{all_hold, holds, keyword_holds}
+use Rattle.jskw_report.specs.Keyword.{Schema, false_schema, schema_object, Keyword}
+use Rattle.jskw_report.specs.Meaning.{meaning_holds}
+use Rattle.jskw_report.specs.Observe.{CountsUpTo}
+use Rattle.jskw_number.proofs.QuickSets.{but_arrays}
+use Rattle.jskw_number.specs.QuickSet.{is_in}
+use Rattle.jskw_number.specs.declared.quick_set.QuickSet.{QuickSet}
+use Rattle.jskw_array.proofs.Keywords.{hold_at, keywords_end}
+use Rattle.jskw_array.proofs.Meant.{either}
+use Rattle.jskw_leaf.specs.declared.leaf.LeafValidator.{LeafValidator}
+use Rattle.jskw_array.specs.Meaning.{each_keyword, rest_keyword, validator_keyword}
+use Rattle.jskw_array.specs.Units.{keywords_of, unit_meaning}
+use Rattle.jskw_array.specs.declared.each.Each.{Each}
+use Rattle.jskw_array.specs.declared.rest.Rest.{Rest}
+use Rattle.jskw_array.specs.declared.unit.Unit.{Unit as TheUnit}
+use Rattle.jskw_array.specs.declared.validator.Validator.{Validator}
+use Rattle.jskw_array.specs.declared.validator.Validator.TheVariants as validator
+
+-- ---- keywords with subschemas are about arrays; F, N, O and P are the types of a representation
+
+pub each_about : {F N O P : Type 0} (v : Each F N O P) → subject (each_keyword v) ≡ Some Array
+each_about v = either subject (Some Array) v.is_prefix _ _ refl refl
+
+pub rest_about : {F N O P : Type 0} (v : Rest F N O P) → subject (rest_keyword v) ≡ Some Array
+rest_about v = either subject (Some Array) v.is_additional _ _ refl refl
+
+-- any validator but a leaf
+pub about_arrays : {F N O P : Type 0} (v : Validator F N O P) → ((x : LeafValidator F N O P) → v ≢ validator.Leaf x) → subject (validator_keyword v) ≡ Some Array
+about_arrays (validator.Leaf x) h = absurd (h x refl)
+about_arrays (validator.Each v) h = each_about v
+about_arrays (validator.Rest v) h = rest_about v
+about_arrays (validator.Matching v) h = refl
+about_arrays (validator.ItemsNumber v) h = refl
+about_arrays (validator.ItemsString v) h = refl
+about_arrays (validator.ItemsBoolean v) h = refl
+about_arrays (validator.ItemsInteger v) h = refl
+about_arrays (validator.ItemsIntegerDraft4 v) h = refl
+about_arrays (validator.AdditionalItemsBoolean v) h = refl
+
+-- ---- the values that all units accept
+
+-- what the units before the index i and then the others accept, all accept
+module _ {F N O P : Type 0} (us : List (TheUnit F N O P)) where
+  abbrev pub Accepted : QuickSet → ℕ → Type 0
+  Accepted q i = (t : Tree) → is_in q t ≡ true → all_hold (keywords_of (drop i us)) t ≡ true → all_hold (keywords_of us) t ≡ true
+
+  pub accepted_next : (q r both : QuickSet) (i : ℕ) (u : TheUnit F N O P) → i < length us → u ≡ get_or us i u → Accepted q i
+      → ((t : Tree) → is_in r t ≡ true → meaning_holds (unit_meaning u) t ≡ true)
+      → ((t : Tree) → is_in both t ≡ true → (is_in q t && is_in r t) ≡ true)
+      → Accepted both (i + 1)
+  accepted_next q r both i u within is before here parts t h rest =
+      let p = and_parts (is_in q t) (is_in r t) (parts t h) in
+      before t p.0 (hold_at us i u within is t ∙ ap (λ b. b && all_hold (keywords_of (drop (i + 1) us)) t) (here t p.1) ∙ rest)
+
+  pub accepted_end : (q : QuickSet) (i : ℕ) → length us ≤ i → Accepted q i → (t : Tree) → is_in q t ≡ true → all_hold (keywords_of us) t ≡ true
+  accepted_end q i end all t h = all t h (ap (λ ks. all_hold ks t) (keywords_end us i end))
+
+-- a schema and a tree are one pair that is needed at least
+pub one_needed : (s : Schema) (t : Tree) → 1 ≤ needed s t
+one_needed (false_schema q) t = omega arith
+one_needed (schema_object q marks ks) t = omega arith
+
+-- what is valid has no errors
+pub no_errors : (s : Schema) (t : Tree) (p : Pointer) → holds s t ≡ true → fail s t p ≡ []
+no_errors s t p h = go (fail s t p) (sym (holds_empty s t p) ∙ h)
+  where
+    go : (fs : List Failure) → is_empty fs ≡ true → fs ≡ []
+    go [] e = refl
+    go (f ∷ fs) e = absurd (true≢false (sym e))
+
+-- one application that is counted is no more than n
+pub counted_within : (old new n : ℕ) (b : Bool) → b ≡ true → 1 ≤ n → CountsUpTo old new (if b then 1 else 0) → CountsUpTo old new n
+counted_within old new n true is least counted = record { from = counted.from; to = omega (arith, least, counted.to) }
+counted_within old new n false is least counted = absurd (true≢false (sym is))
