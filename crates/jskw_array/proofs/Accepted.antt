@@ -82,3 +82,8 @@ no_errors s t p h = go (fail s t p) (sym (holds_empty s t p) ∙ h)
 pub counted_within : (old new n : ℕ) (b : Bool) → b ≡ true → 1 ≤ n → CountsUpTo old new (if b then 1 else 0) → CountsUpTo old new n
 counted_within old new n true is least counted = record { from = counted.from; to = omega (arith, least, counted.to) }
 counted_within old new n false is least counted = absurd (true≢false (sym is))
+
+-- what was not accepted at once was not counted either
+pub counted_later : (old mid new n : ℕ) (b : Bool) → b ≡ false → CountsUpTo old mid (if b then 1 else 0) → CountsUpTo mid new n → CountsUpTo old new n
+counted_later old mid new n true is before later = absurd (true≢false is)
+counted_later old mid new n false is before later = record { from = omega (arith, before.from, later.from); to = omega (arith, before.to, later.to) }

@@ -251,6 +251,9 @@ impl<F: Json> SchemaNode<F> {
         ensures applied { min (ctx.old + 1) u64.MAX ≤ ctx.new }
         ensures counted { CountsUpTo ctx.old ctx.new (needed self.now (F.Node.tree instance.now)) }
     {
+        if self.accepts(instance, ctx) {
+            return Ok(());
+        }
         let Some(units) = self.apply(ctx) else {
             return refuse(self.location(), instance, location);
         };
@@ -299,6 +302,9 @@ impl<F: Json> SchemaNode<F> {
         ensures applied { min (ctx.old + 1) u64.MAX ≤ ctx.new }
         ensures counted { CountsUpTo ctx.old ctx.new (pairs self.now (F.Node.tree instance.now)) }
     {
+        if self.accepts(instance, ctx) {
+            return Ok(());
+        }
         let Some(units) = self.apply(ctx) else {
             return append_first(refuse(self.location(), instance, location), errors);
         };

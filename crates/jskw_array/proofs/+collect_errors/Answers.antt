@@ -14,7 +14,7 @@ use Rattle.jskw_array.specs.Fused.{absorbed_keywords, shape_keywords}
 use Rattle.jskw_array.specs.Heights.{each_is_as_high, rest_is_as_high}
 use Rattle.jskw_array.specs.Meaning.{each_keyword, rest_keyword, validator_keyword}
 use Rattle.jskw_array.specs.Units.{keywords_of, unit_meaning}
-use Rattle.jskw_array.proofs.Accepted.{counted_within, no_errors}
+use Rattle.jskw_array.proofs.Accepted.{counted_later, counted_within, no_errors}
 use Rattle.jskw_array.proofs.Keywords.{fail_at, items_height, items_keywords, keywords_end, one_pair, pairs_at, schema_fails, schema_height, schema_pairs, unit_height, unit_tall}
 use Rattle.jskw_array.proofs.Meant.{absurd-of, each_fails_of, each_meets, each_no_assertion, rest_fails_of, rest_meets, rest_no_assertion}
 use Rattle.jskw_array.proofs.Meetings.{each_fails_at, each_fails_end, each_pairs_at, entered, fails_at, height_at, sum_at}
@@ -276,6 +276,16 @@ items::array_shape::ArrayShapeValidatorValidate::collect_errors-returns-clause-a
 
 -- ---- a node
 
+pub node::SchemaNode::collect_errors-returns-then-accepts-clause-appended : goal.node::SchemaNode::collect_errors-returns-then-accepts-clause-appended
+node::SchemaNode::collect_errors-returns-then-accepts-clause-appended g t c =
+    let old = failures_of g.F.Node.Rooted.tree c.args.errors.now.items in
+    let none = no_errors c.args.self.now (g.F.Node.Rooted.tree c.args.instance.now) (path_of c.args.location.now) (c.accepts.ensures.valid c.if-accepts.true) in
+    sym (ap (λ fs. old ++ fs) none ∙ append-nil old)
+
+pub node::SchemaNode::collect_errors-returns-then-accepts-clause-counted : goal.node::SchemaNode::collect_errors-returns-then-accepts-clause-counted
+node::SchemaNode::collect_errors-returns-then-accepts-clause-counted g t c =
+    counted_within _ _ _ c.accepts.result c.if-accepts.true (one_pair c.args.self.now (g.F.Node.Rooted.tree c.args.instance.now)) c.accepts.ensures.counted
+
 pub node::SchemaNode::collect_errors-collect_units-requires : goal.node::SchemaNode::collect_errors-collect_units-requires
 node::SchemaNode::collect_errors-collect_units-requires g t c κs within =
     let below = schema_height c.args.self.now c.in-Some.units c.in-Some.ensures.units in
@@ -292,4 +302,4 @@ node::SchemaNode::collect_errors-returns-clause-counted g t c =
     let whole = schema_pairs c.args.self.now c.in-Some.units c.in-Some.ensures.units (g.F.Node.Rooted.tree c.args.instance.now) in
     let first = c.apply.ensures.counted in
     let rest = c.collect_units.ensures.counted in
-    record { from = omega (arith, first.from, rest.from); to = omega (arith, whole, first.to, rest.to) }
+    counted_later _ _ _ _ c.accepts.result c.if-accepts.false c.accepts.ensures.counted (record { from = omega (arith, first.from, rest.from); to = omega (arith, whole, first.to, rest.to) })

@@ -15,7 +15,7 @@ use Rattle.jskw_array.specs.Fused.{absorbed_keywords, shape_keywords}
 use Rattle.jskw_array.specs.Heights.{each_is_as_high, rest_is_as_high}
 use Rattle.jskw_array.specs.Meaning.{schemas_of}
 use Rattle.jskw_array.specs.Units.{keywords_of, unit_meaning}
-use Rattle.jskw_array.proofs.Accepted.{counted_within, no_errors, one_needed}
+use Rattle.jskw_array.proofs.Accepted.{counted_later, counted_within, no_errors, one_needed}
 use Rattle.jskw_array.proofs.Keywords.{fail_at, items_height, items_keywords, keywords_end, needed_at, schema_fails, schema_height, schema_needs, unit_empty, unit_height, unit_tall}
 use Rattle.jskw_array.proofs.Meant.{absurd-of, each_fails_of, each_needs, each_no_assertion, rest_fails_of, rest_needs, rest_no_assertion}
 use Rattle.jskw_array.proofs.Meetings.{each_fails_at, each_fails_end, each_needed_at, fails_at, height_at, until_at}
@@ -226,6 +226,14 @@ items::array_shape::ArrayShapeValidatorValidate::validate-returns-in_err-validat
 
 -- ---- a node
 
+pub node::SchemaNode::validate-returns-then-accepts-clause-first : goal.node::SchemaNode::validate-returns-then-accepts-clause-first
+node::SchemaNode::validate-returns-then-accepts-clause-first g t c =
+    no_errors c.args.self.now (g.F.Node.Rooted.tree c.args.instance.now) (path_of c.args.location.now) (c.accepts.ensures.valid c.if-accepts.true)
+
+pub node::SchemaNode::validate-returns-then-accepts-clause-counted : goal.node::SchemaNode::validate-returns-then-accepts-clause-counted
+node::SchemaNode::validate-returns-then-accepts-clause-counted g t c =
+    counted_within _ _ _ c.accepts.result c.if-accepts.true (one_needed c.args.self.now (g.F.Node.Rooted.tree c.args.instance.now)) c.accepts.ensures.counted
+
 pub node::SchemaNode::validate-validate_units-requires : goal.node::SchemaNode::validate-validate_units-requires
 node::SchemaNode::validate-validate_units-requires g t c κs within =
     let below = schema_height c.args.self.now c.in-Some.units c.in-Some.ensures.units in
@@ -242,4 +250,4 @@ node::SchemaNode::validate-returns-clause-counted g t c =
     let whole = schema_needs c.args.self.now c.in-Some.units c.in-Some.ensures.units (g.F.Node.Rooted.tree c.args.instance.now) in
     let first = c.apply.ensures.counted in
     let rest = c.validate_units.ensures.counted in
-    record { from = omega (arith, first.from, rest.from); to = omega (arith, whole, first.to, rest.to) }
+    counted_later _ _ _ _ c.accepts.result c.if-accepts.false c.accepts.ensures.counted (record { from = omega (arith, first.from, rest.from); to = omega (arith, whole, first.to, rest.to) })

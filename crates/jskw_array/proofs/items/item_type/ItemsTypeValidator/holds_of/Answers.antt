@@ -8,8 +8,8 @@ use Rattle.jskw_array.proofs.items.item_type.ItemsTypeValidator.holds_of.Goals a
 
 pub returns : goal.returns
 returns g c =
-    let l = c.loop-index in
+    let l = c.loop-rest in
     let v = c.args.self.now in
     let a = single_type g.T.TypeTest.json_type g.T.TypeTest.rule v.validator in
     let ts = items (g.F.Node.Rooted.tree c.args.instance.now) in
-    sym (bare_all_hold v.location a ts ∙ l.invariant.answer ∙ all_end ts l.index (omega arith) (assertion_holds a.claim))
+    sym (bare_all_hold v.location a ts ∙ l.invariant.answer ∙ all_end ts l.rest (omega arith) (assertion_holds a.claim))
