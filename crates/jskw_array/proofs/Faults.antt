@@ -8,7 +8,7 @@ use Rattle.jskw_report.specs.declared.error.CompileFault.TheVariants.{Bad, Memor
 -- the whole is refused where a part of it is
 pub refused_whole : {V W K L : Type 0} (means : V → K) (whole : W → L) (x : CompileFault) (part : Result K Refusal) (all : Result L Refusal)
     → Makes means (Err x) part → ((r : Refusal) → part ≡ Err r → all ≡ Err r) → Makes whole (Err x) all
-refused_whole means whole (Bad b) part all made then = then (refusal_of b) made
+refused_whole means whole (Bad b) part all made then = (then (refusal_of b) made.0, made.1)
 refused_whole means whole (Memory m) part all made then = tt
 
 -- the same of what `?` hands on

@@ -12,8 +12,10 @@ pub mod Once
 pub mod OverriddenKeywords
 pub mod OneOption
 pub mod Pointers
+pub mod Quiet
 pub mod Reading
 pub mod Same
+pub mod SmallerNodes
 pub mod TypeReading
 pub mod Units
 pub mod Valid

@@ -1,5 +1,5 @@
 -- What a compile owes to the reading of its schema or keyword.
-use Rattle.std.specs.Prelude.{◌≡◌, Option, Some, None, Result, Ok, Err, ⊤}
+use Rattle.std.specs.Prelude.{◌≡◌, [], Option, Some, None, Result, Ok, Err, ⊤}
 use Rattle.serde_json.specs.Data.{Data, Members}
 use Rattle.serde_json.specs.View.{view}
 use Rattle.serde_json.specs.declared.value.Value.{Value}
@@ -20,15 +20,15 @@ refusal_of e = record { kind = kind_of e.kind; location = schema_path_of e.schem
 abbrev pub reading : KeywordName → Spot → Members → Data → Asserts
 reading w spot ms d = asserted w spot.setting spot.location ms (part d)
 
--- the fault is this refusal, or want of memory
+-- the fault is this refusal, with an empty instance location; or memory ran out
 abbrev pub Refuses : CompileFault → Refusal → Type 0
-Refuses (Bad e) r = refusal_of e ≡ r
+Refuses (Bad e) r = (refusal_of e ≡ r) × (e.instance_path ≡ [])
 Refuses (Memory e) r = ⊤
 
--- the fault is the refusal that is read, or want of memory; or what was made means what is read
+-- the fault is the refusal that is read, with an empty instance location; or memory ran out; or what was made means what is read
 abbrev pub Makes : {V K : Type 0} → (V → K) → Result V CompileFault → Result K Refusal → Type 0
 Makes means (Ok v) read = read ≡ Ok (means v)
-Makes means (Err (Bad e)) read = read ≡ Err (refusal_of e)
+Makes means (Err (Bad e)) read = (read ≡ Err (refusal_of e)) × (e.instance_path ≡ [])
 Makes means (Err (Memory e)) read = ⊤
 
 -- nothing is made exactly where nothing is asserted

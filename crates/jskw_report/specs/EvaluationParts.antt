@@ -1,5 +1,5 @@
 -- What the parts of an evaluation of the code stand for, and how many nodes it has.
-use Rattle.std.specs.Prelude.{ℕ, suc, ◌+◌, ◌≤◌, List, [], ◌∷◌, map}
+use Rattle.std.specs.Prelude.{◌≡◌, ℕ, suc, ◌+◌, ◌≤◌, ◌<◌, List, [], ◌∷◌, length, map, slice_index_or}
 use Rattle.std.proofs.Common.{arith}
 use denote.Param.Weighed.{most}
 use Rattle.jskw_report.specs.Evaluation.{Annotation, flag, index, indices, Evaluation, node, Evaluations, no_evaluations, evaluation, evaluations}
@@ -35,3 +35,7 @@ abbrev mutual
 pub most_le_weights : (es : List Evaluation) → most (λ e. weight e + 1) es ≤ weights (evaluations es) + 1
 most_le_weights [] = omega arith
 most_le_weights (e ∷ es) = omega (arith, most_le_weights es)
+
+-- each of the trees has fewer nodes than n
+abbrev pub AreSmaller : List Evaluation → ℕ → Type 0
+AreSmaller es n = (i : ℕ) (e : Evaluation) → i < length es → e ≡ slice_index_or es i e → weight e < n

@@ -127,23 +127,24 @@ impl<'s, F: Json> Context<'s, F> {
             .join(alloc, LocationSegment::Name(keyword.as_str()))
     }
 
-    /// Returns whether the vocabulary is present: always in Drafts 4, 6 and 7, else if the settings
-    /// have it (JSON Schema Core 8.1.2).
+    /// Returns whether the vocabulary is present: always in Drafts 4, 6 and 7, otherwise if the
+    /// settings contain it (JSON Schema Core 8.1.2).
     pub fn has_vocabulary(&self, vocabulary: Vocabulary) -> bool
         ensures { result ≡ has_vocabulary self.now.setting vocabulary }
     {
         self.settings.has_vocabulary(vocabulary)
     }
 
-    /// Returns whether the name is one of the overridden, letter for letter. Compares it with each of
-    /// them; for a keyword of this library, [`overrides`](Context::overrides) takes constant time.
+    /// Returns whether the name is overridden. Names are compared byte by byte, with each
+    /// overridden name; for a keyword of this library, [`overrides`](Context::overrides) takes
+    /// constant time.
     pub fn is_keyword_overridden(&self, name: &str) -> bool
         ensures { result ≡ is_overridden self.now.setting name.now }
     {
         self.settings.is_keyword_overridden(name)
     }
 
-    /// Returns whether the name of the keyword is one of the overridden. Takes constant time.
+    /// Returns whether the name of the keyword is overridden. Takes constant time.
     pub fn overrides(&self, keyword: KeywordName) -> bool
         ensures { result ≡ is_overridden self.now.setting (name_of keyword) }
     {
@@ -151,8 +152,8 @@ impl<'s, F: Json> Context<'s, F> {
     }
 }
 
-/// Returns the value of the member `name` of a schema object, or `None` if it has no such member. A
-/// map of `serde_json` has each name once.
+/// Returns the value of the member `name` of a schema object, or `None` if there is no such member.
+/// A map of `serde_json` has each name at most once.
 pub fn member_of<'v>(parent: &'v Map<String, Value>, name: &str) -> Option<&'v Value>
     ensures { option_map (λ x. view x.now) result
         ≡ get_member name.now (members_view parent.now.entries) }

@@ -16,7 +16,7 @@ use serde_json::Value;
 use std::alloc::{AllocError, AllocFailed, Global};
 
 /// The types that were expected.
-#[derive(Clone, Copy)]
+#[derive(Clone, Copy, Debug, PartialEq, Eq)]
 pub enum TypeKind {
     /// One type. For `type`: the value is a name, or an array of one name.
     Single(JsonType),
@@ -26,7 +26,7 @@ pub enum TypeKind {
 }
 
 /// The options that were expected.
-#[derive(Clone, Copy)]
+#[derive(Clone, Copy, Debug, PartialEq)]
 pub enum EnumOptions<'i> {
     /// The items of this array, the value of `enum`. A value that is not an array has no options.
     Listed(&'i Value),
@@ -39,7 +39,7 @@ pub enum EnumOptions<'i> {
 /// A limit is an integer from -2^63 to 2^64-1, a bound on a size an integer from 0 to 2^64-1, and a
 /// divisor an integer from 1 to 2^64-1. A compile error is of the kind `CompileError`, `Enum`,
 /// `ExclusiveMinimum`, `Minimum` or `WrongType`, and is about a value of the schema.
-#[derive(Clone, Copy)]
+#[derive(Clone, Copy, Debug, PartialEq)]
 pub enum ValidationErrorKind<'i> {
     /// The array has more than `limit` items, the number of schemas in `items`, and
     /// `additionalItems` is `false` (Draft 7 Validation 6.4.2).

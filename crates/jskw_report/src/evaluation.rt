@@ -17,7 +17,7 @@ use std::alloc::{AllocError, Global};
 use std::marker::Model;
 
 /// The description of one error: the keyword that failed, and a message.
-#[derive(Drop)]
+#[derive(Debug, Drop)]
 pub struct ErrorDescription {
     keyword: &'static str,
     message: String,
@@ -72,7 +72,7 @@ impl ErrorDescription {
 
 /// The annotation of a keyword: what it reports of an array besides whether it is valid (JSON
 /// Schema Core 7.7).
-#[derive(Drop)]
+#[derive(Debug, PartialEq, Eq, Drop)]
 pub enum Annotations {
     /// For `items` with one schema: whether it was applied to any item (JSON Schema Core 10.3.1.2).
     /// For `prefixItems`: `true` if every item has a schema (JSON Schema Core 10.3.1.1).
@@ -86,7 +86,7 @@ pub enum Annotations {
 
 /// What one keyword reports of an instance: a unit of the evaluation (JSON Schema Core 12.3),
 /// without its locations. An [`EvaluationNode`] adds them.
-#[derive(Drop)]
+#[derive(Debug, Drop)]
 pub enum EvaluationResult {
     /// The keyword accepts the instance.
     Valid {

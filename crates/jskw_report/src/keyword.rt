@@ -12,7 +12,7 @@ use jskw_value::Json;
 /// The variants are in the order in which the keywords of a schema are compiled; errors and
 /// evaluation nodes are in the same order. `minContains` and `maxContains` have no variant: they
 /// are part of `contains`.
-#[derive(Clone, Copy)]
+#[derive(Clone, Copy, Debug, PartialEq, Eq)]
 pub enum KeywordName {
     /// `type` (JSON Schema Validation 6.1.1). `Type` alone is a reserved word in contracts.
     TypeKeyword,
@@ -132,7 +132,7 @@ impl KeywordName {
         self as usize
     }
 
-    // Whether the draft has the keyword.
+    // Returns whether the draft has the keyword.
     fn is_in(self, draft: Draft) -> bool
         ensures { result ≡ is_in draft self }
     {

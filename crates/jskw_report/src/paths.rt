@@ -9,7 +9,7 @@ use std::marker::Model;
 
 /// One step of a location: into a member of an object by its name, or into an item of an array by
 /// its index.
-#[derive(Clone, Copy, Debug)]
+#[derive(Clone, Copy, Debug, PartialEq, Eq)]
 pub enum LocationSegment<'s> {
     /// The member with this name.
     Name(&'s str),
@@ -111,7 +111,7 @@ impl Eq for Location {
 /// The text of the pointer is built only if an error or a node of an evaluation needs it. The stack
 /// has no names: the keywords of this library apply subschemas to items, never to members. It keeps
 /// the allocator that it was created with.
-#[derive(Drop)]
+#[derive(Debug, Drop)]
 pub struct LazyLocation {
     indices: Vec<usize>,
 }

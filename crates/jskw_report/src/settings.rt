@@ -1,4 +1,4 @@
-//! What a schema is read under: its draft, the vocabularies, and the overridden names.
+//! The settings of a compile: the draft, the vocabularies, and the overridden keywords.
 ghost use Rattle.std.specs.Prelude.{◌≡◌, map, string_bytes, true};
 ghost use Rattle.std.specs.List.{list_any};
 ghost use Rattle.std.specs.Str.{bytes_eq};
@@ -12,31 +12,31 @@ use std::marker::Model;
 /// A draft of JSON Schema.
 #[derive(Clone, Copy, PartialEq, Eq, Debug)]
 pub enum Draft {
-    /// Draft 4
+    /// Draft 4.
     Draft4,
-    /// Draft 6
+    /// Draft 6.
     Draft6,
-    /// Draft 7
+    /// Draft 7.
     Draft7,
-    /// Draft 2019-09
+    /// Draft 2019-09.
     Draft201909,
-    /// Draft 2020-12
+    /// Draft 2020-12.
     Draft202012,
 }
 
-/// A vocabulary of Draft 2019-09 and 2020-12 (Core 8.1), as far as this library asks for one.
+/// A vocabulary of Drafts 2019-09 and 2020-12 (JSON Schema Core 8.1). This library uses these
+/// three.
 #[derive(Clone, Copy, PartialEq, Eq, Debug)]
 pub enum Vocabulary {
-    /// that of `$schema` and the like (Core 8)
+    /// The core vocabulary, with `$schema` and `$ref` (JSON Schema Core 8).
     Core,
-    /// that of the keywords with subschemas (Core 10)
+    /// The applicator vocabulary, of the keywords with subschemas (JSON Schema Core 10).
     Applicator,
-    /// that of the assertions (Validation 6)
+    /// The validation vocabulary, of the other assertions (JSON Schema Validation 6).
     Validation,
 }
 
-/// A set of vocabularies. Drafts 4, 6 and 7 know none: there no keyword is left out for want of
-/// one.
+/// A set of vocabularies. Drafts 4, 6 and 7 have no vocabularies, and ignore it.
 #[derive(Clone, Copy, PartialEq, Eq, Debug)]
 pub struct VocabularySet {
     core: bool,
@@ -45,7 +45,7 @@ pub struct VocabularySet {
 }
 
 impl VocabularySet {
-    /// The set without any vocabulary.
+    /// Returns the empty set.
     pub fn empty() -> VocabularySet
         ensures { result ≡ no_vocabulary }
     {
@@ -56,7 +56,7 @@ impl VocabularySet {
         }
     }
 
-    /// The set of all three vocabularies.
+    /// Returns the set of all three vocabularies.
     pub fn all() -> VocabularySet
         ensures { result ≡ all_vocabularies }
     {
@@ -67,7 +67,7 @@ impl VocabularySet {
         }
     }
 
-    /// The set with the vocabulary.
+    /// Returns the set with this vocabulary added.
     #[must_use]
     pub fn insert(self, vocabulary: Vocabulary) -> VocabularySet
         ensures { result ≡ with_vocabulary vocabulary self }
@@ -85,7 +85,7 @@ impl VocabularySet {
         }
     }
 
-    /// Whether the vocabulary is in the set.
+    /// Returns whether the set contains this vocabulary.
     pub fn contains(&self, vocabulary: Vocabulary) -> bool
         ensures { result ≡ has self.now vocabulary }
     {
@@ -97,10 +97,11 @@ impl VocabularySet {
     }
 }
 
-/// What a schema is read under: the draft, the vocabularies, and the names of the overridden
-/// keywords. A caller overrides a keyword to put one of its own in its place, and this library then
-/// doesn't read it.
-#[derive(Drop)]
+/// The settings of a compile: the draft, the vocabularies, and the names of the overridden
+/// keywords, which this library does not assert, so that a caller can assert them in another way.
+/// Other keywords still read the values of overridden ones: see
+/// [`KeywordName::stands`](crate::KeywordName::stands).
+#[derive(Debug, Drop)]
 pub struct Settings {
     draft: Draft,
     vocabularies: VocabularySet,
@@ -127,9 +128,9 @@ impl Model for Settings {
 }
 
 impl Settings {
-    /// Returns the setting of these three, with an object layer. An overridden name may be any text,
-    /// and may be there twice. Takes time in proportion to the number of names, so that
-    /// [`KeywordName::stands`](crate::KeywordName::stands) takes the same time for any number.
+    /// Creates the settings from these three parts. An overridden name may be any text, and may be
+    /// there twice. Takes time in proportion to the number of names;
+    /// [`KeywordName::stands`](crate::KeywordName::stands) then takes the same time for any number.
     pub fn new(draft: Draft, vocabularies: VocabularySet, overridden: Vec<String>) -> Settings
         ensures { result ≡ record {
           draft = draft;
@@ -153,8 +154,8 @@ impl Settings {
         self.draft
     }
 
-    /// Returns whether the vocabulary is present: always in Drafts 4, 6 and 7, else if the set has
-    /// it (Core 8.1.2).
+    /// Returns whether the vocabulary is present: always in Drafts 4, 6 and 7, otherwise if the set
+    /// contains it (JSON Schema Core 8.1.2).
     pub fn has_vocabulary(&self, vocabulary: Vocabulary) -> bool
         ensures { result ≡ has_vocabulary self.now vocabulary }
     {
@@ -164,15 +165,16 @@ impl Settings {
         }
     }
 
-    /// Returns whether the name is one of the overridden, letter for letter. Compares it with each of
-    /// them; for a keyword of this library, [`overrides`](Settings::overrides) takes constant time.
+    /// Returns whether the name is overridden. Names are compared byte by byte, with each
+    /// overridden name; for a keyword of this library, [`overrides`](Settings::overrides) takes
+    /// constant time.
     pub fn is_keyword_overridden(&self, name: &str) -> bool
         ensures { result ≡ is_overridden self.now name.now }
     {
         is_among(&self.overridden, name)
     }
 
-    /// Returns whether the name of the keyword is one of the overridden. Takes constant time.
+    /// Returns whether the name of the keyword is overridden. Takes constant time.
     #[tactic(auto, using(crate::proofs::OverriddenKeywords::lemmas))]
     pub fn overrides(&self, keyword: KeywordName) -> bool
         ensures { result ≡ is_overridden self.now (name_of keyword) }
@@ -181,7 +183,7 @@ impl Settings {
     }
 }
 
-// For each keyword, whether its name is one of these.
+// Returns for each keyword whether its name is one of these.
 fn marks_of(names: &[String]) -> [bool; 18]
     ensures { result ≡ overridden_marks (map string_bytes names.now) }
 {
@@ -192,7 +194,7 @@ fn marks_of(names: &[String]) -> [bool; 18]
     marks
 }
 
-// Whether the name is one of these, letter for letter.
+// Returns whether the name is one of these, byte by byte.
 fn is_among(names: &[String], name: &str) -> bool
     ensures { result ≡ list_any (bytes_eq name.now) (map string_bytes names.now) }
 {

@@ -1,6 +1,6 @@
 //! The trait of validators, with its four observers, and the steps that their implementations
 //! share.
-ghost use Rattle.std.specs.Prelude.{◌≡◌, ◌≤◌, ◌+◌, min, length, IfOk, IsOk, List, IsTrue};
+ghost use Rattle.std.specs.Prelude.{◌≡◌, ◌≤◌, ◌+◌, [], min, length, IfOk, IsOk, List, IsTrue};
 ghost use Rattle.jskw_value.specs.Tree.{is_lawful};
 ghost use Rattle.jskw_report.specs.Errors.{kind_of, failures_of};
 ghost use Rattle.jskw_report.specs.Evaluation.{of_errors};
@@ -18,9 +18,8 @@ use jskw_value::Json;
 use std::alloc::{AllocError, Global};
 use std::marker::Model;
 
-/// A count that is passed along with an instance: how many times a schema or a subschema was
-/// applied.
-#[derive(Drop)]
+/// The state of one validation: the number of times that a schema or a subschema was applied.
+#[derive(Debug, Drop)]
 pub struct ValidationContext {
     applications: u64,
 }
@@ -124,7 +123,7 @@ pub trait Validate<F: Json> {
             (meaning_pairs (meaning self.now) (F.Node.tree instance.now)) };
 
     /// Returns what the keyword reports of the instance: its unit of the evaluation tree (JSON
-    /// Schema Core 12.3).
+    /// Schema Core 12.3). A keyword without subschemas allocates nothing if the instance is valid.
     fn evaluate(
         &self,
         alloc: Global,
@@ -133,6 +132,9 @@ pub trait Validate<F: Json> {
         ctx: &mut ValidationContext,
     ) -> Result<EvaluationResult, AllocError>
         requires { IsTrue (is_lawful (F.Node.tree instance.now)) }
+        ensures quiet { IsTrue (is_assertion (meaning self.now))
+            → IsTrue (meaning_holds (meaning self.now) (F.Node.tree instance.now))
+            → IsOk result }
         ensures gives { IfOk result (λ r. result_of r
             ≡ meaning_unit (meaning self.now) (F.Node.tree instance.now) (path_of location.old)) }
         ensures location { location.new ≡ location.old }
@@ -212,7 +214,9 @@ pub fn evaluate_errors<F: Json>(
     alloc: Global,
     errors: &[ValidationError<'_, F>],
 ) -> Result<EvaluationResult, AllocError>
-    ensures { IfOk result (λ r. result_of r ≡ of_errors (failures_of F.Node.tree errors.now)) }
+    ensures unit { IfOk result
+        (λ r. result_of r ≡ of_errors (failures_of F.Node.tree errors.now)) }
+    ensures ok { errors.now ≡ [] → IsOk result }
 {
     if errors.is_empty() {
         return Ok(EvaluationResult::valid_empty(alloc));

@@ -6,8 +6,9 @@ ghost use Rattle.jskw_value.specs.Number.{exact, is_decimal, num_equal, cmp_whol
 use crate::json::JsonNumber;
 use std::cmp::Ordering;
 
-/// A coefficient over ten to a scale, exactly, as it is written: 1.0 has coefficient 10 and scale
-/// 1. The coefficient lies from -2^63 to 2^64 - 1, the scale from 0 to 18.
+/// An exact decimal number: a coefficient divided by ten to the power of a scale. It keeps the form
+/// in which the number is written: 1.0 has coefficient 10 and scale 1. The coefficient is from
+/// -2^63 to 2^64-1, the scale from 0 to 18.
 #[derive(Clone, Copy, Debug, Drop)]
 pub struct Decimal {
     coefficient: i128,
@@ -20,7 +21,8 @@ pub struct Decimal {
 impl Decimal {
     ghost use Rattle.jskw_value.specs.Decimal.{value};
 
-    /// The number of this coefficient and scale, None exactly where one of them is out of range.
+    /// Returns the number with this coefficient and scale, or `None` if one of them is out of
+    /// range.
     pub fn new(coefficient: i128, scale: u8) -> Option<Decimal>
         ensures { option_map value result
             ≡ (if is_decimal coefficient scale then Some (exact coefficient scale) else None) }
@@ -32,7 +34,7 @@ impl Decimal {
         }
     }
 
-    /// The coefficient, from -2^63 to 2^64 - 1.
+    /// Returns the coefficient, from -2^63 to 2^64-1.
     pub fn coefficient(&self) -> i128
         ensures value { result ≡ self.now.coefficient }
         ensures low { negsuc 9223372036854775807 ≤ℤ result }
@@ -41,7 +43,7 @@ impl Decimal {
         self.coefficient
     }
 
-    /// The scale: how many digits are written behind the point, from 0 to 18.
+    /// Returns the scale, from 0 to 18: how many digits are written after the point.
     pub fn scale(&self) -> u8
         ensures value { result ≡ self.now.scale }
         ensures short { result ≤ 18 }
@@ -49,7 +51,7 @@ impl Decimal {
         self.scale
     }
 
-    /// Returns whether the two have the same mathematical value (Core 4.2.2, "Instance Equality").
+    /// Returns whether both numbers have the same mathematical value (JSON Schema Core 4.2.2).
     #[inline(always)]
     pub fn equals(&self, other: &Decimal) -> bool
         ensures { result ≡ num_equal (value self.now) (value other.now) }
@@ -70,7 +72,7 @@ impl Decimal {
         self.shifted(other.scale) == other.shifted(self.scale)
     }
 
-    // The coefficient times a power of ten.
+    // Returns the coefficient times ten to the power `by`.
     fn shifted(&self, by: u8) -> i128
         requires { by ≤ 18 }
         ensures { result ≡ self.now.coefficient *ℤ pos (10 ^ by) }
@@ -78,8 +80,8 @@ impl Decimal {
         self.coefficient * ten_to(by) as i128
     }
 
-    /// How the number stands to a whole number (Validation 6.2.2 to 6.2.5), which lies from -2^63
-    /// to 2^64 - 1.
+    /// Compares the number with an integer (JSON Schema Validation 6.2.2 to 6.2.5). `whole` must be
+    /// from -2^63 to 2^64-1.
     pub fn cmp_whole(&self, whole: i128) -> Ordering
         requires low { negsuc 9223372036854775807 ≤ℤ whole }
         requires high { whole <ℤ pos 18446744073709551616 }
@@ -88,8 +90,8 @@ impl Decimal {
         self.coefficient.cmp(&(whole * ten_to(self.scale) as i128))
     }
 
-    /// Whether division by the divisor gives an integer (Validation 6.2.1, "multipleOf"). The
-    /// divisor is above 0.
+    /// Returns whether division by `divisor` gives an integer (JSON Schema Validation 6.2.1).
+    /// `divisor` must be greater than 0.
     pub fn is_multiple_of(&self, divisor: u64) -> bool
         requires { 0 < divisor }
         ensures { result ≡ is_multiple_of self.now.coefficient self.now.scale divisor }
@@ -144,7 +146,7 @@ impl JsonNumber for Decimal {
     }
 }
 
-/// The whole number, with scale 0.
+/// Returns the number with scale 0.
 impl From<u64> for Decimal {
     ghost use Rattle.std.specs.Prelude.{zero};
     ghost use Rattle.jskw_value.specs.Decimal.{value};
@@ -159,7 +161,7 @@ impl From<u64> for Decimal {
     }
 }
 
-/// The whole number, with scale 0.
+/// Returns the number with scale 0.
 impl From<i64> for Decimal {
     ghost use Rattle.std.specs.Prelude.{zero};
     ghost use Rattle.jskw_value.specs.Decimal.{value};
@@ -174,7 +176,7 @@ impl From<i64> for Decimal {
     }
 }
 
-// Ten to a scale.
+// Returns ten to the power of a scale.
 #[tactic(auto, using(crate::proofs::Powers::ten_pow_low, crate::proofs::Powers::ten_pow_high))]
 pub(crate) fn ten_to(scale: u8) -> u64
     requires { scale ≤ 18 }

@@ -18,30 +18,31 @@ use std::alloc::{AllocError, Global};
 /// A JSON value whose numbers are decimals. It is always lawful.
 #[derive(Debug, Drop)]
 pub enum DecimalTree {
-    /// null
+    /// `null`
     Null,
-    /// a boolean
+    /// A boolean.
     Bool(bool),
-    /// a number
+    /// A number.
     Number(Decimal),
-    /// a string
+    /// A string.
     Text(String),
-    /// an array
+    /// An array.
     Array(Vec<DecimalTree>),
-    /// an object
+    /// An object.
     Object(Members),
 }
 
-/// The members of an object, sorted by their names: [`MemberList::new`] and [`MemberList::insert`].
+/// The members of an object, sorted by their names. Create them with [`MemberList::from_pairs`], or
+/// with [`MemberList::new`] and [`MemberList::insert`].
 pub type Members = MemberList<DecimalTree>;
 
-/// The representation whose nodes are trees of decimals.
+/// The representation whose nodes are [`DecimalTree`]s.
 #[derive(Clone, Copy, Debug, PartialEq, Eq)]
 pub struct DecimalJson;
 
 impl DecimalTree {
-    /// Returns the tree of a value of `serde_json`, or None exactly if the value holds a float:
-    /// [`first_unlawful`](Node::first_unlawful) says where. Only memory can fail.
+    /// Returns the tree of a value of `serde_json`, or `None` if the value holds a float, whose
+    /// location [`first_unlawful`](Node::first_unlawful) returns.
     pub fn from_value(alloc: Global, value: &Value) -> Result<Option<DecimalTree>, AllocError>
         ensures lawful { IfOk result (λ found. is_some found ≡ lawful (value_tree value.now)) }
         ensures tree { IfOk result (λ found.
@@ -89,7 +90,8 @@ impl Object for DecimalTree {
         }
     }
 
-    /// The names rise by their bytes from place to place.
+    /// Returns the name of the member at `place`. The node must be an object with more than `place`
+    /// members. They are sorted by the bytes of their names.
     fn name_at(&self, place: usize) -> &str
         requires { place < length (members (decimal_tree self.now)) }
         ensures name { result.now

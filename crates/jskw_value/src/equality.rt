@@ -12,7 +12,7 @@ ghost use Rattle.jskw_value.specs.Walk.{left};
 use crate::json::{Array, JsonNumber, Node, Object};
 use crate::walk::Walk;
 
-// Returns whether two nodes are one value. In line, so that the loops over items and members compare
+// Returns whether two nodes are equal. In line, so that the loops over items and members compare
 // scalars without a call.
 #[inline(always)]
 #[cycle(equal)]
@@ -31,8 +31,8 @@ pub(crate) fn equal_nodes<N: Node, M: Node>(left: &N, right: &M) -> bool
     }
 }
 
-// Whether two arrays have as many items, equal at each index. Out of line, so that scalars are
-// compared without the frame of the loop.
+// Returns whether two arrays have the same number of items, equal at each index. Out of line, so
+// that scalars are compared without the frame of the loop.
 #[inline(never)]
 #[cycle(equal)]
 #[tactic(auto, using(crate::proofs::Equal::by_index))]
@@ -53,8 +53,8 @@ fn equal_arrays<N: Node, M: Node>(left: &N, right: &M) -> bool
     true
 }
 
-// Whether two objects have as many members, each of the left equal to the right one of its name. Out
-// of line, as `equal_arrays` is.
+// Returns whether two objects have the same number of members, and each name of the left one has an
+// equal value in the right one. Out of line, as `equal_arrays` is.
 #[inline(never)]
 #[cycle(equal)]
 #[tactic(auto, using(crate::proofs::Depth::height_below, crate::proofs::Equal::all_members))]
@@ -79,7 +79,7 @@ fn equal_objects<N: Node, M: Node>(left: &N, right: &M) -> bool
     true
 }
 
-// Whether something was found, and it equals the member.
+// Returns whether a value was found and is equal to the member.
 #[cycle(equal)]
 fn equals_found<N: Node, M: Node>(member: &N, found: Option<&M>) -> bool
     ensures { let other = option_map (λ x. M.tree x.now) found.entry in
@@ -91,8 +91,8 @@ fn equals_found<N: Node, M: Node>(member: &N, found: Option<&M>) -> bool
     }
 }
 
-// The member of a name: the next of a walk over the object, where it has the name, so that two
-// objects in one order need no look-up.
+// Returns the value of the member `name`. If it is the next of a walk over the object, it is not
+// looked up; so two objects with the same order need no lookups.
 #[tactic(auto, using(crate::proofs::Equal::next_found))]
 fn next_or_find<'a, M: Node>(object: &'a M, walk: &mut Walk<'a, M>, name: &str) -> Option<&'a M>
     requires object { IsTrue (is_object (M.tree object.now)) }
@@ -108,7 +108,7 @@ fn next_or_find<'a, M: Node>(object: &'a M, walk: &mut Walk<'a, M>, name: &str) 
     object.find(name)
 }
 
-// Returns whether two nodes are one value, where the left one is a string, a boolean or null.
+// Returns whether two nodes are equal, the left of which is a string, a boolean or null.
 #[inline(always)]
 fn equal_leaves<N: Node, M: Node>(left: &N, right: &M) -> bool
     requires number { as_number (N.tree left.now) ≡ None }

@@ -1,5 +1,6 @@
-//! Fingerprints of nodes: under one seed, equal nodes have one fingerprint, and most others differ.
-//! A fingerprint looks no further into a node than a budget reaches; [`of_whole`] looks at all of it.
+//! Fingerprints of nodes: under one seed, equal nodes have the same fingerprint, and most different
+//! nodes have different ones. A budget limits how much of a node a fingerprint depends on; that of
+//! [`of_whole`] depends on the whole node.
 ghost use Rattle.std.specs.Prelude.{◌≡◌, ℕ, ◌≤◌, ◌<◌, ◌+◌, ◌-◌, ◌*◌, ◌/◌, ◌%◌, ◌^◌, length, take};
 ghost use Rattle.std.specs.Prelude.{None, IsTrue};
 ghost use Rattle.std.specs.Int.Bits.{bit_xor};
@@ -16,14 +17,14 @@ use crate::decimal::{Decimal, ten_to};
 use crate::json::{Array, JsonNumber, Node, Object};
 use crate::property_name::{number_of, number_of_few};
 
-// The budget that reaches all of a node.
+// The budget under which a fingerprint depends on the whole node.
 const UNLIMITED: usize = usize::MAX;
 
-/// Returns the fingerprint of the whole node under a seed. Equal values (Core 4.2.2, "Instance
-/// Equality") have one fingerprint under each seed, whatever representations hold them: numbers by
-/// their value, objects in any order of their members. Different values may have one too, so a
-/// comparison has to follow where two fingerprints are the same. Takes time in proportion to the
-/// size of the node, and no memory.
+/// Returns the fingerprint of the whole node under a seed. Equal values (JSON Schema Core 4.2.2)
+/// have the same fingerprint under each seed, in all representations: numbers by their value,
+/// objects in any order of their members. Different values may have the same fingerprint too, so
+/// compare them if the fingerprints are equal. Takes time in proportion to the size of the node and
+/// allocates nothing.
 pub fn of_whole<N: Node>(node: &N, seed: u64) -> u64
     ensures value { result ≡ print seed unlimited (N.tree node.now) }
     ensures distinct { IsTrue (is_distinct_within unlimited (N.tree node.now)) }
@@ -31,7 +32,7 @@ pub fn of_whole<N: Node>(node: &N, seed: u64) -> u64
     fingerprint(node, seed, UNLIMITED)
 }
 
-// The fingerprint of a node. It takes no memory, and some steps for each unit of the budget.
+// Returns the fingerprint of a node. Allocates nothing, and takes time in proportion to the budget.
 #[cycle(print)]
 #[tactic(auto, using(crate::proofs::Fingerprints::by_level))]
 pub(crate) fn fingerprint<N: Node>(node: &N, seed: u64, budget: usize) -> u64
@@ -47,8 +48,8 @@ pub(crate) fn fingerprint<N: Node>(node: &N, seed: u64, budget: usize) -> u64
     of_other(node, seed, budget)
 }
 
-// Of a node that is neither a number nor a string. It is never inlined, so that those two take no
-// frame of its size.
+// Returns the fingerprint of a node that is neither a number nor a string. Never inlined, so that
+// numbers and strings don't pay for its frame.
 #[inline(never)]
 #[cycle(print)]
 #[tactic(auto, using(crate::proofs::Fingerprints::by_level))]
@@ -71,7 +72,8 @@ fn of_other<N: Node>(node: &N, seed: u64, budget: usize) -> u64
     }
 }
 
-// Of an array: the number of its items, and as many of them as the budget has units.
+// Returns the fingerprint of an array. It depends on the number of items, and on as many of the
+// items as the budget has units.
 #[cycle(print)]
 #[tactic(auto, using(crate::proofs::Fingerprints::by_index))]
 fn of_array<N: Node>(node: &N, seed: u64, budget: usize) -> u64
@@ -91,8 +93,8 @@ fn of_array<N: Node>(node: &N, seed: u64, budget: usize) -> u64
     hash
 }
 
-// Of an object: the number of its members, and all of them, where they are no more than the
-// budget's units.
+// Returns the fingerprint of an object. It depends on the number of members, and on the members if
+// they are not more than the units of the budget.
 #[cycle(print)]
 #[tactic(auto, using(crate::proofs::Fingerprints::by_level))]
 fn of_object<N: Node>(node: &N, seed: u64, budget: usize) -> u64
@@ -108,8 +110,8 @@ fn of_object<N: Node>(node: &N, seed: u64, budget: usize) -> u64
     stir(5, count as u64, sum)
 }
 
-// The sum over the members, which is the same in any order. Each is mixed with the seed before, so
-// that sums that are the same under one seed tell nothing of another.
+// Returns the sum over the members, which is the same in any order. Each is mixed with the seed
+// first, so that sums that are equal under one seed need not be equal under another.
 #[cycle(print)]
 #[tactic(auto, using(crate::proofs::Depth::height_below, crate::proofs::Fingerprints::sum_step))]
 fn of_members<N: Node>(node: &N, seed: u64, budget: usize) -> u64
@@ -127,7 +129,7 @@ fn of_members<N: Node>(node: &N, seed: u64, budget: usize) -> u64
     sum
 }
 
-// What each of so many items or members gets of a budget.
+// Returns the share of the budget for each of `count` items or members.
 fn share(budget: usize, count: usize) -> usize
     ensures { result ≡ share budget count }
 {
@@ -137,8 +139,8 @@ fn share(budget: usize, count: usize) -> usize
     budget / count.max(2)
 }
 
-// Of a number by its value; floats have one fingerprint. Most numbers are whole and not below 0, and
-// go a short way.
+// Returns the fingerprint of a number, by its value; all floats have the same. Integers from 0 on,
+// which most numbers are, take a shorter path.
 #[tactic(auto, using(crate::proofs::NumberPrints::whole_print))]
 fn of_number<A: JsonNumber>(number: &A, seed: u64) -> u64
     ensures { result ≡ number_print seed (A.number number.now) }
@@ -152,7 +154,8 @@ fn of_number<A: JsonNumber>(number: &A, seed: u64) -> u64
     }
 }
 
-// Of a decimal: the sign, the whole part, and the rest in parts of 10^18.
+// Returns the fingerprint of a decimal: of its sign, its integer part and its fraction in units of
+// 10^-18.
 #[tactic(auto, unfolding(crate::specs::Fingerprint::parts_print))]
 fn of_decimal(decimal: &Decimal, seed: u64) -> u64
     ensures { result ≡ number_print seed (value decimal.now) }
@@ -168,7 +171,8 @@ fn of_sign(coefficient: i128) -> u64
     if coefficient < 0 { 7 } else { 6 }
 }
 
-// The whole part of a magnitude over ten to a scale, and the rest in parts of 10^18.
+// Returns the integer part of a magnitude divided by ten to a scale, and the fraction in units of
+// 10^-18.
 #[tactic(auto, using(crate::proofs::NumberPrints::parts))]
 fn parts(magnitude: u64, scale: u8) -> (u64, u64)
     requires { scale ≤ 18 }
@@ -182,7 +186,7 @@ fn parts(magnitude: u64, scale: u8) -> (u64, u64)
     (magnitude / unit, magnitude % unit * ten_to(18 - scale))
 }
 
-// The fingerprint of a whole text.
+// Returns the fingerprint of a whole text.
 pub(crate) fn of_whole_text(text: &str, seed: u64) -> u64
     ensures { result ≡ text_print seed unlimited text.now }
 {
@@ -195,9 +199,10 @@ fn of_text(text: &str, seed: u64, budget: usize) -> u64
     of_bytes(text.as_bytes(), seed, budget)
 }
 
-// Of a text: its length, as many pairs of words from its front as the budget has units, and its
-// last pair, which may overlap them. A text of less than eight bytes is one word, which stands
-// twice. What others need is never inlined, so that a text of up to sixteen bytes takes no frame.
+// Returns the fingerprint of a text: of its length, of as many pairs of words from its beginning as
+// the budget has units, and of its last pair, which may overlap them. A text of fewer than eight
+// bytes is one word, used twice. The code for longer texts is never inlined, so that texts of up to
+// sixteen bytes need no frame.
 #[tactic(auto, using(crate::proofs::Fingerprints::one_pair))]
 fn of_bytes(bytes: &[u8], seed: u64, budget: usize) -> u64
     ensures { result ≡ text_print seed budget bytes.now }
@@ -212,7 +217,7 @@ fn of_bytes(bytes: &[u8], seed: u64, budget: usize) -> u64
     }
 }
 
-// Of a text of less than eight bytes, for any budget.
+// Returns the fingerprint of a text of fewer than eight bytes, for any budget.
 #[inline(never)]
 #[tactic(auto, using(crate::proofs::Fingerprints::one_word))]
 fn of_one_word(bytes: &[u8], seed: u64) -> u64
@@ -223,7 +228,7 @@ fn of_one_word(bytes: &[u8], seed: u64) -> u64
     stir(begin_text(bytes.len(), seed), word, word)
 }
 
-// Of a text of at least eight bytes.
+// Returns the fingerprint of a text of at least eight bytes.
 #[inline(never)]
 #[tactic(auto, unfolding(crate::specs::Fingerprint::text_print))]
 fn of_many_words(bytes: &[u8], seed: u64, budget: usize) -> u64
@@ -238,14 +243,14 @@ fn of_many_words(bytes: &[u8], seed: u64, budget: usize) -> u64
     stir_last_pair(hash, bytes)
 }
 
-// What the hash of a text of so many bytes begins with.
+// Returns the hash with which a text of `length` bytes begins.
 fn begin_text(count: usize, seed: u64) -> u64
     ensures { result ≡ text_begun seed count }
 {
     9600629759793949339 ^ count as u64 ^ seed
 }
 
-// The last pair of words, which overlap in a text of less than sixteen bytes, mixed into a hash.
+// Mixes the last pair of words into a hash. They overlap in a text of fewer than sixteen bytes.
 fn stir_last_pair(hash: u64, bytes: &[u8]) -> u64
     requires { 8 ≤ length bytes.now }
     ensures { let count = length bytes.now in
@@ -259,7 +264,7 @@ fn stir_last_pair(hash: u64, bytes: &[u8]) -> u64
     )
 }
 
-// The eight bytes from an index on, as a number.
+// Returns the eight bytes from an index on, as a number.
 fn word_at(bytes: &[u8], start: usize) -> u64
     requires { start + 8 ≤ length bytes.now }
     ensures { result ≡ word_at bytes.now start }
@@ -268,7 +273,7 @@ fn word_at(bytes: &[u8], start: usize) -> u64
     number_of(&rest[..8])
 }
 
-// Two words mixed into a hash.
+// Mixes two words into a hash.
 #[tactic(auto, unfolding(crate::specs::Fingerprint::stirred))]
 pub(crate) fn stir(hash: u64, first: u64, second: u64) -> u64
     ensures { result ≡ stirred hash first second }
@@ -286,7 +291,7 @@ pub(crate) fn stir(hash: u64, first: u64, second: u64) -> u64
         .wrapping_add(other)
 }
 
-// The halves of a product, one folded onto the other.
+// Returns the exclusive or of the two halves of a product.
 #[tactic(auto, using(crate::proofs::NumberPrints::wide_product), unfolding(crate::specs::Fingerprint::folded))]
 fn fold(left: u64, right: u64) -> u64
     ensures { result ≡ folded (left * right) }

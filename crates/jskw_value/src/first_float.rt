@@ -1,4 +1,4 @@
-//! Where the first float of a node stands.
+//! The location of the first float of a node.
 ghost use Rattle.std.specs.Prelude.{◌≡◌, IsTrue, IfOk, option_map, string_bytes};
 ghost use Rattle.jskw_value.specs.FirstFloat.{first_float, float_from, float_among, below_index};
 ghost use Rattle.jskw_value.specs.FirstFloat.{below_name};
@@ -8,7 +8,7 @@ use crate::json::{Array, JsonNumber, Node, Object};
 use crate::pointer::{push_index, push_name};
 use std::alloc::{AllocError, Global};
 
-// The location of the first float in a node, as a JSON pointer from the node on.
+// Returns the location of the first float in a node, as a JSON pointer relative to the node.
 #[tactic(auto, using(crate::proofs::FirstFloat::by_level, crate::proofs::FirstFloat::by_index, crate::proofs::Depth::height_below))]
 pub(crate) fn location_of_float<N: Node>(
     alloc: Global,
@@ -36,7 +36,7 @@ pub(crate) fn location_of_float<N: Node>(
     Ok(None)
 }
 
-// A location in an item, from its array on.
+// Returns a location in an item, relative to its array.
 fn from_array(alloc: Global, index: usize, below: String) -> Result<String, AllocError>
     ensures { IfOk result (λ location. string_bytes location
         ≡ below_index index (string_bytes below)) }
@@ -47,7 +47,7 @@ fn from_array(alloc: Global, index: usize, below: String) -> Result<String, Allo
     Ok(location)
 }
 
-// A location in a member, from its object on.
+// Returns a location in a member, relative to its object.
 fn from_object(alloc: Global, name: &str, below: String) -> Result<String, AllocError>
     ensures { IfOk result (λ location. string_bytes location
         ≡ below_name name.now (string_bytes below)) }

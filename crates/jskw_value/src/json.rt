@@ -1,4 +1,4 @@
-//! What code over any representation of JSON knows of a value.
+//! The traits of a representation of JSON: its values, their items, members and numbers.
 ghost use Rattle.std.specs.Prelude.{◌≡◌, ℕ, ◌<◌, ◌==◌, option_and_then, List, length, IsTrue, IfOk};
 ghost use Rattle.std.specs.Prelude.{IfSome, option_map, is_none, is_some, string_bytes};
 ghost use Rattle.std.specs.Prelude.{slice_index_or};
@@ -26,20 +26,22 @@ use crate::walk::Walk;
 use serde_json::Value;
 use std::alloc::{AllocError, Global};
 
-/// A value that stands for a JSON value: its tree (Core 4.2.1, "Instance Data Model").
+/// A value that represents a JSON value. Contracts refer to that value as its tree (JSON Schema
+/// Core
+/// 4.2.1).
 pub trait Rooted {
     ghost tree: { Self → Tree };
 }
 
-/// The calls of a node that is an array.
+/// The methods of a node that is an array.
 pub trait Array: Rooted {
-    /// The number of items. The node is an array.
+    /// Returns the number of items. The node must be an array.
     fn len(&self) -> usize
         requires { IsTrue (is_array (Self.tree self.now)) }
         ensures { result ≡ length (items (Self.tree self.now)) };
 
-    /// The item at an index, counted from 0, in one step. The node is an array of more items than
-    /// that.
+    /// Returns the item at `index`, counted from 0, in constant time. The node must be an array
+    /// with more than `index` items.
     fn item(&self, index: usize) -> &Self
         requires { index < length (items (Self.tree self.now)) }
         ensures value { Self.tree result.now
@@ -47,8 +49,8 @@ pub trait Array: Rooted {
         ensures lawful { IsTrue (lawful (Self.tree self.now))
             → IsTrue (lawful (Self.tree result.now)) };
 
-    /// Whether no two different indices hold equal items (Validation 6.4.3, "uniqueItems"). The
-    /// node is an array. It takes no memory.
+    /// Returns whether no two items are equal (JSON Schema Validation 6.4.3). The node must be an
+    /// array. Allocates nothing.
     final fn is_unique(&self) -> bool
     where
         Self: Node,
@@ -59,22 +61,22 @@ pub trait Array: Rooted {
     }
 }
 
-/// The calls of a node that is an object. Its members stand in an order of the representation's
-/// choice, each at a place counted from 0.
+/// The methods of a node that is an object. Its members are in an order that the representation
+/// chooses, each at a place counted from 0.
 pub trait Object: Rooted {
-    /// A name made ready to be looked up many times. [`Json::prepare_key`] makes it.
+    /// A name in the form in which it is looked up fastest. [`Json::prepare_key`] creates it.
     type PreparedKey: Drop;
 
     // The name that a key was made from.
     ghost key_name: { Self.PreparedKey → List ℕ };
 
-    /// The number of members. The node is an object. Its names are distinct.
+    /// Returns the number of members. The node must be an object. Its names are distinct.
     fn len(&self) -> usize
         requires { IsTrue (is_object (Self.tree self.now)) }
         ensures value { result ≡ length (members (Self.tree self.now)) }
         ensures distinct { IsDistinct bytes_eq (names (Self.tree self.now)) };
 
-    /// Whether there is no member. The node is an object.
+    /// Returns whether the object has no members. The node must be an object.
     final fn is_empty(&self) -> bool
         requires { IsTrue (is_object (Self.tree self.now)) }
         ensures { result ≡ (length (members (Self.tree self.now)) == 0) }
@@ -82,15 +84,15 @@ pub trait Object: Rooted {
         self.len() == 0
     }
 
-    /// The name at a place. The node is an object of more members than that. A representation may
-    /// need a number of steps that grows with the place: to go over all members,
+    /// Returns the name of the member at `place`. The node must be an object with more than `place`
+    /// members. A representation may need time in proportion to `place`: to visit all members, use
     /// [`walk`](Object::walk).
     fn name_at(&self, place: usize) -> &str
         requires { place < length (members (Self.tree self.now)) }
         ensures { result.now ≡ slice_index_or (names (Self.tree self.now)) place result.now };
 
-    /// The member at a place. The node is an object of more members than that. To go over all
-    /// members, [`walk`](Object::walk).
+    /// Returns the value of the member at `place`. The node must be an object with more than
+    /// `place` members. To visit all members, use [`walk`](Object::walk).
     fn member_at(&self, place: usize) -> &Self
         requires { place < length (members (Self.tree self.now)) }
         ensures value { Self.tree result.now
@@ -98,9 +100,10 @@ pub trait Object: Rooted {
         ensures lawful { IsTrue (lawful (Self.tree self.now))
             → IsTrue (lawful (Self.tree result.now)) };
 
-    /// The names and members in the order of their places. The node is an object. What comes with
-    /// the crate takes one step a member; a representation that keeps its members in another shape
-    /// returns [`Walk::by_place`].
+    /// Returns an iterator over the names and values of the members, in the order of their places.
+    /// The node must be an object. Both representations of this crate take constant time for each
+    /// member. A representation that stores its members in another form can return
+    /// [`Walk::by_place`].
     fn walk(&self) -> Walk<'_, Self>
         requires { IsTrue (is_object (Self.tree self.now)) }
         ensures value { left Self.tree result ≡ members (Self.tree self.now) }
@@ -108,7 +111,8 @@ pub trait Object: Rooted {
         ensures lawful { IsTrue (lawful (Self.tree self.now))
             → IsTrue (list_all lawful (values (Self.tree self.now))) };
 
-    /// The member of a name, None where no member has it. The node is an object.
+    /// Returns the value of the member `name`, or `None` if there is no such member. The node must
+    /// be an object.
     fn find(&self, name: &str) -> Option<&Self>
         requires { IsTrue (is_object (Self.tree self.now)) }
         ensures value { option_map (λ x. Self.tree x.now) result
@@ -116,8 +120,8 @@ pub trait Object: Rooted {
         ensures lawful { IsTrue (lawful (Self.tree self.now))
             → IfSome result (λ x. IsTrue (lawful (Self.tree x.now))) };
 
-    /// The member of the name that a key was made from, None where no member has it. The node is an
-    /// object.
+    /// Returns the value of the member whose name `key` was made from, or `None` if there is no
+    /// such member. The node must be an object.
     fn get(&self, key: &Self::PreparedKey) -> Option<&Self>
         requires { IsTrue (is_object (Self.tree self.now)) }
         ensures value { option_map (λ x. Self.tree x.now) result
@@ -126,100 +130,102 @@ pub trait Object: Rooted {
             → IfSome result (λ x. IsTrue (lawful (Self.tree x.now))) };
 }
 
-/// A number of a node: a decimal, or a float, of which nothing is known.
+/// A number of a node: an exact decimal, or a float, whose value no contract mentions.
 pub trait JsonNumber {
     ghost use Rattle.jskw_value.specs.Decimal.{value};
 
     ghost number: { Self → Num };
 
-    /// Whether the number is a decimal. The other calls ask for one.
+    /// Returns whether the number is a decimal. All other methods require that it is.
     fn is_lawful(&self) -> bool
         ensures { result ≡ is_exact (number self.now) };
 
-    /// The number, exactly.
+    /// Returns the number, exactly. It must be a decimal.
     fn decimal(&self) -> Decimal
         requires { IsTrue (is_exact (number self.now)) }
         ensures { value result ≡ number self.now };
 
-    /// The number where it is written without digits behind the point and lies from 0 to 2^64 - 1,
-    /// else None.
+    /// Returns the number if it is written without digits after the point and is from 0 to 2^64-1,
+    /// otherwise `None`. It must be a decimal.
     fn as_u64(&self) -> Option<u64>
         requires { IsTrue (is_exact (number self.now)) }
         ensures { result ≡ option_and_then u64_of (whole (number self.now)) };
 
-    /// The number where it is written without digits behind the point and lies from -2^63 to
-    /// 2^63 - 1, else None.
+    /// Returns the number if it is written without digits after the point and is from -2^63 to
+    /// 2^63-1, otherwise `None`. It must be a decimal.
     fn as_i64(&self) -> Option<i64>
         requires { IsTrue (is_exact (number self.now)) }
         ensures { result ≡ option_and_then i64_of (whole (number self.now)) };
 
-    /// Whether the fractional part is zero, as in 1 and 1.0 (Validation 6.1.1, "type").
+    /// Returns whether the fractional part is zero, as in 1 and 1.0 (JSON Schema Validation 6.1.1).
+    /// The number must be a decimal.
     fn is_integer(&self) -> bool
         requires { IsTrue (is_exact (number self.now)) }
         ensures { result ≡ is_integer (number self.now) };
 
-    /// Whether no digit is written behind the point: 1 is, 1.0 isn't (Draft 4, Core 3.5,
-    /// "integer").
+    /// Returns whether no digit is written after the point: true for 1, false for 1.0 (Draft 4 Core
+    /// 3.5). The number must be a decimal.
     fn is_written_as_integer(&self) -> bool
         requires { IsTrue (is_exact (number self.now)) }
         ensures { result ≡ is_written_as_integer (number self.now) };
 }
 
-/// A JSON value of a representation. It is lawful where no number in it is a float, at any level.
+/// A JSON value of a representation. It is lawful if no number in it is a float, at any level.
 pub trait Node: Array + Object {
     /// The numbers of the representation.
     type Number: JsonNumber;
 
-    /// The value's type; `Number` for every number.
+    /// Returns the type of the value: `Number` for every number.
     fn json_type(&self) -> JsonType
         ensures { result ≡ json_type (Self.tree self.now) };
 
-    /// Whether the value is null.
+    /// Returns whether the value is null.
     fn is_null(&self) -> bool
         ensures { result ≡ is_null (Self.tree self.now) };
 
-    /// Whether the value is an array.
+    /// Returns whether the value is an array.
     fn is_array(&self) -> bool
         ensures { result ≡ is_array (Self.tree self.now) };
 
-    /// Whether the value is an object.
+    /// Returns whether the value is an object.
     fn is_object(&self) -> bool
         ensures { result ≡ is_object (Self.tree self.now) };
 
-    /// The boolean where the value is one, else None.
+    /// Returns the boolean, or `None` if the value is not a boolean.
     fn as_boolean(&self) -> Option<bool>
         ensures { result ≡ as_boolean (Self.tree self.now) };
 
-    /// The number where the value is one, else None. A lawful node's is a decimal.
+    /// Returns the number, or `None` if the value is not a number. If the node is lawful, the
+    /// number is a decimal.
     fn as_number(&self) -> Option<&Self::Number>
         ensures value { option_map (λ n. Self.Number.number n.now) result
             ≡ as_number (Self.tree self.now) }
         ensures lawful { IsTrue (lawful (Self.tree self.now))
             → IfSome result (λ n. IsTrue (is_exact (Self.Number.number n.now))) };
 
-    /// The string where the value is one, else None.
+    /// Returns the string, or `None` if the value is not a string.
     fn as_string(&self) -> Option<&str>
         ensures { option_map (λ s. s.now) result ≡ as_string (Self.tree self.now) };
 
-    /// Whether no number in the value is a float. It takes no memory.
+    /// Returns whether no number in the value is a float, at any level. Allocates nothing.
     fn is_lawful(&self) -> bool
         ensures { result ≡ lawful (Self.tree self.now) };
 
-    /// Whether the value is a number.
+    /// Returns whether the value is a number.
     final fn is_number(&self) -> bool
         ensures { result ≡ is_some (as_number (Self.tree self.now)) }
     {
         self.as_number().is_some()
     }
 
-    /// Whether the value is a string.
+    /// Returns whether the value is a string.
     final fn is_string(&self) -> bool
         ensures { result ≡ is_some (as_string (Self.tree self.now)) }
     {
         self.as_string().is_some()
     }
 
-    /// The number of items: an array's as [`Array::len`] gives it, and 0 of any other value.
+    /// Returns the number of items of an array, and 0 for any other value.
     #[tactic(auto, using(crate::proofs::Places::items_elsewhere))]
     final fn item_count(&self) -> usize
         ensures { result ≡ length (items (Self.tree self.now)) }
@@ -227,9 +233,8 @@ pub trait Node: Array + Object {
         if self.is_array() { Array::len(self) } else { 0 }
     }
 
-    /// The location of the first float as a JSON pointer (RFC 6901), None exactly where the node is
-    /// lawful. Floats are met depth first, items by index, members in the order of their places.
-    /// Only memory can fail.
+    /// Returns the location of the first float as a JSON pointer (RFC 6901), or `None` if the node
+    /// is lawful. The order is depth first, items by index, members by place.
     #[tactic(auto, using(crate::proofs::FirstFloat::none_from_location))]
     final fn first_unlawful(&self, alloc: Global) -> Result<Option<String>, AllocError>
         ensures location { IfOk result (λ o. option_map string_bytes o
@@ -239,28 +244,29 @@ pub trait Node: Array + Object {
         location_of_float(alloc, self)
     }
 
-    /// Whether two nodes are one value (Core 4.2.2, "Instance Equality"): numbers by mathematical
+    /// Returns whether the two nodes are equal (JSON Schema Core 4.2.2): numbers by mathematical
     /// value, arrays item by item, objects in any order of their members. A float is equal to
-    /// nothing, itself included. It takes no memory.
+    /// nothing, not even to itself. Allocates nothing.
     final fn equals(&self, other: &Self) -> bool
         ensures { result ≡ equal (Self.tree self.now) (Self.tree other.now) }
     {
         equal_nodes(self, other)
     }
 
-    /// Whether the node and a value of `serde_json` are one value, as [`equals`](Node::equals) has
-    /// it. It takes no memory.
+    /// Returns whether the node and a value of `serde_json` are equal in the sense of
+    /// [`equals`](Node::equals). Allocates nothing.
     final fn equals_value(&self, other: &Value) -> bool
         ensures { result ≡ equal (value_tree other.now) (Self.tree self.now) }
     {
         equal_nodes(other, self)
     }
 
-    /// Appends the value's compact JSON text. A decimal of scale k is written with k digits behind
-    /// the point, a float as the word `float`, members in the order of their places. In strings the
-    /// quote, the backslash and the control characters are escaped (RFC 8259, section 7), and
-    /// nothing else is. Only memory can fail; what was in the text stays in front, and after a
-    /// failure a beginning of the value's text may follow it.
+    /// Appends the compact JSON text of the value to `out`. A decimal of scale k is written with k
+    /// digits after the point, a float as the word `float`, members in the order of their places.
+    /// In strings the quote, the backslash and the control characters are escaped (RFC 8259,
+    /// section
+    /// 7), and nothing else. If memory runs out, `out` keeps what it held, and a part of the text may
+    /// follow.
     final fn write_json(&self, out: &mut String) -> Result<(), AllocError>
         ensures { Extends (string_bytes out.old) (string_bytes out.new) }
     {
@@ -268,15 +274,16 @@ pub trait Node: Array + Object {
     }
 }
 
-/// A representation of JSON.
+/// A representation of JSON values.
 pub trait Json {
     /// The values of the representation.
     type Node: Node;
 
-    /// About how many members can be passed over in the time of one look-up by a prepared key.
+    /// An estimate of how many members an iterator visits in the time of one lookup by a prepared
+    /// key. It decides how names are looked up, and never what is found.
     const KEYS_PER_LOOKUP: usize;
 
-    /// Makes a name ready to be looked up. Only memory can fail.
+    /// Creates the key with which `name` is looked up in objects.
     fn prepare_key(
         alloc: Global,
         name: &str,

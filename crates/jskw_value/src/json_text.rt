@@ -1,5 +1,5 @@
-//! The compact JSON text of a node. Each function leaves what was in the text in front, also where
-//! memory is wanting.
+//! The compact JSON text of a node. Each function keeps what the text held, also if memory runs
+//! out.
 #![tactic(auto, using(crate::proofs::Texts::lemmas))]
 
 ghost use Rattle.std.specs.Prelude.{◌≤◌, IsTrue, string_bytes};
@@ -108,7 +108,7 @@ fn write_char(c: char, out: &mut String) -> Result<(), AllocError>
     }
 }
 
-// The hexadecimal digit of a number from 0 to 15.
+// Returns the hexadecimal digit for a number from 0 to 15.
 fn hexadecimal(number: u32) -> char
     requires { number ≤ 15 }
 {
@@ -150,7 +150,7 @@ fn write_decimal(decimal: &Decimal, out: &mut String) -> Result<(), AllocError>
     write_fraction(digits % unit, decimal.scale(), out)
 }
 
-// Appends the point and so many digits behind it, if there are any.
+// Appends the point and `scale` digits after it, if there are any.
 fn write_fraction(fraction: u128, scale: u8, out: &mut String) -> Result<(), AllocError>
     ensures { Extends (string_bytes out.old) (string_bytes out.new) }
 {

@@ -3,10 +3,10 @@ ghost use Rattle.jskw_value.specs.Equality.{equal, same};
 ghost use Rattle.jskw_value.specs.Laws.{EqualHaveOneFingerprint, IsEquivalence, SameIsEqual};
 ghost use Rattle.jskw_value.specs.Laws.{UniqueMeansNoTwoEqual};
 
-/// States the laws for proofs, and does nothing. Equality of values (Core 4.2.2, "Instance
-/// Equality") is reflexive, symmetric and transitive, where no float is in them and names are
-/// distinct; so is being the same as written, and what is the same is equal. Items are unique
-/// exactly where no two different indices hold equal ones.
+/// States, for proofs, that equality of values (JSON Schema Core 4.2.2) is reflexive, symmetric and
+/// transitive if they contain no float and names are distinct, and so is identity as written; that
+/// identical values are equal; and that items are unique exactly if no two of them are equal. Does
+/// nothing.
 pub fn equality_is_equivalence()
     ensures equal { IsEquivalence equal }
     ensures same { IsEquivalence same }
@@ -14,8 +14,8 @@ pub fn equality_is_equivalence()
     ensures unique { UniqueMeansNoTwoEqual }
 {}
 
-/// States for proofs that equal values have one fingerprint, and does nothing: numbers are equal by
-/// value, and objects in any order of their members. The search for equal items rests on it.
+/// States, for proofs, that equal values have the same fingerprint, which the search for equal
+/// items relies on. Does nothing.
 pub fn equal_values_have_one_fingerprint()
     ensures { EqualHaveOneFingerprint }
 {}

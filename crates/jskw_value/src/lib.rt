@@ -1,10 +1,15 @@
-//! JSON values behind one interface, for validators that are generic over how an instance is held.
+//! JSON values behind one interface, for validators that are generic over the representation of an
+//! instance.
 //!
-//! [`Json`] names a representation, [`Node`] is a value of it, and [`Array`], [`Object`] and
-//! [`JsonNumber`] are what a node answers of its items, its members and its number. Two
-//! representations come with the crate: [`SerdeJson`], whose nodes are `serde_json`'s values, and
-//! [`DecimalJson`], whose numbers are exact decimals. Every contract speaks of the tree that a node
-//! stands for (`specs/Tree.antt`), so nodes of two representations can be compared.
+//! [`Json`] is a representation and [`Node`] a value of it. [`Array`], [`Object`] and
+//! [`JsonNumber`] are the traits of its items, its members and its numbers. The crate has two
+//! representations: [`SerdeJson`], whose nodes are the values of `serde_json`, and [`DecimalJson`],
+//! whose numbers are exact decimals. Contracts refer to a node as the tree that it represents
+//! (`specs/Tree.antt`), so nodes of two representations can be compared.
+//!
+//! A call that returns a `Result` with `AllocError` fails only if memory runs out. Sections are
+//! those of JSON Schema Core and JSON Schema Validation, Draft 2020-12, unless another draft is
+//! named.
 #![tactic(auto)]
 
 pub mod decimal;

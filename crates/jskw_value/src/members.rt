@@ -1,4 +1,4 @@
-//! The members of an object as a list of pairs with distinct names, sorted by these.
+//! The members of an object as a list that is sorted by their names, which are distinct.
 ghost use Rattle.std.specs.Prelude.{◌≡◌, ◌==◌, length, [], ◌<◌, ◌≤◌, string_bytes};
 ghost use Rattle.std.specs.Prelude.{slice_index_or, OnOk, OnErr, IfOk, IfErr, option_map, false};
 ghost use Rattle.std.specs.Prelude.{◌↔◌, IfNone, IfSome, IsOk};
@@ -14,17 +14,17 @@ use std::alloc::Global;
 use std::cmp::Ordering;
 use std::marker::Model;
 
-/// A value beside its name.
+/// A name and a value.
 #[derive(Debug, Drop)]
 pub struct Member<V> {
-    /// the name
+    /// The name.
     pub name: String,
-    /// the value
+    /// The value.
     pub value: V,
 }
 
 impl<V> Member<V> {
-    // How the name stands to another.
+    // Compares the name with another.
     fn against(&self, name: &str) -> Ordering
         ensures { result ≡ against name.now self.now }
     {
@@ -32,7 +32,7 @@ impl<V> Member<V> {
     }
 }
 
-/// Members with distinct names, in the rising order of the bytes of these. Contracts see them as a
+/// Members with distinct names, sorted by the bytes of the names. Contracts refer to them as a
 /// list.
 #[derive(Debug, Drop)]
 pub struct MemberList<V> {
@@ -42,18 +42,18 @@ pub struct MemberList<V> {
 /// Why a member was not inserted, with its name and value.
 #[derive(Debug, Drop)]
 pub enum InsertFault<V> {
-    /// The name is there already.
+    /// There is a member with this name already.
     Repeated(String, V),
-    /// There is no memory for one member more.
+    /// Memory ran out.
     Memory(String, V),
 }
 
-/// Why pairs of names and values are not the members of an object: a name stands twice.
+/// The error of [`MemberList::from_pairs`]: two pairs have the same name.
 #[derive(Debug, Drop)]
 pub struct RepeatedName<V> {
-    /// all the pairs, sorted by their names
+    /// All pairs, sorted by their names.
     pub pairs: Vec<Member<V>>,
-    /// the place of the first pair whose name the next one has too
+    /// The place of the first pair that has the same name as the next one.
     pub place: usize,
 }
 
@@ -73,7 +73,7 @@ impl<V> Model for MemberList<V> {
 
 #[tactic(auto, using(crate::proofs::MembersByPlace::lemmas, crate::proofs::MembersInOrder::lemmas))]
 impl<V> MemberList<V> {
-    /// No members. It takes no memory; the list grows by the allocator.
+    /// Creates an empty list, which allocates with `alloc` when members are inserted.
     pub fn new(alloc: Global) -> MemberList<V>
         ensures { result ≡ [] }
     {
@@ -82,12 +82,12 @@ impl<V> MemberList<V> {
         }
     }
 
-    /// Returns the members of these pairs, which come in any order. They are sorted once, in place,
-    /// where [`insert`](MemberList::insert) moves those behind each time. It takes no memory.
+    /// Creates the list of these pairs, which may be in any order. They are sorted in place, once;
+    /// [`insert`](MemberList::insert) moves all later members for each new one. Allocates nothing.
     ///
     /// # Errors
     ///
-    /// [`RepeatedName`] exactly if a name stands twice. It hands all pairs back, sorted, with the
+    /// [`RepeatedName`] if two pairs have the same name. It returns all pairs, sorted, with the
     /// place of the least such name.
     pub fn from_pairs(mut pairs: Vec<Member<V>>) -> Result<MemberList<V>, RepeatedName<V>>
         ensures members { IfOk result (λ members. IsPermutation pairs.items members) }
@@ -104,7 +104,7 @@ impl<V> MemberList<V> {
         }
     }
 
-    // The members of these pairs, whose names rise.
+    // Creates the list of these pairs, which are sorted and have distinct names.
     pub(crate) fn of_sorted(pairs: Vec<Member<V>>) -> MemberList<V>
         requires { AreSorted (names pairs.items) }
         ensures { result ≡ pairs.items }
@@ -112,7 +112,7 @@ impl<V> MemberList<V> {
         MemberList { list: pairs }
     }
 
-    /// The number of members. Their names are distinct, and rise.
+    /// Returns the number of members. Their names are distinct and sorted.
     pub fn len(&self) -> usize
         ensures value { result ≡ length self.now }
         ensures distinct { IsDistinct bytes_eq (names self.now) }
@@ -121,14 +121,14 @@ impl<V> MemberList<V> {
         self.list.len()
     }
 
-    /// Whether there is no member.
+    /// Returns whether there are no members.
     pub fn is_empty(&self) -> bool
         ensures { result ≡ (length self.now == 0) }
     {
         self.list.is_empty()
     }
 
-    /// The value of a name, None where no member has it. It is looked for by halves.
+    /// Returns the value of the member `name`, or `None` if there is no such member. Binary search.
     pub fn get(&self, name: &str) -> Option<&V>
         ensures { option_map (λ x. x.now) result ≡ get name.now self.now }
     {
@@ -138,9 +138,15 @@ impl<V> MemberList<V> {
         }
     }
 
-    /// Adds a member at its place in the order, for which those behind move up. `Repeated` comes
-    /// exactly where the name is there, and `Memory` where there is no memory for one more; both
-    /// hand name and value back, and the members are as they were.
+    /// Inserts a member at its place in the order. Takes time in proportion to the number of
+    /// members after it, which are moved.
+    ///
+    /// # Errors
+    ///
+    /// Both errors return the name and the value, and leave the list unchanged:
+    ///
+    /// - [`InsertFault::Repeated`] if there is a member with this name already.
+    /// - [`InsertFault::Memory`] if memory runs out.
     pub fn insert(&mut self, name: String, value: V) -> Result<(), InsertFault<V>>
         ensures added { OnOk result
             (self.new ≡ inserted (record { name = name; value = value }) self.old) }
@@ -161,7 +167,7 @@ impl<V> MemberList<V> {
         Ok(())
     }
 
-    // The place of a name, or the one where it would go.
+    // Returns the place of the member `name`, or as an error the place where it would be inserted.
     fn search(&self, name: &str) -> Result<usize, usize>
         ensures found { IfOk result (IsAt name.now self.now) }
         ensures absent { IfErr result (IsGap name.now self.now) }
@@ -169,7 +175,7 @@ impl<V> MemberList<V> {
         self.list.binary_search_by(|member| member.against(name))
     }
 
-    // The name at a place.
+    // Returns the name at a place.
     pub(crate) fn name_at(&self, place: usize) -> &str
         requires { place < length self.now }
         ensures name { result.now ≡ slice_index_or (names self.now) place result.now }
@@ -178,7 +184,7 @@ impl<V> MemberList<V> {
         self.list[place].name.as_str()
     }
 
-    // The value at a place.
+    // Returns the value at a place.
     pub(crate) fn value_at(&self, place: usize) -> &V
         requires { place < length self.now }
         ensures { result.now ≡ slice_index_or (values_of (entries self.now)) place result.now }
@@ -186,7 +192,7 @@ impl<V> MemberList<V> {
         &self.list[place].value
     }
 
-    // The members in the order of their places.
+    // Returns the members in the order of their places.
     pub(crate) fn as_slice(&self) -> &[Member<V>]
         ensures value { result.now ≡ self.now }
         ensures distinct { IsDistinct bytes_eq (names self.now) }
@@ -195,7 +201,8 @@ impl<V> MemberList<V> {
     }
 }
 
-// The place of the first pair whose name the next one has too. The pairs are sorted by name.
+// Returns the place of the first pair that has the same name as the next one. The pairs must be
+// sorted by name.
 #[tactic(auto, using(crate::proofs::MembersInOrder::lemmas))]
 fn first_repeated<V>(pairs: &[Member<V>]) -> Option<usize>
     requires { IsSortedByName pairs.now }

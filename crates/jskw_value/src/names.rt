@@ -1,11 +1,11 @@
-//! The names of a node's members are distinct, at every level.
+//! The law that names of members are distinct, at every level.
 ghost use Rattle.std.specs.Prelude.{IsTrue};
 ghost use Rattle.jskw_value.specs.Tree.{has_distinct_names};
 
 use crate::json::{Array, Node, Object};
 
-/// Says of a whole node what [`Object::len`] says of one level: no object in it has a name twice. A
-/// law for proofs; it goes over the node once and takes no memory.
+/// States, for proofs, that no object in the node has a name twice, at any level. [`Object::len`]
+/// states it for one object. Visits the whole node once and allocates nothing.
 #[tactic(auto, using(crate::proofs::DistinctNames::by_level, crate::proofs::DistinctNames::by_index, crate::proofs::Depth::height_below))]
 pub fn names_are_distinct<N: Node>(node: &N)
     ensures { IsTrue (has_distinct_names (N.tree node.now)) }

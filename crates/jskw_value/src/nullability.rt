@@ -1,15 +1,15 @@
-//! Whether null is taken beside other values, as a type.
+//! Types that say whether `null` is accepted.
 ghost use Rattle.std.specs.Prelude.{Bool, true, false};
 
-/// Whether null is taken, known where the code is compiled.
+/// A type that says, when code is compiled, whether `null` is accepted.
 pub trait Nullability {
     ghost ACCEPTS_NULL: { Bool };
 
-    /// Whether null is taken.
+    /// Whether `null` is accepted.
     const ACCEPTS_NULL: bool;
 }
 
-/// Null is taken.
+/// `null` is accepted.
 #[derive(Clone, Copy, PartialEq, Eq, Debug, Drop)]
 pub struct Nullable;
 
@@ -19,7 +19,7 @@ impl Nullability for Nullable {
     const ACCEPTS_NULL: bool = true;
 }
 
-/// Null is not taken.
+/// `null` is not accepted.
 #[derive(Clone, Copy, PartialEq, Eq, Debug, Drop)]
 pub struct NotNullable;
 

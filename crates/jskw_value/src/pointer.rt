@@ -1,4 +1,4 @@
-//! JSON pointers (RFC 6901) as text that grows by one reference token at a time.
+//! JSON pointers (RFC 6901) as text, to which reference tokens are appended.
 ghost use Rattle.std.specs.Prelude.{◌≡◌, ◌++◌, OnOk, string_bytes};
 ghost use Rattle.std.specs.Char.{encode_utf8};
 ghost use Rattle.jskw_value.specs.Pointer.{escape, name_token, index_token};
@@ -7,8 +7,8 @@ ghost use Rattle.jskw_value.specs.Text.{AppendsPart};
 use std::alloc::AllocError;
 
 /// Appends the reference token of a member: a slash and the name, with `~` written `~0` and `/`
-/// written `~1` (RFC 6901, section 3). Only memory can fail; what was in the text stays in front,
-/// and after a failure a beginning of the token may follow it.
+/// written `~1` (RFC 6901, section 3). If memory runs out, `pointer` keeps what it held, and a
+/// beginning of the token may follow.
 #[tactic(auto, using(crate::proofs::Texts::beginnings))]
 pub fn push_name(pointer: &mut String, name: &str) -> Result<(), AllocError>
     ensures appended { OnOk result
@@ -21,8 +21,8 @@ pub fn push_name(pointer: &mut String, name: &str) -> Result<(), AllocError>
 }
 
 /// Appends the reference token of an item: a slash and the index in decimal digits (RFC 6901,
-/// section 4). Only memory can fail; what was in the text stays in front, and after a failure a
-/// beginning of the token may follow it.
+/// section 4). If memory runs out, `pointer` keeps what it held, and a beginning of the token may
+/// follow.
 #[tactic(auto, using(crate::proofs::Texts::beginnings))]
 pub fn push_index(pointer: &mut String, index: usize) -> Result<(), AllocError>
     ensures appended { OnOk result
@@ -48,7 +48,7 @@ fn push_escaped(pointer: &mut String, name: &str) -> Result<(), AllocError>
     Ok(())
 }
 
-// Appends a character, escaped where it is `~` or `/`.
+// Appends a character, escaped if it is `~` or `/`.
 #[tactic(auto, using(crate::proofs::Texts::beginnings, crate::proofs::Pointers::escape_plain))]
 fn push_escaped_char(pointer: &mut String, c: char) -> Result<(), AllocError>
     ensures appended { OnOk result

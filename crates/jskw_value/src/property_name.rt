@@ -1,4 +1,4 @@
-//! Names that are compared often, with what tells most of them apart at a glance.
+//! Names that are compared often, with a head that differs for most different names.
 ghost use Rattle.std.specs.Prelude.{◌≡◌, ◌≤◌, ◌<◌, length, get_or, IfOk};
 ghost use Rattle.std.specs.Int.{w64, from_le_bytes};
 ghost use Rattle.std.specs.Str.{bytes_eq};
@@ -7,8 +7,8 @@ ghost use Rattle.jskw_value.specs.PropertyName.{head_of, padded};
 use std::alloc::{AllocError, Global};
 use std::marker::Model;
 
-/// What tells most texts apart at a glance: the length in bytes, and the first and the last eight
-/// bytes. Equal texts have equal heads; texts that have equal heads may differ.
+/// The head of a text: its length in bytes, and its first and last eight bytes. Equal texts have
+/// equal heads. Texts with equal heads may differ.
 #[derive(Clone, Copy, PartialEq, Eq, Debug)]
 pub struct KeyHead {
     length: usize,
@@ -17,7 +17,7 @@ pub struct KeyHead {
 }
 
 impl KeyHead {
-    /// The head of a text. It takes no memory.
+    /// Returns the head of a text. Allocates nothing.
     #[tactic(auto, using(crate::proofs::Heads::head_of_few, crate::proofs::Heads::head_of_many))]
     pub fn of(text: &str) -> KeyHead
         ensures { result ≡ head_of text.now }
@@ -40,7 +40,7 @@ impl KeyHead {
     }
 }
 
-// The number of up to eight bytes, the lowest byte first.
+// Returns up to eight bytes as a number, the lowest byte first.
 pub(crate) fn number_of(bytes: &[u8]) -> u64
     requires { length bytes.now ≤ 8 }
     ensures { result ≡ from_le_bytes w64 (padded bytes.now) }
@@ -48,7 +48,7 @@ pub(crate) fn number_of(bytes: &[u8]) -> u64
     u64::from_le_bytes(padded(bytes))
 }
 
-// Up to eight bytes with zeros behind them.
+// Returns up to eight bytes, followed by zeros.
 fn padded(bytes: &[u8]) -> [u8; 8]
     requires { length bytes.now ≤ 8 }
     ensures { result ≡ padded bytes.now }
@@ -58,8 +58,8 @@ fn padded(bytes: &[u8]) -> [u8; 8]
     eight
 }
 
-// The number of less than eight bytes, the lowest byte first. It is put together in registers: a
-// copy of so few bytes into memory would be waited for.
+// Returns fewer than eight bytes as a number, the lowest byte first. The number is put together in
+// registers: the processor would have to wait for a copy of a few bytes into memory.
 #[tactic(auto, using(crate::proofs::Heads::few_padded))]
 pub(crate) fn number_of_few(bytes: &[u8]) -> u64
     requires { length bytes.now < 8 }
@@ -77,14 +77,14 @@ pub(crate) fn number_of_few(bytes: &[u8]) -> u64
     ])
 }
 
-// The byte at an index, 0 behind the last.
+// Returns the byte at an index, or 0 if the index is past the end.
 fn byte_at(bytes: &[u8], index: usize) -> u8
     ensures { result ≡ get_or bytes.now index 0 }
 {
     if index < bytes.len() { bytes[index] } else { 0 }
 }
 
-/// A text with its head, for a name that many others are compared with. Contracts see the text.
+/// A name with its head, for comparisons with many other names. Contracts refer to it as its text.
 #[derive(Debug, Drop)]
 pub struct PropertyName {
     text: String,
@@ -103,7 +103,7 @@ impl Model for PropertyName {
 }
 
 impl PropertyName {
-    /// The name of this text. Only memory can fail.
+    /// Creates the name from a copy of `text`.
     pub fn new(alloc: Global, text: &str) -> Result<PropertyName, AllocError>
         ensures { IfOk result (λ n. n ≡ text.now) }
     {
@@ -113,15 +113,15 @@ impl PropertyName {
         })
     }
 
-    /// The name as text.
+    /// Returns the name as text.
     pub fn as_str(&self) -> &str
         ensures { result.now ≡ self.now }
     {
         self.text.as_str()
     }
 
-    /// Whether the name is this text, whose head the caller has: the heads are compared first, and
-    /// the texts where these agree. It takes no memory.
+    /// Returns whether the name is equal to `text`. `head` must be the head of `text`. The heads
+    /// are compared first, and the texts only if the heads are equal. Allocates nothing.
     pub fn matches(&self, head: KeyHead, text: &str) -> bool
         requires { head ≡ head_of text.now }
         ensures { result ≡ bytes_eq self.now text.now }

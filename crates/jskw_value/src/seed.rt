@@ -5,8 +5,8 @@ ghost use Rattle.jskw_value.specs.Tree.{is_array, is_object};
 use crate::fingerprint::{of_whole, of_whole_text, stir};
 use crate::json::{Array, Node, Object};
 
-// A hash of 128 bits. Of 64 bits, two nodes with one hash could be found in some 2^32 trials, and one
-// of them put in for the other without changing the seed.
+// A hash of 128 bits. With 64 bits, some 2^32 trials would find two nodes with the same hash, and
+// one could replace the other without a change of the seed.
 #[derive(Clone, Copy)]
 struct State {
     first: u64,
@@ -14,7 +14,7 @@ struct State {
 }
 
 impl State {
-    // Two words mixed in.
+    // Returns the hash with two words mixed in.
     fn with(self, one: u64, other: u64) -> State {
         State {
             first: stir(self.first, one, other),
@@ -23,14 +23,14 @@ impl State {
     }
 }
 
-/// Returns a seed for [`of_whole`] that depends on everything that the node holds: each item, name,
-/// number and text, in the order in which they stand.
+/// Returns a seed for [`of_whole`] that depends on everything in the node: each item, name, number
+/// and text, and their order.
 ///
-/// Different values with one fingerprint are easy to search for under a seed that is known before.
-/// Under the seed of the array that holds them they are not: with other items, or in another order,
-/// it has another seed. Any number serves as a seed, so no contract says which it is: it decides how
-/// long a search for equal items takes, and never what it finds. Takes time in proportion to the
-/// size of the node, and no memory.
+/// If a seed is known in advance, different values with the same fingerprint are easy to find. They
+/// are not if the seed is that of the array that contains them: an array with other items, or in
+/// another order, has another seed. Any number works as a seed, so no contract says which one it
+/// is: it decides how long a search for equal items takes, and never what it finds. Takes time in
+/// proportion to the size of the node and allocates nothing.
 pub fn seed_of<N: Node>(node: &N) -> u64 {
     let start = State {
         first: 7046029254386353131,
@@ -39,7 +39,7 @@ pub fn seed_of<N: Node>(node: &N) -> u64 {
     with_node(start, node).first
 }
 
-// All of a node mixed in.
+// Returns the hash with the whole node mixed in.
 #[cycle(seed)]
 fn with_node<N: Node>(state: State, node: &N) -> State {
     if node.is_array() {
@@ -51,7 +51,7 @@ fn with_node<N: Node>(state: State, node: &N) -> State {
     state.with(of_whole(node, state.first), of_whole(node, state.second))
 }
 
-// The number of the items, and each of them.
+// Returns the hash with the number of items and each item mixed in.
 #[cycle(seed)]
 #[tactic(auto, using(crate::proofs::Depth::item_depth))]
 fn with_items<N: Node>(state: State, node: &N) -> State
@@ -65,7 +65,7 @@ fn with_items<N: Node>(state: State, node: &N) -> State
     state
 }
 
-// The number of the members, and of each its name and what stands at it.
+// Returns the hash with the number of members and each name and value mixed in.
 #[cycle(seed)]
 #[tactic(auto, using(crate::proofs::Depth::height_below))]
 fn with_members<N: Node>(state: State, node: &N) -> State

@@ -12,7 +12,7 @@ use crate::members::Member;
 use serde_json::{Map, Value};
 use std::alloc::{AllocError, Global};
 
-// The tree of a value. Only memory can fail.
+// Returns the tree of a value.
 #[cycle(decimals)]
 #[tactic(auto, using(crate::proofs::SerdeDecimals::by_level))]
 pub(crate) fn tree_of_value(alloc: Global, value: &Value) -> Result<DecimalTree, AllocError>
@@ -29,7 +29,7 @@ pub(crate) fn tree_of_value(alloc: Global, value: &Value) -> Result<DecimalTree,
     }
 }
 
-// The trees of items. Only memory can fail.
+// Returns the trees of items.
 #[cycle(decimals)]
 fn trees_of_items(alloc: Global, items: &Vec<Value>) -> Result<Vec<DecimalTree>, AllocError>
     requires { IsTrue (list_all (λ v. lawful (value_tree v)) items.now.items) }
@@ -42,7 +42,7 @@ fn trees_of_items(alloc: Global, items: &Vec<Value>) -> Result<Vec<DecimalTree>,
     Ok(trees)
 }
 
-// The trees of members, beside their names. Only memory can fail.
+// Returns the trees of members, with their names.
 #[cycle(decimals)]
 fn trees_of_members(alloc: Global, members: &Map<String, Value>) -> Result<Members, AllocError>
     requires { IsTrue (list_all (λ v. lawful (value_tree v)) (values members.now)) }

@@ -1,5 +1,5 @@
-//! The values of `serde_json` as nodes. A place in an object costs a number of steps that grows
-//! with it; a walk costs one step a member.
+//! The values of `serde_json` as nodes. To get a member by its place takes time in proportion to
+//! the place; a walk takes constant time for each member.
 ghost use Rattle.std.specs.Prelude.{◌≡◌, ◌<◌, string_bytes, slice_index_or};
 ghost use Rattle.std.specs.List.{list_all};
 ghost use Rattle.std.specs.BTreeMap.{btree_map_len, keys, values};
@@ -13,9 +13,9 @@ use crate::walk::Walk;
 use serde_json::{Map, Number, Value};
 use std::alloc::{AllocError, Global};
 
-/// The representation whose nodes are `serde_json`'s values and whose numbers are its numbers. A
-/// number that is neither an `i64` nor a `u64` is a float. Members stand in the order of their
-/// names' bytes.
+/// The representation whose nodes are the values of `serde_json`, with its numbers. A number that
+/// is neither an `i64` nor a `u64` is a float. Members are in the order of the bytes of their
+/// names.
 #[derive(Clone, Copy, Debug, PartialEq, Eq)]
 pub struct SerdeJson;
 
@@ -117,7 +117,7 @@ impl Object for Value {
     }
 }
 
-// The key at a place of a map.
+// Returns the key at a place of a map.
 fn key_at(members: &Map<String, Value>, place: usize) -> &String
     requires { place < btree_map_len members.now }
     ensures { result.now ≡ slice_index_or (keys members.now) place result.now }
@@ -125,7 +125,7 @@ fn key_at(members: &Map<String, Value>, place: usize) -> &String
     members.keys().nth(place).unwrap()
 }
 
-// The value at a place of a map.
+// Returns the value at a place of a map.
 fn value_at(members: &Map<String, Value>, place: usize) -> &Value
     requires { place < btree_map_len members.now }
     ensures { result.now ≡ slice_index_or (values members.now) place result.now }

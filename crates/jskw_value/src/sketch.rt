@@ -1,10 +1,10 @@
-//! A sketch of fingerprints: a fingerprint that isn't marked in it was never put in; one that is
+//! A sketch of fingerprints: a fingerprint that is not marked in it was never inserted; one that is
 //! marked may have been.
 ghost use Rattle.std.specs.Prelude.{ℕ, ◌≡◌, ◌≤◌, ◌<◌, ◌^◌, length, true};
 ghost use Rattle.jskw_value.specs.Sketch.{place, marks, is_set, is_marked};
 
-// Whether a fingerprint is marked: its bits are set in three words. Each half of it picks one of
-// them, and so do both together.
+// Returns whether a fingerprint is marked: its bits are set in three words. Each half of it picks
+// one of them, and both together the third.
 #[tactic(auto, unfolding(crate::specs::Sketch::is_marked))]
 pub(crate) fn is_marked(sketch: &[u64], print: u64) -> bool
     requires filled { 0 < length sketch.now }
@@ -32,7 +32,7 @@ pub(crate) fn mark(sketch: &mut [u64], print: u64)
     set(sketch, print ^ high, bits);
 }
 
-// Whether bits are all set in the word that a number picks.
+// Returns whether all of the bits are set in the word that a number picks.
 #[tactic(auto, unfolding(crate::specs::Sketch::is_set))]
 fn is_set(sketch: &[u64], picks: u64, bits: u64) -> bool
     requires filled { 0 < length sketch.now }
@@ -43,7 +43,7 @@ fn is_set(sketch: &[u64], picks: u64, bits: u64) -> bool
     word | bits == word
 }
 
-// Sets them.
+// Sets the bits in the word that a number picks.
 #[tactic(auto, using(crate::proofs::Sketches::set_this, crate::proofs::Sketches::set_other))]
 fn set(sketch: &mut [u64], picks: u64, bits: u64)
     requires filled { 0 < length sketch.old }
@@ -56,7 +56,7 @@ fn set(sketch: &mut [u64], picks: u64, bits: u64)
     sketch[at] |= bits;
 }
 
-// The word that the lower half of a number picks among so many.
+// Returns the index of the word that the lower half of a number picks.
 #[tactic(auto, unfolding(crate::specs::Sketch::place))]
 fn place(picks: u64, count: usize) -> usize
     requires filled { 0 < count }
@@ -67,8 +67,8 @@ fn place(picks: u64, count: usize) -> usize
     ((picks % (1 << 32) * count as u64) >> 32) as usize
 }
 
-// The bits that a fingerprint sets in each of its words: five, of which some may be the same. They
-// come from the lower ends of its halves, whose upper ends pick the words.
+// Returns the bits that a fingerprint sets in each of its words: up to five. They come from the
+// lower ends of its halves, whose upper ends pick the words.
 #[tactic(auto, unfolding(crate::specs::Sketch::marks))]
 fn marks(print: u64) -> u64
     ensures { result ≡ marks print }

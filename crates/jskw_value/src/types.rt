@@ -1,4 +1,4 @@
-//! The types that a schema names, and sets of them.
+//! The types of JSON Schema, and sets of types.
 ghost use Rattle.std.specs.Prelude.{◌≡◌, IsTrue};
 ghost use Rattle.std.specs.Result.{result_ok};
 ghost use Rattle.jskw_value.specs.Serde.{value_tree};
@@ -10,27 +10,27 @@ use crate::json::{Json, JsonNumber, Node};
 use serde_json::Value;
 use std::str::FromStr;
 
-/// A type that a schema may name (Validation 6.1.1, "type").
+/// A type that the keyword `type` can name (JSON Schema Validation 6.1.1).
 #[derive(Clone, Copy, PartialEq, Eq, Debug)]
 pub enum JsonType {
-    /// an array
+    /// An array.
     Array,
-    /// a boolean
+    /// A boolean.
     Boolean,
-    /// a number with a zero fractional part
+    /// A number whose fractional part is zero.
     Integer,
-    /// null
+    /// `null`
     Null,
-    /// a number
+    /// A number.
     Number,
-    /// an object
+    /// An object.
     Object,
-    /// a string
+    /// A string.
     String,
 }
 
-/// Reads the name of a type. It knows exactly `array`, `boolean`, `integer`, `null`, `number`,
-/// `object` and `string`; of any other text it makes an error.
+/// Parses the name of a type: `array`, `boolean`, `integer`, `null`, `number`, `object` or
+/// `string`. Any other text is an error.
 impl FromStr for JsonType {
     type Err = ();
 
@@ -50,7 +50,7 @@ impl FromStr for JsonType {
     }
 }
 
-/// The value's type, as [`Node::json_type`] gives it.
+/// Returns the type of the value: `Number` for every number.
 impl From<&Value> for JsonType {
     ghost from_gives = { λ v t. t ≡ json_type (value_tree v.now) };
 
@@ -72,7 +72,7 @@ pub struct JsonTypeSet {
 }
 
 impl JsonTypeSet {
-    /// The set of no type.
+    /// Returns the empty set.
     pub fn empty() -> JsonTypeSet
         ensures { result ≡ no_types }
     {
@@ -87,7 +87,7 @@ impl JsonTypeSet {
         }
     }
 
-    /// The set with this type too.
+    /// Returns the set with this type added.
     #[must_use]
     pub fn insert(self, json_type: JsonType) -> JsonTypeSet
         ensures { result ≡ insert json_type self }
@@ -124,7 +124,7 @@ impl JsonTypeSet {
         }
     }
 
-    /// Whether the type is one of the set.
+    /// Returns whether the set contains this type.
     pub fn contains(self, json_type: JsonType) -> bool
         ensures { result ≡ contains self json_type }
     {
@@ -139,9 +139,9 @@ impl JsonTypeSet {
         }
     }
 
-    /// Whether the value is of a type of the set (Validation 6.1.1, "type"): every number is of
-    /// type `number`, and a number with a zero fractional part is of type `integer` too. The node
-    /// is lawful.
+    /// Returns whether the value has a type of the set (JSON Schema Validation 6.1.1). Every number
+    /// has the type `number`; a number whose fractional part is zero has the type `integer` too.
+    /// The node must be lawful: it contains no float.
     pub fn contains_value_type<F: Json>(self, node: &F::Node) -> bool
         requires { IsTrue (is_lawful (F.Node.tree node.now)) }
         ensures { result ≡ has_type_of self (F.Node.tree node.now) }
@@ -156,7 +156,7 @@ impl JsonTypeSet {
     }
 }
 
-/// The set of this type alone.
+/// Returns the set that contains this type alone.
 impl From<JsonType> for JsonTypeSet {
     ghost from_gives = { λ t s. s ≡ insert t no_types };
 

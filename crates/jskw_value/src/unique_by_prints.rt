@@ -1,6 +1,7 @@
-//! Whether the items of an array differ, by the fingerprints of whole items: if items differ only
-//! deep down or late, those of their beginnings tell too little. The seed is the array's own, so
-//! that items which were searched for, to have one fingerprint under another, differ under it.
+//! Uniqueness of items by the fingerprints of whole items, for items that differ only deep inside
+//! or near their ends, where fingerprints of their beginnings are equal. The seed is the array's
+//! own, so that items which were made to have the same fingerprint under another seed have
+//! different ones.
 ghost use Rattle.std.specs.Prelude.{◌≡◌, ◌≤◌, ◌<◌, ◌+◌, ◌^◌, length, true, false, IsTrue};
 ghost use Rattle.std.specs.List.Sorted.{IsNonDecreasing, IsStrictlyIncreasing};
 ghost use Rattle.jskw_value.specs.Equality.{unique};
@@ -13,9 +14,9 @@ use crate::json::{Array, Node};
 use crate::seed::seed_of;
 use crate::unique_items::occurs_between;
 
-// Whether no two different indices of the array hold equal items, block by block: the sorted
-// fingerprints of so many items beside those of all that come later. It is never inlined, so that a
-// caller's frame has no fingerprints in it.
+// Returns whether no two items of the array are equal, block by block: the sorted fingerprints of a
+// block are compared with those of all later items. Never inlined, so that a caller's frame does
+// not contain the fingerprints.
 #[inline(never)]
 #[tactic(auto, using(crate::proofs::Blocks::last_block, crate::proofs::Blocks::one_block, crate::proofs::Prints::no_block))]
 pub(crate) fn are_unique_by_prints<const SIZE: usize, N: Node>(array: &N) -> bool
@@ -37,8 +38,8 @@ pub(crate) fn are_unique_by_prints<const SIZE: usize, N: Node>(array: &N) -> boo
     is_block_unique(array, &mut prints[..count - start], seed, start, count)
 }
 
-// Whether no item from one index up to another is equal to a later one, with room for as many
-// fingerprints.
+// Returns whether no item from one index up to another is equal to a later one. `prints` must have
+// room for the fingerprints of all of them.
 #[tactic(auto, using(crate::proofs::Prints::sorted_prints, crate::proofs::Prints::unique_block))]
 fn is_block_unique<N: Node>(
     array: &N,
@@ -74,8 +75,8 @@ fn write_prints<N: Node>(array: &N, prints: &mut [u64], seed: u64, start: usize,
     }
 }
 
-// Whether no two of the items that have these fingerprints are equal. Most often no two of the
-// fingerprints are the same.
+// Returns whether no two of the items with these fingerprints are equal. Usually no two
+// fingerprints are equal.
 #[tactic(auto, using(crate::proofs::Prints::none_new))]
 fn differ_in_block<N: Node>(array: &N, prints: &[u64], seed: u64, start: usize, end: usize) -> bool
     requires array { IsTrue (is_array (N.tree array.now)) }
@@ -98,7 +99,7 @@ fn differ_in_block<N: Node>(array: &N, prints: &[u64], seed: u64, start: usize, 
     true
 }
 
-// Whether no item behind those that have these fingerprints is equal to one of them.
+// Returns whether no item after those with these fingerprints is equal to one of them.
 #[tactic(auto, using(crate::proofs::Prints::none_new))]
 fn differ_from_later<N: Node>(
     array: &N,
@@ -123,7 +124,7 @@ fn differ_from_later<N: Node>(
     true
 }
 
-// Whether each number is less than the next.
+// Returns whether each number is less than the next.
 fn rises(numbers: &[u64]) -> bool
     ensures { result ≡ true → IsStrictlyIncreasing numbers.now }
 {
@@ -135,7 +136,7 @@ fn rises(numbers: &[u64]) -> bool
     true
 }
 
-// Whether a number is one of sorted ones.
+// Returns whether a number is in a sorted list.
 #[tactic(auto, using(crate::proofs::Prints::not_found))]
 fn is_among(sorted: &[u64], number: u64) -> bool
     requires { IsNonDecreasing sorted.now }
@@ -144,7 +145,7 @@ fn is_among(sorted: &[u64], number: u64) -> bool
     sorted.binary_search(&number).is_ok()
 }
 
-// Whether a number stands at two places of sorted ones.
+// Returns whether a number is in a sorted list at two places.
 #[tactic(auto, using(crate::proofs::Prints::not_found, crate::proofs::Prints::found_once))]
 fn is_repeated(sorted: &[u64], number: u64) -> bool
     requires { IsNonDecreasing sorted.now }

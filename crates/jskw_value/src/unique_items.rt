@@ -1,5 +1,5 @@
-//! Whether the items of an array differ. It takes no memory but its frame: a sketch on the stack
-//! tells of most items that no earlier one is equal.
+//! Uniqueness of the items of an array. Allocates nothing: a sketch on the stack shows for most
+//! items that no earlier item is equal.
 ghost use Rattle.std.specs.Prelude.{◌≡◌, ◌≤◌, ◌<◌, ◌+◌, ◌^◌, drop, length, true, false};
 ghost use Rattle.std.specs.Prelude.{IsTrue, IfSome, Some, option_and_then};
 ghost use Rattle.std.specs.List.{list_any};
@@ -14,40 +14,40 @@ use crate::json::{Array, JsonNumber, Node};
 use crate::sketch::{is_marked, mark};
 use crate::unique_by_prints::are_unique_by_prints;
 
-// Up to so many items are compared pair by pair.
+// The number of items up to which all pairs are compared.
 const FEW: usize = 8;
 
-// The words of the sketches. A sketch serves twice as many items at a time.
+// The numbers of words of the sketches. A sketch takes twice as many items at a time.
 const SMALL: usize = 64;
 
 const MEDIUM: usize = 512;
 
 const LARGE: usize = 6144;
 
-// For arrays of more items than the others serve at a time.
+// The number of words for arrays with more items than the other sketches take at a time.
 const HUGE: usize = 32768;
 
-// How many fingerprints are sorted at a time where a sketch tells too little: of all items, and of
-// the longest arrays as many as the sketch has words.
+// How many fingerprints are sorted at a time if too many items look equal in the sketch: those of
+// all items, and in the longest arrays as many as the sketch has words.
 const SMALL_PRINTS: usize = 2 * SMALL;
 
 const MEDIUM_PRINTS: usize = 2 * MEDIUM;
 
 const LARGE_PRINTS: usize = 2 * LARGE;
 
-// A sketch tells too little where more than so many items look equal to one before and aren't. Of
-// items whose fingerprints differ hardly one in a hundred thousand does.
+// The sketch is given up if more than this many items look equal to an earlier one and aren't. Of
+// items whose fingerprints differ, about one in a hundred thousand does.
 const DOUBTS: usize = 8;
 
-// So that in a long array there may be one more for each so many items.
+// In a long array, one more such item is allowed for every 16,384 items.
 const ITEMS_A_DOUBT: usize = 16384;
 
-// The seed of the fingerprints in a sketch. It may be known, since a sketch that tells too little is
-// given up.
+// The seed of the fingerprints in a sketch. It may be known, since a sketch that tells too little
+// is given up.
 const UNSEEDED: u64 = 0;
 
-// Whether no two different indices of the array hold equal items. The first item is compared with
-// all others before any sketch is begun: what pairs find at once is found at once.
+// Returns whether no two items of the array are equal. The first item is compared with all others
+// before a sketch is begun, so that equal items at the beginning are found at once.
 #[tactic(auto, using(crate::proofs::Blocks::first_again, crate::proofs::Blocks::first_new))]
 pub(crate) fn has_unique_items<N: Node>(array: &N) -> bool
     requires { IsTrue (is_array (N.tree array.now)) }
@@ -71,7 +71,8 @@ pub(crate) fn has_unique_items<N: Node>(array: &N) -> bool
     }
 }
 
-// By a sketch, and if that tells too little by sorted fingerprints.
+// Returns the same for many items: by a sketch, or by sorted fingerprints if the sketch is given
+// up.
 fn are_many_unique<const WORDS: usize, const PRINTS: usize, N: Node>(array: &N) -> bool
     requires array { IsTrue (is_array (N.tree array.now)) }
     requires first { IsUniqueIn 0 1 (items (N.tree array.now)) }
@@ -87,7 +88,7 @@ fn are_many_unique<const WORDS: usize, const PRINTS: usize, N: Node>(array: &N) 
     }
 }
 
-// Each pair is compared.
+// Returns the same for few items, by comparing all pairs.
 #[tactic(auto, using(crate::proofs::Equal::unique_step, crate::proofs::Equal::unique_end))]
 fn are_few_unique<N: Node>(array: &N) -> bool
     requires { IsTrue (is_array (N.tree array.now)) }
@@ -102,7 +103,7 @@ fn are_few_unique<N: Node>(array: &N) -> bool
     true
 }
 
-// Whether an item at or past an index is equal to the node.
+// Returns whether an item at or after an index is equal to the node.
 #[tactic(auto, using(crate::proofs::Equal::any_step, crate::proofs::Equal::any_end))]
 fn occurs_from<N: Node>(array: &N, start: usize, node: &N) -> bool
     requires { IsTrue (is_array (N.tree array.now)) }
@@ -116,9 +117,9 @@ fn occurs_from<N: Node>(array: &N, start: usize, node: &N) -> bool
     false
 }
 
-// By a sketch of so many words, block by block, where the first item differs from all others: the
-// items of each block beside all that come later. None if the sketch tells too little. It is never
-// inlined, so that a caller's frame has no sketch in it.
+// Returns the same by a sketch of `WORDS` words, if the first item differs from all others: block
+// by block, the items of a block are compared with all later ones. `None` if the sketch is given
+// up. Never inlined, so that a caller's frame does not contain the sketch.
 #[inline(never)]
 #[tactic(auto, using(crate::proofs::Blocks::next_block, crate::proofs::Blocks::last_block))]
 fn are_unique_by_sketch<const WORDS: usize, N: Node>(array: &N) -> Option<bool>
@@ -142,9 +143,9 @@ fn are_unique_by_sketch<const WORDS: usize, N: Node>(array: &N) -> Option<bool>
     is_block_unique(array, &mut sketch, blocks * size + 1, count)
 }
 
-// Whether no item from one index up to another is equal to a later one, or None if too many of
-// them look equal to one and aren't. A fingerprint looks no further into an item than the array is
-// long, so that all of them take less than all pairs would.
+// Returns whether no item from one index up to another is equal to a later one, or `None` if too
+// many of them look equal and aren't. The budget of each fingerprint is a quarter of the length of
+// the array, so that all fingerprints together take less time than all pairs would.
 #[tactic(auto, using(crate::proofs::Blocks::told_start, crate::proofs::Blocks::told_end))]
 fn is_block_unique<N: Node>(array: &N, sketch: &mut [u64], start: usize, end: usize) -> Option<bool>
     requires array { IsTrue (is_array (N.tree array.now)) }
@@ -165,8 +166,9 @@ fn is_block_unique<N: Node>(array: &N, sketch: &mut [u64], start: usize, end: us
     Some(true)
 }
 
-// Whether no earlier item of the block is equal to the one at an index: where its fingerprint isn't
-// marked, none is. Marks it, where it is of the block. None where it is marked and no doubt is left.
+// Returns whether no earlier item of the block is equal to the one at an index: none is if its
+// fingerprint is not marked, and then it is marked if the item is in the block. `None` if it is
+// marked and no more such items are allowed.
 #[tactic(auto, using(crate::proofs::Blocks::told_later, crate::proofs::Blocks::told_again, crate::proofs::Blocks::told_new))]
 fn is_new<N: Node>(
     array: &N,
@@ -199,7 +201,7 @@ fn is_new<N: Node>(
     Some(true)
 }
 
-// Whether an item from one index up to another is equal to a later one. It is seldom asked, and
+// Returns whether an item from one index up to another is equal to a given one. Called rarely, and
 // never inlined, so that the loop over all items keeps its registers.
 #[inline(never)]
 #[tactic(auto, using(crate::proofs::Blocks::new_start, crate::proofs::Blocks::new_step, crate::proofs::Blocks::is_twice))]
@@ -219,8 +221,8 @@ pub(crate) fn occurs_between<N: Node>(array: &N, start: usize, end: usize, index
     false
 }
 
-// Whether two items are equal. It is asked of many that are not, so that whole numbers from 0 on
-// are told apart at once.
+// Returns whether two items are equal. Most of them are not, so integers from 0 on are compared
+// first.
 fn are_equal<N: Node>(left: &N, right: &N) -> bool
     ensures { result ≡ equal (N.tree left.now) (N.tree right.now) }
 {
@@ -230,7 +232,7 @@ fn are_equal<N: Node>(left: &N, right: &N) -> bool
     }
 }
 
-// The number that a node is, where it is written without a point and lies from 0 to 2^64 - 1.
+// Returns the number that a node is, if it is written without a point and is from 0 to 2^64-1.
 fn whole_number<N: Node>(node: &N) -> Option<u64>
     ensures { result ≡ option_and_then u64_of (option_and_then whole (as_number (N.tree node.now))) }
 {

@@ -1,4 +1,4 @@
-//! A walk over the members of an object, in the order of their places.
+//! The iterator over the members of an object.
 ghost use Rattle.std.specs.Prelude.{◌≡◌, ◌+◌, ◌<◌, [], ◌∷◌, map, drop, string_bytes, string_cmp};
 ghost use Rattle.std.specs.Prelude.{MatchOption, IfSome};
 ghost use Rattle.std.specs.BTreeMap.{IsOrdered};
@@ -11,8 +11,8 @@ use crate::members::Member;
 use std::collections::{BTreeMap, btree_map};
 use std::slice;
 
-/// An iterator over the names and members of an object. [`Object::walk`](crate::json::Object::walk)
-/// makes it.
+/// An iterator over the names and values of the members of an object, in the order of their places.
+/// [`Object::walk`](crate::json::Object::walk) creates it.
 #[derive(Drop)]
 pub struct Walk<'a, V> {
     rest: Rest<'a, V>,
@@ -27,7 +27,7 @@ pub(crate) enum Rest<'a, V> {
 }
 
 impl<'a, V> Walk<'a, V> {
-    // The entries of a map, in the order of their names.
+    // Creates the iterator over the entries of a map, in the order of their names.
     pub(crate) fn of_map(members: &'a BTreeMap<String, V>) -> Walk<'a, V>
         ensures value { (tree : V → Tree)
             → left tree result ≡ map (λ e. (string_bytes e.0, tree e.1)) members.now.entries }
@@ -38,7 +38,7 @@ impl<'a, V> Walk<'a, V> {
         }
     }
 
-    // The members of a list, in its order.
+    // Creates the iterator over the members of a list, in its order.
     pub(crate) fn of_list(list: &'a [Member<V>]) -> Walk<'a, V>
         ensures { (tree : V → Tree)
             → left tree result ≡ map (λ m. (string_bytes m.name, tree m.value)) list.now }
@@ -50,9 +50,9 @@ impl<'a, V> Walk<'a, V> {
 }
 
 impl<'a, V: Rooted> Walk<'a, V> {
-    /// A walk that asks the object for the name and the member at each place in turn, for a
-    /// representation that keeps its members in a shape of its own. Its cost is that of `name_at`
-    /// and `member_at` at every place.
+    /// Creates an iterator that calls `name_at` and `member_at` for each place in turn, for a
+    /// representation that stores its members in a form of its own. It takes the time of these
+    /// calls.
     pub fn by_place(object: &'a V) -> Walk<'a, V>
         ensures { left V.tree result ≡ members_of (V.tree object.now) }
     {
@@ -69,7 +69,7 @@ impl<'a, V: Node> Iterator for Walk<'a, V> {
 
     ghost remaining = { item_count (left V.tree) };
 
-    // in line, a loop over a walk tells the kinds of walks apart once, and not at each member
+    // in line, so that a loop over a walk tests the kind of the walk once, not at each member
     #[inline(always)]
     fn next(&mut self) -> Option<(&'a str, &'a V)> {
         match &mut self.rest {
@@ -90,7 +90,7 @@ impl<'a, V: Node> Iterator for Walk<'a, V> {
     }
 }
 
-// The name and the member at a place, where there is one.
+// Returns the name and the value of the member at a place, or `None` past the last.
 #[tactic(auto, using(crate::proofs::Places::drop_member, crate::proofs::Places::drop_elsewhere))]
 fn member_at_place<'a, V: Node>(object: &'a V, place: usize) -> Option<(&'a str, &'a V)>
     ensures value { let all = members_of (V.tree object.now) in

@@ -19,7 +19,7 @@ use Rattle.jskw_array.specs.Meaning.{bounds_of, schemas_of}
 use Rattle.jskw_array.specs.Units.{absorbed_by, keywords_of, unit_location, unit_meaning}
 use Rattle.jskw_array.proofs.Keywords.{false_tree, items_height, keywords_end, one_pair, pairs_at, schema_height, schema_pairs, schema_tree, unit_height, unit_taken, unit_tall}
 use Rattle.jskw_array.proofs.MatchedItems.{matching_is_unit}
-use Rattle.jskw_array.proofs.Meant.{each_meets, items_unit_is, prefix_unit_is}
+use Rattle.jskw_array.proofs.Meant.{absurd-of, each_meets, each_no_assertion, items_unit_is, prefix_unit_is, rest_no_assertion}
 use Rattle.jskw_array.proofs.Meetings.{each_units_end, height_at, sum_at}
 use Rattle.jskw_array.proofs.+evaluate.Goals as goal
 
@@ -42,6 +42,12 @@ each::EachValidate::evaluate-evaluate_item-requires g t c κs within =
     let v = c.args.self.now in
     let below = height_at v.nodes.items c.loop-index.index c.index.result.now (omega arith) c.index.ensures in
     (omega (arith, below, each_is_as_high v, c.decreases), search rules)
+
+pub each::EachValidate::evaluate-returns-in_err-evaluate_item-clause-quiet : goal.each::EachValidate::evaluate-returns-in_err-evaluate_item-clause-quiet
+each::EachValidate::evaluate-returns-in_err-evaluate_item-clause-quiet g t c assertion = absurd-of (each_no_assertion c.args.self.now) assertion
+
+pub each::EachValidate::evaluate-returns-in_err-push-clause-quiet : goal.each::EachValidate::evaluate-returns-in_err-push-clause-quiet
+each::EachValidate::evaluate-returns-in_err-push-clause-quiet g t c assertion = absurd-of (each_no_assertion c.args.self.now) assertion
 
 pub each::EachValidate::evaluate-returns-then-not-self-clause-gives : goal.each::EachValidate::evaluate-returns-then-not-self-clause-gives
 each::EachValidate::evaluate-returns-then-not-self-clause-gives g t c =
@@ -66,6 +72,15 @@ each::EachValidate::evaluate-returns-clause-gives g t c =
 
 pub rest::RestValidate::evaluate-evaluate_item-requires : goal.rest::RestValidate::evaluate-evaluate_item-requires
 rest::RestValidate::evaluate-evaluate_item-requires g t c κs within = (omega (arith, rest_is_as_high c.args.self.now, c.decreases), search rules)
+
+pub rest::RestValidate::evaluate-returns-then-self-clause-quiet : goal.rest::RestValidate::evaluate-returns-then-self-clause-quiet
+rest::RestValidate::evaluate-returns-then-self-clause-quiet g t c assertion = absurd-of (rest_no_assertion c.args.self.now) assertion
+
+pub rest::RestValidate::evaluate-returns-in_err-evaluate_item-clause-quiet : goal.rest::RestValidate::evaluate-returns-in_err-evaluate_item-clause-quiet
+rest::RestValidate::evaluate-returns-in_err-evaluate_item-clause-quiet g t c assertion = absurd-of (rest_no_assertion c.args.self.now) assertion
+
+pub rest::RestValidate::evaluate-returns-in_err-push-clause-quiet : goal.rest::RestValidate::evaluate-returns-in_err-push-clause-quiet
+rest::RestValidate::evaluate-returns-in_err-push-clause-quiet g t c assertion = absurd-of (rest_no_assertion c.args.self.now) assertion
 
 -- ---- the items that match
 

@@ -3,7 +3,7 @@ ghost use Rattle.std.specs.Prelude.{◌≡◌, IfOk, option_map};
 ghost use Rattle.jskw_report.specs.Evaluation.{annotation_at, children_at, evaluations};
 ghost use Rattle.jskw_report.specs.Evaluation.{instance_location_at, is_valid};
 ghost use Rattle.jskw_report.specs.Evaluation.{keyword_location_at, keywords_at, node_at};
-ghost use Rattle.jskw_report.specs.EvaluationParts.{annotation_of, keywords_of};
+ghost use Rattle.jskw_report.specs.EvaluationParts.{AreSmaller, annotation_of, keywords_of, weight};
 ghost use Rattle.jskw_report.specs.EvaluationView.{result_of};
 
 use crate::evaluation::{Annotations, ErrorDescription, EvaluationResult};
@@ -18,7 +18,7 @@ use std::marker::Model;
 /// keyword has one for each item that it checks against a subschema (JSON Schema Core 12.3.5), with
 /// two exceptions: `contains` has them for the items that match, and none if it fails;
 /// `additionalItems` has none.
-#[derive(Drop)]
+#[derive(Debug, Drop)]
 pub struct EvaluationNode {
     evaluation_path: Location,
     instance_location: Location,
@@ -130,9 +130,12 @@ impl EvaluationNode {
         self.errors.as_slice()
     }
 
-    /// Returns the nodes below, in order (JSON Schema Core 12.3.5).
+    /// Returns the nodes below, in order (JSON Schema Core 12.3.5). The tree of each has fewer
+    /// nodes than that of this node, so a function that calls itself for each child returns.
+    #[tactic(auto, using(crate::proofs::SmallerNodes::are_smaller))]
     pub fn children(&self) -> &[EvaluationNode]
-        ensures { evaluations result.now ≡ children_at self.now }
+        ensures nodes { evaluations result.now ≡ children_at self.now }
+        ensures smaller { AreSmaller result.now (weight self.now) }
     {
         self.children.as_slice()
     }
