@@ -33,21 +33,14 @@ fn print_evaluation(
     }
     let mut ctx = ValidationContext::new();
     let tree = node.evaluate_instance(rt.alloc(), instance, &mut ctx)?;
-    print_tree(rt, &tree)
+    print_tree(rt, 0, &tree)
 }
 
-// Prints a node and those below it.
-fn print_tree(rt: &HostRuntime, root: &EvaluationNode) -> io::Result<()> {
-    let mut nodes = Vec::new(rt.alloc());
-    nodes.push((0, root))?;
-    for _ in 0..u64::MAX {
-        let Some((depth, node)) = nodes.pop() else {
-            break;
-        };
-        print_node(rt, depth, node)?;
-        for child in node.children().iter().rev() {
-            nodes.push((depth.saturating_add(1), child))?;
-        }
+// Prints a node and those below it, each indented by its depth.
+fn print_tree(rt: &HostRuntime, depth: u64, node: &EvaluationNode) -> io::Result<()> {
+    print_node(rt, depth, node)?;
+    for child in node.children() {
+        print_tree(rt, depth.saturating_add(1), child)?;
     }
     Ok(())
 }
