@@ -1,0 +1,83 @@
+-- What a schema in bytes compiles to, under a setting that numbers name.
+use Rattle.std.specs.Prelude.{◌≡◌, ◌⊎◌, ◌/◌, ◌%◌, ℕ, List, [], Bool, true, false, eqb, leb, length, if◌then◌else◌, Option, None, Some, Result, Ok, Err, option_and_then}
+use Rattle.serde_json.specs.Data.{Data}
+use Rattle.jskw_report.specs.Keyword.{Schema}
+use Rattle.jskw_report.specs.KeywordValue.{Refusal}
+use Rattle.jskw_report.specs.Read.{Reading, read}
+use Rattle.jskw_report.specs.Setting.{Setting, no_vocabulary, with_object_layer, with_vocabulary}
+use Rattle.jskw_report.specs.declared.settings.Draft.{Draft}
+use Rattle.jskw_report.specs.declared.settings.Draft.TheVariants.{Draft4, Draft6, Draft7, Draft201909, Draft202012}
+use Rattle.jskw_report.specs.declared.settings.Vocabulary.{Vocabulary}
+use Rattle.jskw_report.specs.declared.settings.Vocabulary.TheVariants.{Core, Applicator, Validation}
+use Rattle.jskw_report.specs.declared.settings.VocabularySet.{VocabularySet}
+use Rattle.jskw_service.specs.Request.{overridden_of, setting_from, value_of}
+use Rattle.jskw_c.specs.Line.{IsRefusalLine}
+use Rattle.jskw_c.specs.Told.{Nothing, Tells}
+use Rattle.jskw_c.specs.declared.status.TheConstants.{VALID, NOT_JSON, BAD_SCHEMA, BAD_SETTING, NO_MEMORY}
+
+-- ---- the setting
+
+abbrev pub draft_numbered : ℕ → Option Draft
+draft_numbered n =
+    if eqb n 4 then Some Draft4
+    else (if eqb n 6 then Some Draft6
+    else (if eqb n 7 then Some Draft7
+    else (if eqb n 2019 then Some Draft201909
+    else (if eqb n 2020 then Some Draft202012
+    else None))))
+
+abbrev pub with_if : Bool → Vocabulary → VocabularySet → VocabularySet
+with_if b v vs = if b then with_vocabulary v vs else vs
+
+-- 1 for the core, 2 for the applicator and 4 for validation, added up
+abbrev pub vocabularies_in : ℕ → VocabularySet
+vocabularies_in n = with_if (eqb (n / 4) 1) Validation (with_if (eqb (n / 2 % 2) 1) Applicator (with_if (eqb (n % 2) 1) Core no_vocabulary))
+
+abbrev pub vocabularies_numbered : ℕ → Option VocabularySet
+vocabularies_numbered n = if leb n 7 then Some (vocabularies_in n) else None
+
+-- a JSON array of names, and none where there are no bytes
+abbrev pub overridden_in : List ℕ → Option (List (List ℕ))
+overridden_in bytes = if eqb (length bytes) 0 then Some [] else option_and_then (λ d. overridden_of (Some d)) (value_of bytes)
+
+abbrev pub setting_numbered : ℕ → ℕ → List ℕ → Option Setting
+setting_numbered draft vocabularies overridden = setting_from (draft_numbered draft) (vocabularies_numbered vocabularies) (overridden_in overridden)
+
+-- ---- the schema, read without an object layer, or why there is none
+
+pub data Fault : Type 0 where
+  bad_setting : Fault
+  not_json : Fault
+  bad_schema : Refusal → Fault
+
+abbrev pub compiled_as : Reading → Result Schema Fault
+compiled_as (Ok s) = Ok s
+compiled_as (Err e) = Err (bad_schema e)
+
+abbrev pub compiled_from : Setting → Option Data → Result Schema Fault
+compiled_from s None = Err not_json
+compiled_from s (Some d) = compiled_as (read d (with_object_layer false s) [])
+
+abbrev pub compiled_of : Option Setting → List ℕ → Result Schema Fault
+compiled_of None bytes = Err bad_setting
+compiled_of (Some s) bytes = compiled_from s (value_of bytes)
+
+abbrev pub status_of : Fault → ℕ
+status_of bad_setting = BAD_SETTING
+status_of not_json = NOT_JSON
+status_of (bad_schema e) = BAD_SCHEMA
+
+-- a refusal has a text, and nothing else has one
+abbrev pub IsTextOf : Fault → List ℕ → Type 0
+IsTextOf (bad_schema e) text = IsRefusalLine e text
+IsTextOf f text = text ≡ []
+
+-- ---- what a compile does to the handle, which had a schema before or had none, and to the buffer
+
+-- the handle has the schema; or memory ran out and the handle is unchanged
+abbrev pub Holds : Schema → ℕ → Option Schema → Option Schema → Type 0
+Holds s result before after = ((result ≡ VALID) × (after ≡ Some s)) ⊎ ((result ≡ NO_MEMORY) × (after ≡ before))
+
+abbrev pub Compiles : Result Schema Fault → ℕ → Option Schema → Option Schema → List ℕ → List ℕ → ℕ → Type 0
+Compiles (Ok s) result before after old new count = Holds s result before after × Nothing old new count
+Compiles (Err f) result before after old new count = (after ≡ before) × Tells (IsTextOf f) result (status_of f) old new count

@@ -1,0 +1,171 @@
+//! What exports do with bytes: compiles schemas and checks instances.
+ghost use Rattle.std.specs.Prelude.{◌≡◌, IfOk, Some};
+ghost use Rattle.jskw_service.specs.Request.{value_of};
+ghost use Rattle.jskw_c.specs.Asked.{SaysErrors, SaysFirst, SaysTree, instance_in, status_of, verdict};
+ghost use Rattle.jskw_c.specs.Compiled.{compiled_of, setting_numbered};
+ghost use Rattle.jskw_c.specs.Replies.{CompilesTo, Reads, Reports};
+
+use crate::compiled::CompiledSchema;
+use crate::evaluation::tree_text;
+use crate::line::{error_line, error_lines, refusal_line, word_line};
+use crate::settings::settings_numbered;
+use crate::status::{BAD_SCHEMA, BAD_SETTING, FLOAT, INVALID, NOT_JSON, VALID};
+use jskw_array::SchemaNode;
+use jskw_array::compiler::compile;
+use jskw_report::{CompileFault, Context, Fault, LazyLocation, ValidationContext};
+use jskw_service::read_value;
+use jskw_value::{Node, SerdeJson};
+use serde_json::Value;
+use std::alloc::{AllocError, Global};
+
+/// A status and a text.
+#[derive(Drop)]
+pub(crate) struct Told {
+    pub(crate) status: u32,
+    pub(crate) text: Vec<u8>,
+}
+
+// Compiles the schema of these bytes under the setting of these numbers, or returns why there is
+// none.
+pub(crate) fn compile_schema(
+    alloc: Global,
+    draft: u32,
+    vocabularies: u32,
+    overridden: &[u8],
+    schema: &[u8],
+) -> Result<Result<Box<CompiledSchema>, Told>, AllocError>
+    ensures { IfOk result (λ compiled. CompilesTo (λ schema. schema.value) compiled
+        (compiled_of (setting_numbered draft vocabularies overridden.now) schema.now)) }
+{
+    let Some(settings) = settings_numbered(alloc, draft, vocabularies, overridden)? else {
+        return Ok(Err(status_alone(alloc, BAD_SETTING)));
+    };
+    let Some(value) = read_value(alloc, schema)? else {
+        return Ok(Err(status_alone(alloc, NOT_JSON)));
+    };
+    let ctx: Context<'_, SerdeJson> = Context::new(alloc, &settings);
+    let ctx = ctx.with_object_layer(false);
+    match compile(alloc, &ctx, &value) {
+        Ok(node) => Ok(Ok(Box::new(alloc, CompiledSchema::new(node))?)),
+        Err(CompileFault::Bad(error)) => Ok(Err(Told {
+            status: BAD_SCHEMA,
+            text: refusal_line(alloc, &error)?,
+        })),
+        Err(CompileFault::Memory(error)) => Err(error),
+    }
+}
+
+// Returns a status with no text.
+fn status_alone(alloc: Global, status: u32) -> Told
+    ensures status { result.status ≡ status }
+    ensures text { result.text.items ≡ [] }
+{
+    Told {
+        status,
+        text: Vec::new(alloc),
+    }
+}
+
+// Returns the status of a verdict.
+fn verdict(is_valid: bool) -> u32
+    ensures { result ≡ verdict is_valid }
+{
+    if is_valid { VALID } else { INVALID }
+}
+
+// Returns the status of the instance of these bytes.
+pub(crate) fn validity(
+    alloc: Global,
+    schema: &SchemaNode<SerdeJson>,
+    instance: &[u8],
+) -> Result<u32, AllocError>
+    ensures { IfOk result (λ status. status ≡ status_of (Some schema.now) (instance_in instance.now)) }
+{
+    let Some(value) = read_value(alloc, instance)? else {
+        return Ok(NOT_JSON);
+    };
+    if !value.is_lawful() {
+        return Ok(FLOAT);
+    }
+    Ok(verdict(schema.is_valid(&value, &mut ValidationContext::new())))
+}
+
+// Returns the value of these bytes, or what is told of bytes that are not JSON or contain a float.
+fn read_instance(alloc: Global, bytes: &[u8]) -> Result<Result<Value, Told>, AllocError>
+    ensures { IfOk result (λ read. Reads read (instance_in bytes.now)) }
+{
+    let Some(value) = read_value(alloc, bytes)? else {
+        return Ok(Err(status_alone(alloc, NOT_JSON)));
+    };
+    match value.first_unlawful(alloc)? {
+        Some(location) => Ok(Err(Told {
+            status: FLOAT,
+            text: word_line(alloc, location.as_str())?,
+        })),
+        None => Ok(Ok(value)),
+    }
+}
+
+// Returns a line for each error of the instance of these bytes.
+pub(crate) fn errors_of(
+    alloc: Global,
+    schema: &SchemaNode<SerdeJson>,
+    instance: &[u8],
+) -> Result<Told, AllocError>
+    ensures { IfOk result (λ told. Reports SaysErrors (Some schema.now) (instance_in instance.now) told) }
+{
+    let value = match read_instance(alloc, instance)? {
+        Ok(value) => value,
+        Err(told) => return Ok(told),
+    };
+    let mut errors = Vec::new(alloc);
+    let mut location = LazyLocation::new(alloc);
+    let mut ctx = ValidationContext::new();
+    schema.collect_errors(&value, &mut location, &mut ctx, &mut errors)?;
+    Ok(Told {
+        status: verdict(errors.is_empty()),
+        text: error_lines(alloc, errors.as_slice())?,
+    })
+}
+
+// Returns the line of the first error of the instance of these bytes.
+pub(crate) fn first_error_of(
+    alloc: Global,
+    schema: &SchemaNode<SerdeJson>,
+    instance: &[u8],
+) -> Result<Told, AllocError>
+    ensures { IfOk result (λ told. Reports SaysFirst (Some schema.now) (instance_in instance.now) told) }
+{
+    let value = match read_instance(alloc, instance)? {
+        Ok(value) => value,
+        Err(told) => return Ok(told),
+    };
+    let mut location = LazyLocation::new(alloc);
+    match schema.validate(&value, &mut location, &mut ValidationContext::new()) {
+        Ok(()) => Ok(status_alone(alloc, VALID)),
+        Err(Fault::Invalid(error)) => Ok(Told {
+            status: INVALID,
+            text: error_line(alloc, &error)?,
+        }),
+        Err(Fault::Memory(error)) => Err(error),
+    }
+}
+
+// Returns the evaluation tree of the instance of these bytes.
+pub(crate) fn evaluation_of(
+    alloc: Global,
+    schema: &SchemaNode<SerdeJson>,
+    instance: &[u8],
+) -> Result<Told, AllocError>
+    ensures { IfOk result (λ told. Reports SaysTree (Some schema.now) (instance_in instance.now) told) }
+{
+    let value = match read_instance(alloc, instance)? {
+        Ok(value) => value,
+        Err(told) => return Ok(told),
+    };
+    let tree = schema.evaluate_instance(alloc, &value, &mut ValidationContext::new())?;
+    Ok(Told {
+        status: verdict(tree.valid()),
+        text: tree_text(alloc, &tree)?,
+    })
+}

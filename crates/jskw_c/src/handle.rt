@@ -1,0 +1,91 @@
+//! Handles: compiled schemas behind a pointer that a caller in C keeps.
+ghost use Rattle.std.specs.Prelude.{◌≡◌, None, Option, Some, option_map};
+ghost use Rattle.jskw_report.specs.Keyword.{Schema};
+ghost use Rattle.jskw_report.specs.SchemaCode.{schema_code};
+ghost use Rattle.std.specs.Coded.{coded_option};
+ghost use Rattle.jskw_c.specs.Slot.{slot_owns};
+ghost use Rattle.jskw_c.specs.contracts.compiled.CompiledSchema.{the_row};
+
+use crate::compiled::CompiledSchema;
+use crate::loose::Loose;
+use std::alloc::Global;
+use std::marker::Model;
+use std::mem;
+use std::ptr::null_mut;
+
+/// A compiled schema, or none if the pointer is null. A caller in C keeps it, and neither follows
+/// nor copies the pointer.
+///
+/// A schema is asked of while it is taken out: behind a `&` a pointer that owns memory can't be
+/// read. So a handle is in one call at a time.
+#[repr(C)]
+pub struct SchemaHandle {
+    at: *mut u8,
+    pub ghost schema: { Option Schema } by { coded_option schema_code },
+}
+
+impl Model for SchemaHandle {
+    ghost also_owns = { λ h. slot_owns the_row h.at h.schema };
+}
+
+impl SchemaHandle {
+    // Returns the handle with no schema. By hand, since it makes a pointer.
+    pub(crate) fn empty() -> SchemaHandle
+        ensures { result.schema ≡ None }
+    {
+        SchemaHandle { at: null_mut() }
+    }
+
+    // Returns the handle with this schema. By hand, since it casts a pointer.
+    fn of_loose(loose: Loose<CompiledSchema, Global>) -> SchemaHandle
+        ensures { result.schema ≡ Some loose.value }
+    {
+        let Loose { at, alloc: _ } = loose;
+        SchemaHandle { at: at as *mut u8 }
+    }
+
+    // Returns the schema, if there is one. By hand, since it compares a pointer with null.
+    fn into_loose(self, alloc: Global) -> Option<Loose<CompiledSchema, Global>>
+        ensures { option_map (λ loose. loose.value) result ≡ self.schema }
+    {
+        let SchemaHandle { at } = self;
+        if at.is_null() {
+            None
+        } else {
+            let at = at as *mut CompiledSchema;
+            Some(Loose { at, alloc })
+        }
+    }
+
+    // Returns the schema as a box, if there is one.
+    fn into_box(self, alloc: Global) -> Option<Box<CompiledSchema>>
+        ensures { option_map (λ schema. schema.value) result ≡ self.schema }
+    {
+        match self.into_loose(alloc) {
+            Some(loose) => Some(loose.into_box()),
+            None => None,
+        }
+    }
+
+    /// Takes the schema out.
+    pub fn take(&mut self, alloc: Global) -> Option<Box<CompiledSchema>>
+        ensures taken { option_map (λ schema. schema.value) result ≡ self.old.schema }
+        ensures left { self.new.schema ≡ None }
+    {
+        mem::replace(self, SchemaHandle::empty()).into_box(alloc)
+    }
+
+    /// Puts a schema in, and frees the one that is there.
+    pub fn put(&mut self, alloc: Global, schema: Box<CompiledSchema>)
+        ensures { self.new.schema ≡ Some schema.value }
+    {
+        let handle = SchemaHandle::of_loose(Loose::of(schema));
+        drop(mem::replace(self, handle).into_box(alloc));
+    }
+
+    // Frees the schema, if there is one, and drops the handle.
+    #[cfg(test)]
+    pub(crate) fn discard(self, alloc: Global) {
+        drop(self.into_box(alloc));
+    }
+}

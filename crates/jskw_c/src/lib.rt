@@ -1,0 +1,208 @@
+//! The validator for callers in C, as a static library. `include/jskw.h` declares these functions
+//! and says what a caller owes. There a slice is a pointer and a length, and `alloc` is no
+//! parameter.
+//!
+//! A function that has a text to return takes a buffer and a `length`. It writes the text to the
+//! head of the buffer, and its length to `length`. If the text is longer than the buffer, it
+//! returns `TOO_SMALL`, leaves the buffer unchanged, and writes to `length` what is needed.
+//!
+//! If memory runs out, every function but `jskw_version` and `jskw_free` returns `NO_MEMORY` and
+//! leaves the handle and the buffer unchanged.
+#![tactic(auto)]
+
+ghost use Rattle.std.specs.Prelude.{◌≡◌, ◌⊎◌, codes, None};
+ghost use Rattle.jskw_service.specs.Answer.{output, verdict};
+ghost use Rattle.jskw_service.specs.Run.{status_of_verdict};
+ghost use Rattle.jskw_c.specs.Asked.{IsReport, SaysErrors, SaysFirst, SaysTree, instance_in};
+ghost use Rattle.jskw_c.specs.Asked.{status_of};
+ghost use Rattle.jskw_c.specs.Compiled.{Compiles, compiled_of, setting_numbered};
+ghost use Rattle.jskw_c.specs.Told.{Gives, Tells};
+
+mod ask;
+mod compiled;
+mod evaluation;
+mod handle;
+mod line;
+mod loose;
+mod settings;
+mod status;
+mod tell;
+#[cfg(test)]
+mod tests;
+
+use crate::ask::{compile_schema, errors_of, evaluation_of, first_error_of, validity};
+use crate::handle::SchemaHandle;
+use crate::status::{INVALID, NO_MEMORY, NO_SCHEMA, REFUSED, VALID};
+use crate::tell::{tell, tell_no_memory};
+use jskw_service::{Verdict, reply_to};
+use std::alloc::{AllocError, Global};
+
+/// Tells the version of this library and that of the kit that it is proved with, a line each.
+#[unsafe(no_mangle)]
+pub extern "C" fn jskw_version(buffer: &mut [u8], length: &mut usize) -> u32
+    ensures { Gives result 0 (codes "jskw 0.1.0\nrattle-kit-13f\n") buffer.old buffer.new
+        length.new }
+{
+    tell(VALID, b"jskw 0.1.0\nrattle-kit-13f\n", buffer, length)
+}
+
+/// Answers a request as the program `jskw` does: with its exit status and its output.
+#[unsafe(no_mangle)]
+pub extern "C" fn jskw_answer(
+    alloc: Global,
+    request: &[u8],
+    buffer: &mut [u8],
+    length: &mut usize,
+) -> u32
+    ensures { Tells (λ text. text ≡ output request.now) result
+        (status_of_verdict (verdict request.now)) buffer.old buffer.new length.new }
+{
+    match reply_to(alloc, request) {
+        Ok(reply) => tell(exit_status(reply.verdict()), reply.text(), buffer, length),
+        Err(AllocError) => tell_no_memory(length),
+    }
+}
+
+// Returns the exit status of the program.
+fn exit_status(verdict: Verdict) -> u32
+    ensures { result ≡ status_of_verdict verdict }
+{
+    match verdict {
+        Verdict::Valid => VALID,
+        Verdict::Invalid => INVALID,
+        Verdict::Refused => REFUSED,
+    }
+}
+
+/// Compiles a schema, puts it into the handle, and frees the schema that the handle had. If the
+/// schema is not compiled, the handle is unchanged. If it is refused, the text is the line of the
+/// refusal: its keyword, keyword location and message.
+#[unsafe(no_mangle)]
+pub extern "C" fn jskw_compile(
+    alloc: Global,
+    draft: u32,
+    vocabularies: u32,
+    overridden: &[u8],
+    schema: &[u8],
+    handle: &mut SchemaHandle,
+    buffer: &mut [u8],
+    length: &mut usize,
+) -> u32
+    ensures { Compiles
+        (compiled_of (setting_numbered draft vocabularies overridden.now) schema.now)
+        result handle.old.schema handle.new.schema buffer.old buffer.new length.new }
+{
+    match compile_schema(alloc, draft, vocabularies, overridden, schema) {
+        Ok(Ok(schema)) => {
+            handle.put(alloc, schema);
+            *length = 0;
+            VALID
+        }
+        Ok(Err(told)) => tell(told.status, told.text.as_slice(), buffer, length),
+        Err(AllocError) => tell_no_memory(length),
+    }
+}
+
+/// Returns whether the instance is valid.
+#[unsafe(no_mangle)]
+pub extern "C" fn jskw_is_valid(alloc: Global, handle: &mut SchemaHandle, instance: &[u8]) -> u32
+    ensures kept { handle.new.schema ≡ handle.old.schema }
+    ensures status { (result ≡ status_of handle.old.schema (instance_in instance.now))
+        ⊎ (result ≡ NO_MEMORY) }
+{
+    let Some(schema) = handle.take(alloc) else {
+        return NO_SCHEMA;
+    };
+    let answer = validity(alloc, schema.node(), instance);
+    handle.put(alloc, schema);
+    match answer {
+        Ok(status) => status,
+        Err(AllocError) => NO_MEMORY,
+    }
+}
+
+/// Tells the line of the first error of the instance: its keyword, instance location, keyword
+/// location and message. If the instance contains a float, the line is the location of the first.
+#[unsafe(no_mangle)]
+pub extern "C" fn jskw_first_error(
+    alloc: Global,
+    handle: &mut SchemaHandle,
+    instance: &[u8],
+    buffer: &mut [u8],
+    length: &mut usize,
+) -> u32
+    ensures kept { handle.new.schema ≡ handle.old.schema }
+    ensures told { Tells (IsReport SaysFirst handle.old.schema (instance_in instance.now)) result
+        (status_of handle.old.schema (instance_in instance.now)) buffer.old buffer.new
+        length.new }
+{
+    let Some(schema) = handle.take(alloc) else {
+        return tell(NO_SCHEMA, &[], buffer, length);
+    };
+    let answer = first_error_of(alloc, schema.node(), instance);
+    handle.put(alloc, schema);
+    match answer {
+        Ok(told) => tell(told.status, told.text.as_slice(), buffer, length),
+        Err(AllocError) => tell_no_memory(length),
+    }
+}
+
+/// Tells the lines of all errors of the instance, in order. If the instance contains a float, the
+/// line is the location of the first.
+#[unsafe(no_mangle)]
+pub extern "C" fn jskw_errors(
+    alloc: Global,
+    handle: &mut SchemaHandle,
+    instance: &[u8],
+    buffer: &mut [u8],
+    length: &mut usize,
+) -> u32
+    ensures kept { handle.new.schema ≡ handle.old.schema }
+    ensures told { Tells (IsReport SaysErrors handle.old.schema (instance_in instance.now)) result
+        (status_of handle.old.schema (instance_in instance.now)) buffer.old buffer.new
+        length.new }
+{
+    let Some(schema) = handle.take(alloc) else {
+        return tell(NO_SCHEMA, &[], buffer, length);
+    };
+    let answer = errors_of(alloc, schema.node(), instance);
+    handle.put(alloc, schema);
+    match answer {
+        Ok(told) => tell(told.status, told.text.as_slice(), buffer, length),
+        Err(AllocError) => tell_no_memory(length),
+    }
+}
+
+/// Tells the evaluation tree of the instance as JSON. If the instance contains a float, the text is
+/// a line with the location of the first.
+#[unsafe(no_mangle)]
+pub extern "C" fn jskw_evaluate(
+    alloc: Global,
+    handle: &mut SchemaHandle,
+    instance: &[u8],
+    buffer: &mut [u8],
+    length: &mut usize,
+) -> u32
+    ensures kept { handle.new.schema ≡ handle.old.schema }
+    ensures told { Tells (IsReport SaysTree handle.old.schema (instance_in instance.now)) result
+        (status_of handle.old.schema (instance_in instance.now)) buffer.old buffer.new
+        length.new }
+{
+    let Some(schema) = handle.take(alloc) else {
+        return tell(NO_SCHEMA, &[], buffer, length);
+    };
+    let answer = evaluation_of(alloc, schema.node(), instance);
+    handle.put(alloc, schema);
+    match answer {
+        Ok(told) => tell(told.status, told.text.as_slice(), buffer, length),
+        Err(AllocError) => tell_no_memory(length),
+    }
+}
+
+/// Frees the schema of the handle, if it has one. It has none from then on.
+#[unsafe(no_mangle)]
+pub extern "C" fn jskw_free(alloc: Global, handle: &mut SchemaHandle)
+    ensures { handle.new.schema ≡ None }
+{
+    drop(handle.take(alloc));
+}

@@ -1,0 +1,23 @@
+//! The statuses that calls return. `include/jskw.h` has the same numbers.
+
+/// The instance is valid. For `jskw_compile`: the handle has the schema.
+pub(crate) const VALID: u32 = 0;
+/// The instance has errors.
+pub(crate) const INVALID: u32 = 1;
+/// For `jskw_answer`: there is no verdict, and the answer says why.
+pub(crate) const REFUSED: u32 = 2;
+/// The schema or the instance is not JSON.
+pub(crate) const NOT_JSON: u32 = 3;
+/// The instance contains a float.
+pub(crate) const FLOAT: u32 = 4;
+/// The schema does not compile.
+pub(crate) const BAD_SCHEMA: u32 = 5;
+/// There is no such draft or set of vocabularies, or the overridden names are not an array of
+/// strings.
+pub(crate) const BAD_SETTING: u32 = 6;
+/// The handle has no schema.
+pub(crate) const NO_SCHEMA: u32 = 7;
+/// Memory ran out.
+pub(crate) const NO_MEMORY: u32 = 8;
+/// The buffer is too small for the text.
+pub(crate) const TOO_SMALL: u32 = 9;

@@ -1,0 +1,96 @@
+/* jskw: a proved JSON Schema validator (value and array keywords), called in process. `bindings/build` makes the
+ * libraries libjskw.a and libjskw.so; link with one of them.
+ *
+ * Proved of each function: its contract in crates/jskw_c/src/lib.rt, for callers that keep to the rules below. Not
+ * proved: that this header agrees with those functions, and the C compiler.
+ *
+ * What a caller owes; nothing checks it:
+ *   - No pointer is NULL, also if its size is 0. `bytes` and `size` are one block of so many bytes, at most
+ *     PTRDIFF_MAX, which no one writes during the call.
+ *   - A `buffer` has `buffer_size` bytes that can be written. It overlaps no other block, `length` or handle.
+ *   - A jskw_schema begins as JSKW_SCHEMA_EMPTY. After that only these functions read or write it, one call at a time,
+ *     on one thread, and it is not copied. Each thread compiles its own: that a handle can move to another thread, or
+ *     that two calls can read one at once, is not proved.
+ *   - malloc, realloc and free are one allocator, with blocks aligned to 16 bytes as in any C library. No call is made
+ *     in a signal handler, or in a forked child of a process with threads.
+ *   - There is stack: 1 MB is enough for all JSON text, which nests at most 127 levels.
+ *
+ * No function keeps a pointer to `bytes` or `buffer`. None ends the process, prints, or waits. A schema that is not
+ * freed is lost memory, and nothing else.
+ *
+ * Texts. *length becomes the length of the text, also if the buffer is too small for it; then the buffer is unchanged,
+ * and the call can be made again with a larger one. No text ends with a 0 byte. A text of lines has a line feed at the
+ * end of each line and a tab between two words; in a word a tab, a line feed and a backslash are written \t, \n and
+ * \\. Locations are JSON pointers. */
+#ifndef JSKW_H
+#define JSKW_H
+
+#include <stddef.h>
+#include <stdint.h>
+
+#ifdef __cplusplus
+extern "C" {
+#endif
+
+#define JSKW_VERSION "0.1.0"
+
+enum {
+    JSKW_VALID = 0,       /* the instance is valid; of jskw_compile: the handle has the schema */
+    JSKW_INVALID = 1,     /* the instance has errors */
+    JSKW_REFUSED = 2,     /* of jskw_answer: no verdict, and the text says why */
+    JSKW_NOT_JSON = 3,    /* the schema or the instance is not JSON in UTF-8, or nests more than 127 levels */
+    JSKW_FLOAT = 4,       /* the instance contains a float; the text is a line with the location of the first */
+    JSKW_BAD_SCHEMA = 5,  /* the schema does not compile; the text is the line of the refusal */
+    JSKW_BAD_SETTING = 6, /* no such draft or set of vocabularies, or `overridden` is no JSON array of strings */
+    JSKW_NO_SCHEMA = 7,   /* the handle is empty */
+    JSKW_NO_MEMORY = 8,   /* malloc refused; handle and buffer are unchanged, *length is 0 */
+    JSKW_TOO_SMALL = 9    /* the text is longer than the buffer; handle and buffer are unchanged */
+};
+
+/* Vocabularies, to be added up. Drafts 4, 6 and 7 have none; any set will do there. */
+enum { JSKW_CORE = 1, JSKW_APPLICATOR = 2, JSKW_VALIDATION = 4, JSKW_ALL = 7 };
+
+/* A handle: a compiled schema, or none. */
+typedef struct jskw_schema { void *compiled; } jskw_schema;
+#define JSKW_SCHEMA_EMPTY { 0 }
+
+/* The version of this library and that of the kit that it was proved with, a line each. */
+uint32_t jskw_version(uint8_t *buffer, size_t buffer_size, size_t *length);
+
+/* Answers a request, a JSON object with `schema` and `instance` (docs/USE.md), as the program jskw does: JSKW_VALID,
+ * JSKW_INVALID or JSKW_REFUSED, and the text that the program prints. Words of that text are not escaped. */
+uint32_t jskw_answer(const uint8_t *bytes, size_t size, uint8_t *buffer, size_t buffer_size, size_t *length);
+
+/* Compiles a schema into a handle, and frees the schema that it had. `draft` is 4, 6, 7, 2019 or 2020. `overridden` is
+ * a JSON array of the names of overridden keywords, or has the size 0. If the schema does not compile, the handle is
+ * unchanged, and the text is a line: keyword, keyword location, message. */
+uint32_t jskw_compile(uint32_t draft, uint32_t vocabularies, const uint8_t *overridden, size_t overridden_size,
+                      const uint8_t *bytes, size_t size, jskw_schema *schema, uint8_t *buffer, size_t buffer_size,
+                      size_t *length);
+
+/* Whether an instance is valid: JSKW_VALID, JSKW_INVALID, JSKW_NOT_JSON, JSKW_FLOAT, JSKW_NO_SCHEMA, JSKW_NO_MEMORY. */
+uint32_t jskw_is_valid(jskw_schema *schema, const uint8_t *bytes, size_t size);
+
+/* The same, and the line of the first error: keyword, instance location, keyword location, message. It is not proved
+ * what the messages of these two functions and of jskw_compile say. */
+uint32_t jskw_first_error(jskw_schema *schema, const uint8_t *bytes, size_t size, uint8_t *buffer, size_t buffer_size,
+                          size_t *length);
+
+/* The same, and a line for each error. */
+uint32_t jskw_errors(jskw_schema *schema, const uint8_t *bytes, size_t size, uint8_t *buffer, size_t buffer_size,
+                     size_t *length);
+
+/* The same, and the evaluation tree as JSON. A node is an object with `valid`, `keywordLocation`, `instanceLocation`,
+ * `annotation` (a boolean, a number, an array of numbers, or null), `errors` (the keywords of its errors) and
+ * `details` (the nodes below). */
+uint32_t jskw_evaluate(jskw_schema *schema, const uint8_t *bytes, size_t size, uint8_t *buffer, size_t buffer_size,
+                       size_t *length);
+
+/* Frees the schema of a handle, which is empty then and can be used again. An empty handle stays as it is. */
+void jskw_free(jskw_schema *schema);
+
+#ifdef __cplusplus
+}
+#endif
+
+#endif
