@@ -1,2 +1,5 @@
-mod Values
+mod Askings
+mod Lines
 mod Slots
+mod Texts
+mod Values

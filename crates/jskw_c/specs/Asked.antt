@@ -1,11 +1,10 @@
 -- What is asked of a handle and an instance in bytes.
-use Rattle.std.specs.Prelude.{◌≡◌, ℕ, List, [], ◌∷◌, take, Bool, true, false, IsTrue, Option, None, Some, Result, Ok, Err, ⊥}
+use Rattle.std.specs.Prelude.{◌≡◌, ℕ, List, [], ◌∷◌, Bool, true, false, Option, None, Some}
 use Rattle.serde_json.specs.Data.{Data}
-use Rattle.serde_json.specs.declared.value.Value.{Value}
 use Rattle.jskw_value.specs.FirstFloat.{first_float}
 use Rattle.jskw_value.specs.Pointer.{Pointer}
-use Rattle.jskw_value.specs.Serde.{tree_of, value_tree}
-use Rattle.jskw_value.specs.Tree.{Tree, is_lawful}
+use Rattle.jskw_value.specs.Serde.{tree_of}
+use Rattle.jskw_value.specs.Tree.{Tree}
 use Rattle.jskw_report.specs.Evaluation.{tree}
 use Rattle.jskw_report.specs.Fail.{fail}
 use Rattle.jskw_report.specs.Holds.{holds}
@@ -59,9 +58,14 @@ IsReport Says (Some s) (lawful t) text = Says s t text
 abbrev pub SaysErrors : Schema → Tree → List ℕ → Type 0
 SaysErrors s t text = AreErrorLines (fail s t []) text
 
+-- the first of a list, if there is one
+abbrev pub first_of : {A : Type 0} → List A → List A
+first_of [] = []
+first_of (x ∷ xs) = x ∷ []
+
 -- the line of the first error, if there is one
 abbrev pub SaysFirst : Schema → Tree → List ℕ → Type 0
-SaysFirst s t text = AreErrorLines (take 1 (fail s t [])) text
+SaysFirst s t text = AreErrorLines (first_of (fail s t [])) text
 
 -- the evaluation tree
 abbrev pub SaysTree : Schema → Tree → List ℕ → Type 0

@@ -1,6 +1,8 @@
 //! What exports do with bytes: compiles schemas and checks instances.
-ghost use Rattle.std.specs.Prelude.{◌≡◌, IfOk, Some};
-ghost use Rattle.jskw_service.specs.Request.{value_of};
+ghost use Rattle.std.specs.Prelude.{◌≡◌, [], IfOk, Some};
+ghost use Rattle.jskw_value.specs.Serde.{value_tree};
+ghost use Rattle.jskw_report.specs.Errors.{failures_of};
+ghost use Rattle.jskw_report.specs.Fail.{is_empty};
 ghost use Rattle.jskw_c.specs.Asked.{SaysErrors, SaysFirst, SaysTree, instance_in, status_of, verdict};
 ghost use Rattle.jskw_c.specs.Compiled.{compiled_of, setting_numbered};
 ghost use Rattle.jskw_c.specs.Replies.{CompilesTo, Reads, Reports};
@@ -12,7 +14,7 @@ use crate::settings::settings_numbered;
 use crate::status::{BAD_SCHEMA, BAD_SETTING, FLOAT, INVALID, NOT_JSON, VALID};
 use jskw_array::SchemaNode;
 use jskw_array::compiler::compile;
-use jskw_report::{CompileFault, Context, Fault, LazyLocation, ValidationContext};
+use jskw_report::{CompileFault, Context, Fault, LazyLocation, ValidationContext, ValidationError};
 use jskw_service::read_value;
 use jskw_value::{Node, SerdeJson};
 use serde_json::Value;
@@ -73,6 +75,16 @@ fn verdict(is_valid: bool) -> u32
     if is_valid { VALID } else { INVALID }
 }
 
+// Returns the status of an instance that has these errors.
+fn status_of_errors(errors: &[ValidationError<'_, SerdeJson>]) -> u32
+    ensures { result ≡ verdict (is_empty (failures_of value_tree errors.now)) }
+{
+    match errors {
+        [] => VALID,
+        [_, ..] => INVALID,
+    }
+}
+
 // Returns the status of the instance of these bytes.
 pub(crate) fn validity(
     alloc: Global,
@@ -123,7 +135,7 @@ pub(crate) fn errors_of(
     let mut ctx = ValidationContext::new();
     schema.collect_errors(&value, &mut location, &mut ctx, &mut errors)?;
     Ok(Told {
-        status: verdict(errors.is_empty()),
+        status: status_of_errors(errors.as_slice()),
         text: error_lines(alloc, errors.as_slice())?,
     })
 }
