@@ -1,4 +1,5 @@
 mod Askings
+mod Compiles
 mod Lines
 mod Slots
 mod Texts

@@ -1,5 +1,5 @@
 -- What the functions behind the exports return.
-use Rattle.std.specs.Prelude.{◌≡◌, ℕ, List, [], ◌∷◌, IsTrue, Option, Result, Ok, Err, ⊥}
+use Rattle.std.specs.Prelude.{◌≡◌, ℕ, List, [], ◌∷◌, IsTrue, Option, Result, Ok, Err}
 use Rattle.serde_json.specs.declared.value.Value.{Value}
 use Rattle.jskw_value.specs.Serde.{value_tree}
 use Rattle.jskw_value.specs.Tree.{Tree, is_lawful}
