@@ -18,9 +18,20 @@ const FIRST: &[u8] = b"minProperties\t\t/minProperties\t{\"age\":36} has less th
 const ERRORS: &[u8] =
     b"minProperties\t\t/minProperties\t{\"age\":36} has less than 2 properties\nrequired\t\t/required\t\"name\" is a required property\n";
 
+const REFUSAL: &[u8] = b"compileError\t/items/type\tUnexpected type\n";
+
+const TREE: &[u8] =
+    br#"{"valid":false,"keywordLocation":"","instanceLocation":"","annotation":null,"errors":[],"details":[{"valid":false,"keywordLocation":"/minItems","instanceLocation":"","annotation":null,"errors":["minItems"],"details":[]},{"valid":true,"keywordLocation":"/contains","instanceLocation":"","annotation":[1],"errors":[],"details":[{"valid":true,"keywordLocation":"/contains","instanceLocation":"/1","annotation":null,"errors":[],"details":[{"valid":true,"keywordLocation":"/contains/minimum","instanceLocation":"/1","annotation":null,"errors":[],"details":[]}]}]}]}"#;
+
+// Whether the buffer begins with the text, which has this length.
+fn is_told(buffer: &[u8], length: usize, text: &[u8]) -> bool {
+    length == text.len() && buffer.starts_with(text)
+}
+
 // Compiles a schema of Draft 2020-12 into a handle, and returns the status.
 fn compile_into(handle: &mut SchemaHandle, alloc: Global, schema: &[u8]) -> u32 {
-    jskw_compile(alloc, 2020, 7, &[], schema, handle, &mut [], &mut 0)
+    let mut length = 0;
+    jskw_compile(alloc, 2020, 7, &[], schema, handle, &mut [], &mut length)
 }
 
 #[test]
@@ -28,18 +39,18 @@ fn answers_a_request(rt: HostRuntime) {
     let mut buffer = [b'.'; 64];
     let mut length = 0;
     let status = jskw_answer(rt.alloc(), REQUEST, &mut buffer, &mut length);
-    assert_eq!(rt; (status, &buffer[..length]), (1, ANSWER));
-    assert_eq!(rt; buffer[length], b'.');
-    let status = jskw_answer(rt.alloc(), REQUEST, &mut buffer[..length], &mut length);
-    assert_eq!(rt; (status, length), (1, ANSWER.len()));
+    assert_eq!(rt; status, 1);
+    assert!(rt; is_told(&buffer, length, ANSWER));
+    let status = jskw_answer(rt.alloc(), REQUEST, &mut buffer[..50], &mut length);
+    assert_eq!(rt; status, 1);
     buffer[0] = b'.';
-    let status = jskw_answer(rt.alloc(), REQUEST, &mut buffer[..length - 1], &mut length);
-    assert_eq!(rt; (status, length, buffer[0]), (9, ANSWER.len(), b'.'));
+    let status = jskw_answer(rt.alloc(), REQUEST, &mut buffer[..49], &mut length);
+    assert_eq!(rt; status, 9);
+    assert_eq!(rt; length, 50);
+    assert_eq!(rt; buffer[0], b'.');
     let status = jskw_answer(rt.alloc(), b"", &mut buffer, &mut length);
-    assert_eq!(rt;
-        (status, &buffer[..length]),
-        (2, b"refused: request\n".as_slice())
-    );
+    assert_eq!(rt; status, 2);
+    assert!(rt; is_told(&buffer, length, b"refused: request\n"));
 }
 
 #[test]
@@ -47,16 +58,13 @@ fn asks_whether_instances_are_valid(rt: HostRuntime) {
     let mut handle = SchemaHandle::empty();
     assert_eq!(rt; jskw_is_valid(rt.alloc(), &mut handle, b"1"), 7);
     assert_eq!(rt; compile_into(&mut handle, rt.alloc(), SCHEMA), 0);
-    for (instance, status) in [
-        (br#"{"name":"Ada","age":36}"#.as_slice(), 0),
-        (br#"{"age":36}"#, 1),
-        (b"{", 3),
-        (b"\"\xff\"", 3),
-        (b"", 3),
-        (b"[1.5]", 4),
-    ] {
-        assert_eq!(rt; jskw_is_valid(rt.alloc(), &mut handle, instance), status);
-    }
+    let valid = br#"{"name":"Ada","age":36}"#;
+    assert_eq!(rt; jskw_is_valid(rt.alloc(), &mut handle, valid), 0);
+    assert_eq!(rt; jskw_is_valid(rt.alloc(), &mut handle, br#"{"age":36}"#), 1);
+    assert_eq!(rt; jskw_is_valid(rt.alloc(), &mut handle, b"{"), 3);
+    assert_eq!(rt; jskw_is_valid(rt.alloc(), &mut handle, b"\"\xff\""), 3);
+    assert_eq!(rt; jskw_is_valid(rt.alloc(), &mut handle, b""), 3);
+    assert_eq!(rt; jskw_is_valid(rt.alloc(), &mut handle, b"[1.5]"), 4);
     jskw_free(rt.alloc(), &mut handle);
     assert_eq!(rt; jskw_is_valid(rt.alloc(), &mut handle, b"1"), 7);
     jskw_free(rt.alloc(), &mut handle);
@@ -69,49 +77,36 @@ fn tells_errors(rt: HostRuntime) {
     let mut length = 0;
     let mut handle = SchemaHandle::empty();
     let status = jskw_errors(rt.alloc(), &mut handle, b"1", &mut buffer, &mut length);
-    assert_eq!(rt; (status, length), (7, 0));
+    assert_eq!(rt; status, 7);
     assert_eq!(rt; compile_into(&mut handle, rt.alloc(), SCHEMA), 0);
-    for (instance, status, first, all) in [
-        (
-            br#"{"name":"Ada","age":36}"#.as_slice(),
-            0,
-            b"".as_slice(),
-            b"".as_slice(),
-        ),
-        (br#"{"age":36}"#, 1, FIRST, ERRORS),
-        (b"{", 3, b"", b""),
-        (
-            b"{\"a\\tb\\\\\":[1.5]}",
-            4,
-            b"/a\\tb\\\\/0\n",
-            b"/a\\tb\\\\/0\n",
-        ),
-    ] {
-        let told = jskw_first_error(rt.alloc(), &mut handle, instance, &mut buffer, &mut length);
-        assert_eq!(rt; (told, &buffer[..length]), (status, first));
-        let told = jskw_errors(rt.alloc(), &mut handle, instance, &mut buffer, &mut length);
-        assert_eq!(rt; (told, &buffer[..length]), (status, all));
-    }
-    let status = jskw_errors(rt.alloc(), &mut handle, b"{}", &mut [], &mut length);
+    let instance = br#"{"age":36}"#;
+    let status = jskw_first_error(rt.alloc(), &mut handle, instance, &mut buffer, &mut length);
+    assert_eq!(rt; status, 1);
+    assert!(rt; is_told(&buffer, length, FIRST));
+    let status = jskw_errors(rt.alloc(), &mut handle, instance, &mut buffer, &mut length);
+    assert_eq!(rt; status, 1);
+    assert!(rt; is_told(&buffer, length, ERRORS));
+    let status = jskw_errors(rt.alloc(), &mut handle, instance, &mut [], &mut length);
     assert_eq!(rt; status, 9);
+    let float = b"{\"a\\tb\\\\\":[1.5]}";
+    let status = jskw_errors(rt.alloc(), &mut handle, float, &mut buffer, &mut length);
+    assert_eq!(rt; status, 4);
+    assert!(rt; is_told(&buffer, length, b"/a\\tb\\\\/0\n"));
     handle.discard(rt.alloc());
 }
 
 #[test]
-fn tells_evaluations(rt: HostRuntime) {
+fn tells_an_evaluation(rt: HostRuntime) {
     let mut buffer = [0; 1024];
     let mut length = 0;
     let mut handle = SchemaHandle::empty();
     let status = jskw_evaluate(rt.alloc(), &mut handle, b"1", &mut buffer, &mut length);
-    assert_eq!(rt; (status, length), (7, 0));
+    assert_eq!(rt; status, 7);
     let schema = br#"{"contains":{"minimum":10},"minItems":3}"#;
     assert_eq!(rt; compile_into(&mut handle, rt.alloc(), schema), 0);
     let status = jskw_evaluate(rt.alloc(), &mut handle, b"[5,10]", &mut buffer, &mut length);
-    let tree =
-        br#"{"valid":false,"keywordLocation":"","instanceLocation":"","annotation":null,"errors":[],"details":[{"valid":false,"keywordLocation":"/minItems","instanceLocation":"","annotation":null,"errors":["minItems"],"details":[]},{"valid":true,"keywordLocation":"/contains","instanceLocation":"","annotation":[1],"errors":[],"details":[{"valid":true,"keywordLocation":"/contains","instanceLocation":"/1","annotation":null,"errors":[],"details":[{"valid":true,"keywordLocation":"/contains/minimum","instanceLocation":"/1","annotation":null,"errors":[],"details":[]}]}]}]}"#;
-    assert_eq!(rt; (status, &buffer[..length]), (1, tree.as_slice()));
-    let status = jskw_evaluate(rt.alloc(), &mut handle, b"[0.5]", &mut buffer, &mut length);
-    assert_eq!(rt; (status, &buffer[..length]), (4, b"/0\n".as_slice()));
+    assert_eq!(rt; status, 1);
+    assert!(rt; is_told(&buffer, length, TREE));
     handle.discard(rt.alloc());
 }
 
@@ -121,43 +116,54 @@ fn refuses_what_does_not_compile(rt: HostRuntime) {
     let mut length = 0;
     let mut handle = SchemaHandle::empty();
     assert_eq!(rt; compile_into(&mut handle, rt.alloc(), b"false"), 0);
-    for (draft, vocabularies, overridden, schema, status, text) in [
-        (5, 7, b"".as_slice(), b"true".as_slice(), 6, b"".as_slice()),
-        (7, 8, b"", b"true", 6, b""),
-        (7, 7, b"1", b"true", 6, b""),
-        (7, 7, b"[1]", b"true", 6, b""),
-        (7, 7, b"[\"type\"]", b"", 3, b""),
-        (
-            7,
-            7,
-            b"",
-            br#"{"items":{"type":"foo"}}"#,
-            5,
-            b"compileError\t/items/type\tUnexpected type\n",
-        ),
-        (
-            7,
-            7,
-            b"",
-            b"1",
-            5,
-            b"type\t\t1 is not of types \"boolean\", \"object\"\n",
-        ),
-    ] {
-        let told = jskw_compile(
-            rt.alloc(),
-            draft,
-            vocabularies,
-            overridden,
-            schema,
-            &mut handle,
-            &mut buffer,
-            &mut length,
-        );
-        assert_eq!(rt; (told, &buffer[..length]), (status, text));
-        assert_eq!(rt; jskw_is_valid(rt.alloc(), &mut handle, b"1"), 1);
-    }
-    assert_eq!(rt; compile_into(&mut handle, rt.alloc(), b"1"), 9);
+    let bad = br#"{"items":{"type":"foo"}}"#;
+    let status = jskw_compile(
+        rt.alloc(),
+        7,
+        7,
+        &[],
+        bad,
+        &mut handle,
+        &mut buffer,
+        &mut length,
+    );
+    assert_eq!(rt; status, 5);
+    assert!(rt; is_told(&buffer, length, REFUSAL));
+    let status = jskw_compile(
+        rt.alloc(),
+        5,
+        7,
+        &[],
+        b"true",
+        &mut handle,
+        &mut buffer,
+        &mut length,
+    );
+    assert_eq!(rt; status, 6);
+    let status = jskw_compile(
+        rt.alloc(),
+        7,
+        8,
+        &[],
+        b"true",
+        &mut handle,
+        &mut buffer,
+        &mut length,
+    );
+    assert_eq!(rt; status, 6);
+    let status = jskw_compile(
+        rt.alloc(),
+        7,
+        7,
+        b"{}",
+        b"true",
+        &mut handle,
+        &mut buffer,
+        &mut length,
+    );
+    assert_eq!(rt; status, 6);
+    assert_eq!(rt; compile_into(&mut handle, rt.alloc(), b"{"), 3);
+    assert_eq!(rt; jskw_is_valid(rt.alloc(), &mut handle, b"1"), 1);
     assert_eq!(rt; compile_into(&mut handle, rt.alloc(), b"true"), 0);
     assert_eq!(rt; jskw_is_valid(rt.alloc(), &mut handle, b"1"), 0);
     handle.discard(rt.alloc());
@@ -167,7 +173,6 @@ fn refuses_what_does_not_compile(rt: HostRuntime) {
 fn tells_its_version(rt: HostRuntime) {
     let mut buffer = [0; 64];
     let mut length = 0;
-    let status = jskw_version(&mut buffer, &mut length);
-    assert_eq!(rt; (status, length), (0, 26));
-    assert_eq!(rt; jskw_version(&mut [], &mut length), 9);
+    assert_eq!(rt; jskw_version(&mut buffer, &mut length), 0);
+    assert!(rt; is_told(&buffer, length, b"jskw 0.1.0\nrattle-kit-13f\n"));
 }
