@@ -14,7 +14,7 @@ push_node-returns t c =
     let unit = unit_text (is_valid n) (keyword_location_at n) (instance_location_at n) (annotation_at n) (keywords_at n) in
     four_parts _ _ _ _ _ _ unit (codes ",\"details\":[") (evaluations_text false (evaluations c.children.result.now)) (codes "]}") _ c.in_ok-push_unit.ensures c.in_ok-push_text.ensures
     c.in_ok-push_nodes.ensures c.push_text-2.ensures
-    (text_of_node n ∙ ap (λ es. unit ++ (codes ",\"details\":[" ++ (evaluations_text false es ++ codes "]}"))) (sym c.children.ensures))
+    (text_of_node n ∙ ap (λ es. unit ++ (codes ",\"details\":[" ++ (evaluations_text false es ++ codes "]}"))) (sym c.children.ensures.nodes))
 
 pub push_nodes-push_node-requires : goal.push_nodes-push_node-requires
 push_nodes-push_node-requires t c =
