@@ -41,13 +41,14 @@ fn answers_a_request(rt: HostRuntime) {
     let status = jskw_answer(rt.alloc(), REQUEST, &mut buffer, &mut length);
     assert_eq!(rt; status, 1);
     assert!(rt; is_told(&buffer, length, ANSWER));
-    let status = jskw_answer(rt.alloc(), REQUEST, &mut buffer[..50], &mut length);
+    let mut exact = [b'.'; 50];
+    let status = jskw_answer(rt.alloc(), REQUEST, &mut exact, &mut length);
     assert_eq!(rt; status, 1);
-    buffer[0] = b'.';
-    let status = jskw_answer(rt.alloc(), REQUEST, &mut buffer[..49], &mut length);
+    let mut small = [b'.'; 49];
+    let status = jskw_answer(rt.alloc(), REQUEST, &mut small, &mut length);
     assert_eq!(rt; status, 9);
     assert_eq!(rt; length, 50);
-    assert_eq!(rt; buffer[0], b'.');
+    assert_eq!(rt; small[0], b'.');
     let status = jskw_answer(rt.alloc(), b"", &mut buffer, &mut length);
     assert_eq!(rt; status, 2);
     assert!(rt; is_told(&buffer, length, b"refused: request\n"));
