@@ -1,5 +1,5 @@
 -- What is told of an instance, case by case.
-use Rattle.std.proofs.Common.{◌≡◌, ◌∙◌, ℕ, List, [], ◌∷◌, Bool, true, false, true≢false, IsTrue, Option, Some, None, is_none, Ok, Err, refl, sym, ap, subst}
+use Rattle.std.proofs.Common.{◌≡◌, ◌∙◌, ℕ, List, [], ◌∷◌, true, false, true≢false, IsTrue, Option, Some, None, is_none, Ok, Err, refl, sym, ap, subst}
 use Rattle.serde_json.specs.Data.{Data}
 use Rattle.serde_json.specs.View.{view}
 use Rattle.serde_json.specs.declared.value.Value.{Value}
@@ -15,10 +15,10 @@ use Rattle.jskw_report.specs.Keyword.{Schema}
 use Rattle.jskw_report.proofs.Fails.{holds_empty}
 use Rattle.jskw_report.proofs.Valid.{tree_valid}
 use Rattle.jskw_service.specs.Request.{value_of}
-use Rattle.jskw_c.specs.Asked.{Instance, not_json, float_at, lawful, judged, instance_of, instance_in, verdict, status_of, IsReport, SaysErrors, SaysFirst, SaysTree, first_of}
+use Rattle.jskw_c.specs.Asked.{Instance, not_json, float_at, lawful, judged, instance_of, instance_in, verdict, status_of, SaysErrors, SaysFirst, SaysTree, first_of}
 use Rattle.jskw_c.specs.Evaluated.{evaluation_text}
 use Rattle.jskw_c.specs.Line.{AreErrorLines, words_line}
-use Rattle.jskw_c.specs.Replies.{IsTold, Reads, Reports}
+use Rattle.jskw_c.specs.Replies.{Reads, Reports}
 use Rattle.jskw_c.specs.declared.ask.Told.{Told}
 use Rattle.jskw_c.specs.declared.status.TheConstants.{VALID, INVALID, NOT_JSON, FLOAT}
 

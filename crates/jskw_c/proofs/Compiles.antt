@@ -1,5 +1,5 @@
 -- What a compile that fails tells.
-use Rattle.std.proofs.Common.{◌≡◌, ℕ, List, Option, Result, Ok, Err, refl, inl, subst}
+use Rattle.std.proofs.Common.{ℕ, List, Option, Result, Ok, Err, refl, inl, subst}
 use Rattle.jskw_report.specs.Keyword.{Schema}
 use Rattle.jskw_c.specs.Compiled.{Fault, Compiles}
 use Rattle.jskw_c.specs.Replies.{CompilesTo}

@@ -1,5 +1,5 @@
 -- What a schema in bytes compiles to, under a setting that numbers name.
-use Rattle.std.specs.Prelude.{◌≡◌, ◌⊎◌, ◌/◌, ◌%◌, ℕ, List, [], Bool, true, false, eqb, leb, length, if◌then◌else◌, Option, None, Some, Result, Ok, Err, option_and_then}
+use Rattle.std.specs.Prelude.{◌≡◌, ◌⊎◌, ◌/◌, ◌%◌, ℕ, List, [], Bool, false, eqb, leb, length, if◌then◌else◌, Option, None, Some, Result, Ok, Err, option_and_then}
 use Rattle.serde_json.specs.Data.{Data}
 use Rattle.jskw_report.specs.Keyword.{Schema}
 use Rattle.jskw_report.specs.KeywordValue.{Refusal}

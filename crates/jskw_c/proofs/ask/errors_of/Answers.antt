@@ -1,4 +1,4 @@
-use Rattle.std.proofs.Common.{◌≡◌, ◌∙◌, [], ap, subst, sym, rules, Ok}
+use Rattle.std.proofs.Common.{◌≡◌, ◌∙◌, [], ap, subst, rules, Ok}
 use Rattle.jskw_value.specs.Serde.{value_tree}
 use Rattle.jskw_report.specs.Errors.{failures_of}
 use Rattle.jskw_report.specs.Fail.{fail, is_empty}

@@ -1,4 +1,4 @@
-use Rattle.std.proofs.Common.{◌∙◌, ap, subst, sym, Ok}
+use Rattle.std.proofs.Common.{◌∙◌, ap, subst, Ok}
 use Rattle.jskw_c.specs.Asked.{instance_in, verdict}
 use Rattle.jskw_c.specs.Replies.{Reads}
 use Rattle.jskw_c.proofs.Askings.{reports_tree}

@@ -1,4 +1,4 @@
-use Rattle.std.proofs.Common.{◌≡◌, ◌∙◌, ap, sym, rules, false, true, Some}
+use Rattle.std.proofs.Common.{◌≡◌, ◌∙◌, ap, rules, false, true, Some}
 use Rattle.serde_json.specs.View.{view}
 use Rattle.jskw_value.specs.Serde.{value_tree}
 use Rattle.jskw_value.specs.Tree.{is_lawful}

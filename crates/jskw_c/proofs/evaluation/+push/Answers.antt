@@ -1,4 +1,4 @@
-use Rattle.std.proofs.Common.{refl, rules, ap, ◌++◌, ◌∙◌, sym, false}
+use Rattle.std.proofs.Common.{rules, ap, ◌++◌, ◌∙◌, sym, false}
 use Rattle.std.specs.Prelude.{codes}
 use Rattle.jskw_report.specs.Evaluation.{annotation_at, evaluations, instance_location_at, is_valid, keyword_location_at, keywords_at}
 use Rattle.jskw_c.specs.Evaluated.{evaluations_text, unit_text}
