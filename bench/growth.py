@@ -2,10 +2,11 @@
 three sizes."""
 
 import json
-import pathlib
+
+from program import CRATE
 
 # Integers whose fingerprints fall into a sixteenth of a sketch. They are searched for once, which takes a minute.
-CROWDING = pathlib.Path(__file__).resolve().parent.parent / "crates" / "jskw_bench" / "out" / "crowding.json"
+CROWDING = CRATE / "out" / "crowding.json"
 
 # Two names and two pairs of values for them, so that the fingerprints of the two members have one sum under the seed 0.
 # They were found by a search of some minutes.
@@ -25,10 +26,6 @@ COLLIDING = [
 ]
 
 WORD = 2**64 - 1
-
-
-def text_of(value):
-    return json.dumps(value, separators=(",", ":"))
 
 
 def nested(depth, innermost):
@@ -76,6 +73,7 @@ def crowding(count):
         if fingerprint >> 60 == 0 and (fingerprint >> 28) & 15 == 0:
             found.append(number)
         number += 1
+    CROWDING.parent.mkdir(exist_ok=True)
     CROWDING.write_text(json.dumps(found), encoding="utf-8")
     return found
 
@@ -200,7 +198,7 @@ def more_items(size):
 
 
 def all_match(size):
-    return {"contains": {"type": "integer"}, "minContains": size}, list(range(size))
+    return {"contains": {"type": "integer"}, "minContains": size, "maxContains": size}, list(range(size))
 
 
 def growing():
@@ -210,6 +208,7 @@ def growing():
         ("type, so many names", THOUSANDS, lambda n: ({"type": [TYPES[i % 7] for i in range(n)]}, 1)),
         ("const, an array of integers", THOUSANDS, constant(lambda n: list(range(n)))),
         ("const, an object", THOUSANDS, constant(members)),
+        ("const, a string", THOUSANDS, constant(lambda n: "a" * n)),
         ("const, arrays so deep", DEPTHS, constant(lambda n: nested(n, 1))),
         ("enum, strings", THOUSANDS, last_option(lambda i: f"text{i}")),
         ("enum, integers", THOUSANDS, last_option(whole_number)),
@@ -222,7 +221,7 @@ def growing():
         ("items, so deep", DEPTHS, nested_schema),
         ("prefixItems", THOUSANDS, first_items),
         ("contains, no match", THOUSANDS, of_items(match, whole_number)),
-        ("contains, minContains of all", THOUSANDS, all_match),
+        ("contains, minContains, maxContains of all", THOUSANDS, all_match),
         ("contains in contains, n rows of n", (30, 100, 300), rows),
         ("items and contains, 2^n of them, 2^n items", (4, 6, 8), twice_at_each_level),
         ("uniqueItems, integers", (10_000, 100_000, 1_000_000), different(whole_number)),
@@ -237,6 +236,35 @@ def growing():
     return [(*case, "2020-12") for case in latest] + [(*case, "7") for case in draft_7]
 
 
+# ---- the same, of all observers
+
+
+def all_fail(size):
+    return {"items": {"type": "string"}}, list(range(size))
+
+
+def none_there(size):
+    return {"required": names(size)}, {}
+
+
+def innermost_fails(depth):
+    schema, _ = nested_schema(depth)
+    return schema, nested(depth, "text")
+
+
+def observed():
+    numbers = {"type": "array", "items": {"type": "integer", "minimum": 0}}
+    return [
+        ("items", THOUSANDS, of_items(numbers, whole_number)),
+        ("items, all fail", THOUSANDS, all_fail),
+        ("items, so deep, the innermost fails", DEPTHS, innermost_fails),
+        ("contains in contains, n rows of n", (30, 100, 300), rows),
+        ("required, none of the names is there", THOUSANDS, none_there),
+        ("enum, objects, miss", THOUSANDS, lambda n: ({"enum": [{"id": i} for i in range(n)]}, {"id": n})),
+        ("uniqueItems, rows that differ in the last of 100", THOUSANDS, different(lambda i: [0] * 99 + [i])),
+    ]
+
+
 # ---- calls of a text of a size: a name, three sizes, the call's name, and what makes the value
 
 
@@ -247,30 +275,18 @@ def calls():
         ("MemberList::from_pairs, falling names", THOUSANDS, "from_pairs", lambda n: names(n)[::-1]),
         ("DecimalTree::from_value, integers", THOUSANDS, "from_value", lambda n: list(range(n))),
         ("DecimalTree::from_value, an object", THOUSANDS, "from_value", members),
+        ("first_unlawful, objects", THOUSANDS, "first_unlawful", lambda n: [{"id": i} for i in range(n)]),
+        ("first_unlawful, arrays so deep", DEPTHS, "first_unlawful", lambda n: nested(n, 1)),
+        ("message of an error, of an instance", THOUSANDS, "message", lambda n: [{"id": i} for i in range(n)]),
         ("Settings::new, overridden names", THOUSANDS, "settings", names),
         ("reading, integers", THOUSANDS, "read", lambda n: list(range(n))),
     ]
 
 
-# Why a time may grow faster than by the power 1.2 of the bytes. "In instructions" is by valgrind's callgrind.
-CACHES = "in instructions the power is 0.9 to 1.1, and so many objects no longer fit into the processor's caches"
-DEEP = "in instructions the power is 1.0 to 1.2, and a processor mispredicts returns from more than some 16 calls"
-BLOCKS = "beyond 12,288 items the array is gone over block by block, the items of a block beside all later ones"
-SORTED = "the texts are sorted, or looked up one by one, and a comparison of two is a miss of the processor's caches"
+# Why instructions may grow by more than the power 1.2 of the bytes, by the case and the call.
 REASONS = {
-    "const, an object": CACHES,
-    "const, arrays so deep": DEEP,
-    "enum, strings": SORTED,
-    "enum, objects": CACHES,
-    "enum, several types": CACHES,
-    "items, so deep": DEEP,
-    "prefixItems": CACHES,
-    "items of an array, additionalItems": CACHES,
-    "items and contains, 2^n of them, 2^n items": "each of so many subschemas meets each of as many items, by the standard",
-    "uniqueItems, integers": BLOCKS,
-    "uniqueItems, strings": BLOCKS,
-    "uniqueItems, objects": BLOCKS,
-    "uniqueItems, arrays 14 deep": BLOCKS,
-    "required, an object of the names": SORTED,
-    "MemberList::insert, falling names": "each insertion moves the members behind it; `from_pairs` takes them all at once",
+    ("items and contains, 2^n of them, 2^n items", "is_valid"): "each subschema meets each item, by the standard",
+    ("uniqueItems, integers", "is_valid"): "beyond 12,288 items each block of so many is compared with all later items",
+    ("items, so deep, the innermost fails", "evaluate_instance"): "each node has its location, as long as it lies deep",
+    ("MemberList::insert, falling names", "insert"): "each moves the members behind it; `from_pairs` takes all at once",
 }

@@ -1,112 +1,107 @@
-//! Loops written by hand, to compare the validators with: one for each measured schema. Each tests
-//! what its schema does, on values of `serde_json`. The values have no floats, so that each number
-//! is an integer.
+//! Loops written by hand, to compare the validators with: one for each workload of
+//! `bench/workloads.py`. Each tests what its schema does, on values of `serde_json`. The values
+//! have no floats, so that each number is an integer.
 use serde_json::{Map, Value};
+
+// Returns false unless a value is an array whose items all pass a test.
+macro_rules! each_item {
+    ($value:expr, $test:expr) => {
+        let Value::Array(items) = $value else {
+            return false;
+        };
+        for item in items {
+            if !$test(item) {
+                return false;
+            }
+        }
+    };
+}
 
 /// Returns whether the value is an array of integers.
 pub(crate) fn integers(value: &Value) -> bool {
-    let Value::Array(items) = value else {
-        return false;
-    };
-    for item in items {
-        if !matches!(item, Value::Number(_)) {
-            return false;
-        }
-    }
+    each_item!(value, Value::is_number);
     true
 }
 
 /// Returns whether the value is an array of strings.
 pub(crate) fn strings(value: &Value) -> bool {
-    let Value::Array(items) = value else {
-        return false;
-    };
-    for item in items {
-        if !matches!(item, Value::String(_)) {
-            return false;
-        }
-    }
+    each_item!(value, Value::is_string);
     true
 }
 
-/// Returns whether the value is an array of arrays of integers.
-pub(crate) fn matrix(value: &Value) -> bool {
-    let Value::Array(rows) = value else {
-        return false;
-    };
-    for row in rows {
-        if !integers(row) {
-            return false;
-        }
+/// Returns whether the value is an array of integers of at least 0.
+pub(crate) fn naturals(value: &Value) -> bool {
+    each_item!(value, natural);
+    true
+}
+
+/// Returns whether the value is an integer of at least 0.
+pub(crate) fn natural(value: &Value) -> bool {
+    match value {
+        Value::Number(number) => number.as_u64().is_some(),
+        _ => false,
     }
+}
+
+/// Returns whether the value is an array of multiples of 5 from 0 to 100,000.
+pub(crate) fn multiples(value: &Value) -> bool {
+    each_item!(value, is_multiple);
+    true
+}
+
+// Returns whether the value is a multiple of 5 from 0 to 100,000.
+fn is_multiple(value: &Value) -> bool {
+    match value {
+        Value::Number(number) => number
+            .as_u64()
+            .is_some_and(|number| number <= 100_000 && number % 5 == 0),
+        _ => false,
+    }
+}
+
+/// Returns whether the value is an array of arrays of integers.
+pub(crate) fn rows(value: &Value) -> bool {
+    each_item!(value, integers);
     true
 }
 
 /// Returns whether the value is an array of arrays of arrays of integers.
-pub(crate) fn cube(value: &Value) -> bool {
-    let Value::Array(layers) = value else {
-        return false;
-    };
-    for layer in layers {
-        if !matrix(layer) {
-            return false;
-        }
-    }
+pub(crate) fn layers(value: &Value) -> bool {
+    each_item!(value, rows);
     true
 }
 
-// The bounds on the number of items in the schemas with bounds.
-const FEWEST: usize = 1;
-
-const MOST: usize = 10_000;
-
-// Returns whether an array has 1 to 10,000 items.
-fn is_bounded(items: &[Value]) -> bool {
-    FEWEST <= items.len() && items.len() <= MOST
-}
-
-/// Returns whether the value is an array of integers, of 1 to 10,000 items.
-pub(crate) fn bounded_integers(value: &Value) -> bool {
+// Returns whether the value is an array of 1 to 10,000 items.
+fn is_limited(value: &Value) -> bool {
     match value {
-        Value::Array(items) => is_bounded(items) && integers(value),
+        Value::Array(items) => 1 <= items.len() && items.len() <= 10_000,
         _ => false,
     }
 }
 
-/// Returns whether the value is an array of strings, of 1 to 10,000 items.
-pub(crate) fn bounded_strings(value: &Value) -> bool {
-    match value {
-        Value::Array(items) => is_bounded(items) && strings(value),
-        _ => false,
-    }
+/// Returns whether the value is an array of 1 to 10,000 integers.
+pub(crate) fn limited_integers(value: &Value) -> bool {
+    is_limited(value) && integers(value)
 }
 
-/// Returns whether the value is an array of 1 to 10,000 arrays of 1 to 10,000 integers each.
-pub(crate) fn bounded_matrix(value: &Value) -> bool {
-    let Value::Array(rows) = value else {
-        return false;
-    };
-    if !is_bounded(rows) {
+/// Returns whether the value is an array of 1 to 10,000 arrays, of 1 to 10,000 integers of at least
+/// 0 each.
+pub(crate) fn limited_rows(value: &Value) -> bool {
+    if !is_limited(value) {
         return false;
     }
-    for row in rows {
-        if !bounded_integers(row) {
-            return false;
-        }
-    }
+    each_item!(value, limited_naturals);
     true
+}
+
+// Returns whether the value is an array of 1 to 10,000 integers of at least 0.
+fn limited_naturals(value: &Value) -> bool {
+    is_limited(value) && naturals(value)
 }
 
 /// Returns whether the value is an array of tuples.
 pub(crate) fn tuples(value: &Value) -> bool {
-    let Value::Array(items) = value else {
-        return false;
-    };
-    for item in items {
-        if !is_tuple(item) {
-            return false;
-        }
-    }
+    each_item!(value, is_tuple);
     true
 }
 
@@ -127,31 +122,57 @@ fn is_tuple(value: &Value) -> bool {
     }
 }
 
-/// Returns whether the value is an array of objects with the members `id`, `name` and `email`.
-pub(crate) fn objects(value: &Value) -> bool {
-    let Value::Array(items) = value else {
-        return false;
-    };
-    for item in items {
-        let Value::Object(members) = item else {
-            return false;
-        };
-        if !has_names(members) {
-            return false;
-        }
-    }
+/// Returns whether the value is an array of arrays of a string and two limited numbers.
+pub(crate) fn limited_tuples(value: &Value) -> bool {
+    each_item!(value, is_limited_tuple);
     true
 }
 
-// Returns whether `id`, `name` and `email` are among the names. A map has each name once.
-fn has_names(members: &Map<String, Value>) -> bool {
+// Returns whether the value is an array of a string, an integer from 1 to 1,000 and one of at least
+// 0.
+fn is_limited_tuple(value: &Value) -> bool {
+    let Value::Array(parts) = value else {
+        return false;
+    };
+    match parts.as_slice() {
+        [name, quantity, price] => name.is_string() && is_quantity(quantity) && natural(price),
+        _ => false,
+    }
+}
+
+// Returns whether the value is an integer from 1 to 1,000.
+fn is_quantity(value: &Value) -> bool {
+    match value {
+        Value::Number(number) => number
+            .as_u64()
+            .is_some_and(|number| 1 <= number && number <= 1_000),
+        _ => false,
+    }
+}
+
+/// Returns whether the value is an array of objects with the members `id`, `name` and `email`.
+pub(crate) fn objects(value: &Value) -> bool {
+    each_item!(value, has_names);
+    true
+}
+
+// Returns whether the value is an object with the members `id`, `name` and `email`.
+fn has_names(value: &Value) -> bool {
+    match value {
+        Value::Object(members) => count_names(members) == 3,
+        _ => false,
+    }
+}
+
+// Returns how many of these three are among the names. A map has each name once.
+fn count_names(members: &Map<String, Value>) -> usize {
     let mut found = 0usize;
     for name in members.keys() {
         if matches!(name.as_str(), "id" | "name" | "email") {
             found = found.wrapping_add(1);
         }
     }
-    found == 3
+    found
 }
 
 /// Returns whether no two items of the array are equal; true for a non-array.
@@ -180,10 +201,35 @@ fn occurs(value: &Value, others: &[Value]) -> bool {
     false
 }
 
-/// Returns whether the value is an integer of at least 0.
-pub(crate) fn scalar(value: &Value) -> bool {
+/// Returns whether the value is an array of orders: arrays of a number, a status, 1 to 10,000 lines
+/// and different tags.
+pub(crate) fn orders(value: &Value) -> bool {
+    each_item!(value, is_order);
+    true
+}
+
+// Returns whether the value is an order.
+fn is_order(value: &Value) -> bool {
+    let Value::Array(parts) = value else {
+        return false;
+    };
+    match parts.as_slice() {
+        [number, status, lines, tags] => {
+            natural(number)
+                && is_status(status)
+                && is_limited(lines)
+                && limited_tuples(lines)
+                && strings(tags)
+                && unique(tags)
+        }
+        _ => false,
+    }
+}
+
+// Returns whether the value is the status of an order.
+fn is_status(value: &Value) -> bool {
     match value {
-        Value::Number(number) => number.as_u64().is_some(),
+        Value::String(text) => matches!(text.as_str(), "open" | "paid" | "sent" | "returned"),
         _ => false,
     }
 }

@@ -1,7 +1,9 @@
 //! Times calls other than a compile and `is_valid`.
-use crate::timing::{Timing, fastest};
-use jskw_report::{Draft, Settings, VocabularySet};
-use jskw_value::{DecimalTree, Member, Members};
+use crate::observers::compiled;
+use crate::timing::{Instance, Timing, fastest, instances, time_test};
+use jskw_array::SchemaNode;
+use jskw_report::{Draft, Fault, LazyLocation, Settings, ValidationContext, VocabularySet};
+use jskw_value::{DecimalTree, Member, Members, Node, SerdeJson};
 use serde_json::Value;
 use std::alloc::{AllocError, Global};
 use std::io;
@@ -21,8 +23,11 @@ pub(crate) fn time_call(
     let Ok(value) = Value::from_str(alloc, text) else {
         return Ok(None);
     };
-    if call == "from_value" {
-        return Ok(Some(time(rt, span, || has_decimals(alloc, &value))?));
+    match call {
+        "first_unlawful" => return Ok(Some(time(rt, span, || has_no_float(alloc, &value))?)),
+        "message" => return time_message(rt, span, text),
+        "from_value" => return Ok(Some(time(rt, span, || has_decimals(alloc, &value))?)),
+        _ => {}
     }
     let Value::Array(names) = &value else {
         return Ok(None);
@@ -74,6 +79,45 @@ fn count_accepted<F: Fn() -> bool>(calls: usize, call: &F) -> usize
         }
     }
     count
+}
+
+// Returns whether no float is found in the value.
+fn has_no_float(alloc: Global, value: &Value) -> bool {
+    matches!(value.first_unlawful(alloc), Ok(None))
+}
+
+// Times an error of the text's value under the schema `false`, and its message, which has the value.
+fn time_message(rt: &HostRuntime, span: u128, text: &str) -> io::Result<Option<Timing>> {
+    let alloc = rt.alloc();
+    let settings = settings_of(alloc, Draft::Draft202012, &[])?;
+    let Some(node) = compiled(alloc, &settings, &Value::Bool(false)) else {
+        return Ok(None);
+    };
+    match instances(alloc, text)? {
+        Some(instances) => Ok(Some(time_first_error(rt, span, &instances, &node)?)),
+        None => Ok(None),
+    }
+}
+
+// Times the first error of the instances, and its message.
+fn time_first_error(
+    rt: &HostRuntime,
+    span: u128,
+    instances: &[Instance],
+    node: &SchemaNode<SerdeJson>,
+) -> io::Result<Timing> {
+    let alloc = rt.alloc();
+    time_test(rt, span, instances, |i| has_message(alloc, node, i))
+}
+
+// Returns whether the first error of an instance has a message.
+fn has_message(alloc: Global, node: &SchemaNode<SerdeJson>, instance: &Instance) -> bool {
+    let mut location = LazyLocation::new(alloc);
+    let mut ctx = ValidationContext::new();
+    match node.validate(&instance.value, &mut location, &mut ctx) {
+        Err(Fault::Invalid(error)) => error.message(alloc).is_ok(),
+        _ => false,
+    }
 }
 
 // Returns whether a tree of decimals can be made of the value.

@@ -1,18 +1,20 @@
-//! Times schemas over the values of `serde_json`. The lines of standard input say what to do:
+//! Times the library over the values of `serde_json`, for `bench/run`. Each line of standard input
+//! is one of these, with a tab between each two columns:
 //!
-//! - `check`: print the results of the cases that follow.
-//! - `time`: print the nanoseconds of a compile and of a call of `is_valid` too.
-//! - `sizes`: print how many bytes a node, a validator and a location take.
-//! - `under`, a draft and an array of names, with tabs between: compile the cases that follow under
-//!   this draft and with these names overridden, in place of Draft 2020-12 and none.
-//! - Any other line is a case: its name, a schema and an instance, with tabs between. The name of a
-//!   loop written by hand may follow, which tests the same as the schema. Its result has to be that
-//!   of the schema, and its nanoseconds are printed last.
+//! | `check` | from here on each call is made a few times, and answers alone are printed |
+//! | `time` | from here on the nanoseconds of each call are printed too |
+//! | `under`, a draft, an array of names | from here on, compile so, with these names overridden |
+//! | `sizes` | prints how many bytes a node, a validator and a location take |
+//! | a name, a schema, an instance | a case: a compile and `is_valid` |
+//! | the same, and a loop's name or `-` | all observers, `is_lawful`, and the loop by hand |
+//! | a name, a call, a text | another call |
 //!
-//! In place of the schema there may be the name of another call, and then a text in place of the
-//! instance:
+//! The draft is 2020-12 at first. All observers and the loop have to agree on an answer. The other
+//! calls are:
 //!
 //! | `read` | the text is read as JSON |
+//! | `first_unlawful` | the text's value is searched for a float |
+//! | `message` | the value gets an error under `false`, and the error a message |
 //! | `insert` | members of the names in an array are inserted into an object of decimals |
 //! | `from_pairs` | the same, all at once |
 //! | `from_value` | the value is made one of decimals |
@@ -21,120 +23,47 @@
 
 mod by_hand;
 mod calls;
+mod observers;
 mod timing;
 
 use calls::{settings_of, time_call};
-use jskw_array::compiler::compile;
 use jskw_array::{SchemaNode, Validator};
-use jskw_report::{Context, Draft, Location, Settings, ValidationContext};
+use jskw_report::{Draft, Location, Settings};
 use jskw_value::SerdeJson;
+use observers::{compiled, time_by_hand, time_compile, time_is_valid, time_others};
 use serde_json::Value;
 use std::alloc::Global;
 use std::io;
 use std::mem::size_of;
-use timing::{Instance, Timing, fastest, instances, time_test};
+use timing::{Instance, Row, instances};
 
-// The nanoseconds for which a call is repeated each time.
+// The nanoseconds that a batch of calls takes at least.
 const SPAN: u128 = 1_000_000;
 
-// Returns the compiled schema, or `None` if it is refused.
-fn compiled(alloc: Global, settings: &Settings, schema: &Value) -> Option<SchemaNode<SerdeJson>> {
-    let ctx: Context<SerdeJson> = Context::new(alloc, settings);
-    compile(alloc, &ctx, schema).ok()
-}
-
-// Compiles the schema `calls` times, and returns how many times this succeeds.
-fn count_compiled(alloc: Global, settings: &Settings, schema: &Value, calls: usize) -> usize {
-    let mut count = 0usize;
-    for _ in 0..calls {
-        if compiled(alloc, settings, schema).is_some() {
-            count = count.wrapping_add(1);
-        }
-    }
-    count
-}
-
-// Times a compile.
-fn time_compile(rt: &HostRuntime, settings: &Settings, schema: &Value) -> io::Result<Timing> {
-    let alloc = rt.alloc();
-    let batch = |calls: usize| count_compiled(alloc, settings, schema, calls);
-    fastest(rt, SPAN, 1, batch)
-}
-
-// Times `is_valid` of a compiled schema.
-fn time_is_valid(
-    rt: &HostRuntime,
-    span: u128,
-    instances: &[Instance],
-    node: &SchemaNode<SerdeJson>,
-) -> io::Result<Timing> {
-    time_test(rt, span, instances, |instance| {
-        node.is_valid(&instance.value, &mut ValidationContext::new())
-    })
-}
-
-// Times `is_valid` of a schema. Returns `None` if it is refused.
-fn time_schema(
+// Returns the row of a case, or a word that says why there is none.
+fn row_of(
     rt: &HostRuntime,
     settings: &Settings,
     schema: &Value,
-    span: u128,
     instances: &[Instance],
-) -> io::Result<Option<Timing>> {
-    match compiled(rt.alloc(), settings, schema) {
-        Some(node) => Ok(Some(time_is_valid(rt, span, instances, &node)?)),
-        None => Ok(None),
-    }
-}
-
-// Times the loop of this name. Returns `None` if there is none.
-fn time_by_hand(
-    rt: &HostRuntime,
+    loop_name: &str,
     span: u128,
-    instances: &[Instance],
-    name: &str,
-) -> io::Result<Option<Timing>> {
-    let timing = match name {
-        "integers" => time_test(rt, span, instances, |i| by_hand::integers(&i.value))?,
-        "strings" => time_test(rt, span, instances, |i| by_hand::strings(&i.value))?,
-        "matrix" => time_test(rt, span, instances, |i| by_hand::matrix(&i.value))?,
-        "cube" => time_test(rt, span, instances, |i| by_hand::cube(&i.value))?,
-        "bounded integers" => {
-            time_test(rt, span, instances, |i| by_hand::bounded_integers(&i.value))?
-        }
-        "bounded strings" => time_test(
-            rt,
-            span,
-            instances,
-            |i| by_hand::bounded_strings(&i.value),
-        )?,
-        "bounded matrix" => time_test(rt, span, instances, |i| by_hand::bounded_matrix(&i.value))?,
-        "tuples" => time_test(rt, span, instances, |i| by_hand::tuples(&i.value))?,
-        "objects" => time_test(rt, span, instances, |i| by_hand::objects(&i.value))?,
-        "unique" => time_test(rt, span, instances, |i| by_hand::unique(&i.value))?,
-        "scalar" => time_test(rt, span, instances, |i| by_hand::scalar(&i.value))?,
-        _ => return Ok(None),
+) -> io::Result<Result<Row, &'static str>> {
+    let Some(node) = compiled(rt.alloc(), settings, schema) else {
+        return Ok(Err("not compiled"));
     };
-    Ok(Some(timing))
-}
-
-// Returns the word for the result of a schema: `differs` if the loop's result is another one.
-fn word(is_valid: &Timing, by_hand: Option<&Timing>) -> &'static str {
-    let answer = is_valid.answer();
-    if by_hand.is_some_and(|timing| timing.answer() != answer) {
-        return "differs";
+    let mut row = Row::new(rt.alloc());
+    row.add(time_compile(rt, span, settings, schema)?)?;
+    row.add_answer(time_is_valid(rt, span, instances, &node)?)?;
+    if !loop_name.is_empty() {
+        time_others(rt, span, instances, &node, &mut row)?;
+        match time_by_hand(rt, span, instances, loop_name)? {
+            Some(timing) => row.add_answer(timing)?,
+            None if loop_name == "-" => {}
+            None => return Ok(Err("no loop")),
+        }
     }
-    match answer {
-        Some(true) => "valid",
-        Some(false) => "invalid",
-        None => "differs",
-    }
-}
-
-// Prints nanoseconds behind a tab.
-fn print_nanoseconds(rt: &HostRuntime, timing: &Timing) -> io::Result<()> {
-    let picoseconds = timing.picoseconds();
-    print!(rt; "\t{}.{:03}", picoseconds / 1000, picoseconds % 1000)
+    Ok(Ok(row))
 }
 
 // Prints how many bytes a schema node, a keyword's validator and a location take, without what they
@@ -159,9 +88,28 @@ fn run_call(
         return println!(rt; "{name}\tno call");
     };
     let is_done = timing.answer() == Some(true);
-    print!(rt; "{name}\t{}", if is_done { "done" } else { "refused" })?;
+    let mut row = Row::new(rt.alloc());
+    row.add(timing)?;
+    print_row(
+        rt,
+        name,
+        if is_done { "done" } else { "refused" },
+        &row,
+        is_timed,
+    )
+}
+
+// Prints the row of a case or call with a word for its answer.
+fn print_row(
+    rt: &HostRuntime,
+    name: &str,
+    word: &str,
+    row: &Row,
+    is_timed: bool,
+) -> io::Result<()> {
+    print!(rt; "{name}\t{word}")?;
     if is_timed {
-        print_nanoseconds(rt, &timing)?;
+        row.print(rt)?;
     }
     println!(rt; "")
 }
@@ -171,7 +119,7 @@ fn run_call(
 fn is_call(word: &str) -> bool {
     matches!(
         word,
-        "read" | "insert" | "from_pairs" | "from_value" | "settings"
+        "read" | "first_unlawful" | "message" | "insert" | "from_pairs" | "from_value" | "settings"
     )
 }
 
@@ -182,7 +130,7 @@ fn run_case(rt: &HostRuntime, settings: &Settings, line: &str, is_timed: bool) -
     let name = parts.next().unwrap_or("");
     let schema = parts.next().unwrap_or("");
     let instance = parts.next().unwrap_or("");
-    let loop_name = parts.next();
+    let loop_name = parts.next().unwrap_or("");
     if is_call(schema) {
         return run_call(rt, name, schema, instance, is_timed);
     }
@@ -193,22 +141,10 @@ fn run_case(rt: &HostRuntime, settings: &Settings, line: &str, is_timed: bool) -
         return println!(rt; "{name}\tno instance");
     };
     let span = if is_timed { SPAN } else { 0 };
-    let Some(is_valid) = time_schema(rt, settings, &schema, span, &instances)? else {
-        return println!(rt; "{name}\tnot compiled");
-    };
-    let by_hand = time_by_hand(rt, span, &instances, loop_name.unwrap_or(""))?;
-    if loop_name.is_some() && by_hand.is_none() {
-        return println!(rt; "{name}\tno loop");
+    match row_of(rt, settings, &schema, &instances, loop_name, span)? {
+        Ok(row) => print_row(rt, name, row.word(), &row, is_timed),
+        Err(word) => println!(rt; "{name}\t{word}"),
     }
-    print!(rt; "{name}\t{}", word(&is_valid, by_hand.as_ref()))?;
-    if is_timed {
-        print_nanoseconds(rt, &time_compile(rt, settings, &schema)?)?;
-        print_nanoseconds(rt, &is_valid)?;
-        if let Some(timing) = by_hand {
-            print_nanoseconds(rt, &timing)?;
-        }
-    }
-    println!(rt; "")
 }
 
 // Returns the draft of this name, or 2020-12 if there is none.

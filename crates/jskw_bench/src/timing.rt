@@ -16,7 +16,7 @@ const COPIES: usize = 4;
 const BATCHES: usize = 30;
 
 // The nanoseconds of all batches after which no other is timed.
-const LIMIT: u128 = 1_000_000_000;
+const LIMIT: u128 = 300_000_000;
 
 /// A value without a float.
 #[derive(Drop)]
@@ -71,9 +71,56 @@ impl Timing {
         }
     }
 
-    /// Returns the picoseconds of one call.
-    pub(crate) fn picoseconds(&self) -> u128 {
-        self.nanoseconds.saturating_mul(1000) / (self.calls as u128).max(1)
+    /// Prints the nanoseconds of a call behind a tab.
+    pub(crate) fn print(&self, rt: &HostRuntime) -> io::Result<()> {
+        let picoseconds = self.nanoseconds.saturating_mul(1000) / (self.calls as u128).max(1);
+        print!(rt; "\t{}.{:03}", picoseconds / 1000, picoseconds % 1000)
+    }
+}
+
+/// What the calls of a case took, in order, and the answer on which they agree.
+#[derive(Drop)]
+pub(crate) struct Row {
+    timings: Vec<Timing>,
+    answers: Vec<Option<bool>>,
+}
+
+impl Row {
+    pub(crate) fn new(alloc: Global) -> Row {
+        Row {
+            timings: Vec::new(alloc),
+            answers: Vec::new(alloc),
+        }
+    }
+
+    /// Adds a call that says nothing of the instance.
+    pub(crate) fn add(&mut self, timing: Timing) -> Result<(), AllocError> {
+        Ok(self.timings.push(timing)?)
+    }
+
+    /// Adds a call that returns whether the instance is valid.
+    pub(crate) fn add_answer(&mut self, timing: Timing) -> Result<(), AllocError> {
+        self.answers.push(timing.answer())?;
+        self.add(timing)
+    }
+
+    /// Returns the word for what all answers say, `differs` if they don't agree.
+    pub(crate) fn word(&self) -> &'static str {
+        if self.answers.iter().all(|answer| *answer == Some(true)) {
+            "valid"
+        } else if self.answers.iter().all(|answer| *answer == Some(false)) {
+            "invalid"
+        } else {
+            "differs"
+        }
+    }
+
+    /// Prints the nanoseconds of each call behind a tab.
+    pub(crate) fn print(&self, rt: &HostRuntime) -> io::Result<()> {
+        for timing in &self.timings {
+            timing.print(rt)?;
+        }
+        Ok(())
     }
 }
 
@@ -115,8 +162,9 @@ fn accepted<F: Fn(&Instance) -> bool>(rounds: usize, instances: &[Instance], acc
     count
 }
 
-/// Returns the fastest of 30 equal batches, or of fewer if these take more than a second. Each
-/// takes about `span` nanoseconds or more.
+/// Returns the fastest of 30 equal batches, or of fewer if these take more than 0.3 seconds. Each
+/// takes about `span` nanoseconds or more. If `span` is 0, returns a batch of two rounds behind one
+/// of one round, so that the instructions of a round are the difference.
 ///
 /// `batch` makes that many rounds of `calls` calls, and returns how many calls accepted.
 pub(crate) fn fastest<F: Fn(usize) -> usize>(
@@ -129,6 +177,9 @@ pub(crate) fn fastest<F: Fn(usize) -> usize>(
 {
     let mut rounds = 1usize;
     let mut best = time_batch(rt, rounds, calls, &batch)?;
+    if span == 0 {
+        return time_batch(rt, 2, calls, &batch);
+    }
     for _ in 0..40 {
         if best.nanoseconds >= span {
             break;

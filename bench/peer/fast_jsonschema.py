@@ -1,0 +1,21 @@
+"""Times fastjsonschema, as timing.py describes. It has no call for all errors."""
+
+
+import fastjsonschema
+from timing import answer_lines
+
+
+def calls_of(schema):
+    validate = fastjsonschema.compile(schema)
+
+    def is_valid(instance):
+        try:
+            validate(instance)
+        except fastjsonschema.JsonSchemaException:
+            return False
+        return True
+
+    return fastjsonschema.compile, is_valid, is_valid, None
+
+
+answer_lines(calls_of)

@@ -1,0 +1,77 @@
+"""How the scripts here ask crates/jskw_bench, which its src/main.rt describes."""
+
+import json
+import pathlib
+import re
+import shutil
+import subprocess
+import sys
+import tempfile
+
+ROOT = pathlib.Path(__file__).resolve().parent.parent
+CRATE = ROOT / "crates" / "jskw_bench"
+BUILT = CRATE / "out" / "jskw_bench"
+ROUNDS = 3
+
+
+def text_of(value):
+    return json.dumps(value, separators=(",", ":"))
+
+
+def case_of(name, schema, instance, *loop):
+    return "\t".join([name, text_of(schema), text_of(instance), *loop])
+
+
+def call_of(name, call, text):
+    return f"{name}\t{call}\t{text}"
+
+
+def under(draft, overridden=()):
+    return f"under\t{draft}\t{text_of(list(overridden))}"
+
+
+def build():
+    with open(CRATE / "stdin", "rb") as cases:
+        built = subprocess.run(["rt", "run"], cwd=CRATE, stdin=cases, capture_output=True, text=True)
+    if built.returncode:
+        sys.exit("bench: the program could not be built:\n" + (built.stdout + built.stderr)[-2000:])
+    return BUILT
+
+
+def said(command, mode, lines):
+    text = "\n".join([mode, *lines]) + "\n"
+    ran = subprocess.run(command, input=text, text=True, capture_output=True, check=False)
+    if ran.returncode:
+        sys.exit(f"bench: {command[-1]} ended with {ran.returncode}: {ran.stderr[-1000:]}")
+    return [line.split("\t") for line in ran.stdout.splitlines()]
+
+
+def times_of(programs, lines):
+    """Returns for each program the rows of its lines: a name, an answer, and nanoseconds. A processor that is shared
+    may be slow for a minute, so that each time is the least of some rounds, and the programs take turns."""
+    rounds = [[said([program], "time", lines) for program in programs] for _ in range(ROUNDS)]
+    return [[least(rows) for rows in zip(*(turn[place] for turn in rounds))] for place in range(len(programs))]
+
+
+def least(rows):
+    name, answer = rows[0][:2]
+    if answer not in ("valid", "invalid", "done"):
+        sys.exit(f"bench: {name}: {answer}")
+    return name, answer, [min(map(float, times)) for times in zip(*(row[2:] for row in rows))]
+
+
+def instructions_of(program, lines, width):
+    """Returns for each line the instructions of one call of each of so many, by valgrind's callgrind; None if valgrind
+    isn't installed."""
+    if not shutil.which("valgrind"):
+        return None
+    with tempfile.TemporaryDirectory() as folder:
+        tool = ["--tool=callgrind", f"--callgrind-out-file={folder}/out", "--dump-before=clock_gettime*"]
+        said(["valgrind", *tool, program], "check", lines)
+        dumps = sorted(pathlib.Path(folder).glob("out.*"), key=lambda path: int(path.suffix[1:]))
+        counts = [int(re.search(r"^summary: (\d+)", dump.read_text(), re.M)[1]) for dump in dumps]
+    # Between each two looks at the clock is a dump. Those of a call are four: two end a batch, of one round and of two.
+    # A round of compiles is one call, any other four.
+    rounds = [two - one for one, two in zip(counts[1::4], counts[3::4])]
+    rows = [rounds[place : place + width] for place in range(0, len(rounds), width)]
+    return [row if width == 1 else [row[0], *(count / 4 for count in row[1:])] for row in rows]

@@ -1,0 +1,129 @@
+//! Times a compile, the observers of a schema, and the loop written by hand that goes with it.
+use crate::by_hand;
+use crate::timing::{Instance, Row, Timing, fastest, time_test};
+use jskw_array::SchemaNode;
+use jskw_array::compiler::compile;
+use jskw_report::{Context, LazyLocation, Settings, ValidationContext};
+use jskw_value::{Node, SerdeJson};
+use serde_json::Value;
+use std::alloc::Global;
+use std::io;
+
+/// Compiles a schema; None if it is refused.
+pub(crate) fn compiled(
+    alloc: Global,
+    settings: &Settings,
+    schema: &Value,
+) -> Option<SchemaNode<SerdeJson>> {
+    let ctx: Context<SerdeJson> = Context::new(alloc, settings);
+    compile(alloc, &ctx.with_object_layer(false), schema).ok()
+}
+
+// Returns how many of so many calls compile the schema.
+fn count_compiled(alloc: Global, settings: &Settings, schema: &Value, calls: usize) -> usize {
+    let mut count = 0usize;
+    for _ in 0..calls {
+        if compiled(alloc, settings, schema).is_some() {
+            count = count.wrapping_add(1);
+        }
+    }
+    count
+}
+
+/// Times a compile.
+pub(crate) fn time_compile(
+    rt: &HostRuntime,
+    span: u128,
+    settings: &Settings,
+    schema: &Value,
+) -> io::Result<Timing> {
+    let alloc = rt.alloc();
+    let batch = |calls: usize| count_compiled(alloc, settings, schema, calls);
+    fastest(rt, span, 1, batch)
+}
+
+/// Times `is_valid`.
+pub(crate) fn time_is_valid(
+    rt: &HostRuntime,
+    span: u128,
+    instances: &[Instance],
+    node: &SchemaNode<SerdeJson>,
+) -> io::Result<Timing> {
+    time_test(rt, span, instances, |instance| {
+        node.is_valid(&instance.value, &mut ValidationContext::new())
+    })
+}
+
+/// Times the other observers and `is_lawful`, and adds them to the row in this order: `validate`,
+/// `collect_errors`, `evaluate_instance`, `is_lawful`.
+pub(crate) fn time_others(
+    rt: &HostRuntime,
+    span: u128,
+    instances: &[Instance],
+    node: &SchemaNode<SerdeJson>,
+    row: &mut Row,
+) -> io::Result<()> {
+    let alloc = rt.alloc();
+    let validate = time_test(rt, span, instances, |i| has_no_first(alloc, node, i))?;
+    row.add_answer(validate)?;
+    let collect = time_test(rt, span, instances, |i| has_no_errors(alloc, node, i))?;
+    row.add_answer(collect)?;
+    let evaluate = time_test(rt, span, instances, |i| is_evaluated(alloc, node, i))?;
+    row.add_answer(evaluate)?;
+    row.add(time_test(rt, span, instances, |i| i.value.is_lawful())?)?;
+    Ok(())
+}
+
+fn has_no_first(alloc: Global, node: &SchemaNode<SerdeJson>, instance: &Instance) -> bool {
+    let mut location = LazyLocation::new(alloc);
+    let mut ctx = ValidationContext::new();
+    node.validate(&instance.value, &mut location, &mut ctx)
+        .is_ok()
+}
+
+fn has_no_errors(alloc: Global, node: &SchemaNode<SerdeJson>, instance: &Instance) -> bool {
+    let mut location = LazyLocation::new(alloc);
+    let mut ctx = ValidationContext::new();
+    let mut errors = Vec::new(alloc);
+    let collected = node.collect_errors(&instance.value, &mut location, &mut ctx, &mut errors);
+    collected.is_ok() && errors.is_empty()
+}
+
+fn is_evaluated(alloc: Global, node: &SchemaNode<SerdeJson>, instance: &Instance) -> bool {
+    match node.evaluate_instance(alloc, &instance.value, &mut ValidationContext::new()) {
+        Ok(tree) => tree.valid(),
+        Err(_) => false,
+    }
+}
+
+/// Times the loop of a name; None if no loop has the name.
+pub(crate) fn time_by_hand(
+    rt: &HostRuntime,
+    span: u128,
+    instances: &[Instance],
+    name: &str,
+) -> io::Result<Option<Timing>> {
+    let timing = match name {
+        "integers" => time_test(rt, span, instances, |i| by_hand::integers(&i.value))?,
+        "strings" => time_test(rt, span, instances, |i| by_hand::strings(&i.value))?,
+        "naturals" => time_test(rt, span, instances, |i| by_hand::naturals(&i.value))?,
+        "multiples" => time_test(rt, span, instances, |i| by_hand::multiples(&i.value))?,
+        "limited integers" => time_test(
+            rt,
+            span,
+            instances,
+            |i| by_hand::limited_integers(&i.value),
+        )?,
+        "rows" => time_test(rt, span, instances, |i| by_hand::rows(&i.value))?,
+        "limited rows" => time_test(rt, span, instances, |i| by_hand::limited_rows(&i.value))?,
+        "layers" => time_test(rt, span, instances, |i| by_hand::layers(&i.value))?,
+        "tuples" => time_test(rt, span, instances, |i| by_hand::tuples(&i.value))?,
+        "limited tuples" => time_test(rt, span, instances, |i| by_hand::limited_tuples(&i.value))?,
+        "objects" => time_test(rt, span, instances, |i| by_hand::objects(&i.value))?,
+        "unique" => time_test(rt, span, instances, |i| by_hand::unique(&i.value))?,
+        "orders" => time_test(rt, span, instances, |i| by_hand::orders(&i.value))?,
+        "natural" => time_test(rt, span, instances, |i| by_hand::natural(&i.value))?,
+        _ => return Ok(None),
+    };
+    Ok(Some(timing))
+}
