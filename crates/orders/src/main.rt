@@ -2,7 +2,7 @@
 #![tactic(auto)]
 
 ghost use Rattle.std.specs.Prelude.{◌≡◌, IfSome};
-ghost use Rattle.lotsibegn.specs.{holds, value_tree};
+ghost use Rattle.lotsibegn.specs.{decimal_tree, holds, value_tree};
 
 use lotsibegn::{
     Annotations, CompilationResult, CompileFault, Context, Decimal, DecimalJson, DecimalTree,
@@ -96,18 +96,27 @@ fn print_matches(rt: &HostRuntime, tree: &EvaluationNode) -> io::Result<()> {
 }
 
 // Prints which of some counts are large.
-fn print_large(rt: &HostRuntime, counts: &Value) -> io::Result<()> {
+fn print_large(
+    rt: &HostRuntime,
+    schema: &SchemaNode<SerdeJson>,
+    counts: &Value,
+) -> io::Result<()> {
+    if !counts.is_lawful() {
+        return println!(rt; "it holds a float");
+    }
+    let tree = schema.evaluate_instance(rt.alloc(), counts, &mut ValidationContext::new())?;
+    print_matches(rt, &tree)
+}
+
+// Compiles what counts are large, and prints which of some counts are.
+fn print_counts(rt: &HostRuntime, counts: &Value) -> io::Result<()> {
     let Ok(schema) = Value::from_str(rt.alloc(), LARGE_COUNTS) else {
         return println!(rt; "the schema is not JSON");
     };
     let Ok(node) = compiled::<SerdeJson>(rt.alloc(), &schema) else {
         return println!(rt; "the schema does not compile");
     };
-    if !counts.is_lawful() {
-        return println!(rt; "it holds a float");
-    }
-    let tree = node.evaluate_instance(rt.alloc(), counts, &mut ValidationContext::new())?;
-    print_matches(rt, &tree)
+    print_large(rt, &node, counts)
 }
 
 // Returns `{"price": ..}` with this many cents, or None if they are out of range.
@@ -126,6 +135,17 @@ fn priced(alloc: Global, cents: i128) -> Result<Option<DecimalTree>, AllocError>
     }
 }
 
+// Returns whether an item has a price of the shop, or None if it holds a float.
+fn is_priced(schema: &SchemaNode<DecimalJson>, item: &DecimalTree) -> Option<bool>
+    ensures { IfSome result (λ valid. valid ≡ holds schema.now (decimal_tree item.now)) }
+{
+    if item.is_lawful() {
+        Some(schema.is_valid(item, &mut ValidationContext::new()))
+    } else {
+        None
+    }
+}
+
 // Prints whether a price in cents is one of the shop's.
 fn print_price(rt: &HostRuntime, cents: i128) -> io::Result<()> {
     let Ok(schema) = Value::from_str(rt.alloc(), PRICED) else {
@@ -137,35 +157,43 @@ fn print_price(rt: &HostRuntime, cents: i128) -> io::Result<()> {
     let Some(item) = priced(rt.alloc(), cents)? else {
         return println!(rt; "out of range");
     };
-    if !item.is_lawful() {
-        return println!(rt; "it holds a float");
-    }
-    let is_valid = node.is_valid(&item, &mut ValidationContext::new());
-    println!(rt; "{cents} cents: {is_valid}")
+    let is_priced = is_priced(&node, &item) == Some(true);
+    println!(rt; "{cents} cents: {is_priced}")
 }
 
-fn main(rt: HostRuntime) -> io::Result<()> {
+// Checks each line of standard input.
+fn check_lines(rt: &HostRuntime, schema: &SchemaNode<SerdeJson>) -> io::Result<()> {
+    for line in rt.lines(rt.alloc()) {
+        let Ok(order) = Value::from_str(rt.alloc(), line?.as_str()) else {
+            println!(rt; "not JSON")?;
+            continue;
+        };
+        if is_order(schema, &order) == Some(true) {
+            println!(rt; "valid")?;
+        } else {
+            print_errors(rt, schema, &order)?;
+        }
+    }
+    Ok(())
+}
+
+// Compiles what an order is, and checks the orders.
+fn check_orders(rt: &HostRuntime) -> io::Result<()> {
     let Ok(schema) = Value::from_str(rt.alloc(), ORDER) else {
         return println!(rt; "the schema is not JSON");
     };
     let Ok(node) = compiled::<SerdeJson>(rt.alloc(), &schema) else {
         return println!(rt; "the schema does not compile");
     };
-    for line in rt.lines(rt.alloc()) {
-        let Ok(order) = Value::from_str(rt.alloc(), line?.as_str()) else {
-            println!(rt; "not JSON")?;
-            continue;
-        };
-        if is_order(&node, &order) == Some(true) {
-            println!(rt; "valid")?;
-        } else {
-            print_errors(&rt, &node, &order)?;
-        }
-    }
+    check_lines(rt, &node)
+}
+
+fn main(rt: HostRuntime) -> io::Result<()> {
+    check_orders(&rt)?;
     let Ok(counts) = Value::from_str(rt.alloc(), "[5, 100, 250]") else {
         return println!(rt; "the counts are not JSON");
     };
-    print_large(&rt, &counts)?;
+    print_counts(&rt, &counts)?;
     print_price(&rt, 2000)?;
     print_price(&rt, 2001)?;
     let Ok(bad) = Value::from_str(rt.alloc(), BAD_SCHEMA) else {
