@@ -12,6 +12,12 @@ pub(crate) struct Place {
     pub(crate) instance: &'static str,
 }
 
+/// A whole schema and a whole instance.
+pub(crate) const WHOLE: Place = Place {
+    schema: "",
+    instance: "",
+};
+
 impl Place {
     /// The keyword location without its beginning, or a question mark if it has another one.
     pub(crate) fn by<'t>(self, location: &'t str) -> &'t str {
@@ -47,6 +53,9 @@ pub(crate) fn push_error<F: Json>(
     let at = place.at(error.instance_path().as_str());
     let by = place.by(error.schema_path().as_str());
     write!(text, " at {at} by {by} of ")?;
+    if error.evaluation_path() != error.schema_path() {
+        text.push_str("another path: ")?;
+    }
     error.instance().write_json(text)?;
     push_message(text, has_message, error.message(alloc)?.as_str())
 }

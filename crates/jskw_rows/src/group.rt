@@ -1,4 +1,5 @@
 //! Groups of rows: a schema under a setting, and tests of it.
+use crate::calls;
 use crate::members::{Members, is_true, items, known, lines, member, number, text};
 use crate::requests::{self, request_of};
 use crate::row::{self, Most, Row, check_decimals, check_run};
@@ -47,6 +48,9 @@ struct Group<'g, 's> {
 pub(crate) fn check<'v>(tally: &mut Tally, group: &'v Value) -> Result<(), Stop<'v>> {
     if group.get("requests").is_some() {
         return requests::check(tally, group);
+    }
+    if group.get("call").is_some() {
+        return calls::check(tally, group);
     }
     let members = known(group, &GROUP)?;
     take_names(tally, members)?;

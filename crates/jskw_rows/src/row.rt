@@ -1,5 +1,5 @@
 //! A row, and how it is asked.
-use crate::answer::Claims;
+use crate::answer::{Claims, float_line};
 use crate::representations::{Keys0, KeysMax, decimals_of};
 use crate::stop::Stop;
 use crate::tally::Tally;
@@ -39,7 +39,10 @@ pub(crate) fn check(tally: &mut Tally, row: &Row<'_>, instance: &Value) -> Resul
     check_over::<SerdeJson>(tally, row, instance, "over serde_json")?;
     match DecimalTree::from_value(tally.alloc, instance)? {
         Some(tree) => check_tree(tally, row, &tree),
-        None => Ok(()),
+        None => {
+            let found = float_line(tally.alloc, instance)?;
+            tally.compare(row.name, "as decimals", row.whole, found.as_str())
+        }
     }
 }
 

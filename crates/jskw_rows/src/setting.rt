@@ -33,8 +33,8 @@ fn draft_of(name: &str) -> Option<Draft> {
     }
 }
 
-// The vocabularies of an array of names; all, if there is none.
-fn vocabularies_of(names: Option<&Value>) -> Option<VocabularySet> {
+/// The vocabularies of an array of names; all, if there is none.
+pub(crate) fn vocabularies_of(names: Option<&Value>) -> Option<VocabularySet> {
     let Some(names) = names else {
         return Some(VocabularySet::all());
     };

@@ -54,6 +54,9 @@ fn push_node(
     let node = below.node;
     lines.push_str(if node.valid() { "valid" } else { "invalid" })?;
     push_part(lines, "", place.by(node.evaluation_path().as_str()))?;
+    if node.schema_location() != node.evaluation_path() {
+        lines.push_str(" elsewhere")?;
+    }
     push_part(lines, "at ", place.at(node.instance_location().as_str()))?;
     push_annotation(lines, node.annotations())?;
     for error in node.errors() {

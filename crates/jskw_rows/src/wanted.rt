@@ -1,7 +1,9 @@
 //! What a row wants: the lines of the answers, and what `run` writes.
 use crate::answer::Claims;
 use crate::members::{Members, is_one_of, items, member, text};
+use crate::representations::decimals_of;
 use crate::stop::Stop;
+use jskw_value::Node;
 use serde_json::Value;
 use std::alloc::{AllocError, Global};
 
@@ -74,11 +76,13 @@ fn of_errors<'v>(alloc: Global, test: &'v Members, instance: &Value) -> Result<W
         }
         let value = instance.pointer(error.at);
         let value = value.ok_or(Stop::Wrong("the instance has no value at", error.at))?;
-        let mut value = value.to_string(alloc)?;
+        let mut text = String::new(alloc);
         if test.contains_key("decimals") {
-            value = value.as_str().replace(alloc, '"', "")?;
+            decimals_of(alloc, value)?.write_json(&mut text)?;
+        } else {
+            text = value.to_string(alloc)?;
         }
-        error.push_line(alloc, &mut answer, value.as_str())?;
+        error.push_line(alloc, &mut answer, text.as_str())?;
         error.push_output(&mut output)?;
     }
     output.push_str("status 1\n")?;

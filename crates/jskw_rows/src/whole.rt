@@ -3,7 +3,7 @@ ghost use Rattle.std.specs.Prelude.{IsTrue};
 ghost use Rattle.jskw_value.specs.Tree.{is_lawful};
 
 use crate::answer::{Said, float_line};
-use crate::error_lines::{Place, refusal};
+use crate::error_lines::{WHOLE, refusal};
 use crate::row::{Most, Row};
 use jskw_array::SchemaNode;
 use jskw_array::compiler::compile;
@@ -11,11 +11,6 @@ use jskw_array::items::array_shape_fusion;
 use jskw_report::{CompileFault, Context, LazyLocation, ValidationContext};
 use jskw_value::{Json, Node};
 use std::alloc::{AllocError, Global};
-
-const PLACE: Place = Place {
-    schema: "",
-    instance: "",
-};
 
 /// The lines of what the schema of a row says of itself, and of the instance, or of why it does not
 /// compile.
@@ -35,7 +30,7 @@ pub(crate) fn answer<F: Json>(
             push_shape(&mut lines, is_fused, &node)?;
             answer_of(alloc, row, &node, instance)?
         }
-        Err(CompileFault::Bad(error)) => refusal(alloc, row.claims.messages, PLACE, &error)?,
+        Err(CompileFault::Bad(error)) => refusal(alloc, row.claims.messages, WHOLE, &error)?,
         Err(CompileFault::Memory(error)) => return Err(error),
     };
     lines.push_str(answer.as_str())?;
@@ -99,7 +94,7 @@ fn said<F: Json>(
     let mut location = LazyLocation::new(alloc);
     said.holds = node.is_valid(instance, &mut counts.is_valid);
     let first = node.validate(instance, &mut location, &mut counts.validate);
-    said.push_first(alloc, PLACE, first)?;
+    said.push_first(alloc, WHOLE, first)?;
     let mut errors = Vec::new(alloc);
     node.collect_errors(
         instance,
@@ -107,9 +102,9 @@ fn said<F: Json>(
         &mut counts.collect_errors,
         &mut errors,
     )?;
-    said.push_errors(alloc, PLACE, &errors)?;
+    said.push_errors(alloc, WHOLE, &errors)?;
     let tree = node.evaluate_instance(alloc, instance, &mut counts.evaluate)?;
-    said.push_tree(alloc, PLACE, 0, &tree)?;
+    said.push_tree(alloc, WHOLE, 0, &tree)?;
     Ok(said)
 }
 

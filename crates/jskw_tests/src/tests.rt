@@ -1,13 +1,3 @@
-// What values and reports answer.
-mod report;
-mod value;
-
-// What is no row of `jskw_rows`: constructors, getters, and calls that no schema makes.
+// What is no row of `jskw_rows`: a representation of the tests, and calls of the keywords of arrays.
 mod arrays;
-mod enums;
-mod limits;
-mod sizes;
-mod types;
-
-// Trees of decimals.
-mod trees;
+mod value;

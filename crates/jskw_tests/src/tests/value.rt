@@ -1,11 +1,3 @@
-// What values answer of themselves.
-mod decimals;
-mod equality;
-mod floats;
-mod members;
-mod names;
-mod nodes;
+// Tables of calls, and a representation of the tests.
 pub(super) mod table;
-mod types;
-mod unique;
 mod walks;

@@ -1,7 +1,7 @@
 // Tables, of which each line is a call with its answer behind the last bar.
-use jskw_value::{Decimal, DecimalTree, InsertFault, Members};
+use jskw_value::{Decimal, DecimalTree};
 use serde_json::Value;
-use std::alloc::{AllocError, Global};
+use std::alloc::Global;
 use std::process::Abort;
 use std::test::Fail;
 
@@ -47,20 +47,4 @@ pub(in crate::tests) fn tree_of(alloc: Global, text: &str) -> Result<DecimalTree
             Ok(DecimalTree::from_value(alloc, &value)?.ok_or("a float")?)
         }
     }
-}
-
-// The object of names and of the trees of texts, which are inserted in this order.
-pub(in crate::tests) fn object_of(
-    alloc: Global,
-    pairs: &[(&str, &str)],
-) -> Result<DecimalTree, Fail> {
-    let mut members = Members::new(alloc);
-    for (name, text) in pairs {
-        match members.insert(String::from_str(alloc, name)?, tree_of(alloc, text)?) {
-            Ok(()) => {}
-            Err(InsertFault::Repeated(_, _)) => return Err("a name twice")?,
-            Err(InsertFault::Memory(_, _)) => return Err(AllocError)?,
-        }
-    }
-    Ok(DecimalTree::Object(members))
 }

@@ -1,0 +1,163 @@
+//! Calls of keywords without subschemas.
+use super::{Answer, Call};
+use crate::error_lines::{WHOLE, push_error, refusal};
+use crate::stop::Stop;
+use jskw_leaf::boolean::FalseValidator;
+use jskw_leaf::enum_;
+use jskw_leaf::legacy::type_draft_4;
+use jskw_leaf::required::compile_with_path;
+use jskw_leaf::type_::{
+    ArrayTypeValidator, BooleanTypeValidator, IntegerTypeValidator, NullTypeValidator,
+    NumberTypeValidator, ObjectTypeValidator, StringTypeValidator,
+};
+use jskw_number::NumberValidator;
+use jskw_number::helpers::map_get_u64;
+use jskw_number::minmax::{Above, AtLeast, AtMost, Below, Limit, LimitTest, Whole};
+use jskw_report::{
+    CompileFault, Context, Fault, KeywordName, LazyLocation, Location, LocationSegment, Validate,
+    ValidationContext,
+};
+use jskw_value::{DecimalJson, DecimalTree, Node, SerdeJson};
+use serde_json::{Map, Value};
+use std::alloc::{AllocError, Global};
+
+// The keyword and the value of the limit that an object is compiled to.
+pub(super) fn limit<'v>(alloc: Global, call: Call<'v>) -> Answer<'v> {
+    let (settings, parent) = (call.settings(alloc)?, call.object(1)?);
+    let ctx: Context<SerdeJson> = Context::new(alloc, &settings);
+    for keyword in [
+        KeywordName::Minimum,
+        KeywordName::Maximum,
+        KeywordName::ExclusiveMinimum,
+        KeywordName::ExclusiveMaximum,
+    ] {
+        if let Some(value) = parent.get(keyword.as_str()) {
+            return match &jskw_number::compile(alloc, &ctx, parent, keyword, value) {
+                Some(Ok(limit)) => Ok(limit_text(alloc, limit)?),
+                _ => Err(Stop::Wrong("not compiled", call.name)),
+            };
+        }
+    }
+    Err(Stop::Wrong("no limit", call.name))
+}
+
+fn limit_text(alloc: Global, limit: &NumberValidator) -> Result<String, AllocError> {
+    let (keyword, value) = match limit {
+        NumberValidator::MinimumU64(limit) => ("minimum", limit.limit_value()),
+        NumberValidator::MinimumI64(limit) => ("minimum", limit.limit_value()),
+        NumberValidator::MaximumU64(limit) => ("maximum", limit.limit_value()),
+        NumberValidator::MaximumI64(limit) => ("maximum", limit.limit_value()),
+        NumberValidator::ExclusiveMinimumU64(limit) => ("exclusiveMinimum", limit.limit_value()),
+        NumberValidator::ExclusiveMinimumI64(limit) => ("exclusiveMinimum", limit.limit_value()),
+        NumberValidator::ExclusiveMaximumU64(limit) => ("exclusiveMaximum", limit.limit_value()),
+        NumberValidator::ExclusiveMaximumI64(limit) => ("exclusiveMaximum", limit.limit_value()),
+        _ => return String::from_str(alloc, "no limit"),
+    };
+    format!(in alloc; "{keyword} {}", value.to_string(alloc)?)
+}
+
+// The value of a limit of each relation that is made of 7 and that value.
+pub(super) fn made_limit<'v>(alloc: Global, call: Call<'v>) -> Answer<'v> {
+    let value = call.text(0)?;
+    let mut text = kept_by::<i64, AtLeast>(alloc, 7, value)?;
+    text.push_str(kept_by::<i64, AtMost>(alloc, 7, value)?.as_str())?;
+    text.push_str(kept_by::<i64, Above>(alloc, 7, value)?.as_str())?;
+    text.push_str(kept_by::<u64, Below>(alloc, 7, value)?.as_str())?;
+    Ok(text)
+}
+
+fn kept_by<T: Whole, R: LimitTest>(
+    alloc: Global,
+    limit: T,
+    value: &str,
+) -> Result<String, AllocError> {
+    let value = Value::String(String::from_str(alloc, value)?);
+    let limit: Limit<T, R> = Limit::from((limit, value, Location::new(alloc)));
+    limit.limit_value().to_string(alloc)
+}
+
+// The bound of a name of an object.
+pub(super) fn bound<'v>(alloc: Global, call: Call<'v>) -> Answer<'v> {
+    let (settings, parent) = (call.settings(alloc)?, call.object(1)?);
+    let ctx: Context<SerdeJson> = Context::new(alloc, &settings);
+    match map_get_u64(alloc, parent, &ctx, call.text(2)?) {
+        None => Ok(String::from_str(alloc, "absent")?),
+        Some(Ok(limit)) => Ok(format!(in alloc; "{limit}")?),
+        Some(Err(CompileFault::Bad(error))) => Ok(refusal(alloc, false, WHOLE, &error)?),
+        Some(Err(CompileFault::Memory(error))) => Err(error)?,
+    }
+}
+
+// What a validator that is made for `/a` says of an item of the index 7.
+pub(super) fn made<'v>(alloc: Global, call: Call<'v>) -> Answer<'v> {
+    let item = call.tree(alloc, 1)?;
+    let at = Location::new(alloc).join(alloc, LocationSegment::Name("a"))?;
+    Ok(match call.text(0)? {
+        "false" => said(alloc, FalseValidator::new(at), &item)?,
+        "array" => said(alloc, ArrayTypeValidator::new(at), &item)?,
+        "boolean" => said(alloc, BooleanTypeValidator::new(at), &item)?,
+        "integer" => said(alloc, IntegerTypeValidator::new(at), &item)?,
+        "integer of Draft 4" => said(alloc, type_draft_4::IntegerTypeValidator::new(at), &item)?,
+        "null" => said(alloc, NullTypeValidator::new(at), &item)?,
+        "number" => said(alloc, NumberTypeValidator::new(at), &item)?,
+        "object" => said(alloc, ObjectTypeValidator::new(at), &item)?,
+        "string" => said(alloc, StringTypeValidator::new(at), &item)?,
+        _ => return Err(Stop::Wrong("no validator", call.name)),
+    })
+}
+
+fn said<V: Validate<DecimalJson> + Drop>(
+    alloc: Global,
+    validator: V,
+    item: &DecimalTree,
+) -> Result<String, AllocError> {
+    if !item.is_lawful() {
+        return String::from_str(alloc, "a float");
+    }
+    let mut location = LazyLocation::new(alloc);
+    location.push(7)?;
+    let mut text = String::new(alloc);
+    match validator.validate(item, &mut location, &mut ValidationContext::new()) {
+        Ok(()) => text.push_str("valid")?,
+        Err(Fault::Invalid(error)) => push_error(alloc, &mut text, true, WHOLE, &error)?,
+        Err(Fault::Memory(error)) => return Err(error),
+    }
+    Ok(text)
+}
+
+// What a `required` that is compiled for `/a`, where nothing is handed on, says of an object.
+pub(super) fn required<'v>(alloc: Global, call: Call<'v>) -> Answer<'v> {
+    let object = call.tree(alloc, 1)?;
+    let at = Location::new(alloc).join(alloc, LocationSegment::Name("a"))?;
+    match compile_with_path::<DecimalJson>(alloc, call.value(0)?, at) {
+        None => Ok(String::from_str(alloc, "nothing is asserted")?),
+        Some(Ok(validator)) => Ok(said(alloc, validator, &object)?),
+        Some(Err(CompileFault::Bad(error))) => Ok(refusal(alloc, true, WHOLE, &error)?),
+        Some(Err(CompileFault::Memory(error))) => Err(error)?,
+    }
+}
+
+// Whether an instance is an option of an `enum` of ten thousand integers, or texts of them, and a
+// last option.
+pub(super) fn many_options<'v>(alloc: Global, call: Call<'v>) -> Answer<'v> {
+    let (settings, parent) = (call.settings(alloc)?, Map::new(alloc));
+    let mut text = String::from_str(alloc, "[")?;
+    let quote = call.text(2)?;
+    for number in 0..10000 {
+        write!(text, "{quote}{number}{quote},")?;
+    }
+    write!(text, "{}]", call.value(3)?.to_string(alloc)?)?;
+    let Ok(options) = Value::from_str(alloc, text.as_str()) else {
+        return Err(Stop::Wrong("no options", call.name));
+    };
+    let ctx: Context<DecimalJson> = Context::new(alloc, &settings);
+    let compiled = enum_::compile(alloc, &ctx, &parent, &options);
+    let instance = call.tree(alloc, 4)?;
+    match &compiled {
+        Some(Ok(options)) if instance.is_lawful() => {
+            let holds = options.is_valid(&instance, &mut ValidationContext::new());
+            Ok(format!(in alloc; "{holds}")?)
+        }
+        _ => Err(Stop::Wrong("not compiled", call.name)),
+    }
+}
