@@ -58,7 +58,7 @@ fn check_call<'v>(tally: &mut Tally, description: &'v str, call: Call<'v>) -> Re
     Ok(tally.compare(question.as_str(), "called", wanted.as_str(), found.as_str())?)
 }
 
-// The answer of a call.
+// Returns the answer of a call.
 fn answer<'v>(alloc: Global, call: Call<'v>) -> Answer<'v> {
     match call.name {
         "Decimal::new" => values::made(alloc, call),
@@ -88,7 +88,7 @@ fn answer<'v>(alloc: Global, call: Call<'v>) -> Answer<'v> {
     }
 }
 
-// The answer of a call of a keyword by itself.
+// Returns the answer of a call of a keyword by itself.
 fn answer_of_a_keyword<'v>(alloc: Global, call: Call<'v>) -> Answer<'v> {
     match call.name {
         "Limit::limit_value" => keywords::limit(alloc, call),
@@ -106,7 +106,7 @@ fn answer_of_a_keyword<'v>(alloc: Global, call: Call<'v>) -> Answer<'v> {
 }
 
 impl<'v> Call<'v> {
-    // The argument at an index.
+    // Returns the argument at an index.
     fn value(self, index: usize) -> Result<&'v Value, Stop<'v>> {
         match self.arguments.get(index) {
             Some(value) => Ok(value),
@@ -114,7 +114,7 @@ impl<'v> Call<'v> {
         }
     }
 
-    // The argument at an index, which has to be a text.
+    // Returns the argument at an index, which has to be a text.
     fn text(self, index: usize) -> Result<&'v str, Stop<'v>> {
         match self.value(index)?.as_str() {
             Some(text) => Ok(text),
@@ -122,7 +122,7 @@ impl<'v> Call<'v> {
         }
     }
 
-    // The argument at an index, which has to be a number from 0 on.
+    // Returns the argument at an index, which has to be a number from 0 on.
     fn number(self, index: usize) -> Result<u64, Stop<'v>> {
         match self.value(index)?.as_u64() {
             Some(number) => Ok(number),
@@ -130,7 +130,7 @@ impl<'v> Call<'v> {
         }
     }
 
-    // The argument at an index, which has to be an array.
+    // Returns the argument at an index, which has to be an array.
     fn list(self, index: usize) -> Result<&'v [Value], Stop<'v>> {
         match self.value(index)?.as_array() {
             Some(items) => Ok(items.as_slice()),
@@ -138,7 +138,7 @@ impl<'v> Call<'v> {
         }
     }
 
-    // The argument at an index, which has to be an object.
+    // Returns the argument at an index, which has to be an object.
     fn object(self, index: usize) -> Result<&'v Members, Stop<'v>> {
         match self.value(index)?.as_object() {
             Some(members) => Ok(members),
@@ -146,7 +146,8 @@ impl<'v> Call<'v> {
         }
     }
 
-    // The tree of the argument at an index, or of the decimal that its member `decimal` stands for.
+    // Returns the tree of the argument at an index, or of the decimal that its member `decimal`
+    // stands for.
     fn tree(self, alloc: Global, index: usize) -> Result<DecimalTree, Stop<'v>> {
         let value = self.value(index)?;
         if let Some(decimal) = value.get("decimal") {
@@ -158,7 +159,8 @@ impl<'v> Call<'v> {
         }
     }
 
-    // The settings of a draft and of an object with the members of a group that say more of them.
+    // Returns the settings of a draft and of an object with the members of a group that say more of
+    // them.
     fn settings(self, alloc: Global) -> Result<Settings, Stop<'v>> {
         settings_of(alloc, self.object(1)?, self.text(0)?)
     }

@@ -30,8 +30,8 @@ impl Json for KeysMax {
     }
 }
 
-/// The tree of a value that is a text, an object, or an array of these, maybe inside arrays of one
-/// item: each text, also of a member, stands for a decimal.
+/// Returns the tree of a value that is a text, an object, or an array of these, maybe inside arrays
+/// of one item: each text, also of a member, stands for a decimal.
 pub(crate) fn decimals_of(alloc: Global, value: &Value) -> Result<DecimalTree, Stop<'static>> {
     let (mut value, mut depth) = (value, 0usize);
     for _ in 0..200 {
@@ -59,7 +59,7 @@ fn array_of(alloc: Global, items: &[Value]) -> Result<DecimalTree, Stop<'static>
     Ok(DecimalTree::Array(trees))
 }
 
-// The tree of a value that is a text or an object.
+// Returns the tree of a value that is a text or an object.
 fn tree_of(alloc: Global, value: &Value) -> Result<DecimalTree, Stop<'static>> {
     let Some(members) = value.as_object() else {
         return leaf_of(alloc, value);
@@ -74,7 +74,7 @@ fn tree_of(alloc: Global, value: &Value) -> Result<DecimalTree, Stop<'static>> {
     Ok(DecimalTree::Object(object))
 }
 
-// The decimal that a text stands for; another value as it is.
+// Returns the decimal that a text stands for; another value as it is.
 fn leaf_of(alloc: Global, value: &Value) -> Result<DecimalTree, Stop<'static>> {
     if let Some(text) = value.as_str() {
         return match decimal_of(alloc, text) {
@@ -86,7 +86,7 @@ fn leaf_of(alloc: Global, value: &Value) -> Result<DecimalTree, Stop<'static>> {
     tree.ok_or(Stop::Wrong("a float", "decimals"))
 }
 
-/// The decimal that a text stands for: `-0.50` is -50 with the scale 2.
+/// Returns the decimal that a text stands for: `-0.50` is -50 with the scale 2.
 pub(crate) fn decimal_of<'t>(alloc: Global, text: &'t str) -> Result<Decimal, Stop<'t>> {
     let (whole, fraction) = text.split_once('.').unwrap_or((text, ""));
     let digits = format!(in alloc; "{whole}{fraction}")?;

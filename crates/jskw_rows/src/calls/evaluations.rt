@@ -10,8 +10,8 @@ use jskw_report::{
 use serde_json::Value;
 use std::alloc::{AllocError, Global};
 
-// The lines of a node of nodes that are made of names, those that begin with `x` invalid, and of the
-// errors that it describes.
+// Returns the lines of a node of nodes that are made of names, those that begin with `x` invalid,
+// and of the errors that it describes.
 pub(super) fn unit<'v>(alloc: Global, call: Call<'v>) -> Answer<'v> {
     let unit = unit_of(alloc, call.text(0)?, call.list(1)?)?;
     let (by, at) = (location_of(alloc, "items")?, location_of(alloc, "7")?);
@@ -21,7 +21,8 @@ pub(super) fn unit<'v>(alloc: Global, call: Call<'v>) -> Answer<'v> {
     Ok(format!(in alloc; "{lines}{described}{}", counts(alloc)?)?)
 }
 
-// A unit of nodes: as it is, annotated twice, with an error of its own, or with two and no nodes.
+// Returns a unit of nodes: as it is, annotated twice, with an error of its own, or with two and no
+// nodes.
 fn unit_of(alloc: Global, way: &str, names: &[Value]) -> Result<EvaluationResult, AllocError> {
     let children = nodes_of(alloc, names)?;
     let mut unit = match way {
@@ -44,12 +45,12 @@ fn unit_of(alloc: Global, way: &str, names: &[Value]) -> Result<EvaluationResult
     Ok(unit)
 }
 
-// The location of the member of a name in the whole value.
+// Returns the location of the member of a name in the whole value.
 fn location_of(alloc: Global, name: &str) -> Result<Location, AllocError> {
     Location::new(alloc).join(alloc, LocationSegment::Name(name))
 }
 
-// Descriptions of these keywords, of which `type` has a text.
+// Returns descriptions of these keywords, of which `type` has a text.
 fn errors_of(
     alloc: Global,
     keywords: &[&'static str],
@@ -62,7 +63,7 @@ fn errors_of(
     Ok(errors)
 }
 
-// A node for each name, without nodes below.
+// Returns a node for each name, without nodes below.
 fn nodes_of(alloc: Global, names: &[Value]) -> Result<Vec<EvaluationNode>, AllocError> {
     let mut nodes = Vec::new(alloc);
     for name in names {
@@ -78,7 +79,7 @@ fn nodes_of(alloc: Global, names: &[Value]) -> Result<Vec<EvaluationNode>, Alloc
     Ok(nodes)
 }
 
-// The counts of a context before any application, after one and after two.
+// Returns the counts of a context before any application, after one and after two.
 fn counts(alloc: Global) -> Result<String, AllocError> {
     let mut ctx = ValidationContext::new();
     let none = ctx.applications();

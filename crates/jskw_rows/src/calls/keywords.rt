@@ -21,7 +21,7 @@ use jskw_value::{DecimalJson, DecimalTree, Node, SerdeJson};
 use serde_json::{Map, Value};
 use std::alloc::{AllocError, Global};
 
-// The keyword and the value of the limit that an object is compiled to.
+// Returns the keyword and the value of the limit that an object is compiled to.
 pub(super) fn limit<'v>(alloc: Global, call: Call<'v>) -> Answer<'v> {
     let (settings, parent) = (call.settings(alloc)?, call.object(1)?);
     let ctx: Context<SerdeJson> = Context::new(alloc, &settings);
@@ -56,7 +56,7 @@ fn limit_text(alloc: Global, limit: &NumberValidator) -> Result<String, AllocErr
     format!(in alloc; "{keyword} {}", value.to_string(alloc)?)
 }
 
-// The value of a limit of each relation that is made of 7 and that value.
+// Returns the value of a limit of each relation that is made of 7 and that value.
 pub(super) fn made_limit<'v>(alloc: Global, call: Call<'v>) -> Answer<'v> {
     let value = call.text(0)?;
     let mut text = kept_by::<i64, AtLeast>(alloc, 7, value)?;
@@ -76,7 +76,7 @@ fn kept_by<T: Whole, R: LimitTest>(
     limit.limit_value().to_string(alloc)
 }
 
-// The bound of a name of an object.
+// Returns the bound of a name of an object.
 pub(super) fn bound<'v>(alloc: Global, call: Call<'v>) -> Answer<'v> {
     let (settings, parent) = (call.settings(alloc)?, call.object(1)?);
     let ctx: Context<SerdeJson> = Context::new(alloc, &settings);
@@ -88,7 +88,7 @@ pub(super) fn bound<'v>(alloc: Global, call: Call<'v>) -> Answer<'v> {
     }
 }
 
-// What a validator that is made for `/a` says of an item of the index 7.
+// Returns what a validator that is made for `/a` says of an item of the index 7.
 pub(super) fn made<'v>(alloc: Global, call: Call<'v>) -> Answer<'v> {
     let item = call.tree(alloc, 1)?;
     let at = Location::new(alloc).join(alloc, LocationSegment::Name("a"))?;
@@ -125,7 +125,8 @@ fn said<V: Validate<DecimalJson> + Drop>(
     Ok(text)
 }
 
-// What a `required` that is compiled for `/a`, where nothing is handed on, says of an object.
+// Returns what a `required` that is compiled for `/a`, where nothing is handed on, says of an
+// object.
 pub(super) fn required<'v>(alloc: Global, call: Call<'v>) -> Answer<'v> {
     let object = call.tree(alloc, 1)?;
     let at = Location::new(alloc).join(alloc, LocationSegment::Name("a"))?;
@@ -137,8 +138,8 @@ pub(super) fn required<'v>(alloc: Global, call: Call<'v>) -> Answer<'v> {
     }
 }
 
-// Whether an instance is an option of an `enum` of ten thousand integers, or texts of them, and a
-// last option.
+// Returns whether an instance is an option of an `enum` of ten thousand integers, or texts of them,
+// and a last option.
 pub(super) fn many_options<'v>(alloc: Global, call: Call<'v>) -> Answer<'v> {
     let (settings, parent) = (call.settings(alloc)?, Map::new(alloc));
     let mut text = String::from_str(alloc, "[")?;

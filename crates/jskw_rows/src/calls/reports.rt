@@ -14,8 +14,8 @@ use jskw_value::{
 use serde_json::Value;
 use std::alloc::{AllocError, Global};
 
-// The draft of settings, whether all vocabularies are in their set, and each vocabulary that they
-// have, with whether it is in the set.
+// Returns the draft of settings, whether all vocabularies are in their set, and each vocabulary
+// that they have, with whether it is in the set.
 pub(super) fn vocabularies<'v>(alloc: Global, call: Call<'v>) -> Answer<'v> {
     let settings = call.settings(alloc)?;
     let ctx = Context::<SerdeJson>::new(alloc, &settings);
@@ -40,7 +40,7 @@ pub(super) fn vocabularies<'v>(alloc: Global, call: Call<'v>) -> Answer<'v> {
     Ok(text)
 }
 
-// Whether settings, and a context of them, override a name.
+// Returns whether settings, and a context of them, override a name.
 pub(super) fn overridden<'v>(alloc: Global, call: Call<'v>) -> Answer<'v> {
     let (settings, name) = (call.settings(alloc)?, call.text(2)?);
     let ctx = Context::<SerdeJson>::new(alloc, &settings);
@@ -48,8 +48,8 @@ pub(super) fn overridden<'v>(alloc: Global, call: Call<'v>) -> Answer<'v> {
     Ok(format!(in alloc; "{of_settings} {}", ctx.is_keyword_overridden(name))?)
 }
 
-// The location, the draft and the object layer of a context, of one without the layer, of two below
-// it, and of the last with the layer again; and the members of two names of an object.
+// Returns the location, the draft and the object layer of a context, of one without the layer, of
+// two below it, and of the last with the layer again; and the members of two names of an object.
 pub(super) fn contexts<'v>(alloc: Global, call: Call<'v>) -> Answer<'v> {
     let settings = call.settings(alloc)?;
     let mut text = String::new(alloc);
@@ -75,14 +75,14 @@ fn push_context(text: &mut String, ctx: &Context<'_, SerdeJson>) -> Result<(), A
     write!(text, "{location} {:?} {layer};", ctx.draft())
 }
 
-// The location of steps, and whether it is equal to that of others, as a copy of it is.
+// Returns the location of steps, and whether it is equal to that of others, as a copy of it is.
 pub(super) fn locations<'v>(alloc: Global, call: Call<'v>) -> Answer<'v> {
     let (left, right) = (joined(alloc, call, 0)?, joined(alloc, call, 1)?);
     let (is_equal, is_copy) = (left == right, left.copy(alloc)? == right);
     Ok(format!(in alloc; "{} {is_equal} {is_copy}", left.as_str())?)
 }
 
-// The location of the steps of an argument: numbers go to items, texts to members.
+// Returns the location of the steps of an argument: numbers go to items, texts to members.
 fn joined<'v>(alloc: Global, call: Call<'v>, argument: usize) -> Result<Location, Stop<'v>> {
     let mut location = Location::new(alloc);
     for step in call.list(argument)? {
@@ -95,7 +95,7 @@ fn joined<'v>(alloc: Global, call: Call<'v>, argument: usize) -> Result<Location
     Ok(location)
 }
 
-// The location of numbers, which are pushed, and texts, each of which pops one.
+// Returns the location of numbers, which are pushed, and texts, each of which pops one.
 pub(super) fn stack<'v>(alloc: Global, call: Call<'v>) -> Answer<'v> {
     let mut location = LazyLocation::new(alloc);
     for step in call.list(0)? {
@@ -107,8 +107,8 @@ pub(super) fn stack<'v>(alloc: Global, call: Call<'v>) -> Answer<'v> {
     Ok(String::from_str(alloc, location.render()?.as_str())?)
 }
 
-// The messages of errors about null that no schema makes: a limit of what is no number, options that
-// are no array, and sets of one type and of all.
+// Returns the messages of errors about null that no schema makes: a limit of what is no number,
+// options that are no array, and sets of one type and of all.
 pub(super) fn messages<'v>(alloc: Global, call: Call<'v>) -> Answer<'v> {
     let mut all = JsonTypeSet::empty();
     for json_type in [
@@ -139,8 +139,8 @@ pub(super) fn messages<'v>(alloc: Global, call: Call<'v>) -> Answer<'v> {
     Ok(text)
 }
 
-// Whether want of memory is a fault of its own, and an error where errors are appended and where a
-// unit is made; and two constants of each representation and of each nullability.
+// Returns whether want of memory is a fault of its own, and an error where errors are appended and
+// where a unit is made; and two constants of each representation and of each nullability.
 pub(super) fn wanting<'v>(alloc: Global) -> Answer<'v> {
     let fault: Fault<SerdeJson> = Fault::from(AllocError);
     let is_fault = matches!(fault, Fault::Memory(_));

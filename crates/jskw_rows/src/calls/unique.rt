@@ -9,8 +9,8 @@ use jskw_value::{Array, Decimal, DecimalTree, Node};
 use serde_json::Value;
 use std::alloc::{AllocError, Global};
 
-// Whether the integers from 0 up to a count are unique with one more item behind them: a decimal, or
-// a text in quotes.
+// Returns whether the integers from 0 up to a count are unique with one more item behind them: a
+// decimal, or a text in quotes.
 pub(super) fn integers<'v>(alloc: Global, call: Call<'v>) -> Answer<'v> {
     let mut items = Vec::new(alloc);
     for number in 0..call.number(0)? {
@@ -28,8 +28,8 @@ fn is_unique<N: Node>(node: &N) -> bool {
     node.is_array() && node.is_unique()
 }
 
-// The answers for so many items that begin with a text, with another so many times and with a third;
-// have a number of their own there, and a fourth text behind it.
+// Returns the answers for so many items that begin with a text, with another so many times and with
+// a third; have a number of their own there, and a fourth text behind it.
 pub(super) fn alike<'v>(alloc: Global, call: Call<'v>) -> Answer<'v> {
     let (first, back) = (call.text(1)?, call.text(5)?);
     let part = call.text(2)?.repeat(alloc, call.number(3)? as usize)?;
@@ -40,8 +40,8 @@ pub(super) fn alike<'v>(alloc: Global, call: Call<'v>) -> Answer<'v> {
     Ok(answers(alloc, &items)?)
 }
 
-// The answers for the integers below two millions that crowd a sketch: the fingerprint of each falls
-// into a sixteenth of the words.
+// Returns the answers for the integers below two millions that crowd a sketch: the fingerprint of
+// each falls into a sixteenth of the words.
 pub(super) fn crowding<'v>(alloc: Global) -> Answer<'v> {
     let mut items = Vec::new(alloc);
     for number in 0..2_000_000u64 {
@@ -53,8 +53,8 @@ pub(super) fn crowding<'v>(alloc: Global) -> Answer<'v> {
     Ok(answers(alloc, &items)?)
 }
 
-// Whether the items are unique as they are, and with one of a pair put in again in place of the
-// other: the pair is at the start, in the middle and at the end.
+// Returns whether the items are unique as they are, and with one of a pair put in again in place of
+// the other: the pair is at the start, in the middle and at the end.
 fn answers(alloc: Global, items: &[String]) -> Result<String, AllocError> {
     let (middle, last) = (items.len() / 2, items.len().saturating_sub(1));
     let mut answers = String::new(alloc);
@@ -85,7 +85,7 @@ fn push_answer(alloc: Global, answers: &mut String, text: &str) -> Result<(), Al
     )
 }
 
-// The text of an array of these items, of which one is put in again in place of another.
+// Returns the text of an array of these items, of which one is put in again in place of another.
 fn text_of(alloc: Global, items: &[String], from: usize, to: usize) -> Result<String, AllocError> {
     let mut text = String::from_str(alloc, "[")?;
     for index in 0..items.len() {
@@ -98,9 +98,10 @@ fn text_of(alloc: Global, items: &[String], from: usize, to: usize) -> Result<St
     Ok(text)
 }
 
-// The answers for objects of one fingerprint under the seed 0, and how many of them have that of the
-// first under the seeds 0 and 1 and under the seed of their array; whether that seed is another one
-// with another item. The names end with a text, of which either two values have one sum of prints.
+// Returns the answers for objects of one fingerprint under the seed 0, and how many of them have
+// that of the first under the seeds 0 and 1 and under the seed of their array; whether that seed is
+// another one with another item. The names end with a text, of which either two values have one sum
+// of prints.
 pub(super) fn colliding<'v>(alloc: Global, call: Call<'v>) -> Answer<'v> {
     equal_values_have_one_fingerprint();
     let mut items = Vec::new(alloc);
@@ -123,7 +124,7 @@ pub(super) fn colliding<'v>(alloc: Global, call: Call<'v>) -> Answer<'v> {
     Ok(text)
 }
 
-// One of the objects that take of each two pairs of members either.
+// Returns one of the objects that take of each two pairs of members either.
 fn object_text(alloc: Global, sums: &[Value], number: u64) -> Result<String, AllocError> {
     let mut text = String::from_str(alloc, "{")?;
     let mut rest = number;
@@ -140,7 +141,7 @@ fn object_text(alloc: Global, sums: &[Value], number: u64) -> Result<String, All
     Ok(text)
 }
 
-// How many items have the fingerprint of the first under a seed.
+// Returns how many items have the fingerprint of the first under a seed.
 fn count_like_first(array: &Value, seed: u64) -> usize {
     let Some([first, items @ ..]) = array.as_array().map(|items| items.as_slice()) else {
         return 0;

@@ -13,7 +13,7 @@ use jskw_value::{
 use serde_json::Value;
 use std::alloc::{AllocError, Global};
 
-// The coefficient and the scale of the decimal that is made of them, if there is one.
+// Returns the coefficient and the scale of the decimal that is made of them, if there is one.
 pub(super) fn made<'v>(alloc: Global, call: Call<'v>) -> Answer<'v> {
     let (Ok(coefficient), Ok(scale)) = (call.text(0)?.parse(), call.number(1)?.try_into()) else {
         return Err(Stop::Wrong("no coefficient or no scale", call.name));
@@ -41,7 +41,7 @@ pub(super) fn multiple<'v>(alloc: Global, call: Call<'v>) -> Answer<'v> {
     }
 }
 
-// Whether two decimals are equal, asked in both orders.
+// Returns whether two decimals are equal, asked in both orders.
 pub(super) fn equal_decimals<'v>(alloc: Global, call: Call<'v>) -> Answer<'v> {
     let left = decimal_of(alloc, call.text(0)?)?;
     let right = decimal_of(alloc, call.text(1)?)?;
@@ -52,8 +52,8 @@ pub(super) fn number<'v>(alloc: Global, call: Call<'v>) -> Answer<'v> {
     Ok(number_text(alloc, &decimal_of(alloc, call.text(0)?)?)?)
 }
 
-// Whether a number is an integer, and is written as one; its `u64`, its `i64` and whether it is its
-// own decimal.
+// Returns whether a number is an integer, and is written as one; its `u64`, its `i64` and whether
+// it is its own decimal.
 fn number_text<A: JsonNumber>(alloc: Global, number: &A) -> Result<String, AllocError> {
     if !number.is_lawful() {
         return String::from_str(alloc, "a float");
@@ -65,8 +65,8 @@ fn number_text<A: JsonNumber>(alloc: Global, number: &A) -> Result<String, Alloc
     Ok(text)
 }
 
-// The type of a value, and what it is, over both representations, or over the first alone where it
-// holds a float.
+// Returns the type of a value, and what it is, over both representations, or over the first alone
+// where it holds a float.
 pub(super) fn node<'v>(alloc: Global, call: Call<'v>) -> Answer<'v> {
     let value = call.value(0)?;
     let found = node_text::<SerdeJson>(alloc, value)?;
@@ -80,7 +80,7 @@ pub(super) fn node<'v>(alloc: Global, call: Call<'v>) -> Answer<'v> {
     Ok(text)
 }
 
-// What a node is, and its strings with their lengths, or what it says of its members.
+// Returns what a node is, and its strings with their lengths, or what it says of its members.
 fn node_text<F: Json>(alloc: Global, node: &F::Node) -> Result<String, AllocError> {
     let mut text = String::new(alloc);
     for (kind, is_so) in [
@@ -138,7 +138,8 @@ fn push_members<F: Json>(alloc: Global, text: &mut String, node: &F::Node) -> Re
     write!(text, " {}", node.is_empty())
 }
 
-// Whether two values are equal, in both orders, and across representations, where that can be.
+// Returns whether two values are equal, in both orders, and across representations, where that can
+// be.
 pub(super) fn equal<'v>(alloc: Global, call: Call<'v>) -> Answer<'v> {
     let (left, right) = (call.value(0)?, call.value(1)?);
     let across = DecimalTree::from_value(alloc, left)?.map(|tree| tree.equals_value(right));
@@ -146,20 +147,21 @@ pub(super) fn equal<'v>(alloc: Global, call: Call<'v>) -> Answer<'v> {
     Ok(format!(in alloc; "{equal} {across_same} {across:?}")?)
 }
 
-// Whether a value in which each text stands for a decimal is equal to another one.
+// Returns whether a value in which each text stands for a decimal is equal to another one.
 pub(super) fn equal_to_decimals<'v>(alloc: Global, call: Call<'v>) -> Answer<'v> {
     let tree = decimals_of(alloc, call.value(0)?)?;
     Ok(format!(in alloc; "{}", tree.equals_value(call.value(1)?))?)
 }
 
-// The text of a value in which each text stands for a decimal, behind another text.
+// Returns the text of a value in which each text stands for a decimal, behind another text.
 pub(super) fn written<'v>(alloc: Global, call: Call<'v>) -> Answer<'v> {
     let mut text = String::from_str(alloc, "old ")?;
     decimals_of(alloc, call.value(0)?)?.write_json(&mut text)?;
     Ok(text)
 }
 
-// What members of these names have, by two calls: no member; how many; the values of four names.
+// Returns what members of these names have, by two calls: no member; how many; the values of four
+// names.
 pub(super) fn members<'v>(alloc: Global, call: Call<'v>) -> Answer<'v> {
     let mut members = Members::new(alloc);
     for number in 0..call.number(0)? {
@@ -187,8 +189,8 @@ fn coefficient(tree: Option<&DecimalTree>) -> Option<i128> {
         .map(|number| number.coefficient())
 }
 
-// Inserts names with the values 0, 1 and so on: each name that is there already, with the value that
-// comes back, and then the members.
+// Inserts names with the values 0, 1 and so on: each name that is there already, with the value
+// that comes back, and then the members.
 pub(super) fn inserted<'v>(alloc: Global, call: Call<'v>) -> Answer<'v> {
     let (mut members, mut text) = (Members::new(alloc), String::new(alloc));
     for (place, name) in call.list(0)?.iter().enumerate() {
@@ -210,8 +212,8 @@ fn push_pair(text: &mut String, name: &str, value: &DecimalTree) -> Result<(), A
     text.push_str(", ")
 }
 
-// Makes members of names, each of which is its own value: the members, or all pairs and the place of
-// the first name that stands twice.
+// Makes members of names, each of which is its own value: the members, or all pairs and the place
+// of the first name that stands twice.
 pub(super) fn paired<'v>(alloc: Global, call: Call<'v>) -> Answer<'v> {
     let mut pairs = Vec::new(alloc);
     for name in call.list(0)? {
@@ -233,8 +235,8 @@ pub(super) fn paired<'v>(alloc: Global, call: Call<'v>) -> Answer<'v> {
     Ok(text)
 }
 
-// A float below a name of so many times a text: the length of its pointer and of the value's text,
-// and whether it is the pointer that is made of the name, and the name is found.
+// Returns, of a float below a name of so many times a text, the length of its pointer and of the
+// value's text, and whether it is the pointer that is made of the name, and the name is found.
 pub(super) fn long_name<'v>(alloc: Global, call: Call<'v>) -> Answer<'v> {
     let name = call.text(0)?.repeat(alloc, call.number(1)? as usize)?;
     let mut pointer = String::new(alloc);
@@ -251,13 +253,13 @@ pub(super) fn long_name<'v>(alloc: Global, call: Call<'v>) -> Answer<'v> {
     Ok(format!(in alloc; "{pointer} {written} {is_pointer} {is_found}")?)
 }
 
-// Whether two names have one head.
+// Returns whether two names have one head.
 pub(super) fn heads<'v>(alloc: Global, call: Call<'v>) -> Answer<'v> {
     let is_same = KeyHead::of(call.text(0)?) == KeyHead::of(call.text(1)?);
     Ok(format!(in alloc; "{is_same}")?)
 }
 
-// Whether each name matches its own text and no other.
+// Returns whether each name matches its own text and no other.
 pub(super) fn matching_names<'v>(alloc: Global, call: Call<'v>) -> Answer<'v> {
     let mut all = true;
     for name in call.list(0)? {
