@@ -1,4 +1,6 @@
 //! Calls of the libraries that no schema makes.
+mod arrays;
+mod asked;
 mod evaluations;
 mod keywords;
 mod reports;
@@ -97,6 +99,11 @@ fn answer_of_a_keyword<'v>(alloc: Global, call: Call<'v>) -> Answer<'v> {
         "new" => keywords::made(alloc, call),
         "compile_with_path" => keywords::required(alloc, call),
         "enum_::compile" => keywords::many_options(alloc, call),
+        "ArrayShapeValidator" => arrays::shape(alloc, call),
+        "ItemType" => arrays::item(alloc, call),
+        "additional_items::compile" => arrays::additional(alloc, call),
+        "evaluate_instance_below" => arrays::below(alloc, call),
+        "how often nodes are asked" => asked::counted(alloc, call),
         "Array::is_unique" => unique::integers(alloc, call),
         "Array::is_unique of alike items" => unique::alike(alloc, call),
         "Array::is_unique of what crowds a sketch" => unique::crowding(alloc),

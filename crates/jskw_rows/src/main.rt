@@ -6,6 +6,7 @@
 #![tactic(auto)]
 
 mod answer;
+mod asked;
 mod calls;
 mod error_lines;
 mod group;

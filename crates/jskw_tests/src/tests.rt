@@ -1,3 +1,2 @@
-// What is no row of `jskw_rows`: a representation of the tests, and calls of the keywords of arrays.
-mod arrays;
+// What is no row of `jskw_rows`: walks over a representation of the tests.
 mod value;

@@ -1,3 +1,2 @@
-// Tables of calls, and a representation of the tests.
-pub(super) mod table;
+// What values answer of themselves.
 mod walks;
