@@ -24,10 +24,10 @@ pub(super) fn counted<'v>(alloc: Global, call: Call<'v>) -> Answer<'v> {
         return Err(Stop::Wrong("not compiled", call.name));
     };
     let mut text = String::new(alloc);
-    if !tree.is_lawful() {
-        return Err(Stop::Wrong("a float", call.name));
-    }
     for time in ["once", "once more"] {
+        if !tree.is_lawful() {
+            return Err(Stop::Wrong("a float", call.name));
+        }
         let [is_valid, validate, collect_errors, evaluate] = counts(alloc, node, &tree)?;
         if is_out(is_valid, until_first) || is_out(validate, until_first) {
             write!(
