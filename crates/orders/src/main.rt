@@ -96,11 +96,7 @@ fn print_matches(rt: &HostRuntime, tree: &EvaluationNode) -> io::Result<()> {
 }
 
 // Prints which of some counts are large.
-fn print_large(
-    rt: &HostRuntime,
-    schema: &SchemaNode<SerdeJson>,
-    counts: &Value,
-) -> io::Result<()> {
+fn print_large(rt: &HostRuntime, schema: &SchemaNode<SerdeJson>, counts: &Value) -> io::Result<()> {
     if !counts.is_lawful() {
         return println!(rt; "it holds a float");
     }
