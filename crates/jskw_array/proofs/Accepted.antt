@@ -2,17 +2,16 @@
 use Rattle.std.proofs.Common.{◌≡◌, ◌≢◌, ℕ, ◌+◌, ◌<◌, ◌≤◌, List, [], ◌∷◌, length, get_or, drop, Bool, true, false, ◌&&◌, Some, if◌then◌else◌, refl, sym, ap, ◌∙◌, arith}
 use Rattle.std.proofs.lemmas.Bool.{and_parts, true≢false}
 use Rattle.jskw_value.specs.Pointer.{Pointer}
-use Rattle.jskw_value.specs.Tree.{Tree, is_array}
+use Rattle.jskw_value.specs.Tree.{Tree}
 use Rattle.jskw_value.specs.declared.types.JsonType.TheVariants.{Array}
 use Rattle.jskw_report.proofs.Elsewhere.{subject}
 use Rattle.jskw_report.proofs.Fails.{holds_empty}
 use Rattle.jskw_report.specs.Applications.{needed}
 use Rattle.jskw_report.specs.Fail.{Failure, fail, is_empty}
-use Rattle.jskw_report.specs.Holds.{all_hold, holds, keyword_holds}
-use Rattle.jskw_report.specs.Keyword.{Schema, false_schema, schema_object, Keyword}
+use Rattle.jskw_report.specs.Holds.{all_hold, holds}
+use Rattle.jskw_report.specs.Keyword.{Schema, false_schema, schema_object}
 use Rattle.jskw_report.specs.Meaning.{meaning_holds}
 use Rattle.jskw_report.specs.Observe.{CountsUpTo}
-use Rattle.jskw_number.proofs.QuickSets.{but_arrays}
 use Rattle.jskw_number.specs.QuickSet.{is_in}
 use Rattle.jskw_number.specs.declared.quick_set.QuickSet.{QuickSet}
 use Rattle.jskw_array.proofs.Keywords.{hold_at, keywords_end}

@@ -1,5 +1,5 @@
 -- Ranges of integers within limits and among multiples, and sets of values that keywords accept.
-use Rattle.std.proofs.Common.{◌≡◌, ℕ, zero, suc, ◌^◌, ◌*◌, ◌%◌, ◌==◌, ◌&&◌, ◌||◌, ℤ, pos, negsuc, ◌*ℤ◌, ◌+ℤ◌, Bool, true, false, if◌then◌else◌, Some, None, refl, ap, sym, subst, ◌∙◌, arith}
+use Rattle.std.proofs.Common.{◌≡◌, ℕ, zero, suc, ◌^◌, ◌*◌, ◌%◌, ◌==◌, ◌&&◌, ◌||◌, ℤ, pos, negsuc, ◌*ℤ◌, ◌+ℤ◌, Bool, true, false, if◌then◌else◌, Some, None, refl, sym, subst, ◌∙◌, arith}
 use Rattle.std.proofs.lemmas.Bool.{and_parts, true≢false}
 use Rattle.std.proofs.Math.IntN.{*ℤ-one, one}
 use Rattle.std.proofs.lemmas.Int.{ints}
@@ -10,8 +10,8 @@ use Rattle.jskw_value.specs.Tree.{Tree, null, boolean, number, string, array, ob
 use Rattle.jskw_value.specs.Types as types
 use Rattle.jskw_value.specs.declared.types.JsonTypeSet.{JsonTypeSet}
 use Rattle.jskw_value.specs.declared.types.JsonType.TheVariants.{Array, Boolean, Integer, Null, Number, Object, String}
-use Rattle.jskw_report.specs.Holds.{keyword_holds, is_integer, is_of, limit_holds, multiple_holds, size_holds, stands_in}
-use Rattle.jskw_report.specs.Keyword.{Keyword, Integers, by_value, as_written, Relation, Minimum, Maximum, ExclusiveMinimum, ExclusiveMaximum, Size, MinItems, MaxItems, MinProperties, MaxProperties}
+use Rattle.jskw_report.specs.Holds.{keyword_holds, is_integer, is_of, limit_holds, multiple_holds, stands_in}
+use Rattle.jskw_report.specs.Keyword.{Keyword, Integers, by_value, as_written, Relation, Minimum, Maximum, ExclusiveMinimum, ExclusiveMaximum}
 use Rattle.jskw_number.specs.declared.quick_set.IntegerRange.{IntegerRange}
 use Rattle.jskw_number.specs.declared.quick_set.QuickSet.{QuickSet}
 use Rattle.jskw_number.specs.QuickSet.{Accepts, divides, has_number, in_range, is_in}

@@ -10,7 +10,7 @@ ghost use Rattle.jskw_report.specs.Holds.{is_of};
 ghost use Rattle.jskw_report.specs.Keyword.{Integers};
 ghost use Rattle.jskw_number.specs.QuickSet.{divides, has_number, in_range, is_in};
 
-use jskw_value::{Json, JsonNumber, JsonType, JsonTypeSet, Node};
+use jskw_value::{JsonNumber, JsonType, JsonTypeSet, Node};
 use std::num::NonZeroU64;
 
 /// The integers from `low` to `high` that are multiples of the divisor, if there is one.
