@@ -1,5 +1,5 @@
 -- How many items and members a value has.
-use Rattle.std.proofs.Common.{◌≡◌, ℕ, ◌==◌, nat_lt, List, [], ◌∷◌, length, get_or, map, String, Global, Vec, BTreeMap, refl, ap, ◌∙◌, arith}
+use Rattle.std.proofs.Common.{◌≡◌, ℕ, ◌==◌, nat_lt, length, String, Global, Vec, BTreeMap, ap, ◌∙◌}
 use Rattle.serde_json.proofs.Views.{items_len-items_view, members_len-members_view, view-Array, view-Object}
 use Rattle.serde_json.specs.View.{view}
 use Rattle.serde_json.specs.declared.value.Value.{Value}
@@ -11,8 +11,3 @@ item_count n v = ap (has_items n) (view-Array v) ∙ ap (λ k. k == n) (items_le
 
 pub few_members : (m : BTreeMap (String Global) Value) → has_few_members (view (Object m)) ≡ nat_lt (length m.entries) 15
 few_members m = ap has_few_members (view-Object m) ∙ ap (λ k. nat_lt k 15) (members_len-members_view m.entries)
-
--- a list of three
-pub three : {A B : Type 0} (f : A → B) (xs : List A) (d : A) → length xs ≡ 3 → f (get_or xs 0 d) ∷ f (get_or xs 1 d) ∷ f (get_or xs 2 d) ∷ [] ≡ map f xs
-three f (x ∷ y ∷ z ∷ []) d h = refl
-three f xs d h = absurd (omega (arith, h))

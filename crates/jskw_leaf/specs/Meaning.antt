@@ -4,28 +4,24 @@ use Rattle.serde_json.specs.View.{view}
 use Rattle.serde_json.specs.declared.value.Value.{Value}
 use Rattle.jskw_value.specs.Pointer.{Pointer}
 use Rattle.jskw_value.specs.declared.types.JsonType.{JsonType}
-use Rattle.jskw_value.specs.declared.types.JsonType.TheVariants.{Array, Boolean, Integer, Null, Number, Object, String}
-use Rattle.jskw_report.specs.declared.error.TypeKind.TheVariants.{Single, Multiple}
-use Rattle.jskw_report.specs.Read.{integers_of}
-use Rattle.jskw_report.specs.declared.settings.Draft.TheVariants.{Draft4}
+use Rattle.jskw_report.specs.declared.error.TypeKind.{TypeKind}
+use Rattle.jskw_report.specs.declared.error.TypeKind.TheVariants.{Single}
 use Rattle.jskw_report.specs.Keyword.{Keyword, constant, among, unique, never, type_is, Integers, by_value, as_written, required}
 use Rattle.jskw_report.specs.Meaning.{Placed, placed}
 use Rattle.jskw_number.specs.Meaning.{number_assertion}
 use Rattle.jskw_leaf.specs.declared.boolean.FalseValidator.{FalseValidator}
-use Rattle.jskw_leaf.specs.declared.type_.MultipleTypesValidator.{MultipleTypesValidator}
+use Rattle.jskw_leaf.specs.declared.type_.IntegerRule.{IntegerRule}
+use Rattle.jskw_leaf.specs.declared.type_.IntegerRule.TheVariants.{ByValue, AsWritten}
 use Rattle.jskw_leaf.specs.declared.type_.SingleTypeValidator.{SingleTypeValidator}
-use Rattle.jskw_leaf.specs.declared.legacy.type_draft_4.MultipleTypesValidator as multiple_draft_4
+use Rattle.jskw_leaf.specs.declared.type_.TypeValidator.{TypeValidator}
 use Rattle.jskw_leaf.specs.declared.const_.ConstValueValidator.{ConstValueValidator}
-use Rattle.jskw_leaf.specs.declared.const_.ConstBooleanValidator.{ConstBooleanValidator}
-use Rattle.jskw_leaf.specs.declared.const_.ConstNullValidator.{ConstNullValidator}
-use Rattle.jskw_leaf.specs.declared.const_.ConstStringValidator.{ConstStringValidator}
 use Rattle.jskw_leaf.specs.declared.enum_.EnumValidator.{EnumValidator}
 use Rattle.jskw_leaf.specs.declared.enum_.SingleValueEnumValidator.{SingleValueEnumValidator}
 use Rattle.jskw_leaf.specs.declared.enum_.table.TableEnumValidator.{TableEnumValidator}
 use Rattle.jskw_leaf.specs.declared.unique_items.UniqueItemsValidator.{UniqueItemsValidator}
 use Rattle.jskw_leaf.specs.Options.{options_of}
 use Rattle.jskw_leaf.specs.declared.leaf.LeafValidator.{LeafValidator}
-use Rattle.jskw_leaf.specs.declared.leaf.LeafValidator.TheVariants.{False, Number as number, MultipleTypes, ArrayType, BooleanType, IntegerType, NullType, NumberType, ObjectType, StringType, MultipleTypesDraft4, IntegerTypeDraft4, ConstArray, ConstBoolean, ConstNull, ConstNumber, ConstObject, ConstString, Enum, BigEnum, SingleValueEnum, SmallStringEnum, NullableSmallStringEnum, BigStringEnum, NullableBigStringEnum, IntegerEnum, NullableIntegerEnum, UniqueItems, Required, SingleItemRequired, Required2, Required3}
+use Rattle.jskw_leaf.specs.declared.leaf.LeafValidator.TheVariants.{False, Number as number, Types, Const, Enum, BigEnum, SingleValueEnum, SmallStringEnum, NullableSmallStringEnum, BigStringEnum, NullableBigStringEnum, IntegerEnum, NullableIntegerEnum, UniqueItems, Required, RequiredFew}
 use Rattle.jskw_leaf.specs.declared.required.RequiredNames.{RequiredNames}
 
 abbrev pub false_at : Pointer → Placed
@@ -36,37 +32,30 @@ false_schema v = false_at v.location
 
 -- ---- `type`
 
+-- which numbers are integers
+abbrev pub rule_of : IntegerRule → Integers
+rule_of ByValue = by_value
+rule_of AsWritten = as_written
+
+-- the types of k, failing at the location
+abbrev pub types_at : TypeKind → Integers → Pointer → Placed
+types_at k rule q = record { location = q; claim = type_is k rule }
+
+abbrev pub named_types : TypeValidator → Placed
+named_types v = types_at v.kind (rule_of v.rule) v.location
+
 -- the type j, failing at the location
 abbrev pub type_at : JsonType → Integers → Pointer → Placed
-type_at j rule q = record { location = q; claim = type_is (Single j) rule }
+type_at j rule q = types_at (Single j) rule q
 
 -- T tests for the type j by the rule
 abbrev pub single_type : {T : Type 0} → JsonType → Integers → SingleTypeValidator T → Placed
 single_type j rule v = type_at j rule v.location
 
-abbrev pub multiple_types : MultipleTypesValidator → Placed
-multiple_types v = record { location = v.location; claim = type_is (Multiple v.types) by_value }
-
-abbrev pub multiple_types_draft_4 : multiple_draft_4.MultipleTypesValidator → Placed
-multiple_types_draft_4 v = record { location = v.location; claim = type_is (Multiple v.types) (integers_of Draft4 (Multiple v.types)) }
-
 -- ---- `const`
 
--- the expected value, failing at the location
-abbrev pub constant_at : Pointer → Value → Placed
-constant_at q v = record { location = q; claim = constant (view v) }
-
 abbrev pub const_value : ConstValueValidator → Placed
-const_value v = constant_at v.location v.value
-
-abbrev pub const_boolean : ConstBooleanValidator → Placed
-const_boolean v = constant_at v.location v.value
-
-abbrev pub const_null : ConstNullValidator → Placed
-const_null v = constant_at v.location v.value
-
-abbrev pub const_string : ConstStringValidator → Placed
-const_string v = constant_at v.location v.value
+const_value v = record { location = v.location; claim = constant (view v.value) }
 
 -- ---- `enum`
 
@@ -104,22 +93,8 @@ required_names names v = required_at v.location (names v.names)
 abbrev pub leaf_assertion : {F N O P : Type 0} → LeafValidator F N O P → Placed
 leaf_assertion (False v) = false_schema v
 leaf_assertion (number v) = number_assertion v
-leaf_assertion (MultipleTypes v) = multiple_types v
-leaf_assertion (ArrayType v) = single_type Array by_value v
-leaf_assertion (BooleanType v) = single_type Boolean by_value v
-leaf_assertion (IntegerType v) = single_type Integer by_value v
-leaf_assertion (NullType v) = single_type Null by_value v
-leaf_assertion (NumberType v) = single_type Number by_value v
-leaf_assertion (ObjectType v) = single_type Object by_value v
-leaf_assertion (StringType v) = single_type String by_value v
-leaf_assertion (MultipleTypesDraft4 v) = multiple_types_draft_4 v
-leaf_assertion (IntegerTypeDraft4 v) = single_type Integer as_written v
-leaf_assertion (ConstArray v) = const_value v
-leaf_assertion (ConstBoolean v) = const_boolean v
-leaf_assertion (ConstNull v) = const_null v
-leaf_assertion (ConstNumber v) = const_value v
-leaf_assertion (ConstObject v) = const_value v
-leaf_assertion (ConstString v) = const_string v
+leaf_assertion (Types v) = named_types v
+leaf_assertion (Const v) = const_value v
 leaf_assertion (Enum v) = enum_any v
 leaf_assertion (BigEnum v) = enum_table v
 leaf_assertion (SingleValueEnum v) = enum_single v
@@ -131,9 +106,7 @@ leaf_assertion (IntegerEnum v) = enum_table v
 leaf_assertion (NullableIntegerEnum v) = enum_table v
 leaf_assertion (UniqueItems v) = unique_items v
 leaf_assertion (Required v) = required_names (λ names. names) v
-leaf_assertion (SingleItemRequired v) = required_names (λ names. names) v
-leaf_assertion (Required2 v) = required_names (λ names. names) v
-leaf_assertion (Required3 v) = required_names (λ names. names) v
+leaf_assertion (RequiredFew v) = required_names (λ names. names) v
 
 -- the keyword that it stands for
 abbrev pub leaf_keyword : {F N O P : Type 0} → LeafValidator F N O P → Keyword

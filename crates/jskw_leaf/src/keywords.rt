@@ -8,10 +8,9 @@ ghost use Rattle.jskw_leaf.specs.Meaning.{leaf_keyword};
 ghost use Rattle.jskw_leaf.specs.Names.{is_leaf};
 
 use crate::leaf::LeafValidator;
-use crate::legacy::type_draft_4;
 use crate::{const_, enum_, required, type_, unique_items};
 use jskw_number::NumberValidator;
-use jskw_report::{CompilationResult, Context, Draft, KeywordName};
+use jskw_report::{CompilationResult, Context, KeywordName};
 use jskw_value::Json;
 use serde_json::{Map, Value};
 use std::alloc::Global;
@@ -48,10 +47,7 @@ pub fn compile<'a, F: Json>(
         (reading keyword ctx.now (members_view parent.now.entries) (view schema.now)) }
 {
     match keyword {
-        KeywordName::TypeKeyword => match ctx.draft() {
-            Draft::Draft4 => type_draft_4::compile(alloc, ctx, parent, schema),
-            _ => type_::compile(alloc, ctx, parent, schema),
-        },
+        KeywordName::TypeKeyword => type_::compile(alloc, ctx, parent, schema),
         KeywordName::UniqueItems => unique_items::compile(alloc, ctx, parent, schema),
         KeywordName::Const => const_::compile(alloc, ctx, parent, schema),
         KeywordName::Enum => enum_::compile(alloc, ctx, parent, schema),

@@ -4,22 +4,13 @@ ghost use Rattle.jskw_number.specs.QuickSet.{Accepts};
 ghost use Rattle.jskw_leaf.specs.Meaning.{leaf_keyword};
 
 use crate::boolean::FalseValidator;
-use crate::const_::{
-    ConstArrayValidator, ConstBooleanValidator, ConstNullValidator, ConstNumberValidator,
-    ConstObjectValidator, ConstStringValidator,
-};
+use crate::const_::ConstValueValidator;
 use crate::enum_::{
     BigEnumValidator, BigStringEnumValidator, EnumValidator, IntegerEnumValidator,
     SingleValueEnumValidator, SmallStringEnumValidator,
 };
-use crate::legacy::type_draft_4;
-use crate::required::{
-    Required2Validator, Required3Validator, RequiredValidator, SingleItemRequiredValidator,
-};
-use crate::type_::{
-    ArrayTypeValidator, BooleanTypeValidator, IntegerTypeValidator, MultipleTypesValidator,
-    NullTypeValidator, NumberTypeValidator, ObjectTypeValidator, StringTypeValidator,
-};
+use crate::required::{Required3Validator, RequiredValidator};
+use crate::type_::TypeValidator;
 use crate::unique_items::UniqueItemsValidator;
 use jskw_number::{NumberValidator, QuickSet};
 use jskw_report::{
@@ -39,38 +30,10 @@ pub enum LeafValidator<F: Json> {
     False(FalseValidator),
     /// A limit, a divisor or a bound on a size: one of the nine keywords of `jskw_number`.
     Number(NumberValidator),
-    /// `type` with an array of no name or of several, after Draft 4 (JSON Schema Validation 6.1.1).
-    MultipleTypes(MultipleTypesValidator),
-    /// `type` with `array`.
-    ArrayType(ArrayTypeValidator),
-    /// `type` with `boolean`.
-    BooleanType(BooleanTypeValidator),
-    /// `type` with `integer`, after Draft 4.
-    IntegerType(IntegerTypeValidator),
-    /// `type` with `null`.
-    NullType(NullTypeValidator),
-    /// `type` with `number`.
-    NumberType(NumberTypeValidator),
-    /// `type` with `object`.
-    ObjectType(ObjectTypeValidator),
-    /// `type` with `string`.
-    StringType(StringTypeValidator),
-    /// `type` with an array of no name or of several, in Draft 4 (Draft 4 Validation 5.5.2).
-    MultipleTypesDraft4(type_draft_4::MultipleTypesValidator),
-    /// `type` with `integer`, in Draft 4.
-    IntegerTypeDraft4(type_draft_4::IntegerTypeValidator),
-    /// `const` with an array (JSON Schema Validation 6.1.3).
-    ConstArray(ConstArrayValidator),
-    /// `const` with a boolean.
-    ConstBoolean(ConstBooleanValidator),
-    /// `const` with null.
-    ConstNull(ConstNullValidator),
-    /// `const` with a number.
-    ConstNumber(ConstNumberValidator),
-    /// `const` with an object.
-    ConstObject(ConstObjectValidator),
-    /// `const` with a string.
-    ConstString(ConstStringValidator),
+    /// `type` (JSON Schema Validation 6.1.1).
+    Types(TypeValidator),
+    /// `const` (JSON Schema Validation 6.1.3).
+    Const(ConstValueValidator),
     /// `enum` with options that no other variant is for (JSON Schema Validation 6.1.2).
     Enum(EnumValidator),
     /// `enum` with more than 8 options of any types.
@@ -93,23 +56,17 @@ pub enum LeafValidator<F: Json> {
     UniqueItems(UniqueItemsValidator),
     /// `required` with no name or more than three (JSON Schema Validation 6.5.3).
     Required(RequiredValidator<F>),
-    /// `required` with one name.
-    SingleItemRequired(SingleItemRequiredValidator<F>),
-    /// `required` with two names.
-    Required2(Required2Validator<F>),
-    /// `required` with three names.
-    Required3(Required3Validator<F>),
+    /// `required` with one, two or three names.
+    RequiredFew(Required3Validator<F>),
 }
 
 // Evaluates `$answer` with `$validator` as the validator in the variant, whichever it is.
 macro_rules! whichever {
     ($leaf:expr, $validator:ident => $answer:expr) => {
         whichever!(@ $leaf, $validator => $answer;
-            False Number MultipleTypes ArrayType BooleanType IntegerType NullType NumberType
-            ObjectType StringType MultipleTypesDraft4 IntegerTypeDraft4 ConstArray ConstBoolean
-            ConstNull ConstNumber ConstObject ConstString Enum BigEnum SingleValueEnum SmallStringEnum
+            False Number Types Const Enum BigEnum SingleValueEnum SmallStringEnum
             NullableSmallStringEnum BigStringEnum NullableBigStringEnum IntegerEnum
-            NullableIntegerEnum UniqueItems Required SingleItemRequired Required2 Required3
+            NullableIntegerEnum UniqueItems Required RequiredFew
         )
     };
     (@ $leaf:expr, $validator:ident => $answer:expr; $($variant:ident)+) => {
@@ -127,21 +84,10 @@ impl<F: Json> LeafValidator<F> {
     {
         match self {
             LeafValidator::Number(v) => v.quick_set(),
-            LeafValidator::MultipleTypes(v) => v.quick_set(),
-            LeafValidator::ArrayType(v) => v.quick_set(),
-            LeafValidator::BooleanType(v) => v.quick_set(),
-            LeafValidator::IntegerType(v) => v.quick_set(),
-            LeafValidator::NullType(v) => v.quick_set(),
-            LeafValidator::NumberType(v) => v.quick_set(),
-            LeafValidator::ObjectType(v) => v.quick_set(),
-            LeafValidator::StringType(v) => v.quick_set(),
-            LeafValidator::MultipleTypesDraft4(v) => v.quick_set(),
-            LeafValidator::IntegerTypeDraft4(v) => v.quick_set(),
+            LeafValidator::Types(v) => v.quick_set(),
             LeafValidator::UniqueItems(_) => QuickSet::but_arrays(),
             LeafValidator::Required(_) => QuickSet::but_objects(),
-            LeafValidator::SingleItemRequired(_) => QuickSet::but_objects(),
-            LeafValidator::Required2(_) => QuickSet::but_objects(),
-            LeafValidator::Required3(_) => QuickSet::but_objects(),
+            LeafValidator::RequiredFew(_) => QuickSet::but_objects(),
             _ => QuickSet::none(),
         }
     }

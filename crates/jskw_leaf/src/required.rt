@@ -19,7 +19,7 @@ use jskw_report::{
 use jskw_value::{Json, Node};
 pub use make::{compile, compile_with_path};
 use missing::{append_missing, fail_first};
-use names::{NameList, Names, OneName, ThreeNames, TwoNames};
+use names::{FewNames, NameList, Names};
 use std::alloc::{AllocError, Global};
 use std::marker::PhantomData;
 
@@ -51,13 +51,13 @@ impl<F: Json, L> RequiredNames<F, L> {
 pub type RequiredValidator<F> = RequiredNames<F, NameList<F>>;
 
 /// The validator of `required` with one name.
-pub type SingleItemRequiredValidator<F> = RequiredNames<F, OneName<F>>;
+pub type SingleItemRequiredValidator<F> = RequiredNames<F, FewNames<F>>;
 
 /// The validator of `required` with two names.
-pub type Required2Validator<F> = RequiredNames<F, TwoNames<F>>;
+pub type Required2Validator<F> = RequiredNames<F, FewNames<F>>;
 
 /// The validator of `required` with three names.
-pub type Required3Validator<F> = RequiredNames<F, ThreeNames<F>>;
+pub type Required3Validator<F> = RequiredNames<F, FewNames<F>>;
 
 impl<F: Json, L: Names<F>> Validate<F> for RequiredNames<F, L> {
     ghost meaning = { λ v. one (placed (required_names L.names v)) };

@@ -1,32 +1,33 @@
 //! `type` (JSON Schema Validation 6.1.1): the instance is of one of the types that the schema
 //! names. A number whose fractional part is zero is an integer, however it is written.
-ghost use Rattle.std.specs.Prelude.{◌≡◌, IsTrue, refl, true};
+ghost use Rattle.std.specs.Prelude.{◌≡◌, IsTrue, refl};
 ghost use Rattle.serde_json.specs.View.{view, items_view, members_view};
 ghost use Rattle.jskw_value.specs.Number.{is_exact, is_integer};
 ghost use Rattle.jskw_value.specs.Tree.{is_lawful};
+ghost use Rattle.jskw_value.specs.Types.{contains};
 ghost use Rattle.jskw_value.specs.declared.types.JsonType.{JsonType};
 ghost use Rattle.jskw_value.specs.declared.types.JsonType.TheVariants.{Array, Boolean, Integer};
 ghost use Rattle.jskw_value.specs.declared.types.JsonType.TheVariants.{Null, Number, Object};
 ghost use Rattle.jskw_value.specs.declared.types.JsonType.TheVariants.{String};
 ghost use Rattle.jskw_report.specs.Compile.{Makes, Compiles, reading};
 ghost use Rattle.jskw_report.specs.Errors.{kind_of};
-ghost use Rattle.jskw_report.specs.Holds.{assertion_holds};
+ghost use Rattle.jskw_report.specs.Holds.{assertion_holds, is_integer as is_integer_by};
 ghost use Rattle.jskw_report.specs.Keyword.{Integers, by_value, type_is};
 ghost use Rattle.jskw_report.specs.KeywordValue.{type_value, array_types, one_type, type_set};
 ghost use Rattle.jskw_report.specs.KeywordValue.{named_type};
-ghost use Rattle.jskw_report.specs.Kind.{WrongType};
+ghost use Rattle.jskw_report.specs.Kind.{WrongType, types_of};
 ghost use Rattle.jskw_report.specs.Meaning.{placed};
-ghost use Rattle.jskw_report.specs.Read.{keyword_location, type_keyword};
-ghost use Rattle.jskw_report.specs.Setting.{is_after_draft_4};
-ghost use Rattle.jskw_report.specs.declared.error.TypeKind.TheVariants.{Single, Multiple};
+ghost use Rattle.jskw_report.specs.Read.{integers_of, keyword_location, type_keyword};
+ghost use Rattle.jskw_report.specs.declared.error.TypeKind.TheVariants.{Single};
 ghost use Rattle.jskw_report.specs.declared.keyword.KeywordName.TheVariants.{TypeKeyword};
 ghost use Rattle.jskw_number.specs.QuickSet.{Accepts};
-ghost use Rattle.jskw_leaf.specs.Meaning.{leaf_keyword, multiple_types, single_type, type_at};
+ghost use Rattle.jskw_leaf.specs.Meaning.{leaf_keyword, named_types, rule_of, single_type, type_at, types_at};
 
 use crate::leaf::LeafValidator;
+use crate::legacy::type_draft_4;
 use jskw_number::QuickSet;
 use jskw_report::{
-    Assertion, CompilationResult, CompileFault, Context, EnumOptions, KeywordName, Location,
+    Assertion, CompilationResult, CompileFault, Context, Draft, EnumOptions, KeywordName, Location,
     TypeKind, ValidationErrorKind,
 };
 use jskw_value::{Json, JsonNumber, JsonType, JsonTypeSet, Node};
@@ -35,41 +36,107 @@ use std::alloc::Global;
 use std::marker::PhantomData;
 use std::str::FromStr;
 
-/// The validator of `type` with an array of no name or of several.
-#[derive(Drop)]
-pub struct MultipleTypesValidator {
-    types: JsonTypeSet,
-    location: Location,
+/// Which numbers are integers.
+#[derive(Clone, Copy)]
+pub enum IntegerRule {
+    /// Those whose fractional part is zero: [`is_integer`].
+    ByValue,
+    /// Those that are written without a fraction: Draft 4's
+    /// [`is_integer`](crate::legacy::type_draft_4::is_integer).
+    AsWritten,
 }
 
-impl MultipleTypesValidator {
-    /// Returns values of the types.
-    pub fn quick_set(&self) -> QuickSet
-        ensures { Accepts result (placed (multiple_types self.now)) }
+impl IntegerRule {
+    // Returns the rule for these types in a draft. It makes no difference if `integer` is not one of
+    // them.
+    fn of(draft: Draft, kind: TypeKind) -> IntegerRule
+        ensures { rule_of result ≡ integers_of draft kind }
     {
-        QuickSet::of_types(self.types)
+        if draft == Draft::Draft4 && has_type(kind, JsonType::Integer) {
+            IntegerRule::AsWritten
+        } else {
+            IntegerRule::ByValue
+        }
+    }
+
+    // Returns whether the instance is an integer.
+    fn accepts<F: Json>(self, instance: &F::Node) -> bool
+        requires { IsTrue (is_lawful (F.Node.tree instance.now)) }
+        ensures { result ≡ is_integer_by (rule_of self) (F.Node.tree instance.now) }
+    {
+        match (instance.as_number(), self) {
+            (Some(number), IntegerRule::ByValue) => is_integer(number),
+            (Some(number), IntegerRule::AsWritten) => type_draft_4::is_integer(number),
+            (None, _) => false,
+        }
     }
 }
 
-impl Assertion for MultipleTypesValidator {
-    ghost asserts = { multiple_types };
+/// The validator of `type`. It accepts an instance of one of the types.
+#[derive(Drop)]
+pub struct TypeValidator {
+    kind: TypeKind,
+    rule: IntegerRule,
+    location: Location,
+}
 
-    ghost error = { λ v. WrongType (Multiple v.types) };
+impl TypeValidator {
+    /// Creates the validator. `location` is the keyword location of its error.
+    pub fn new(kind: TypeKind, rule: IntegerRule, location: Location) -> TypeValidator
+        ensures { named_types result ≡ types_at kind (rule_of rule) location }
+    {
+        TypeValidator {
+            kind,
+            rule,
+            location,
+        }
+    }
+
+    /// Returns values of the types.
+    pub fn quick_set(&self) -> QuickSet
+        ensures { Accepts result (placed (named_types self.now)) }
+    {
+        QuickSet::of_types(match self.kind {
+            TypeKind::Single(json_type) => JsonTypeSet::from(json_type),
+            TypeKind::Multiple(types) => types,
+        })
+    }
+}
+
+impl Assertion for TypeValidator {
+    ghost asserts = { named_types };
+
+    ghost error = { λ v. WrongType v.kind };
 
     ghost fails_once = { λ _ _. refl };
 
     fn holds<F: Json>(&self, instance: &F::Node) -> bool {
-        self.types.contains_value_type::<F>(instance)
+        has_type(self.kind, instance.json_type())
+            || (has_type(self.kind, JsonType::Integer) && self.rule.accepts::<F>(instance))
     }
 
     fn kind(&self) -> ValidationErrorKind<'_> {
-        ValidationErrorKind::of_types(self.types)
+        let kind = self.kind;
+        ValidationErrorKind::WrongType { kind }
     }
 
     fn location(&self) -> &Location {
         &self.location
     }
 }
+
+// Returns whether this type is among the types.
+fn has_type(kind: TypeKind, json_type: JsonType) -> bool
+    ensures { result ≡ contains (types_of kind) json_type }
+{
+    match kind {
+        TypeKind::Single(single) => single == json_type,
+        TypeKind::Multiple(types) => types.contains(json_type),
+    }
+}
+
+/// The validator of `type` with an array of no name or of several.
+pub type MultipleTypesValidator = TypeValidator;
 
 /// A type of JSON Schema as a Rust type, which tests instances.
 pub trait TypeTest {
@@ -294,8 +361,7 @@ pub fn is_integer<N: JsonNumber>(number: &N) -> bool
     number.is_integer()
 }
 
-/// Compiles `type` for the drafts after Draft 4: the draft of `ctx` must not be Draft 4, which has
-/// a [`compile`](crate::legacy::type_draft_4::compile) of its own. Always returns `Some`.
+/// Compiles `type`, in every draft. Always returns `Some`.
 ///
 /// # Errors
 ///
@@ -310,14 +376,13 @@ pub fn is_integer<N: JsonNumber>(number: &N) -> bool
 /// - If an item of an array is not a string, the kind is `WrongType` with the type string.
 ///
 /// In an array, the value at fault is the first such item.
-#[tactic(auto, using(jskw_report::proofs::TypeReading::type_after_draft_4), unfolding(jskw_report::specs::Read::asserted))]
+#[tactic(auto, unfolding(jskw_report::specs::Read::asserted))]
 pub fn compile<'a, F: Json>(
     alloc: Global,
     ctx: &Context<'_, F>,
     parent: &'a Map<String, Value>,
     schema: &'a Value,
 ) -> Option<CompilationResult<'a, LeafValidator<F>>>
-    requires { is_after_draft_4 ctx.now.setting.draft ≡ true }
     ensures { Compiles leaf_keyword result
         (reading TypeKeyword ctx.now (members_view parent.now.entries) (view schema.now)) }
 {
@@ -325,42 +390,23 @@ pub fn compile<'a, F: Json>(
     Some(type_validator(alloc, ctx, schema))
 }
 
-// Reads the value of `type`, and returns its validator in the drafts after Draft 4.
+// Reads the value of `type`, and returns its validator.
 fn type_validator<'a, F: Json>(
     alloc: Global,
     ctx: &Context<'_, F>,
     schema: &'a Value,
 ) -> CompilationResult<'a, LeafValidator<F>>
-    ensures { Makes leaf_keyword result (type_keyword (λ _. by_value)
+    ensures { Makes leaf_keyword result (type_keyword (integers_of ctx.now.setting.draft)
         (keyword_location ctx.now.location TypeKeyword) (view schema.now)) }
 {
     let location = ctx.keyword_location(alloc, KeywordName::TypeKeyword)?;
-    match type_kind(alloc, &location, schema)? {
-        TypeKind::Single(json_type) => Ok(single_validator(json_type, location)),
-        TypeKind::Multiple(types) => Ok(LeafValidator::MultipleTypes(MultipleTypesValidator {
-            types,
-            location,
-        })),
-    }
-}
-
-// Returns the validator of one type, in the drafts after Draft 4.
-pub(crate) fn single_validator<F: Json>(json_type: JsonType, location: Location) -> LeafValidator<F>
-    ensures { leaf_keyword result ≡ placed (type_at json_type by_value location) }
-{
-    match json_type {
-        JsonType::Array => LeafValidator::ArrayType(ArrayTypeValidator::new(location)),
-        JsonType::Boolean => LeafValidator::BooleanType(BooleanTypeValidator::new(location)),
-        JsonType::Integer => LeafValidator::IntegerType(IntegerTypeValidator::new(location)),
-        JsonType::Null => LeafValidator::NullType(NullTypeValidator::new(location)),
-        JsonType::Number => LeafValidator::NumberType(NumberTypeValidator::new(location)),
-        JsonType::Object => LeafValidator::ObjectType(ObjectTypeValidator::new(location)),
-        JsonType::String => LeafValidator::StringType(StringTypeValidator::new(location)),
-    }
+    let kind = type_kind(alloc, &location, schema)?;
+    let rule = IntegerRule::of(ctx.draft(), kind);
+    Ok(LeafValidator::Types(TypeValidator::new(kind, rule, location)))
 }
 
 // Reads the value of `type`. Refuses it at `location` if it names no types.
-pub(crate) fn type_kind<'a>(
+fn type_kind<'a>(
     alloc: Global,
     location: &Location,
     schema: &'a Value,

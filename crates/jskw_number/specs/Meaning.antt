@@ -1,38 +1,33 @@
 -- What each validator asserts, and where; and of any of them the keyword, the kind of its error, and the limit that it keeps.
 use Rattle.std.specs.Int.NonZero.{non_zero_u64_get}
-use Rattle.std.specs.Prelude.{◌≡◌, ℤ, pos, Option, Some, None, refl}
+use Rattle.std.specs.Prelude.{◌≡◌, ℕ, ℤ, pos, Option, Some, None, refl}
 use Rattle.serde_json.specs.Data.{Data}
 use Rattle.serde_json.specs.View.{view}
 use Rattle.jskw_value.specs.Pointer.{Pointer}
 use Rattle.jskw_value.specs.Tree.{Tree}
 use Rattle.jskw_report.specs.Fail.{error_kinds, unless}
 use Rattle.jskw_report.specs.Holds.{assertion_holds}
-use Rattle.jskw_report.specs.Keyword.{Keyword, Relation, size, limit, multiple_of}
+use Rattle.jskw_report.specs.Keyword.{Keyword, Relation, Size, size, limit, multiple_of}
 use Rattle.jskw_report.specs.Keyword as which
 use Rattle.jskw_report.specs.Kind.{ErrorKind}
 use Rattle.jskw_report.specs.Kind as kind
 use Rattle.jskw_report.specs.Meaning.{Placed, placed}
-use Rattle.jskw_number.specs.declared.min_items.MinItemsValidator.{MinItemsValidator}
-use Rattle.jskw_number.specs.declared.max_items.MaxItemsValidator.{MaxItemsValidator}
-use Rattle.jskw_number.specs.declared.min_properties.MinPropertiesValidator.{MinPropertiesValidator}
-use Rattle.jskw_number.specs.declared.max_properties.MaxPropertiesValidator.{MaxPropertiesValidator}
+use Rattle.jskw_number.specs.declared.sizes.SizeLimit.{SizeLimit}
 use Rattle.jskw_number.specs.declared.multiple_of.MultipleOfIntegerValidator.{MultipleOfIntegerValidator}
 use Rattle.jskw_number.specs.declared.number.NumberValidator.{NumberValidator}
 use Rattle.jskw_number.specs.declared.number.NumberValidator.TheVariants.{MinItems, MaxItems, MinProperties, MaxProperties, MinimumU64, MinimumI64, MaximumU64, MaximumI64, ExclusiveMinimumU64, ExclusiveMinimumI64, ExclusiveMaximumU64, ExclusiveMaximumI64, MultipleOfInteger}
 
 -- ---- sizes
 
-abbrev pub min_items : MinItemsValidator → Placed
-min_items v = record { location = v.location; claim = size which.MinItems v.limit }
+-- a bound on a size; A and L are the parameters of its type
+abbrev pub sized : {A L : ℕ} → Size → SizeLimit A L → Placed
+sized which v = record { location = v.location; claim = size which v.limit }
 
-abbrev pub max_items : MaxItemsValidator → Placed
-max_items v = record { location = v.location; claim = size which.MaxItems v.limit }
+abbrev pub min_items : {A L : ℕ} → SizeLimit A L → Placed
+min_items v = sized which.MinItems v
 
-abbrev pub min_properties : MinPropertiesValidator → Placed
-min_properties v = record { location = v.location; claim = size which.MinProperties v.limit }
-
-abbrev pub max_properties : MaxPropertiesValidator → Placed
-max_properties v = record { location = v.location; claim = size which.MaxProperties v.limit }
+abbrev pub max_items : {A L : ℕ} → SizeLimit A L → Placed
+max_items v = sized which.MaxItems v
 
 -- ---- limits
 
@@ -49,10 +44,10 @@ multiple_of_integer v = record { location = v.location; claim = multiple_of (non
 
 -- what it asserts, and where
 abbrev pub number_assertion : NumberValidator → Placed
-number_assertion (MinItems v) = min_items v
-number_assertion (MaxItems v) = max_items v
-number_assertion (MinProperties v) = min_properties v
-number_assertion (MaxProperties v) = max_properties v
+number_assertion (MinItems v) = sized which.MinItems v
+number_assertion (MaxItems v) = sized which.MaxItems v
+number_assertion (MinProperties v) = sized which.MinProperties v
+number_assertion (MaxProperties v) = sized which.MaxProperties v
 number_assertion (MinimumU64 v) = placed_limit which.Minimum (pos v.limit) v.location
 number_assertion (MinimumI64 v) = placed_limit which.Minimum v.limit v.location
 number_assertion (MaximumU64 v) = placed_limit which.Maximum (pos v.limit) v.location

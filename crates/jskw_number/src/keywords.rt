@@ -5,9 +5,9 @@ ghost use Rattle.jskw_report.specs.Compile.{Compiles, reading};
 ghost use Rattle.jskw_number.specs.Meaning.{number_keyword};
 ghost use Rattle.jskw_number.specs.Names.{is_of_numbers};
 
-use crate::legacy::{maximum_draft_4, minimum_draft_4};
+use crate::legacy::minmax_draft_4;
 use crate::number::NumberValidator;
-use crate::{max_items, max_properties, min_items, min_properties, minmax, multiple_of};
+use crate::{minmax, multiple_of, sizes};
 use jskw_report::{CompilationResult, Context, Draft, KeywordName};
 use jskw_value::Json;
 use serde_json::{Map, Value};
@@ -30,11 +30,15 @@ pub fn compile<'a, F: Json>(
 {
     let is_draft_4 = ctx.draft() == Draft::Draft4;
     match keyword {
-        KeywordName::MinItems => min_items::compile(alloc, ctx, parent, schema),
-        KeywordName::MaxItems => max_items::compile(alloc, ctx, parent, schema),
-        KeywordName::Minimum if is_draft_4 => minimum_draft_4::compile(alloc, ctx, parent, schema),
+        KeywordName::MinItems => sizes::compile_min_items(alloc, ctx, parent, schema),
+        KeywordName::MaxItems => sizes::compile_max_items(alloc, ctx, parent, schema),
+        KeywordName::Minimum if is_draft_4 => minmax_draft_4::compile_minimum(
+            alloc, ctx, parent, schema,
+        ),
         KeywordName::Minimum => minmax::compile_minimum(alloc, ctx, parent, schema),
-        KeywordName::Maximum if is_draft_4 => maximum_draft_4::compile(alloc, ctx, parent, schema),
+        KeywordName::Maximum if is_draft_4 => minmax_draft_4::compile_maximum(
+            alloc, ctx, parent, schema,
+        ),
         KeywordName::Maximum => minmax::compile_maximum(alloc, ctx, parent, schema),
         KeywordName::ExclusiveMinimum => {
             minmax::compile_exclusive_minimum(alloc, ctx, parent, schema)
@@ -43,8 +47,8 @@ pub fn compile<'a, F: Json>(
             minmax::compile_exclusive_maximum(alloc, ctx, parent, schema)
         }
         KeywordName::MultipleOf => multiple_of::compile(alloc, ctx, parent, schema),
-        KeywordName::MinProperties => min_properties::compile(alloc, ctx, parent, schema),
-        KeywordName::MaxProperties => max_properties::compile(alloc, ctx, parent, schema),
+        KeywordName::MinProperties => sizes::compile_min_properties(alloc, ctx, parent, schema),
+        KeywordName::MaxProperties => sizes::compile_max_properties(alloc, ctx, parent, schema),
         _ => unreachable!(),
     }
 }

@@ -40,14 +40,31 @@
 pub mod helpers;
 mod keywords;
 pub mod legacy;
-pub mod max_items;
-pub mod max_properties;
-pub mod min_items;
-pub mod min_properties;
 pub mod minmax;
 pub mod multiple_of;
 pub mod number;
 pub mod quick_set;
+pub mod sizes;
+
+/// `maxItems`.
+pub mod max_items {
+    pub use crate::sizes::{MaxItemsValidator, compile_max_items as compile};
+}
+
+/// `maxProperties`.
+pub mod max_properties {
+    pub use crate::sizes::{MaxPropertiesValidator, compile_max_properties as compile};
+}
+
+/// `minItems`.
+pub mod min_items {
+    pub use crate::sizes::{MinItemsValidator, compile_min_items as compile};
+}
+
+/// `minProperties`.
+pub mod min_properties {
+    pub use crate::sizes::{MinPropertiesValidator, compile_min_properties as compile};
+}
 
 pub use keywords::compile;
 pub use number::NumberValidator;

@@ -360,7 +360,7 @@ pub(crate) fn make<'a, F: Json, R: LimitTest>(
 }
 
 /// Compiles `minimum` for the drafts after Draft 4: the draft of `ctx` must not be Draft 4, which
-/// has a [`compile`](crate::legacy::minimum_draft_4::compile) of its own. Always returns `Some`.
+/// has a [`compile`](crate::legacy::minmax_draft_4::compile_minimum) of its own. Always returns `Some`.
 /// The validator keeps `schema`: [`limit_value`](Limit::limit_value) returns it.
 ///
 /// # Errors
@@ -384,7 +384,7 @@ pub fn compile_minimum<'a, F: Json>(
 }
 
 /// Compiles `maximum` for the drafts after Draft 4: the draft of `ctx` must not be Draft 4, which
-/// has a [`compile`](crate::legacy::maximum_draft_4::compile) of its own. Always returns `Some`.
+/// has a [`compile`](crate::legacy::minmax_draft_4::compile_maximum) of its own. Always returns `Some`.
 /// The validator keeps `schema`: [`limit_value`](Limit::limit_value) returns it.
 ///
 /// # Errors

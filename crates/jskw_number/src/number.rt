@@ -3,13 +3,12 @@ ghost use Rattle.jskw_number.specs.Meaning.{number_assertion, number_error, numb
 ghost use Rattle.jskw_number.specs.Meaning.{number_keyword};
 ghost use Rattle.jskw_number.specs.QuickSet.{Accepts};
 
-use crate::max_items::MaxItemsValidator;
-use crate::max_properties::MaxPropertiesValidator;
-use crate::min_items::MinItemsValidator;
-use crate::min_properties::MinPropertiesValidator;
 use crate::minmax::{ExclusiveMaximum, ExclusiveMinimum, Maximum, Minimum};
 use crate::multiple_of::MultipleOfIntegerValidator;
 use crate::quick_set::QuickSet;
+use crate::sizes::{
+    MaxItemsValidator, MaxPropertiesValidator, MinItemsValidator, MinPropertiesValidator,
+};
 use jskw_report::{Assertion, Location, ValidationErrorKind};
 use jskw_value::Json;
 

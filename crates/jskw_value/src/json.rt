@@ -26,10 +26,10 @@ use crate::walk::Walk;
 use serde_json::Value;
 use std::alloc::{AllocError, Global};
 
-/// A value that represents a JSON value. Contracts refer to that value as its tree (JSON Schema
-/// Core
-/// 4.2.1).
+/// A value that represents a JSON value (JSON Schema Core 4.2.1). Contracts refer to the JSON value
+/// as its tree.
 pub trait Rooted {
+    /// The JSON value that this value represents.
     ghost tree: { Self → Tree };
 }
 
@@ -67,7 +67,7 @@ pub trait Object: Rooted {
     /// A name in the form in which it is looked up fastest. [`Json::prepare_key`] creates it.
     type PreparedKey: Drop;
 
-    // The name that a key was made from.
+    /// The name that a key was made from.
     ghost key_name: { Self.PreparedKey → List ℕ };
 
     /// Returns the number of members. The node must be an object. Its names are distinct.
@@ -134,6 +134,7 @@ pub trait Object: Rooted {
 pub trait JsonNumber {
     ghost use Rattle.jskw_value.specs.Decimal.{value};
 
+    /// The number that this value represents, exactly if it is a decimal.
     ghost number: { Self → Num };
 
     /// Returns whether the number is a decimal. All other methods require that it is.
@@ -263,10 +264,9 @@ pub trait Node: Array + Object {
 
     /// Appends the compact JSON text of the value to `out`. A decimal of scale k is written with k
     /// digits after the point, a float as the word `float`, members in the order of their places.
-    /// In strings the quote, the backslash and the control characters are escaped (RFC 8259,
-    /// section
-    /// 7), and nothing else. If memory runs out, `out` keeps what it held, and a part of the text may
-    /// follow.
+    /// In strings the quote, the backslash and the control characters are escaped, and nothing else
+    /// (RFC 8259, section 7). If memory runs out, `out` keeps what it held, and a part of the text
+    /// may follow.
     final fn write_json(&self, out: &mut String) -> Result<(), AllocError>
         ensures { Extends (string_bytes out.old) (string_bytes out.new) }
     {

@@ -80,7 +80,7 @@ fn write_member<N: Node>(name: &str, member: &N, out: &mut String) -> Result<(),
     write_node(member, out)
 }
 
-// Appends a string between quotes, escaped as RFC 8259, section 7, asks for.
+// Appends a string between quotes, escaped as in RFC 8259, section 7.
 fn write_string(text: &str, out: &mut String) -> Result<(), AllocError>
     ensures { Extends (string_bytes out.old) (string_bytes out.new) }
 {
@@ -91,7 +91,7 @@ fn write_string(text: &str, out: &mut String) -> Result<(), AllocError>
     out.push('"')
 }
 
-// Appends a character of a string, escaped where RFC 8259, section 7, asks for it.
+// Appends a character of a string, escaped if RFC 8259, section 7, requires it.
 fn write_char(c: char, out: &mut String) -> Result<(), AllocError>
     ensures { Extends (string_bytes out.old) (string_bytes out.new) }
 {

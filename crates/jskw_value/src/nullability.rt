@@ -3,6 +3,7 @@ ghost use Rattle.std.specs.Prelude.{Bool, true, false};
 
 /// A type that says, when code is compiled, whether `null` is accepted.
 pub trait Nullability {
+    /// Whether `null` is accepted, for contracts.
     ghost ACCEPTS_NULL: { Bool };
 
     /// Whether `null` is accepted.

@@ -42,7 +42,7 @@ const DOUBTS: usize = 8;
 // In a long array, one more such item is allowed for every 16,384 items.
 const ITEMS_A_DOUBT: usize = 16384;
 
-// The seed of the fingerprints in a sketch. It may be known, since a sketch that tells too little
+// The seed of the fingerprints in a sketch. It may be known, since a sketch that says too little
 // is given up.
 const UNSEEDED: u64 = 0;
 

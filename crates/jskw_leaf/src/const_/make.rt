@@ -1,24 +1,19 @@
 //! Compiles `const`.
-ghost use Rattle.std.specs.Prelude.{◌≡◌};
 ghost use Rattle.serde_json.specs.View.{view, members_view};
 ghost use Rattle.jskw_report.specs.Compile.{Makes, Compiles, reading};
-ghost use Rattle.jskw_report.specs.Meaning.{placed};
 ghost use Rattle.jskw_report.specs.Read.{const_keyword, keyword_location};
 ghost use Rattle.jskw_report.specs.declared.keyword.KeywordName.TheVariants.{Const};
-ghost use Rattle.jskw_leaf.specs.Meaning.{constant_at, leaf_keyword};
+ghost use Rattle.jskw_leaf.specs.Meaning.{leaf_keyword};
 
-use super::{
-    ConstArrayValidator, ConstBooleanValidator, ConstNullValidator, ConstNumberValidator,
-    ConstObjectValidator, ConstStringValidator,
-};
+use super::ConstValueValidator;
 use crate::floats::refuse_floats;
 use crate::leaf::LeafValidator;
-use jskw_report::{CompilationResult, Context, KeywordName, Location};
+use jskw_report::{CompilationResult, Context, KeywordName};
 use jskw_value::Json;
 use serde_json::{Map, Value};
 use std::alloc::Global;
 
-/// Compiles `const`. Always returns `Some`. The validator depends on the type of the value.
+/// Compiles `const`. Always returns `Some`.
 ///
 /// # Errors
 ///
@@ -49,19 +44,6 @@ fn const_validator<'a, F: Json>(
 {
     let location = ctx.keyword_location(alloc, KeywordName::Const)?;
     refuse_floats(alloc, &location, schema)?;
-    Ok(validator_of(schema.clone()?, location))
-}
-
-// Returns the validator for the type of the value.
-fn validator_of<F: Json>(value: Value, location: Location) -> LeafValidator<F>
-    ensures { leaf_keyword result ≡ placed (constant_at location value) }
-{
-    match value {
-        Value::Array(_) => LeafValidator::ConstArray(ConstArrayValidator { value, location }),
-        Value::Bool(_) => LeafValidator::ConstBoolean(ConstBooleanValidator { value, location }),
-        Value::Null => LeafValidator::ConstNull(ConstNullValidator { value, location }),
-        Value::Number(_) => LeafValidator::ConstNumber(ConstNumberValidator { value, location }),
-        Value::Object(_) => LeafValidator::ConstObject(ConstObjectValidator { value, location }),
-        Value::String(_) => LeafValidator::ConstString(ConstStringValidator { value, location }),
-    }
+    let value = schema.clone()?;
+    Ok(LeafValidator::Const(ConstValueValidator { value, location }))
 }

@@ -13,7 +13,7 @@ ghost use Rattle.jskw_leaf.specs.Required.{name_value};
 
 use super::RequiredNames;
 use super::beside::is_handed_on;
-use super::names::{NameList, OneName, ThreeNames, TwoNames};
+use super::names::{FewNames, NameList};
 use crate::leaf::LeafValidator;
 use jskw_report::{
     CompilationResult, CompileFault, Context, KeywordName, Location, ValidationErrorKind,
@@ -89,24 +89,12 @@ fn validator_of<F: Json>(
     ensures { IfOk result (λ v. leaf_keyword v
         ≡ placed (required_at location (map (λ name. name.now) names.now))) }
 {
-    match names {
-        [name] => {
-            let names = OneName::new(alloc, name)?;
-            Ok(LeafValidator::SingleItemRequired(RequiredNames::new(names, location)))
-        }
-        [first, second] => {
-            let names = TwoNames::new(alloc, first, second)?;
-            Ok(LeafValidator::Required2(RequiredNames::new(names, location)))
-        }
-        [first, second, third] => {
-            let names = ThreeNames::new(alloc, first, second, third)?;
-            Ok(LeafValidator::Required3(RequiredNames::new(names, location)))
-        }
-        _ => {
-            let names = NameList::new(alloc, names)?;
-            Ok(LeafValidator::Required(RequiredNames::new(names, location)))
-        }
+    if !names.is_empty() && names.len() <= 3 {
+        let names = FewNames::new(alloc, names)?;
+        return Ok(LeafValidator::RequiredFew(RequiredNames::new(names, location)));
     }
+    let names = NameList::new(alloc, names)?;
+    Ok(LeafValidator::Required(RequiredNames::new(names, location)))
 }
 
 // Reads the items as names, and drops each that was there before.

@@ -1,5 +1,5 @@
 //! Lists of required names, each name once.
-ghost use Rattle.std.specs.Prelude.{◌≡◌, ◌<◌, ℕ, List, [], ◌∷◌, IfOk, length, map, slice_index_or};
+ghost use Rattle.std.specs.Prelude.{◌≡◌, ◌<◌, ℕ, List, IfOk, length, map, slice_index_or};
 ghost use Rattle.std.specs.Prelude.{string_bytes};
 ghost use Rattle.std.specs.List.{IsDistinct};
 ghost use Rattle.std.specs.Str.{bytes_eq};
@@ -61,13 +61,21 @@ impl<F: Json> NameList<F> {
         requires { IsDistinct bytes_eq (map (λ text. text.now) texts.now) }
         ensures { IfOk result (λ names. names ≡ map (λ text. text.now) texts.now) }
     {
-        let mut names = Vec::new(alloc);
-        for text in texts {
-            names.push(PreparedName::new(alloc, text)?)?;
-        }
+        let names = prepared(alloc, texts)?;
         let table = sorted(strings_of(alloc, texts)?);
         Ok(NameList { names, table })
     }
+}
+
+// Prepares the names.
+fn prepared<F: Json>(alloc: Global, texts: &[&str]) -> Result<Vec<PreparedName<F>>, AllocError>
+    ensures { IfOk result (λ v. v.items ≡ map (λ text. text.now) texts.now) }
+{
+    let mut names = Vec::with_capacity(alloc, texts.len())?;
+    for text in texts {
+        names.push(PreparedName::new(alloc, text)?)?;
+    }
+    Ok(names)
 }
 
 // Copies the texts.
@@ -97,165 +105,53 @@ impl<F: Json> Names<F> for NameList<F> {
     }
 }
 
-/// One name. In contracts it is a list.
+/// One to three names, without a table. In contracts it is the list.
 #[derive(Drop)]
-pub struct OneName<F: Json> {
-    name: PreparedName<F>,
+pub struct FewNames<F: Json> {
+    names: Vec<PreparedName<F>>,
 }
 
-impl<F: Json> Model for OneName<F> {
-    ghost use Rattle.std.specs.Prelude.{ℕ, List, [], ◌∷◌};
+impl<F: Json> Model for FewNames<F> {
+    ghost use Rattle.std.specs.Prelude.{ℕ, List};
     ghost use Rattle.std.specs.List.{IsDistinct};
     ghost use Rattle.std.specs.Str.{bytes_eq};
 
     ghost Value = { List (List ℕ) };
 
-    ghost view = { λ a. a.name ∷ [] };
+    ghost view = { λ l. l.names.items };
 
-    ghost invariant = { λ a. IsDistinct bytes_eq (a.name ∷ []) };
+    ghost invariant = { λ l. IsDistinct bytes_eq l.names.items };
 }
 
-impl<F: Json> OneName<F> {
-    // Creates the list of this name.
-    #[tactic(auto, using(crate::proofs::Distinct::one_once))]
-    pub(crate) fn new(alloc: Global, name: &str) -> Result<OneName<F>, AllocError>
-        ensures { IfOk result (λ names. names ≡ name.now ∷ []) }
-    {
-        Ok(OneName {
-            name: PreparedName::new(alloc, name)?,
-        })
-    }
-}
-
-impl<F: Json> Names<F> for OneName<F> {
-    ghost names = { λ names. names };
-
-    fn len(&self) -> usize {
-        // Using a field opens the model's invariant for the proof: the names are distinct.
-        let _ = &self.name;
-        1
-    }
-
-    fn at(&self, index: usize) -> &PreparedName<F> {
-        let _ = index;
-        &self.name
-    }
-
-    fn contains(&self, text: &str) -> bool {
-        self.name.is(text)
-    }
-}
-
-/// Two names, without a vector. In contracts it is a list.
-#[derive(Drop)]
-pub struct TwoNames<F: Json> {
-    first: PreparedName<F>,
-    second: PreparedName<F>,
-}
-
-impl<F: Json> Model for TwoNames<F> {
-    ghost use Rattle.std.specs.Prelude.{ℕ, List, [], ◌∷◌};
-    ghost use Rattle.std.specs.List.{IsDistinct};
-    ghost use Rattle.std.specs.Str.{bytes_eq};
-
-    ghost Value = { List (List ℕ) };
-
-    ghost view = { λ a. a.first ∷ a.second ∷ [] };
-
-    ghost invariant = { λ a. IsDistinct bytes_eq (a.first ∷ a.second ∷ []) };
-}
-
-impl<F: Json> TwoNames<F> {
+impl<F: Json> FewNames<F> {
     // Creates the list of these names, which must be distinct.
-    pub(crate) fn new(alloc: Global, first: &str, second: &str) -> Result<TwoNames<F>, AllocError>
-        requires { IsDistinct bytes_eq (first.now ∷ second.now ∷ []) }
-        ensures { IfOk result (λ names. names ≡ first.now ∷ second.now ∷ []) }
+    pub(crate) fn new(alloc: Global, texts: &[&str]) -> Result<FewNames<F>, AllocError>
+        requires { IsDistinct bytes_eq (map (λ text. text.now) texts.now) }
+        ensures { IfOk result (λ names. names ≡ map (λ text. text.now) texts.now) }
     {
-        Ok(TwoNames {
-            first: PreparedName::new(alloc, first)?,
-            second: PreparedName::new(alloc, second)?,
+        Ok(FewNames {
+            names: prepared(alloc, texts)?,
         })
     }
 }
 
-impl<F: Json> Names<F> for TwoNames<F> {
+impl<F: Json> Names<F> for FewNames<F> {
     ghost names = { λ names. names };
 
     fn len(&self) -> usize {
-        // As for `OneName`: opens the invariant.
-        let _ = &self.first;
-        2
+        self.names.len()
     }
 
     fn at(&self, index: usize) -> &PreparedName<F> {
-        match index {
-            0 => &self.first,
-            _ => &self.second,
-        }
+        &self.names[index]
     }
 
     fn contains(&self, text: &str) -> bool {
-        self.first.is(text) || self.second.is(text)
-    }
-}
-
-/// Three names, without a vector. In contracts it is a list.
-#[derive(Drop)]
-pub struct ThreeNames<F: Json> {
-    first: PreparedName<F>,
-    second: PreparedName<F>,
-    third: PreparedName<F>,
-}
-
-impl<F: Json> Model for ThreeNames<F> {
-    ghost use Rattle.std.specs.Prelude.{ℕ, List, [], ◌∷◌};
-    ghost use Rattle.std.specs.List.{IsDistinct};
-    ghost use Rattle.std.specs.Str.{bytes_eq};
-
-    ghost Value = { List (List ℕ) };
-
-    ghost view = { λ a. a.first ∷ a.second ∷ a.third ∷ [] };
-
-    ghost invariant = { λ a. IsDistinct bytes_eq (a.first ∷ a.second ∷ a.third ∷ []) };
-}
-
-impl<F: Json> ThreeNames<F> {
-    // Creates the list of these names, which must be distinct.
-    pub(crate) fn new(
-        alloc: Global,
-        first: &str,
-        second: &str,
-        third: &str,
-    ) -> Result<ThreeNames<F>, AllocError>
-        requires { IsDistinct bytes_eq (first.now ∷ second.now ∷ third.now ∷ []) }
-        ensures { IfOk result (λ names. names ≡ first.now ∷ second.now ∷ third.now ∷ []) }
-    {
-        Ok(ThreeNames {
-            first: PreparedName::new(alloc, first)?,
-            second: PreparedName::new(alloc, second)?,
-            third: PreparedName::new(alloc, third)?,
-        })
-    }
-}
-
-impl<F: Json> Names<F> for ThreeNames<F> {
-    ghost names = { λ names. names };
-
-    fn len(&self) -> usize {
-        // As for `OneName`: opens the invariant.
-        let _ = &self.first;
-        3
-    }
-
-    fn at(&self, index: usize) -> &PreparedName<F> {
-        match index {
-            0 => &self.first,
-            1 => &self.second,
-            _ => &self.third,
+        for name in &self.names {
+            if text == name.as_str() {
+                return true;
+            }
         }
-    }
-
-    fn contains(&self, text: &str) -> bool {
-        self.first.is(text) || self.second.is(text) || self.third.is(text)
+        false
     }
 }

@@ -43,13 +43,6 @@ impl<F: Json> PreparedName<F> {
         self.name.as_str()
     }
 
-    // Returns whether the name is this text.
-    pub(crate) fn is(&self, text: &str) -> bool
-        ensures { result ≡ bytes_eq self.now text.now }
-    {
-        self.as_str() == text
-    }
-
     // Returns whether the name is this text. `head` must be the head of the text: a caller that
     // compares it with many names computes the head once.
     pub(crate) fn matches(&self, head: KeyHead, text: &str) -> bool

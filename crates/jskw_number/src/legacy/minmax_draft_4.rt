@@ -1,5 +1,5 @@
-//! `maximum` in Draft 4 (Draft 4 Validation 5.1.2): if `exclusiveMaximum` beside it is `true`, a
-//! number must be below the limit.
+//! `minimum` and `maximum` in Draft 4 (Draft 4 Validation 5.1.3, 5.1.2): beside an
+//! `exclusiveMinimum` or `exclusiveMaximum` of `true` a number must be above or below the limit.
 ghost use Rattle.std.specs.Prelude.{◌≡◌, false, IfOk, IfSome};
 ghost use Rattle.serde_json.specs.View.{view, members_view};
 ghost use Rattle.jskw_report.specs.Compile.{Compiles, reading};
@@ -8,12 +8,40 @@ ghost use Rattle.jskw_report.specs.declared.keyword.KeywordName.TheVariants as w
 ghost use Rattle.jskw_number.specs.Meaning.{limit_of, number_keyword};
 
 use crate::helpers::has_true;
-use crate::minmax::{AtMost, Below, make};
+use crate::minmax::{Above, AtLeast, AtMost, Below, make};
 use crate::number::NumberValidator;
 use jskw_report::{CompilationResult, Context, KeywordName};
 use jskw_value::Json;
 use serde_json::{Map, Value};
 use std::alloc::Global;
+
+/// Compiles `minimum` for Draft 4, which must be the draft of `ctx`. Always returns `Some`.
+///
+/// If `parent` has an `exclusiveMinimum` of `true`, the limit is exclusive, and its errors are at
+/// the location of `exclusiveMinimum`. Any other value of `exclusiveMinimum` is ignored. The
+/// validator keeps `schema`: [`limit_value`](crate::minmax::Limit::limit_value) returns it.
+///
+/// # Errors
+///
+/// Fails if `schema` is not a limit, as [`minmax`](crate::minmax) says, or if memory runs out.
+#[tactic(auto, unfolding(jskw_report::specs::Read::asserted))]
+pub fn compile_minimum<'a, F: Json>(
+    alloc: Global,
+    ctx: &Context<'_, F>,
+    parent: &'a Map<String, Value>,
+    schema: &'a Value,
+) -> Option<CompilationResult<'a, NumberValidator>>
+    requires { is_after_draft_4 ctx.now.setting.draft ≡ false }
+    ensures keyword { Compiles number_keyword result
+        (reading word.Minimum ctx.now (members_view parent.now.entries) (view schema.now)) }
+    ensures value { IfSome result (λ r. IfOk r (λ v. limit_of v ≡ Some (view schema.now))) }
+{
+    if has_true(parent, KeywordName::ExclusiveMinimum) {
+        Some(make::<F, Above>(alloc, ctx, schema))
+    } else {
+        Some(make::<F, AtLeast>(alloc, ctx, schema))
+    }
+}
 
 /// Compiles `maximum` for Draft 4, which must be the draft of `ctx`. Always returns `Some`.
 ///
@@ -25,7 +53,7 @@ use std::alloc::Global;
 ///
 /// Fails if `schema` is not a limit, as [`minmax`](crate::minmax) says, or if memory runs out.
 #[tactic(auto, unfolding(jskw_report::specs::Read::asserted))]
-pub fn compile<'a, F: Json>(
+pub fn compile_maximum<'a, F: Json>(
     alloc: Global,
     ctx: &Context<'_, F>,
     parent: &'a Map<String, Value>,

@@ -1,5 +1,5 @@
 use Rattle.std.proofs.Common.{◌≡◌, map, take}
-use Rattle.jskw_leaf.proofs.required.names.NameList.new.Given as goal
+use Rattle.jskw_leaf.proofs.required.names.prepared.Given as goal
 
 -- the names so far
 abbrev pub invariant-loop-text : goal.invariant-loop-text
