@@ -1,27 +1,13 @@
 -- The values that a schema is known to accept, by its keywords.
 use Rattle.std.proofs.Common.{◌≡◌, ◌≢◌, ℕ, ◌+◌, ◌<◌, ◌≤◌, List, [], ◌∷◌, length, get_or, drop, Bool, true, false, ◌&&◌, Some, if◌then◌else◌, refl, sym, ap, ◌∙◌, arith}
 use Rattle.std.proofs.lemmas.Bool.{and_parts, true≢false}
-use Rattle.jskw_value.specs.Pointer.{Pointer}
-use Rattle.jskw_value.specs.Tree.{Tree}
-use Rattle.jskw_value.specs.declared.types.JsonType.TheVariants.{Array}
+use Rattle.jskw_array.specs.Words.{Array, CountsUpTo, Each, Failure, Pointer, Rest, Schema, TheUnit, Tree, all_hold, each_keyword, fail, false_schema, holds, is_empty, is_in, keywords_of, meaning_holds, needed, rest_keyword, schema_object, unit_meaning, validator_keyword}
 use Rattle.jskw_report.proofs.Elsewhere.{subject}
 use Rattle.jskw_report.proofs.Fails.{holds_empty}
-use Rattle.jskw_report.specs.Applications.{needed}
-use Rattle.jskw_report.specs.Fail.{Failure, fail, is_empty}
-use Rattle.jskw_report.specs.Holds.{all_hold, holds}
-use Rattle.jskw_report.specs.Keyword.{Schema, false_schema, schema_object}
-use Rattle.jskw_report.specs.Meaning.{meaning_holds}
-use Rattle.jskw_report.specs.Observe.{CountsUpTo}
-use Rattle.jskw_number.specs.QuickSet.{is_in}
 use Rattle.jskw_number.specs.declared.quick_set.QuickSet.{QuickSet}
 use Rattle.jskw_array.proofs.Keywords.{hold_at, keywords_end}
 use Rattle.jskw_array.proofs.Meant.{either}
 use Rattle.jskw_leaf.specs.declared.leaf.LeafValidator.{LeafValidator}
-use Rattle.jskw_array.specs.Meaning.{each_keyword, rest_keyword, validator_keyword}
-use Rattle.jskw_array.specs.Units.{keywords_of, unit_meaning}
-use Rattle.jskw_array.specs.declared.each.Each.{Each}
-use Rattle.jskw_array.specs.declared.rest.Rest.{Rest}
-use Rattle.jskw_array.specs.declared.unit.Unit.{Unit as TheUnit}
 use Rattle.jskw_array.specs.declared.validator.Validator.{Validator}
 use Rattle.jskw_array.specs.declared.validator.Validator.TheVariants as validator
 
@@ -81,8 +67,3 @@ no_errors s t p h = go (fail s t p) (sym (holds_empty s t p) ∙ h)
 pub counted_within : (old new n : ℕ) (b : Bool) → b ≡ true → 1 ≤ n → CountsUpTo old new (if b then 1 else 0) → CountsUpTo old new n
 counted_within old new n true is least counted = record { from = counted.from; to = omega (arith, least, counted.to) }
 counted_within old new n false is least counted = absurd (true≢false (sym is))
-
--- what was not accepted at once was not counted either
-pub counted_later : (old mid new n : ℕ) (b : Bool) → b ≡ false → CountsUpTo old mid (if b then 1 else 0) → CountsUpTo mid new n → CountsUpTo old new n
-counted_later old mid new n true is before later = absurd (true≢false is)
-counted_later old mid new n false is before later = record { from = omega (arith, before.from, later.from); to = omega (arith, before.to, later.to) }

@@ -1,17 +1,10 @@
 -- The observers of one schema agree.
 use Rattle.std.proofs.Common.{◌≡◌, List, ◌++◌, Bool, Result, Ok, Err, ap, ◌∙◌}
-use Rattle.jskw_value.specs.Pointer.{Pointer}
-use Rattle.jskw_value.specs.Tree.{Tree}
+use Rattle.jskw_array.specs.Words.{Agree, Appends, IsFirst, Pointer, Schema, Tree, fail, failures_of, holds, is_empty}
 use Rattle.jskw_report.proofs.Fails.{holds_empty}
-use Rattle.jskw_report.specs.Errors.{failures_of}
-use Rattle.jskw_report.specs.Fail.{fail, is_empty}
-use Rattle.jskw_report.specs.Holds.{holds}
-use Rattle.jskw_report.specs.Keyword.{Schema}
-use Rattle.jskw_report.specs.Observe.{Appends, IsFirst}
 use Rattle.jskw_report.specs.declared.error.Fault.{Fault}
 use Rattle.jskw_report.specs.declared.error.Fault.TheVariants.{Invalid, Memory}
 use Rattle.jskw_report.specs.declared.error.ValidationError.{ValidationError}
-use Rattle.jskw_array.specs.Agreement.{Agree}
 
 pub agreed : {F N O P E : Type 0} (tree : N → Tree) (s : Schema) (t : Tree) (p : Pointer) (is_valid : Bool) (first : Result Unit (Fault F N O P)) (all : Result Unit E) (old new : List (ValidationError F N O P))
     → is_valid ≡ holds s t → IsFirst tree (fail s t p) first → Appends tree old new (fail s t p) all → Agree tree is_valid first all old new

@@ -1,17 +1,6 @@
 -- What the schema of a bare type check says: what its assertion says.
 use Rattle.std.proofs.Common.{◌≡◌, List, [], ◌∷◌, true, false, ◌&&◌, refl, ap, ◌∙◌, append-nil, map}
-use Rattle.std.specs.List.{list_all}
-use Rattle.jskw_value.specs.Pointer.{Pointer}
-use Rattle.jskw_value.specs.Tree.{Tree}
-use Rattle.jskw_value.specs.declared.types.JsonType.{JsonType}
-use Rattle.jskw_report.specs.Fail.{fail, keyword_fail, unless}
-use Rattle.jskw_report.specs.Holds.{assertion_holds, holds}
-use Rattle.jskw_report.specs.Keyword.{Integers, type_is}
-use Rattle.jskw_report.specs.Kind.{WrongType}
-use Rattle.jskw_report.specs.Meaning.{Placed, placed}
-use Rattle.jskw_report.specs.declared.error.TypeKind.TheVariants.{Single}
-use Rattle.jskw_leaf.specs.Meaning.{type_at}
-use Rattle.jskw_array.specs.Meaning.{bare_schema}
+use Rattle.jskw_array.specs.Words.{Integers, JsonType, Placed, Pointer, Single, Tree, WrongType, assertion_holds, bare_schema, fail, holds, keyword_fail, list_all, placed, type_at, type_is, unless}
 
 module _ (q : Pointer) (a : Placed) where
   pub bare_holds : (t : Tree) → holds (bare_schema q a) t ≡ assertion_holds a.claim t

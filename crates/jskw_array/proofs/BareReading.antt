@@ -2,25 +2,10 @@
 use Rattle.std.proofs.Common.{◌≡◌, ℕ, List, Option, Some, None, option_map, unwrap_or, Ok, Bool, true, false, ◌&&◌, ◌||◌, bytes_eq, refl, sym, ap, ◌∙◌}
 use Rattle.std.proofs.lemmas.Bool.{and_parts, and_right, false≢true}
 use Rattle.std.proofs.lemmas.Slice.Eq.{bytes_eq-Decides}
-use Rattle.std.specs.List.{list_all}
-use Rattle.std.specs.Option.{option_map_or}
-use Rattle.serde_json.specs.Data.{Data, string, object, no_members, member}
-use Rattle.serde_json.specs.Find.{as_str, get}
-use Rattle.jskw_value.specs.Pointer.{Pointer}
-use Rattle.jskw_value.specs.Types.{type_name, type_named}
-use Rattle.jskw_value.specs.declared.types.JsonType.{JsonType}
-use Rattle.jskw_value.specs.declared.types.JsonType.TheVariants.{Array, Boolean, Integer, Number, String}
-use Rattle.jskw_report.specs.Keyword.{Integers, by_value, Keyword, items_from}
-use Rattle.jskw_report.specs.KeywordValue.{map_ok}
-use Rattle.jskw_report.specs.Read.{integers_of, keyword_location, read, read_word, asserted}
-use Rattle.jskw_report.specs.Setting.{Setting, name_of, stands}
-use Rattle.jskw_report.specs.Sibling.{has_keyword, is_absent, is_fused, is_handed_on, is_inlined_type, is_items_schema, is_only_type, is_string, takes_size, unfused_names}
-use Rattle.jskw_report.specs.declared.error.TypeKind.TheVariants.{Single}
+use Rattle.jskw_array.specs.Words.{Array, Boolean, Data, Integer, Integers, JsonType, Keyword, Number, Pointer, Setting, Single, String, as_str, asserted, bare_items, bare_schema, by_value, get, has_keyword, integers_of, is_absent, is_fused, is_handed_on, is_inlined_type, is_items_schema, is_only_type, is_string, items_from, keyword_location, list_all, map_ok, member, name_of, no_members, object, option_map_or, read, read_word, stands, string, takes_size, type_at, type_name, type_named, unfused_names}
 use Rattle.jskw_report.specs.declared.keyword.KeywordName.TheVariants.{Items, MaxItems, MinItems, TypeKeyword}
 use Rattle.jskw_report.specs.declared.settings.Draft.{Draft}
 use Rattle.jskw_report.specs.declared.settings.Draft.TheVariants.{Draft4}
-use Rattle.jskw_leaf.specs.Meaning.{type_at}
-use Rattle.jskw_array.specs.Meaning.{bare_items, bare_schema}
 
 -- the object whose one member is `type` with that name
 abbrev pub typed : List ℕ → Data

@@ -3,14 +3,9 @@ use Rattle.std.proofs.Common.{◌≡◌, ℕ, List, Some, None, Ordering, nat_cm
 use Rattle.std.proofs.lemmas.Map.Text.{is_eq-slice_cmp}
 use Rattle.std.proofs.lemmas.Slice.Eq.{bytes_eq-Decides}
 use Rattle.std.specs.Cmp.Lexicographic.{slice_cmp}
-use Rattle.std.specs.Option.{option_map_or}
+use Rattle.jskw_array.specs.Words.{Data, Members, as_str, get_member, is_inlined_type, is_only_type, member, members_len, name_of, no_members, object, option_map_or, string}
 use Rattle.std.specs.Ordering.{match_ordering}
 use Rattle.std.specs.declared.cmp.Ordering.TheVariants.{Less, Equal, Greater}
-use Rattle.serde_json.specs.Data.{Data, string, object, Members, no_members, member}
-use Rattle.serde_json.specs.Events.{members_len}
-use Rattle.serde_json.specs.Find.{get_member, as_str}
-use Rattle.jskw_report.specs.Setting.{name_of}
-use Rattle.jskw_report.specs.Sibling.{is_inlined_type, is_only_type}
 use Rattle.jskw_report.specs.declared.keyword.KeywordName.TheVariants.{TypeKeyword}
 
 -- a text alone names a type

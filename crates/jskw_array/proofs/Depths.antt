@@ -3,9 +3,7 @@ use Rattle.std.proofs.Common.{◌≡◌, ℕ, zero, suc, ◌<◌, ◌≤◌, max
 use Rattle.std.specs.Ordering.{nat_cmp, match_ordering}
 use Rattle.std.specs.declared.cmp.Ordering.TheVariants.{Less, Equal, Greater}
 use Rattle.std.specs.Cmp.Lexicographic.{slice_cmp}
-use Rattle.serde_json.specs.Data.{Data, array, Items, Members, no_members, member, depth, items_depth, members_depth}
-use Rattle.serde_json.specs.Find.{get_member, as_array}
-use Rattle.serde_json.specs.View.{view, items_view}
+use Rattle.jskw_array.specs.Words.{Data, Items, Members, array, as_array, depth, get_member, items_depth, items_view, member, members_depth, no_members, view}
 use Rattle.serde_json.specs.declared.value.Value.{Value}
 
 same_value : (x d : Data) → Some x ≡ Some d → x ≡ d

@@ -1,15 +1,9 @@
 -- The schemas of an array that are compiled one after another are those that are read.
 use Rattle.std.proofs.Common.{◌≡◌, ℕ, ◌+◌, ◌<◌, ◌≤◌, List, [], ◌∷◌, ◌++◌, length, get_or, drop, Vec, Global, Result, Ok, Err, refl, sym, ap, ◌∙◌, arith}
 use Rattle.std.proofs.lemmas.List.{drop_all}
-use Rattle.serde_json.specs.View.{view, items_view}
+use Rattle.jskw_array.specs.Words.{Pointer, Reading, Refusal, Schema, Schemas, Setting, item_location, items_view, join_ok, map_ok, no_schemas, read, read_each, schema, schemas_of, view}
 use Rattle.serde_json.specs.declared.value.Value.{Value}
-use Rattle.jskw_value.specs.Pointer.{Pointer, item_location}
 use Rattle.jskw_report.proofs.Gathering.{drop_here}
-use Rattle.jskw_report.specs.Keyword.{Schema, Schemas, no_schemas, schema}
-use Rattle.jskw_report.specs.KeywordValue.{Refusal, map_ok, join_ok}
-use Rattle.jskw_report.specs.Read.{Reading, read, read_each}
-use Rattle.jskw_report.specs.Setting.{Setting}
-use Rattle.jskw_array.specs.Meaning.{schemas_of}
 
 -- ---- schemas that are put together
 

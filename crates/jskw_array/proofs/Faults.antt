@@ -1,7 +1,6 @@
 -- A fault that is handed on is the refusal of the whole.
 use Rattle.std.proofs.Common.{◌≡◌, Option, Result, Ok, Err, IsErrAnd, sym, subst}
-use Rattle.jskw_report.specs.Compile.{Compiles, Makes, refusal_of}
-use Rattle.jskw_report.specs.KeywordValue.{Refusal}
+use Rattle.jskw_array.specs.Words.{Compiles, Makes, Refusal, refusal_of}
 use Rattle.jskw_report.specs.declared.error.CompileFault.{CompileFault}
 use Rattle.jskw_report.specs.declared.error.CompileFault.TheVariants.{Bad, Memory}
 
@@ -10,6 +9,11 @@ pub refused_whole : {V W K L : Type 0} (means : V → K) (whole : W → L) (x : 
     → Makes means (Err x) part → ((r : Refusal) → part ≡ Err r → all ≡ Err r) → Makes whole (Err x) all
 refused_whole means whole (Bad b) part all made then = (then (refusal_of b) made.0, made.1)
 refused_whole means whole (Memory m) part all made then = tt
+
+-- the same of a result that was a refusal
+pub refused_part : {V W K L : Type 0} (means : V → K) (whole : W → L) (x : CompileFault) (r : Result V CompileFault) (part : Result K Refusal) (all : Result L Refusal)
+    → r ≡ Err x → Makes means r part → ((refusal : Refusal) → part ≡ Err refusal → all ≡ Err refusal) → Makes whole (Err x) all
+refused_part means whole x r part all is made then = refused_whole means whole x part all (subst (λ y. Makes means y part) is made) then
 
 -- the same of what `?` hands on
 pub passed_on : {W L : Type 0} (whole : W → L) (x : CompileFault) (r : Result W CompileFault) (all : Result L Refusal) → IsErrAnd r (λ y. y ≡ x) → Makes whole (Err x) all → Makes whole r all

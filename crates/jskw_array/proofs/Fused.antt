@@ -1,20 +1,8 @@
 -- The keywords of the fused shape of an array.
 use Rattle.std.proofs.Common.{◌≡◌, ℕ, ◌≤◌, length, Option, Some, None, List, [], ◌++◌, map, Bool, Result, Ok, Err, IsErrAnd, refl, subst, sym, ap, ◌∙◌, append_assoc, append-nil, arith}
-use Rattle.jskw_value.specs.Pointer.{Pointer}
-use Rattle.jskw_value.specs.Tree.{Tree}
-use Rattle.jskw_value.specs.declared.types.JsonType.TheVariants.{Array}
-use Rattle.jskw_number.specs.Meaning.{max_items, min_items}
-use Rattle.jskw_number.specs.declared.max_items.MaxItemsValidator.{MaxItemsValidator}
-use Rattle.jskw_number.specs.declared.min_items.MinItemsValidator.{MinItemsValidator}
+use Rattle.jskw_array.specs.Words.{Array, ErrorKind, Extends, Failure, MaxItems, MinItems, Placed, Pointer, Single, Size, Tree, WrongType, absorbed_type, all_fail, assertion_holds, error_kinds, failures_unless, keyword_fail, max_items, min_items, optional, placed, size, size_kind, unless}
+use Rattle.jskw_number.specs.declared.sizes.SizeLimit.{SizeLimit}
 use Rattle.jskw_report.proofs.Once.{fails_at_most_once}
-use Rattle.jskw_report.specs.Fail.{Failure, all_fail, error_kinds, keyword_fail, size_kind, unless}
-use Rattle.jskw_report.specs.Holds.{assertion_holds}
-use Rattle.jskw_report.specs.Keyword.{Size, MinItems, MaxItems, size}
-use Rattle.jskw_report.specs.Kind.{ErrorKind, WrongType}
-use Rattle.jskw_report.specs.Meaning.{Placed, placed}
-use Rattle.jskw_report.specs.Observe.{failures_unless}
-use Rattle.jskw_report.specs.declared.error.TypeKind.TheVariants.{Single}
-use Rattle.jskw_array.specs.Fused.{Extends, absorbed_type, optional}
 use Rattle.jskw_array.specs.declared.items.absorbed.AbsorbedKeywords.{AbsorbedKeywords}
 
 -- ---- each keyword beside `items` fails at most once
@@ -28,11 +16,11 @@ size_once which n q t p = fails_at_most_once (record { location = q; claim = siz
 alone : (fs : List Failure) → length fs ≤ 1 → length (fs ++ []) ≤ 1
 alone fs once = subst (λ gs. length gs ≤ 1) (sym (append-nil fs)) once
 
-pub min_once : (o : Option MinItemsValidator) (t : Tree) (p : Pointer) → length (all_fail (optional min_items o) t p) ≤ 1
+pub min_once : {A L : ℕ} (o : Option (SizeLimit A L)) (t : Tree) (p : Pointer) → length (all_fail (optional min_items o) t p) ≤ 1
 min_once None t p = omega arith
 min_once (Some v) t p = alone (keyword_fail (placed (min_items v)) t p) (size_once MinItems v.limit v.location t p)
 
-pub max_once : (o : Option MaxItemsValidator) (t : Tree) (p : Pointer) → length (all_fail (optional max_items o) t p) ≤ 1
+pub max_once : {A L : ℕ} (o : Option (SizeLimit A L)) (t : Tree) (p : Pointer) → length (all_fail (optional max_items o) t p) ≤ 1
 max_once None t p = omega arith
 max_once (Some v) t p = alone (keyword_fail (placed (max_items v)) t p) (size_once MaxItems v.limit v.location t p)
 

@@ -2,30 +2,13 @@
 use Rattle.std.proofs.Common.{◌≡◌, ◌∙◌, List, [], ◌∷◌, ◌++◌, Option, Some, None, Result, Ok, Err, Bool, true, false, ◌&&◌, ◌||◌, refl, ap, ap₂, sym, is_none}
 use Rattle.std.proofs.lemmas.Bool.{and_parts}
 use Rattle.std.proofs.lemmas.Slice.Eq.{bytes_eq-Decides}
-use Rattle.std.specs.List.{list_all}
-use Rattle.std.specs.Option.{option_map_or}
-use Rattle.serde_json.specs.Data.{Data, Members, string}
-use Rattle.serde_json.specs.Find.{get_member}
-use Rattle.jskw_value.specs.Pointer.{Pointer}
-use Rattle.jskw_value.specs.Types.{type_name}
-use Rattle.jskw_value.specs.declared.types.JsonType.TheVariants.{Array}
+use Rattle.jskw_array.specs.Words.{Array, Data, Keyword, KeywordName, Keywords, MaxItems, Members, MinItems, Placed, Pointer, Refusal, Setting, Single, Size, Spot, append_keywords, asserted, assertion, before, by_value, fused_words, get_member, has_keyword, integers_of, is_absent, is_bare, is_fused, is_items_schema, is_size, is_string, items_from, items_start, join_ok, keyword, keyword_location, list_all, map_ok, member_passes, name_of, no_keywords, option_map_or, optional, part, part_named, placed, read, read_word, read_words, reading, size, size_keyword, size_value, stands, string, takes_size, type_at, type_is, type_keyword, type_name, unfused_names}
 use Rattle.jskw_report.proofs.Appended.{read_appended}
 use Rattle.jskw_report.proofs.Reading.{read_absent, read_standing}
-use Rattle.jskw_report.specs.Compile.{reading}
-use Rattle.jskw_report.specs.Keyword.{Keyword, Keywords, Size, MinItems, MaxItems, size, append_keywords, assertion, by_value, items_from, keyword, no_keywords, type_is}
-use Rattle.jskw_report.specs.KeywordValue.{Refusal, join_ok, map_ok, size_value}
-use Rattle.jskw_report.specs.Meaning.{Placed, placed}
-use Rattle.jskw_report.specs.Read.{asserted, before, integers_of, items_start, keyword_location, part, part_named, read, read_word, read_words, size_keyword, type_keyword}
-use Rattle.jskw_report.specs.Setting.{Setting, Spot, name_of, stands}
-use Rattle.jskw_report.specs.Sibling.{has_keyword, is_absent, is_bare, is_fused, is_items_schema, is_size, is_string, member_passes, takes_size, unfused_names}
-use Rattle.jskw_report.specs.declared.error.TypeKind.TheVariants.{Single}
-use Rattle.jskw_report.specs.declared.keyword.KeywordName.{KeywordName}
 use Rattle.jskw_report.specs.declared.keyword.KeywordName.TheVariants as word
 use Rattle.jskw_report.specs.declared.settings.Draft.{Draft}
 use Rattle.jskw_report.specs.declared.settings.Draft.TheVariants.{Draft4}
-use Rattle.jskw_leaf.specs.Meaning.{type_at}
 use Rattle.jskw_array.proofs.Readings.{items_of_one}
-use Rattle.jskw_array.specs.Fused.{fused_words, optional}
 
 -- ---- what holds of a fused schema
 

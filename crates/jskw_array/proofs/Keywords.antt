@@ -3,24 +3,10 @@ use Rattle.std.proofs.Common.{◌≡◌, ℕ, zero, suc, ◌+◌, ◌<◌, ◌�
 use Rattle.std.proofs.Math.Bool.{and-true}
 use Rattle.std.proofs.lemmas.List.{drop_all}
 use Rattle.std.specs.Borrow.{Bor}
-use Rattle.jskw_value.specs.Pointer.{Pointer}
-use Rattle.jskw_value.specs.Tree.{Tree}
+use Rattle.jskw_array.specs.Words.{ArrayShapeValidator, Evaluation, HasUnits, Keywords, OfKeyword, Pointer, Schema, Shape, TheUnit, Tree, absorbed_by, absorbed_keywords, all_fail, all_hand_on, all_height, all_hold, all_needed, all_pairs, fail, false_schema, height, holds, is_empty, keyword, keyword_height, keywords_of, meaning_fail, meaning_holds, meaning_needed, meaning_pairs, meaning_unit, needed, no_keywords, node_at, of_children, of_errors, pairs, schema_location, schema_object, shape_keywords, tree, unit_hands_on, unit_location, unit_meaning, units, validator_keyword}
 use Rattle.jskw_report.proofs.Appended.{fail_appended, hand_on_appended, height_appended, hold_appended, needed_appended, pairs_appended, units_appended}
 use Rattle.jskw_report.proofs.Fails.{all_empty, keyword_empty}
 use Rattle.jskw_report.proofs.Gathering.{drop_here}
-use Rattle.jskw_report.specs.Applications.{needed, pairs, all_needed, all_pairs, height, all_height, keyword_height}
-use Rattle.jskw_report.specs.Evaluation.{Evaluation, node_at, of_children, of_errors, tree, units}
-use Rattle.jskw_report.specs.Fail.{all_fail, fail, is_empty}
-use Rattle.jskw_report.specs.Holds.{holds, all_hold}
-use Rattle.jskw_report.specs.Keyword.{Schema, Keywords, all_hand_on, false_schema, schema_location, schema_object, keyword, no_keywords}
-use Rattle.jskw_report.specs.Meaning.{meaning_fail, meaning_holds, meaning_needed, meaning_pairs, meaning_unit}
-use Rattle.jskw_array.specs.Fused.{absorbed_keywords, shape_keywords}
-use Rattle.jskw_array.specs.Meaning.{validator_keyword}
-use Rattle.jskw_array.specs.Node.{HasUnits}
-use Rattle.jskw_array.specs.Units.{absorbed_by, keywords_of, unit_hands_on, unit_location, unit_meaning}
-use Rattle.jskw_array.specs.declared.items.array_shape.ArrayShapeValidator.{ArrayShapeValidator}
-use Rattle.jskw_array.specs.declared.unit.Unit.{Unit as TheUnit}
-use Rattle.jskw_array.specs.declared.unit.Unit.TheVariants.{Keyword as OfKeyword, Shape}
 
 -- `items` of a fused shape
 abbrev pub items_keywords : {F N O P : Type 0} → ArrayShapeValidator F N O P → Keywords

@@ -1,17 +1,10 @@
 -- The error of `contains`, and how often its schema is applied.
 use Rattle.std.proofs.Common.{◌≡◌, ◌≤◌, ◌+◌, ◌∙◌, ℕ, suc, List, [], ◌∷◌, length, map, sum_by, count_by, nat_le, Bool, true, false, cond, Some, None, refl, sym, ap, arith, zero-add, if◌then◌else◌}
 use Rattle.std.proofs.lemmas.List.Sums.{sum_by-cons, sum_by-le-sum_by}
-use Rattle.jskw_value.specs.Pointer.{Pointer}
-use Rattle.jskw_value.specs.Tree.{Tree, is_array, items}
+use Rattle.jskw_array.specs.Words.{Bounds, Evaluation, Failure, Pointer, Schema, Tree, contains, evaluate_matching, failing_bound, failing_locations, holds, indices, is_array, is_empty, items, keyword_fail, keyword_holds, matching_indices, matching_result, needed, of_errors, pairs, passes, tree, unit}
 use Rattle.jskw_report.proofs.Counts.{needed-le}
 use Rattle.jskw_report.proofs.Fails.{keyword_empty}
-use Rattle.jskw_report.specs.Applications.{needed, pairs}
-use Rattle.jskw_report.specs.Evaluation.{Evaluation, evaluate_matching, indices, matching_indices, of_errors, tree, unit}
-use Rattle.jskw_report.specs.Fail.{Failure, failing_bound, keyword_fail, is_empty, passes}
-use Rattle.jskw_report.specs.Holds.{holds, keyword_holds}
 use Rattle.jskw_report.specs.Kind as kind
-use Rattle.jskw_report.specs.Keyword.{Schema, Bounds, contains}
-use Rattle.jskw_array.specs.Limits.{failing_locations, matching_result}
 
 at_most_one : (f : Pointer → Failure) (b : Bounds) (array over low : Bool)
     → length (if array then map f (if over then b.many ∷ [] else (if low then [] else b.few ∷ [])) else []) ≤ 1

@@ -1,18 +1,7 @@
 -- What a validator with subschemas says, whichever keyword it is of.
 use Rattle.std.proofs.Common.{◌≡◌, ◌∙◌, Bool, true, false, None, if◌then◌else◌, refl, ap, length, drop, sum_by}
-use Rattle.std.specs.List.{list_all}
-use Rattle.jskw_value.specs.Pointer.{Pointer}
-use Rattle.jskw_value.specs.Tree.{Tree, items}
-use Rattle.jskw_report.specs.Applications.{each_needed, each_pairs, keyword_needed, keyword_pairs, needed, pairs, sum_to_failure}
-use Rattle.jskw_report.specs.Evaluation.{evaluate_pairs, of_children, prefix_annotation, unit}
-use Rattle.jskw_report.specs.Fail.{each_fails, each_item, fail, keyword_fail}
-use Rattle.jskw_report.specs.Holds.{each_holds, holds, keyword_holds}
-use Rattle.jskw_report.specs.Keyword.{each_hands_on, hands_on_required, keyword_hands_on}
-use Rattle.jskw_report.specs.Meaning.{is_assertion, one}
-use Rattle.jskw_array.specs.Meaning.{each_keyword, each_of, rest_keyword, schemas_of}
+use Rattle.jskw_array.specs.Words.{Each, Pointer, Rest, Tree, each_fails, each_hands_on, each_holds, each_item, each_keyword, each_needed, each_of, each_pairs, evaluate_pairs, fail, hands_on_required, holds, is_assertion, items, keyword_fail, keyword_hands_on, keyword_holds, keyword_needed, keyword_pairs, list_all, needed, of_children, one, pairs, prefix_annotation, rest_keyword, schemas_of, sum_to_failure, unit}
 use Rattle.jskw_array.proofs.Meetings.{count_of}
-use Rattle.jskw_array.specs.declared.each.Each.{Each}
-use Rattle.jskw_array.specs.declared.rest.Rest.{Rest}
 
 -- what is said of either of two things
 pub either : {A B : Type 0} (f : A → B) (z : B) (b : Bool) (x y : A) → f x ≡ z → f y ≡ z → f (if b then x else y) ≡ z

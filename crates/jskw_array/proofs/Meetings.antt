@@ -3,18 +3,10 @@ use Rattle.std.proofs.Common.{◌≡◌, ℕ, zero, suc, ◌+◌, ◌<◌, ◌�
 use Rattle.std.proofs.Math.Seq.{drop-nil}
 use Rattle.std.proofs.lemmas.List.{drop_all}
 use Rattle.std.proofs.lemmas.List.Sums.{sum_by-cons}
-use Rattle.std.specs.List.{list_all}
-use Rattle.jskw_value.specs.Pointer.{Pointer, item_location}
-use Rattle.jskw_value.specs.Tree.{Tree, items}
+use Rattle.jskw_array.specs.Words.{Failure, Pointer, Schema, Schemas, Tree, each_fails, each_height, each_holds, each_item, each_needed, each_pairs, evaluate_pairs, fail, height, holds, item_location, list_all, needed, no_schemas, pairs, path_of, schema, schemas_of, sum_to_failure}
 use Rattle.jskw_report.proofs.Gathering.{drop_here}
 use Rattle.jskw_report.proofs.Pointers.{path_of_push}
-use Rattle.jskw_report.specs.Applications.{needed, pairs, each_needed, each_pairs, sum_to_failure, height, each_height}
-use Rattle.jskw_report.specs.Evaluation.{evaluate_pairs, schema_count}
-use Rattle.jskw_report.specs.Fail.{Failure, fail, each_fails, each_item}
-use Rattle.jskw_report.specs.Holds.{holds, each_holds}
-use Rattle.jskw_report.specs.Keyword.{Schema, Schemas, no_schemas, schema}
-use Rattle.jskw_report.specs.Paths.{path_of}
-use Rattle.jskw_array.specs.Meaning.{schemas_of}
+use Rattle.jskw_report.specs.Evaluation.{schema_count}
 
 -- where an item stands that was entered
 pub entered : {new now old : List ℕ} (i : ℕ) → new ≡ now ++ i ∷ [] → now ≡ old → path_of new ≡ item_location (path_of old) i

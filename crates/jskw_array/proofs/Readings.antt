@@ -1,25 +1,9 @@
 -- What is read of the keywords with subschemas, by the forms of their values.
 use Rattle.std.proofs.Common.{◌≡◌, ℕ, Bool, true, false, not, ◌&&◌, if◌then◌else◌, Option, Some, None, Ok, refl, ap, ◌∙◌, rules}
-use Rattle.std.specs.Option.{option_map_or}
-use Rattle.serde_json.specs.Data.{Data, boolean, array, object, Items, Members}
-use Rattle.serde_json.specs.Events.{items_len}
-use Rattle.serde_json.specs.Find.{get_member, as_array, as_bool}
-use Rattle.serde_json.specs.View.{view}
+use Rattle.jskw_array.specs.Words.{Array, Bounds, Data, Items, KeywordName, Members, Pointer, Setting, Spot, additional_items, additional_keyword, array, as_array, as_bool, asserted, assertion, asserts, at_most, boolean, boolean_schema, contains, get_member, is_2020_12, is_bare, is_items_schema, is_leaf, is_list as is_array, is_only_type, item_count, items_from, items_len, items_list, items_start, join_ok, keyword_location, member_passes, name_of, object, of_type, option_map_or, part, prefix_items, read, read_bounds, read_each, reading, schema_count, stands, view, wrong}
 use Rattle.serde_json.specs.declared.value.Value.{the_lemmas}
 use Rattle.serde_json.specs.declared.value.Value.TheVariants as value
-use Rattle.jskw_value.specs.Pointer.{Pointer}
-use Rattle.jskw_value.specs.declared.types.JsonType.TheVariants.{Array}
-use Rattle.jskw_report.specs.Compile.{reading}
-use Rattle.jskw_report.specs.Keyword.{Bounds, additional_items, assertion, at_most, contains, items_from, items_list, prefix_items}
-use Rattle.jskw_report.specs.KeywordValue.{join_ok, of_type, wrong}
-use Rattle.jskw_report.specs.Read.{additional_keyword, asserted, asserts, items_start, keyword_location, part, read, read_bounds, read_each}
-use Rattle.jskw_report.specs.Setting.{Setting, Spot, is_2020_12, name_of, stands}
-use Rattle.jskw_report.specs.Sibling.{is_array, is_bare, is_items_schema, is_only_type, item_count, member_passes}
-use Rattle.jskw_leaf.specs.Names.{is_leaf}
-use Rattle.jskw_report.specs.declared.keyword.KeywordName.{KeywordName}
 use Rattle.jskw_report.specs.declared.keyword.KeywordName.TheVariants as word
-use Rattle.jskw_array.specs.Node.{boolean_schema}
-use Rattle.jskw_array.specs.Siblings.{schema_count}
 use Rattle.jskw_array.proofs.Depths.{same_items}
 
 -- ---- `items`

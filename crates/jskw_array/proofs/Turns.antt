@@ -1,23 +1,12 @@
 -- A schema's keywords that are compiled one after another are those that are read.
 use Rattle.std.proofs.Common.{◌≡◌, ℕ, ◌+◌, ◌<◌, ◌≤◌, List, [], IfOk, length, drop, get_or, Bool, true, false, Option, Some, None, Result, Ok, Err, if◌then◌else◌, refl, ap, sym, ◌∙◌}
 use Rattle.std.proofs.lemmas.List.{at_drop_more, drop_all}
-use Rattle.serde_json.specs.Data.{Data, Members, depth, members_depth}
-use Rattle.serde_json.specs.Find.{get_member}
-use Rattle.jskw_value.specs.Pointer.{Pointer}
+use Rattle.jskw_array.specs.Words.{Asserts, Compiles, Data, Keyword, KeywordName, Keywords, Makes, Members, Part, Pointer, Refusal, Setting, Spot, TheUnit, active_member, after, append_keywords, before, depth, get_member, keyword, keyword_location, keywords_of, members_depth, name_of, no_keywords, part_named, read_word, read_words, reading, stands}
 use Rattle.jskw_report.proofs.Appended.{append_append, append_none}
 use Rattle.jskw_report.proofs.Reading.{read_absent, read_not_standing, read_standing}
-use Rattle.jskw_report.specs.Compile.{Compiles, Makes, reading}
-use Rattle.jskw_report.specs.KeywordValue.{Refusal}
-use Rattle.jskw_report.specs.Keyword.{Keyword, Keywords, no_keywords, keyword, append_keywords}
-use Rattle.jskw_report.specs.Read.{Asserts, Part, before, keyword_location, part_named, read_word, read_words}
-use Rattle.jskw_report.specs.Setting.{Setting, Spot, name_of, stands}
 use Rattle.jskw_report.specs.declared.error.CompileFault.{CompileFault}
-use Rattle.jskw_report.specs.declared.keyword.KeywordName.{KeywordName}
 use Rattle.jskw_array.proofs.Depths.{member_depth}
 use Rattle.jskw_array.proofs.Faults.{refused_whole}
-use Rattle.jskw_array.specs.Siblings.{active_member}
-use Rattle.jskw_array.specs.Units.{after, keywords_of}
-use Rattle.jskw_array.specs.declared.unit.Unit.{Unit as TheUnit}
 
 -- ---- keywords that are put together
 

@@ -1,18 +1,12 @@
 -- The keywords of units that are put together.
 use Rattle.std.proofs.Common.{◌≡◌, ℕ, ◌+◌, ◌<◌, ◌≤◌, List, [], ◌∷◌, ◌++◌, length, get_or, drop, Vec, Global, false, ◌||◌, refl, ap, sym, ◌∙◌, arith}
 use Rattle.std.specs.Borrow.{Bor}
-use Rattle.std.specs.Prelude.{Option, Some, None, IfSome}
+use Rattle.jskw_array.specs.Words.{ArrayShapeValidator, Begins, IfSome, IsShape, Keywords, OfKeyword, Schema, Shape, Some, TheUnit, all_hand_on, append_keywords, begin_fused, each_hands_on, hands_on_required, is_shape, keyword, keywords_of, no_keywords, schemas_of, shape_keywords, validator_keyword}
+use Rattle.std.specs.Prelude.{Option, None}
 use Rattle.std.proofs.lemmas.List.{drop_all}
 use Rattle.jskw_report.proofs.Appended.{append_append}
 use Rattle.jskw_report.proofs.Gathering.{drop_here}
-use Rattle.jskw_report.specs.Keyword.{Schema, Keywords, append_keywords, keyword, no_keywords, all_hand_on, each_hands_on, hands_on_required}
-use Rattle.jskw_array.specs.Meaning.{schemas_of, validator_keyword}
-use Rattle.jskw_array.specs.Fused.{Begins, shape_keywords}
-use Rattle.jskw_array.specs.declared.items.array_shape.ArrayShapeValidator.{ArrayShapeValidator}
-use Rattle.jskw_array.specs.Units.{IsShape, begin_fused, is_shape, keywords_of}
 use Rattle.jskw_array.specs.declared.unit.PlacedValidator.{PlacedValidator}
-use Rattle.jskw_array.specs.declared.unit.Unit.{Unit as TheUnit}
-use Rattle.jskw_array.specs.declared.unit.Unit.TheVariants.{Keyword as OfKeyword, Shape}
 
 -- one unit more
 pub keywords_of_more : {F N O P : Type 0} (us : List (TheUnit F N O P)) (k : PlacedValidator F N O P)

@@ -6,3 +6,4 @@ pub mod Node
 pub mod Heights
 pub mod Siblings
 pub mod Agreement
+pub mod Words

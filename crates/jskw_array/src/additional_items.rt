@@ -1,13 +1,8 @@
 //! `additionalItems` (Draft 7 Validation 6.4.2): the schema of the items for which `items` has no
 //! schema.
-ghost use Rattle.std.specs.Prelude.{Ok, refl};
-ghost use Rattle.serde_json.specs.View.{view, members_view};
-ghost use Rattle.jskw_report.specs.Compile.{Compiles, Makes, reading};
-ghost use Rattle.jskw_report.specs.Keyword.{assertion, at_most};
-ghost use Rattle.jskw_report.specs.Kind.{AdditionalItems};
-ghost use Rattle.jskw_report.specs.Read.{keyword_location};
-ghost use Rattle.jskw_report.specs.declared.keyword.KeywordName.TheVariants as word;
-ghost use Rattle.jskw_array.specs.Meaning.{no_additional_items, validator_keyword};
+ghost use Rattle.jskw_array.specs.Words.{AdditionalItems, Compiles, Ok, assertion, at_most};
+ghost use Rattle.jskw_array.specs.Words.{keyword_location, members_view, no_additional_items};
+ghost use Rattle.jskw_array.specs.Words.{reading, refl, validator_keyword, view};
 
 use crate::compiler::{compile_at, schema_count};
 use crate::rest::{Rest, of_schema};
@@ -69,7 +64,7 @@ pub fn compile<'a, F: Json>(
     schema: &'a Value,
 ) -> Option<CompilationResult<'a, Validator<F>>>
     ensures { Compiles validator_keyword result
-        (reading word.AdditionalItems ctx.now (members_view parent.now.entries)
+        (reading KeywordName.AdditionalItems ctx.now (members_view parent.now.entries)
         (view schema.now)) }
 {
     let Some(items_count) = schema_count(parent, "items") else {
@@ -92,7 +87,7 @@ fn no_more<'a, F: Json>(
     items_count: usize,
 ) -> Option<CompilationResult<'a, Validator<F>>>
     ensures { Compiles validator_keyword result (Some (Ok (assertion
-        (keyword_location ctx.now.location word.AdditionalItems) (at_most items_count)))) }
+        (keyword_location ctx.now.location KeywordName.AdditionalItems) (at_most items_count)))) }
 {
     match ctx.keyword_location(alloc, KeywordName::AdditionalItems) {
         Ok(location) => Some(Ok(Validator::AdditionalItemsBoolean(

@@ -1,22 +1,14 @@
 //! Compiles schemas, keyword by keyword.
-ghost use Rattle.std.specs.Prelude.{◌≡◌, ◌++◌, [], ◌∷◌, Err, IfOk, IsTrue, Ok, Result, Some};
-ghost use Rattle.std.specs.Prelude.{option_map, true};
-ghost use Rattle.serde_json.specs.Data.{object};
-ghost use Rattle.serde_json.specs.Find.{get_member};
-ghost use Rattle.serde_json.specs.View.{view, items_view, members_view};
-ghost use Rattle.jskw_value.specs.declared.types.JsonType.TheVariants.{Boolean, Object};
-ghost use Rattle.jskw_report.specs.Compile.{Compiles, Makes, reading};
-ghost use Rattle.jskw_report.specs.Keyword.{Keywords, Schema, no_keywords};
-ghost use Rattle.jskw_report.specs.KeywordValue.{Refusal, map_ok, of_types, wrong};
-ghost use Rattle.jskw_report.specs.Read.{Asserts, Reading, before, keyword_location, part_named};
-ghost use Rattle.jskw_report.specs.Read.{read, read_each, read_words};
-ghost use Rattle.jskw_report.specs.Setting.{keywords};
-ghost use Rattle.jskw_report.specs.Sibling.{is_fused};
-ghost use Rattle.jskw_leaf.specs.Names.{is_leaf};
-ghost use Rattle.jskw_array.specs.Fused.{fused_words, shape_keywords};
-ghost use Rattle.jskw_array.specs.Meaning.{schemas_of, validator_keyword};
-ghost use Rattle.jskw_array.specs.Siblings.{active_member, schema_count};
-ghost use Rattle.jskw_array.specs.Units.{after, begin_fused, keywords_of};
+ghost use Rattle.std.specs.Prelude.{◌≡◌, ◌++◌, ◌∷◌};
+ghost use Rattle.jskw_array.specs.Words.{[], Asserts, Boolean, Compiles, Err, IfOk};
+ghost use Rattle.jskw_array.specs.Words.{IsTrue, Keywords, Makes, Object, Ok, Reading, Refusal};
+ghost use Rattle.jskw_array.specs.Words.{Result, Schema, Some, active_member, after, before};
+ghost use Rattle.jskw_array.specs.Words.{begin_fused, boolean_schema, fused_words, get_member};
+ghost use Rattle.jskw_array.specs.Words.{is_fused, is_leaf, items_view, keyword_location, keywords};
+ghost use Rattle.jskw_array.specs.Words.{keywords_of, map_ok, members_view, no_keywords, object, of_types};
+ghost use Rattle.jskw_array.specs.Words.{option_map, part_named, read, read_each, read_words};
+ghost use Rattle.jskw_array.specs.Words.{reading, schema_count, schemas_of, shape_keywords, true};
+ghost use Rattle.jskw_array.specs.Words.{validator_keyword, view, wrong};
 ghost use Rattle.jskw_array.specs.declared.unit.Unit.TheVariants as unit;
 
 use crate::items::{ArrayShapeValidator, array_shape_fusion};
@@ -55,10 +47,7 @@ pub fn compile<'a, F: Json>(
         (read (view schema.now) ctx.now.setting ctx.now.location) }
 {
     match schema {
-        Value::Bool(accepts) => {
-            let location = ctx.location().copy(alloc)?;
-            Ok(SchemaNode::of_boolean(alloc, location, *accepts))
-        }
+        Value::Bool(accepts) => Ok(boolean_node(alloc, ctx, *accepts)?),
         Value::Object(parent) => compile_object(alloc, ctx, parent),
         _ => Err(no_schema(alloc, ctx.location(), schema)),
     }
@@ -76,7 +65,44 @@ fn compile_object<'a, F: Json>(
         (read (object ms) ctx.now.setting ctx.now.location) }
 {
     let mut units = Vec::with_capacity(alloc, parent.len().min(KeywordName::ALL.len()))?;
-    push_units(alloc, ctx, parent, &mut units)?;
+    let made = push_units(alloc, ctx, parent, &mut units);
+    node_of(alloc, ctx, parent, units, made)
+}
+
+// Returns the node of a boolean schema at the location of `ctx`.
+#[inline(never)]
+fn boolean_node<F: Json>(
+    alloc: Global,
+    ctx: &Context<'_, F>,
+    accepts: bool,
+) -> Result<SchemaNode<F>, AllocError>
+    ensures { IfOk result (λ node. node ≡ boolean_schema ctx.now.location accepts) }
+{
+    let location = ctx.location().copy(alloc)?;
+    Ok(SchemaNode::of_boolean(alloc, location, accepts))
+}
+
+// Returns the node of an object, if its units were made. Not a part of the recursion, so that the
+// frames of a deep schema do without what this one needs.
+#[inline(never)]
+fn node_of<'a, F: Json>(
+    alloc: Global,
+    ctx: &Context<'_, F>,
+    parent: &Map<String, Value>,
+    mut units: Vec<Unit<F>>,
+    made: CompilationResult<'a, ()>,
+) -> CompilationResult<'a, SchemaNode<F>>
+    requires made { let ms = members_view parent.now.entries in
+        Makes (λ _. keywords_of units.items) made
+        (read_words keywords ctx.now.setting ctx.now.location ms (λ name. part_named name ms)) }
+    requires fused { IfOk made (λ _. begin_fused units.items
+        ≡ is_fused ctx.now.setting (members_view parent.now.entries)) }
+    ensures { Makes (λ s. s) result
+        (read (object (members_view parent.now.entries)) ctx.now.setting ctx.now.location) }
+{
+    if let Err(fault) = made {
+        return Err(fault);
+    }
     // a unit takes some hundred bytes
     units.shrink_to_fit();
     let location = ctx.location().copy(alloc)?;

@@ -1,15 +1,11 @@
 //! `contains` (JSON Schema Core 10.3.1.3) with `minContains` and `maxContains` (JSON Schema
 //! Validation 6.4.4, 6.4.5).
-ghost use Rattle.std.specs.Prelude.{◌≡◌, IfOk};
-ghost use Rattle.serde_json.specs.View.{view, members_view};
-ghost use Rattle.jskw_value.specs.Pointer.{member_location};
-ghost use Rattle.jskw_report.specs.Compile.{Compiles, Makes, reading};
-ghost use Rattle.jskw_report.specs.Keyword.{contains as contains_keyword};
-ghost use Rattle.jskw_report.specs.KeywordValue.{map_ok};
-ghost use Rattle.jskw_report.specs.Read.{Reading, bound_beside, bound_value, read_bounds};
-ghost use Rattle.jskw_report.specs.Read.{bounds_of as bounds_between};
-ghost use Rattle.jskw_report.specs.declared.keyword.KeywordName.TheVariants as word;
-ghost use Rattle.jskw_array.specs.Meaning.{bounds_of, validator_keyword};
+ghost use Rattle.std.specs.Prelude.{◌≡◌};
+ghost use Rattle.jskw_array.specs.Words.{Compiles, IfOk, Makes, Reading, bound_beside};
+ghost use Rattle.jskw_array.specs.Words.{bound_value, bounds_between, bounds_of};
+ghost use Rattle.jskw_array.specs.Words.{contains as contains_keyword, map_ok, member_location};
+ghost use Rattle.jskw_array.specs.Words.{members_view, read_bounds, reading, validator_keyword};
+ghost use Rattle.jskw_array.specs.Words.{view};
 
 use crate::compiler::compile_at;
 use crate::matching::{ItemBounds, Matching};
@@ -54,7 +50,7 @@ pub fn compile<'a, F: Json>(
     schema: &'a Value,
 ) -> Option<CompilationResult<'a, Validator<F>>>
     ensures { Compiles validator_keyword result
-        (reading word.Contains ctx.now (members_view parent.now.entries) (view schema.now)) }
+        (reading KeywordName.Contains ctx.now (members_view parent.now.entries) (view schema.now)) }
 {
     let bounds = match bounds_beside(alloc, ctx, parent) {
         Ok(bounds) => bounds,
@@ -121,32 +117,18 @@ fn bounds_between<F: Json>(
     let min = LocationSegment::Name("minContains");
     let max = LocationSegment::Name("maxContains");
     let place = ctx.location();
-    match (min_contains, max_contains) {
-        (None, None) => Ok(ItemBounds {
-            lower: 1,
-            upper: None,
-            too_few_at: ctx.keyword_location(alloc, KeywordName::Contains)?,
-            too_many_at: None,
-        }),
-        (Some(lower), None) => Ok(ItemBounds {
-            lower,
-            upper: None,
-            too_few_at: place.join(alloc, min)?,
-            too_many_at: None,
-        }),
-        (None, Some(upper)) => Ok(ItemBounds {
-            lower: 1,
-            upper: Some(upper),
-            too_few_at: place.join(alloc, max)?,
-            too_many_at: None,
-        }),
-        (Some(lower), Some(upper)) => Ok(ItemBounds {
-            lower,
-            upper: Some(upper),
-            too_few_at: place.join(alloc, min)?,
-            too_many_at: Some(place.join(alloc, max)?),
-        }),
-    }
+    let (too_few_at, too_many_at) = match (min_contains, max_contains) {
+        (None, None) => (ctx.keyword_location(alloc, KeywordName::Contains)?, None),
+        (Some(_), None) => (place.join(alloc, min)?, None),
+        (None, Some(_)) => (place.join(alloc, max)?, None),
+        (Some(_), Some(_)) => (place.join(alloc, min)?, Some(place.join(alloc, max)?)),
+    };
+    Ok(ItemBounds {
+        lower: min_contains.unwrap_or(1),
+        upper: max_contains,
+        too_few_at,
+        too_many_at,
+    })
 }
 
 // Returns the validator of the bounds and of a schema, if that was compiled.

@@ -1,12 +1,8 @@
 //! A schema for each item: `prefixItems` (JSON Schema Core 10.3.1.1), and `items` of an array of
 //! schemas (Draft 7 Validation 6.4.1). A non-array has no items.
-ghost use Rattle.std.specs.Prelude.{Result, Some};
-ghost use Rattle.jskw_report.specs.Compile.{Compiles, Makes};
-ghost use Rattle.jskw_report.specs.Keyword.{Schemas};
-ghost use Rattle.jskw_report.specs.KeywordValue.{Refusal, map_ok};
-ghost use Rattle.jskw_report.specs.Meaning.{one};
-ghost use Rattle.jskw_array.specs.Meaning.{each_keyword, each_of, schemas_of};
-ghost use Rattle.jskw_array.specs.Meaning.{validator_keyword};
+ghost use Rattle.jskw_array.specs.Words.{Compiles, Makes, Refusal, Result, Schemas, Some};
+ghost use Rattle.jskw_array.specs.Words.{each_keyword, each_of, map_ok, one, schemas_of};
+ghost use Rattle.jskw_array.specs.Words.{validator_keyword};
 
 use crate::node::SchemaNode;
 use crate::prefix_items::prefix_unit;

@@ -1,21 +1,14 @@
 //! `items`: one schema, for every item that `prefixItems` has no schema for (JSON Schema Core
 //! 10.3.1.2), or an array of schemas, each for the item at its index (Draft 7 Validation 6.4.1).
-ghost use Rattle.std.specs.Prelude.{◌≡◌, IsTrue, Some, false, if◌then◌else◌, length};
-ghost use Rattle.std.specs.Prelude.{nat_lt};
-ghost use Rattle.serde_json.specs.Data.{string};
-ghost use Rattle.serde_json.specs.View.{view, members_view};
-ghost use Rattle.jskw_value.specs.Tree.{is_array, items};
-ghost use Rattle.jskw_report.specs.Compile.{Compiles, Makes, reading};
-ghost use Rattle.jskw_report.specs.Evaluation.{flag, of_children, valid_unit};
-ghost use Rattle.jskw_report.specs.EvaluationView.{result_of};
-ghost use Rattle.jskw_report.specs.Keyword.{items_from};
-ghost use Rattle.jskw_report.specs.KeywordValue.{map_ok};
-ghost use Rattle.jskw_report.specs.Read.{items_start, keyword_location, read};
-ghost use Rattle.jskw_report.specs.Setting.{stands};
-ghost use Rattle.jskw_report.specs.Sibling.{is_array as is_list, is_bare, is_inlined_type};
-ghost use Rattle.jskw_report.specs.Sibling.{is_items_schema, is_only_type, member_passes};
-ghost use Rattle.jskw_report.specs.declared.keyword.KeywordName.TheVariants as word;
-ghost use Rattle.jskw_array.specs.Meaning.{validator_keyword};
+ghost use Rattle.std.specs.Prelude.{◌≡◌};
+ghost use Rattle.jskw_array.specs.Words.{Compiles, IsTrue, Makes, Some, false, flag};
+ghost use Rattle.std.specs.Prelude.{if◌then◌else◌};
+ghost use Rattle.jskw_array.specs.Words.{is_array, is_bare, is_inlined_type};
+ghost use Rattle.jskw_array.specs.Words.{is_items_schema, is_list, is_only_type, items, items_from};
+ghost use Rattle.jskw_array.specs.Words.{items_start, keyword_location, length, map_ok};
+ghost use Rattle.jskw_array.specs.Words.{member_passes, members_view, nat_lt, of_children, read};
+ghost use Rattle.jskw_array.specs.Words.{reading, result_of, string, valid_unit, validator_keyword};
+ghost use Rattle.jskw_array.specs.Words.{view};
 
 mod absorbed;
 mod array_shape;
@@ -90,7 +83,7 @@ pub fn compile<'a, F: Json>(
     schema: &'a Value,
 ) -> Option<CompilationResult<'a, Validator<F>>>
     ensures { Compiles validator_keyword result
-        (reading word.Items ctx.now (members_view parent.now.entries) (view schema.now)) }
+        (reading KeywordName.Items ctx.now (members_view parent.now.entries) (view schema.now)) }
 {
     if let Some(schemas) = schema.as_array() {
         let keyword = KeywordName::Items;
@@ -119,7 +112,7 @@ pub(crate) fn compile_schema<'a, F: Json>(
         (map_ok (λ sub. items_from (items_start ctx.now.setting ms) sub
         (is_bare ctx.now.setting ms (view schema.now)))
         (read (view schema.now) ctx.now.setting
-        (keyword_location ctx.now.location word.Items))) }
+        (keyword_location ctx.now.location KeywordName.Items))) }
 {
     if is_bare(ctx, parent, schema) {
         return compile_inline(alloc, ctx, schema);
@@ -173,17 +166,10 @@ fn is_only_type(value: &Value) -> bool
 fn is_inlined_type(value: &Value) -> bool
     ensures { result ≡ is_inlined_type (view value.now) }
 {
-    match value.as_str() {
-        Some(name) => is_inlined_name(name),
-        None => false,
-    }
-}
-
-// Returns whether this is the name of a type that items are tested for in place.
-fn is_inlined_name(name: &str) -> bool
-    ensures { result ≡ is_inlined_type (string name.now) }
-{
-    matches!(name, "number" | "string" | "boolean" | "integer")
+    matches!(
+        value.as_str(),
+        Some("number" | "string" | "boolean" | "integer")
+    )
 }
 
 // Returns whether the member `name` of `parent` is an array.

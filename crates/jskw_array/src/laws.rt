@@ -1,12 +1,7 @@
 //! Laws of compiled schemas. Each law is the contract of a function.
-ghost use Rattle.std.specs.Prelude.{◌≡◌, IsTrue};
-ghost use Rattle.jskw_value.specs.Tree.{is_lawful};
-ghost use Rattle.jskw_report.specs.Fail.{fail};
-ghost use Rattle.jskw_report.specs.Holds.{holds};
-ghost use Rattle.jskw_report.specs.Observe.{Appends, IsFirst};
-ghost use Rattle.jskw_report.specs.Paths.{path_of};
-ghost use Rattle.jskw_array.specs.Agreement.{Agree, RejectsNonArrays};
-ghost use Rattle.jskw_array.specs.Fused.{shape_meaning};
+ghost use Rattle.std.specs.Prelude.{◌≡◌};
+ghost use Rattle.jskw_array.specs.Words.{Agree, Appends, IsFirst, IsTrue, RejectsNonArrays};
+ghost use Rattle.jskw_array.specs.Words.{fail, holds, is_lawful, path_of, shape_meaning};
 
 use crate::items::ArrayShapeValidator;
 use crate::node::SchemaNode;

@@ -1,16 +1,10 @@
 //! The items that match one schema: `contains` (JSON Schema Core 10.3.1.3) with `minContains` and
 //! `maxContains` (JSON Schema Validation 6.4.4, 6.4.5).
-ghost use Rattle.std.specs.Prelude.{◌≡◌, IfOk, IsTrue, count_by, length, sum_by};
-ghost use Rattle.jskw_value.specs.Tree.{is_lawful, items};
-ghost use Rattle.jskw_report.specs.Applications.{needed};
-ghost use Rattle.jskw_report.specs.EvaluationView.{result_of};
-ghost use Rattle.jskw_report.specs.Fail.{failing_bound};
-ghost use Rattle.jskw_report.specs.Holds.{holds};
-ghost use Rattle.jskw_report.specs.Meaning.{one};
-ghost use Rattle.jskw_report.specs.Observe.{CountsUpTo};
-ghost use Rattle.jskw_array.specs.Limits.{deciding_count, failing_locations, locations_of};
-ghost use Rattle.jskw_array.specs.Limits.{matching_result};
-ghost use Rattle.jskw_array.specs.Meaning.{bounds_of, matching_keyword};
+ghost use Rattle.std.specs.Prelude.{◌≡◌};
+ghost use Rattle.jskw_array.specs.Words.{CountsUpTo, IfOk, IsTrue, bounds_of, count_by};
+ghost use Rattle.jskw_array.specs.Words.{deciding_count, failing_bound, failing_locations, holds};
+ghost use Rattle.jskw_array.specs.Words.{is_lawful, items, length, locations_of, matching_keyword};
+ghost use Rattle.jskw_array.specs.Words.{matching_result, needed, one, result_of, sum_by};
 
 use crate::node::SchemaNode;
 use jskw_report::validator::append_first;
@@ -49,18 +43,11 @@ impl ItemBounds {
     fn failing_location(&self, matches: u64) -> Option<&Location>
         ensures { locations_of result ≡ failing_bound (bounds_of self.now) matches }
     {
-        if let Some(upper) = self.upper
-            && matches > upper
-        {
-            return match &self.too_many_at {
-                Some(location) => Some(location),
-                None => Some(&self.too_few_at),
-            };
-        }
-        if matches >= self.lower {
-            None
-        } else {
-            Some(&self.too_few_at)
+        match (self.upper, &self.too_many_at) {
+            (Some(upper), Some(location)) if matches > upper => Some(location),
+            (Some(upper), None) if matches > upper => Some(&self.too_few_at),
+            _ if matches >= self.lower => None,
+            _ => Some(&self.too_few_at),
         }
     }
 }
@@ -122,12 +109,8 @@ impl<F: Json> Matching<F> {
             && let Some(schema_path) = self.bounds.failing_location(matches.len() as u64)
         {
             let kind = ValidationErrorKind::Contains;
-            let error: ValidationError<F> = ValidationError::new(
-                kind,
-                location.render()?,
-                schema_path,
-                instance,
-            );
+            let path = location.render()?;
+            let error: ValidationError<F> = ValidationError::new(kind, path, schema_path, instance);
             let mut errors = Vec::new(alloc);
             errors.push(ErrorDescription::from_validation_error::<F>(alloc, &error)?)?;
             return Ok(EvaluationResult::invalid_empty(alloc, errors));

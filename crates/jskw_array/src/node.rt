@@ -1,21 +1,13 @@
 //! A compiled schema: the validators of its keywords, in the order in which a schema is read.
-ghost use Rattle.std.specs.Prelude.{◌≡◌, ◌+◌, ◌≤◌, [], IfOk, IfSome, IsTrue};
-ghost use Rattle.std.specs.Prelude.{if◌then◌else◌, is_some, min, true};
-ghost use Rattle.jskw_value.specs.Pointer.{item_location};
-ghost use Rattle.jskw_value.specs.Tree.{is_lawful};
-ghost use Rattle.jskw_report.specs.Applications.{needed, pairs};
-ghost use Rattle.jskw_report.specs.Evaluation.{tree};
-ghost use Rattle.jskw_report.specs.Fail.{fail};
-ghost use Rattle.jskw_report.specs.Holds.{holds};
-ghost use Rattle.jskw_report.specs.Keyword.{each_hands_on, false_schema, hands_on_required};
-ghost use Rattle.jskw_report.specs.Keyword.{is_fused_schema, keywords_in, schema_location};
-ghost use Rattle.jskw_report.specs.Keyword.{schema_object};
-ghost use Rattle.jskw_report.specs.Observe.{Appends, CountsUpTo, IsFirst};
-ghost use Rattle.jskw_report.specs.Paths.{path_of};
-ghost use Rattle.jskw_array.specs.Fused.{Begins, shape_keywords};
-ghost use Rattle.jskw_array.specs.Meaning.{schemas_of};
-ghost use Rattle.jskw_array.specs.Node.{HasUnits, boolean_schema, marked};
-ghost use Rattle.jskw_array.specs.Units.{keywords_of};
+ghost use Rattle.std.specs.Prelude.{◌≡◌, ◌+◌, ◌≤◌};
+ghost use Rattle.jskw_array.specs.Words.{[], Appends, Begins, CountsUpTo, HasUnits};
+ghost use Rattle.jskw_array.specs.Words.{IfOk, IfSome, IsFirst, IsTrue, boolean_schema};
+ghost use Rattle.jskw_array.specs.Words.{each_hands_on, fail, false_schema, hands_on_required};
+ghost use Rattle.std.specs.Prelude.{if◌then◌else◌};
+ghost use Rattle.jskw_array.specs.Words.{holds, is_fused_schema, is_lawful, is_some};
+ghost use Rattle.jskw_array.specs.Words.{item_location, keywords_in, keywords_of, marked, min};
+ghost use Rattle.jskw_array.specs.Words.{needed, pairs, path_of, schema_location, schema_object};
+ghost use Rattle.jskw_array.specs.Words.{schemas_of, shape_keywords, tree, true};
 
 use crate::items::ArrayShapeValidator;
 use crate::unit::{
@@ -237,7 +229,7 @@ impl<F: Json> SchemaNode<F> {
     ///
     /// - [`Fault::Invalid`] with the first error if the instance is invalid.
     /// - [`Fault::Memory`] if memory runs out. This says nothing about the instance.
-    #[cycle(validate)]
+    #[inline(always)]
     pub fn validate<'i>(
         &'i self,
         instance: &'i F::Node,
@@ -254,6 +246,25 @@ impl<F: Json> SchemaNode<F> {
         if self.accepts(instance, ctx) {
             return Ok(());
         }
+        self.validate_keywords(instance, location, ctx)
+    }
+
+    // `validate` by the keywords.
+    #[inline(never)]
+    #[cycle(validate)]
+    fn validate_keywords<'i>(
+        &'i self,
+        instance: &'i F::Node,
+        location: &mut LazyLocation,
+        ctx: &mut ValidationContext,
+    ) -> Result<(), Fault<'i, F>>
+        requires { IsTrue (is_lawful (F.Node.tree instance.now)) }
+        ensures first { IsFirst F.Node.tree
+            (fail self.now (F.Node.tree instance.now) (path_of location.old)) result }
+        ensures location { location.new ≡ location.old }
+        ensures applied { min (ctx.old + 1) u64.MAX ≤ ctx.new }
+        ensures counted { CountsUpTo ctx.old ctx.new (needed self.now (F.Node.tree instance.now)) }
+    {
         let Some(units) = self.apply(ctx) else {
             return refuse(self.location(), instance, location);
         };
@@ -261,6 +272,7 @@ impl<F: Json> SchemaNode<F> {
     }
 
     // Returns `validate` for the item at `index` of the instance at `location`.
+    #[inline(always)]
     #[cycle(validate)]
     pub(crate) fn validate_item<'i>(
         &'i self,
@@ -279,7 +291,7 @@ impl<F: Json> SchemaNode<F> {
             return Ok(());
         }
         location.push(index)?;
-        let answer = self.validate(item, location, ctx);
+        let answer = self.validate_keywords(item, location, ctx);
         location.pop();
         answer
     }
@@ -287,7 +299,7 @@ impl<F: Json> SchemaNode<F> {
     /// Appends all errors of the instance, which must be lawful, to `errors`, in order. `location`
     /// is the location of the instance (JSON Schema Core 12.3.3), and is unchanged at every return.
     /// If memory runs out, `errors` keeps its old entries, followed by a beginning of the new ones.
-    #[cycle(collect_errors)]
+    #[inline(always)]
     pub fn collect_errors<'i>(
         &'i self,
         instance: &'i F::Node,
@@ -305,13 +317,34 @@ impl<F: Json> SchemaNode<F> {
         if self.accepts(instance, ctx) {
             return Ok(());
         }
+        self.collect_of_keywords(instance, location, ctx, errors)
+    }
+
+    // `collect_errors` by the keywords.
+    #[inline(never)]
+    #[cycle(collect_errors)]
+    fn collect_of_keywords<'i>(
+        &'i self,
+        instance: &'i F::Node,
+        location: &mut LazyLocation,
+        ctx: &mut ValidationContext,
+        errors: &mut Vec<ValidationError<'i, F>>,
+    ) -> Result<(), AllocError>
+        requires { IsTrue (is_lawful (F.Node.tree instance.now)) }
+        ensures appended { Appends F.Node.tree errors.old.items errors.new.items
+            (fail self.now (F.Node.tree instance.now) (path_of location.old)) result }
+        ensures location { location.new ≡ location.old }
+        ensures applied { min (ctx.old + 1) u64.MAX ≤ ctx.new }
+        ensures counted { CountsUpTo ctx.old ctx.new (pairs self.now (F.Node.tree instance.now)) }
+    {
         let Some(units) = self.apply(ctx) else {
-            return append_first(refuse(self.location(), instance, location), errors);
+            return append_refusal(self.location(), instance, location, errors);
         };
         collect_units(units, instance, location, ctx, errors)
     }
 
     // Appends all errors of the item at `index` of the instance at `location`.
+    #[inline(always)]
     #[cycle(collect_errors)]
     pub(crate) fn collect_item<'i>(
         &'i self,
@@ -332,7 +365,7 @@ impl<F: Json> SchemaNode<F> {
             return Ok(());
         }
         location.push(index)?;
-        let answer = self.collect_errors(item, location, ctx, errors);
+        let answer = self.collect_of_keywords(item, location, ctx, errors);
         location.pop();
         answer
     }
@@ -406,6 +439,7 @@ impl<F: Json> SchemaNode<F> {
 }
 
 // Returns the error of the schema `false`.
+#[inline(never)]
 fn refuse<'i, F: Json>(
     schema_path: &'i Location,
     instance: &'i F::Node,
@@ -416,6 +450,21 @@ fn refuse<'i, F: Json>(
 {
     let kind = ValidationErrorKind::FalseSchema;
     fail_unless(false, kind, schema_path, instance, location)
+}
+
+// Appends the error of the schema `false`.
+#[inline(never)]
+fn append_refusal<'i, F: Json>(
+    schema_path: &'i Location,
+    instance: &'i F::Node,
+    location: &LazyLocation,
+    errors: &mut Vec<ValidationError<'i, F>>,
+) -> Result<(), AllocError>
+    ensures { Appends F.Node.tree errors.old.items errors.new.items
+        (fail (false_schema schema_path.now) (F.Node.tree instance.now) (path_of location.now))
+        result }
+{
+    append_first(refuse(schema_path, instance, location), errors)
 }
 
 // Returns the evaluation tree of the schema `false`.

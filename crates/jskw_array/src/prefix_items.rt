@@ -1,17 +1,9 @@
 //! `prefixItems` (JSON Schema Core 10.3.1.1): a list of schemas, each for the item at its index.
-ghost use Rattle.std.specs.Prelude.{◌≡◌, Err, length, option_map};
-ghost use Rattle.serde_json.specs.View.{view, members_view};
-ghost use Rattle.jskw_value.specs.Tree.{items};
-ghost use Rattle.jskw_value.specs.declared.types.JsonType.TheVariants.{Array};
-ghost use Rattle.jskw_report.specs.Compile.{Compiles, Makes, reading};
-ghost use Rattle.jskw_report.specs.Evaluation.{of_children, prefix_annotation};
-ghost use Rattle.jskw_report.specs.EvaluationParts.{annotation_of};
-ghost use Rattle.jskw_report.specs.EvaluationView.{result_of};
-ghost use Rattle.jskw_report.specs.Keyword.{Keyword};
-ghost use Rattle.jskw_report.specs.KeywordValue.{of_type, wrong};
-ghost use Rattle.jskw_report.specs.Read.{keyword_location};
-ghost use Rattle.jskw_report.specs.declared.keyword.KeywordName.TheVariants as word;
-ghost use Rattle.jskw_array.specs.Meaning.{validator_keyword};
+ghost use Rattle.std.specs.Prelude.{◌≡◌};
+ghost use Rattle.jskw_array.specs.Words.{Array, Compiles, Err, Keyword, Makes, annotation_of};
+ghost use Rattle.jskw_array.specs.Words.{items, keyword_location, length, members_view};
+ghost use Rattle.jskw_array.specs.Words.{of_children, of_type, option_map, prefix_annotation};
+ghost use Rattle.jskw_array.specs.Words.{reading, result_of, validator_keyword, view, wrong};
 
 use crate::compiler::compile_each_at;
 use crate::each::{Each, of_schemas};
@@ -78,7 +70,8 @@ pub fn compile<'a, F: Json>(
     schema: &'a Value,
 ) -> Option<CompilationResult<'a, Validator<F>>>
     ensures { Compiles validator_keyword result
-        (reading word.PrefixItems ctx.now (members_view parent.now.entries) (view schema.now)) }
+        (reading KeywordName.PrefixItems ctx.now (members_view parent.now.entries)
+        (view schema.now)) }
 {
     let _ = parent;
     let Some(schemas) = schema.as_array() else {
@@ -95,7 +88,7 @@ pub fn compile<'a, F: Json>(
 #[inline(never)]
 fn no_array<'a, F: Json>(alloc: Global, ctx: &Context<'_, F>, value: &'a Value) -> CompileFault<'a>
     ensures { Makes (λ (k : Keyword). k) (Err result) (wrong (of_type Array)
-        (keyword_location ctx.now.location word.PrefixItems) (view value.now)) }
+        (keyword_location ctx.now.location KeywordName.PrefixItems) (view value.now)) }
 {
     let kind = ValidationErrorKind::of_type(JsonType::Array);
     match ctx.keyword_location(alloc, KeywordName::PrefixItems) {

@@ -1,19 +1,10 @@
 //! One schema for the items from an index on: `items` (JSON Schema Core 10.3.1.2), and
 //! `additionalItems` (Draft 7 Validation 6.4.2). A non-array has no items.
-ghost use Rattle.std.specs.Prelude.{◌≡◌, IfOk, IsTrue, length};
-ghost use Rattle.jskw_value.specs.Tree.{is_lawful, items};
-ghost use Rattle.jskw_report.specs.Applications.{keyword_needed, keyword_pairs};
-ghost use Rattle.jskw_report.specs.Compile.{Makes};
-ghost use Rattle.jskw_report.specs.Evaluation.{of_errors};
-ghost use Rattle.jskw_report.specs.EvaluationView.{result_of};
-ghost use Rattle.jskw_report.specs.Fail.{keyword_fail};
-ghost use Rattle.jskw_report.specs.Holds.{keyword_holds};
-ghost use Rattle.jskw_report.specs.KeywordValue.{map_ok};
-ghost use Rattle.jskw_report.specs.Meaning.{one};
-ghost use Rattle.jskw_report.specs.Observe.{CountsUpTo};
-ghost use Rattle.jskw_report.specs.Paths.{path_of};
-ghost use Rattle.jskw_report.specs.Read.{Reading};
-ghost use Rattle.jskw_array.specs.Meaning.{rest_keyword, rest_of, validator_keyword};
+ghost use Rattle.std.specs.Prelude.{◌≡◌};
+ghost use Rattle.jskw_array.specs.Words.{CountsUpTo, IfOk, IsTrue, Makes, Reading, is_lawful};
+ghost use Rattle.jskw_array.specs.Words.{items, keyword_fail, keyword_holds, keyword_needed};
+ghost use Rattle.jskw_array.specs.Words.{keyword_pairs, length, map_ok, of_errors, one, path_of};
+ghost use Rattle.jskw_array.specs.Words.{rest_keyword, rest_of, result_of, validator_keyword};
 
 use crate::items::items_unit;
 use crate::node::SchemaNode;

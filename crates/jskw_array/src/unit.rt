@@ -1,19 +1,12 @@
 //! The units of a schema: its keywords in order, where the first four may be one unit, and the
 //! walks over them.
-ghost use Rattle.std.specs.Prelude.{◌≡◌, ◌++◌, IfOk, IfSome, IsTrue, is_some, true};
-ghost use Rattle.jskw_value.specs.Tree.{Tree, is_lawful};
-ghost use Rattle.jskw_report.specs.Applications.{all_needed, all_pairs};
-ghost use Rattle.jskw_report.specs.Evaluation.{units as units_of};
-ghost use Rattle.jskw_report.specs.Fail.{all_fail};
-ghost use Rattle.jskw_report.specs.Holds.{all_hold};
-ghost use Rattle.jskw_report.specs.Keyword.{all_hand_on};
-ghost use Rattle.jskw_report.specs.Meaning.{meaning_holds};
-ghost use Rattle.jskw_report.specs.Observe.{Appends, CountsUpTo, IsFirst};
-ghost use Rattle.jskw_report.specs.Paths.{path_of};
-ghost use Rattle.jskw_number.specs.QuickSet.{is_in};
-ghost use Rattle.jskw_array.specs.Fused.{Extends};
-ghost use Rattle.jskw_array.specs.Units.{IsShape, absorbed_by, is_shape, keywords_of};
-ghost use Rattle.jskw_array.specs.Units.{unit_hands_on, unit_location, unit_meaning};
+ghost use Rattle.std.specs.Prelude.{◌≡◌, ◌++◌};
+ghost use Rattle.jskw_array.specs.Words.{Appends, CountsUpTo, Extends, IfOk, IfSome};
+ghost use Rattle.jskw_array.specs.Words.{IsFirst, IsShape, IsTrue, Tree, absorbed_by, all_fail};
+ghost use Rattle.jskw_array.specs.Words.{all_hand_on, all_hold, all_needed, all_pairs, is_in};
+ghost use Rattle.jskw_array.specs.Words.{is_lawful, is_shape, is_some, keywords_of, meaning_holds};
+ghost use Rattle.jskw_array.specs.Words.{path_of, true, unit_hands_on, unit_location, unit_meaning};
+ghost use Rattle.jskw_array.specs.Words.{units as units_of};
 
 use crate::items::ArrayShapeValidator;
 use crate::validator::Validator;

@@ -1,13 +1,8 @@
 //! The validators of all keywords as one type.
-ghost use Rattle.std.specs.Prelude.{◌≡◌, IsTrue, length};
-ghost use Rattle.jskw_value.specs.Tree.{is_lawful, items};
-ghost use Rattle.jskw_report.specs.Applications.{keyword_needed};
-ghost use Rattle.jskw_report.specs.Holds.{keyword_holds};
-ghost use Rattle.jskw_report.specs.Keyword.{keyword_hands_on};
-ghost use Rattle.jskw_report.specs.Meaning.{one};
-ghost use Rattle.jskw_report.specs.Observe.{CountsUpTo};
-ghost use Rattle.jskw_number.specs.QuickSet.{Accepts};
-ghost use Rattle.jskw_array.specs.Meaning.{validator_keyword};
+ghost use Rattle.std.specs.Prelude.{◌≡◌};
+ghost use Rattle.jskw_array.specs.Words.{Accepts, CountsUpTo, IsTrue, is_lawful, items};
+ghost use Rattle.jskw_array.specs.Words.{keyword_hands_on, keyword_holds, keyword_needed, length};
+ghost use Rattle.jskw_array.specs.Words.{one, validator_keyword};
 
 use crate::additional_items::AdditionalItemsBooleanValidator;
 use crate::each::Each;

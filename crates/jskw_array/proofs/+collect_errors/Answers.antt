@@ -1,20 +1,10 @@
 use Rattle.std.proofs.Common.{rules, ◌≡◌, ◌∙◌, ◌++◌, ap, sym, subst, refl, append-nil, arith}
 use Rattle.std.proofs.lemmas.Grind.{common_steps}
-use Rattle.jskw_value.specs.Pointer.{item_location}
-use Rattle.jskw_value.specs.Tree.{items}
+use Rattle.jskw_array.specs.Words.{Appends, AppendsBeginning, Collects, absorbed_keywords, all_fail, all_height, each_keyword, fail, failures_of, item_location, items, keyword_fail, keywords_of, meaning_fail, pairs, path_of, rest_keyword, shape_keywords, unit_meaning, validator_keyword}
 use Rattle.jskw_report.proofs.Appended.{fail_appended}
 use Rattle.jskw_report.proofs.Appending.{appends_before, appends_begun, appends_behind, collects_all, collects_more, collects_nothing, collects_part, collects_stopped}
-use Rattle.jskw_report.specs.Applications.{all_height, pairs}
-use Rattle.jskw_report.specs.Errors.{failures_of}
-use Rattle.jskw_report.specs.Fail.{all_fail, fail, keyword_fail}
-use Rattle.jskw_report.specs.Meaning.{meaning_fail}
-use Rattle.jskw_report.specs.Observe.{Appends, AppendsBeginning, Collects}
-use Rattle.jskw_report.specs.Paths.{path_of}
-use Rattle.jskw_array.specs.Fused.{absorbed_keywords, shape_keywords}
 use Rattle.jskw_array.specs.Heights.{each_is_as_high, rest_is_as_high}
-use Rattle.jskw_array.specs.Meaning.{each_keyword, rest_keyword, validator_keyword}
-use Rattle.jskw_array.specs.Units.{keywords_of, unit_meaning}
-use Rattle.jskw_array.proofs.Accepted.{counted_later, counted_within, no_errors}
+use Rattle.jskw_array.proofs.Accepted.{counted_within, no_errors}
 use Rattle.jskw_array.proofs.Keywords.{fail_at, items_height, items_keywords, keywords_end, one_pair, pairs_at, schema_fails, schema_height, schema_pairs, unit_height, unit_tall}
 use Rattle.jskw_array.proofs.Meant.{absurd-of, each_fails_of, each_meets, each_no_assertion, rest_fails_of, rest_meets, rest_no_assertion}
 use Rattle.jskw_array.proofs.Meetings.{each_fails_at, each_fails_end, each_pairs_at, entered, fails_at, height_at, sum_at}
@@ -39,8 +29,8 @@ node::SchemaNode::collect_item-returns-in_err-push-clause-appended g t c =
 pub node::SchemaNode::collect_item-returns-clause-appended : goal.node::SchemaNode::collect_item-returns-clause-appended
 node::SchemaNode::collect_item-returns-clause-appended g t c =
     let tree = g.F.Node.Rooted.tree in
-    subst (λ q. Appends tree c.args.errors.now.items c.collect_errors-answer.new.errors.items (fail c.args.self.now (tree c.args.item.now) q) c.collect_errors-answer.result)
-    (entered c.args.index c.in_ok-push.ensures.pushed refl) c.collect_errors-answer.ensures.appended
+    subst (λ q. Appends tree c.args.errors.now.items c.collect_of_keywords-answer.new.errors.items (fail c.args.self.now (tree c.args.item.now) q) c.collect_of_keywords-answer.result)
+    (entered c.args.index c.in_ok-push.ensures.pushed refl) c.collect_of_keywords-answer.ensures.appended
 
 -- ---- a schema for each item
 
@@ -276,30 +266,20 @@ items::array_shape::ArrayShapeValidatorValidate::collect_errors-returns-clause-a
 
 -- ---- a node
 
-pub node::SchemaNode::collect_errors-returns-then-accepts-clause-appended : goal.node::SchemaNode::collect_errors-returns-then-accepts-clause-appended
-node::SchemaNode::collect_errors-returns-then-accepts-clause-appended g t c =
-    let old = failures_of g.F.Node.Rooted.tree c.args.errors.now.items in
-    let none = no_errors c.args.self.now (g.F.Node.Rooted.tree c.args.instance.now) (path_of c.args.location.now) (c.accepts.ensures.valid c.if-accepts.true) in
-    sym (ap (λ fs. old ++ fs) none ∙ append-nil old)
-
-pub node::SchemaNode::collect_errors-returns-then-accepts-clause-counted : goal.node::SchemaNode::collect_errors-returns-then-accepts-clause-counted
-node::SchemaNode::collect_errors-returns-then-accepts-clause-counted g t c =
-    counted_within _ _ _ c.accepts.result c.if-accepts.true (one_pair c.args.self.now (g.F.Node.Rooted.tree c.args.instance.now)) c.accepts.ensures.counted
-
-pub node::SchemaNode::collect_errors-collect_units-requires : goal.node::SchemaNode::collect_errors-collect_units-requires
-node::SchemaNode::collect_errors-collect_units-requires g t c κs within =
+pub node::SchemaNode::collect_of_keywords-collect_units-requires : goal.node::SchemaNode::collect_of_keywords-collect_units-requires
+node::SchemaNode::collect_of_keywords-collect_units-requires g t c κs within =
     let below = schema_height c.args.self.now c.in-Some.units c.in-Some.ensures.units in
     (omega (arith, below, c.decreases), search rules)
 
-pub node::SchemaNode::collect_errors-returns-clause-appended : goal.node::SchemaNode::collect_errors-returns-clause-appended
-node::SchemaNode::collect_errors-returns-clause-appended g t c =
+pub node::SchemaNode::collect_of_keywords-returns-clause-appended : goal.node::SchemaNode::collect_of_keywords-returns-clause-appended
+node::SchemaNode::collect_of_keywords-returns-clause-appended g t c =
     let tree = g.F.Node.Rooted.tree in
     let whole = schema_fails c.args.self.now c.in-Some.units c.in-Some.ensures.units (tree c.args.instance.now) (path_of c.args.location.now) in
     subst (λ fs. Appends tree c.args.errors.now.items c.collect_units.new.errors.items fs c.collect_units.result) (sym whole) c.collect_units.ensures.appended
 
-pub node::SchemaNode::collect_errors-returns-clause-counted : goal.node::SchemaNode::collect_errors-returns-clause-counted
-node::SchemaNode::collect_errors-returns-clause-counted g t c =
+pub node::SchemaNode::collect_of_keywords-returns-clause-counted : goal.node::SchemaNode::collect_of_keywords-returns-clause-counted
+node::SchemaNode::collect_of_keywords-returns-clause-counted g t c =
     let whole = schema_pairs c.args.self.now c.in-Some.units c.in-Some.ensures.units (g.F.Node.Rooted.tree c.args.instance.now) in
     let first = c.apply.ensures.counted in
     let rest = c.collect_units.ensures.counted in
-    counted_later _ _ _ _ c.accepts.result c.if-accepts.false c.accepts.ensures.counted (record { from = omega (arith, first.from, rest.from); to = omega (arith, whole, first.to, rest.to) })
+    record { from = omega (arith, first.from, rest.from); to = omega (arith, whole, first.to, rest.to) }

@@ -1,17 +1,10 @@
 use Rattle.std.proofs.Common.{◌≡◌, ◌+◌, ◌*◌, ◌≤◌, min, length, drop, sum_by}
-use Rattle.jskw_value.specs.Tree.{items}
-use Rattle.jskw_report.specs.Applications.{pairs, each_pairs, all_pairs, keyword_pairs, height, all_height, keyword_height}
-use Rattle.jskw_report.specs.Errors.{failures_of}
-use Rattle.jskw_report.specs.Fail.{fail, each_fails, each_item, all_fail, keyword_fail}
-use Rattle.jskw_report.specs.Observe.{Collects}
-use Rattle.jskw_report.specs.Paths.{path_of}
-use Rattle.jskw_array.specs.Meaning.{each_keyword, rest_keyword, schemas_of, validator_keyword}
-use Rattle.jskw_array.specs.Units.{keywords_of}
+use Rattle.jskw_array.specs.Words.{Collects, all_fail, all_height, all_pairs, each_fails, each_item, each_keyword, each_pairs, fail, failures_of, height, items, keyword_fail, keyword_height, keyword_pairs, keywords_of, pairs, path_of, rest_keyword, schemas_of, validator_keyword}
 use Rattle.jskw_array.proofs.Keywords.{unit_tall}
 use Rattle.jskw_array.proofs.+collect_errors.Given as goal
 
-abbrev pub decreases-node::SchemaNode::collect_errors : goal.decreases-node::SchemaNode::collect_errors
-decreases-node::SchemaNode::collect_errors g l = 10 * height l.self.now
+abbrev pub decreases-node::SchemaNode::collect_of_keywords : goal.decreases-node::SchemaNode::collect_of_keywords
+decreases-node::SchemaNode::collect_of_keywords g l = 10 * height l.self.now
 
 abbrev pub decreases-node::SchemaNode::collect_item : goal.decreases-node::SchemaNode::collect_item
 decreases-node::SchemaNode::collect_item g l = 10 * height l.self.now + 1

@@ -1,21 +1,6 @@
 use Rattle.std.proofs.Common.{rules, ◌≡◌, [], ◌∷◌, ◌++◌, Bool, ℕ, Some, None, Result, Ok, Err, true, false, drop, get_or, refl, sym, ap, ap₂, subst, ◌+◌, ◌∙◌, arith}
-use Rattle.serde_json.specs.Data.{items_depth}
-use Rattle.serde_json.specs.Find.{get_member, as_array}
-use Rattle.serde_json.specs.View.{view, items_view, members_view}
-use Rattle.jskw_value.specs.Pointer.{item_location}
-use Rattle.jskw_value.specs.declared.types.JsonType.TheVariants.{Array}
-use Rattle.jskw_report.specs.Compile.{Makes, reading}
-use Rattle.jskw_report.specs.Keyword.{Keyword, Schema, append_keywords, contains, items_from, keyword, no_keywords, schema_object}
-use Rattle.jskw_report.specs.KeywordValue.{Refusal, join_ok, map_ok, of_type, wrong}
-use Rattle.jskw_report.specs.Read.{before, keyword_location, marks_of, part_named, read, read_bounds, read_each, read_words, whole}
-use Rattle.jskw_report.specs.Setting.{keywords, name_of}
-use Rattle.jskw_report.specs.Sibling.{is_fused, is_items_schema}
+use Rattle.jskw_array.specs.Words.{Array, Keyword, Makes, Refusal, Schema, absorbed_keywords, active_member, after, append_keywords, as_array, before, begin_fused, boolean_schema, bounds_of, contains, fused_words, get_member, is_fused, is_items_schema, item_location, items_depth, items_from, items_view, join_ok, keyword, keyword_location, keywords, keywords_of, map_ok, marked, marks_of, members_view, name_of, no_keywords, of_type, part_named, read, read_bounds, read_each, read_words, reading, schema_count, schema_object, shape_keywords, validator_keyword, view, whole, wrong}
 use Rattle.jskw_report.specs.declared.keyword.KeywordName.TheVariants as word
-use Rattle.jskw_array.specs.Fused.{absorbed_keywords, fused_words, shape_keywords}
-use Rattle.jskw_array.specs.Meaning.{bounds_of, validator_keyword}
-use Rattle.jskw_array.specs.Node.{boolean_schema, marked}
-use Rattle.jskw_array.specs.Siblings.{active_member, schema_count}
-use Rattle.jskw_array.specs.Units.{after, begin_fused, keywords_of}
 use Rattle.jskw_array.proofs.Depths.{depth_array, item_depth, member_depth}
 use Rattle.jskw_array.proofs.EachSchema.{after_none as after_no_schemas, each_end, each_made, each_refused, schemas_in}
 use Rattle.jskw_array.proofs.Faults.{compiles_as, handed_on, refused_whole}
@@ -26,23 +11,11 @@ use Rattle.jskw_array.proofs.+compile.Goals as goal
 
 -- ---- a schema
 
-pub compiler::compile-returns-in_ok-location-in-Bool : goal.compiler::compile-returns-in_ok-location-in-Bool
-compiler::compile-returns-in_ok-location-in-Bool g t c =
+pub compiler::compile-returns-in_ok-boolean_node-in-Bool : goal.compiler::compile-returns-in_ok-boolean_node-in-Bool
+compiler::compile-returns-in_ok-boolean_node-in-Bool g t c =
     let s = c.args.ctx.now.setting in
     let p = c.args.ctx.now.location in
-    let place = c.in_ok-location-in-Bool.ensures ∙ c.location.ensures in
-    ap (λ x. read x s p) (ap view c.in-Bool.is ∙ view-Bool c.in-Bool.accepts) ∙ read_boolean c.in-Bool.accepts s p ∙ ap Ok (sym (c.of_boolean.ensures ∙ ap (λ q. boolean_schema q c.in-Bool.accepts) place))
-
-pub compiler::compile_object-returns : goal.compiler::compile_object-returns
-compiler::compile_object-returns g t c =
-    let s = c.args.ctx.now.setting in
-    let p = c.args.ctx.now.location in
-    let ms = members_view c.args.parent.now.entries in
-    let us = c.push_units.new.units.items in
-    let place = c.in_ok-location.ensures ∙ c.location.ensures in
-    let marks : marked c.is_handed_on.result us ≡ marks_of s ms = ap₂ (λ h f. record { hands_on = h; fused = f }) c.is_handed_on.ensures c.in_ok-push_units.ensures.fused in
-    ap (whole p (marks_of s ms)) c.in_ok-push_units.ensures.made
-    ∙ ap Ok (sym (c.of_keywords.ensures ∙ ap (λ xs. schema_object c.in_ok-location.location (marked c.is_handed_on.result xs) (keywords_of xs)) c.shrink_to_fit.ensures.items ∙ ap₂ (λ q m. schema_object q m (keywords_of us)) place marks))
+    ap (λ x. read x s p) (ap view c.in-Bool.is ∙ view-Bool c.in-Bool.accepts) ∙ read_boolean c.in-Bool.accepts s p ∙ ap Ok (sym c.in_ok-boolean_node-in-Bool.ensures)
 
 -- ---- the units of an object
 
@@ -107,7 +80,7 @@ items::array_shape::ArrayShapeValidator::compile-returns g t c =
     let ms = members_view c.args.parent.now.entries in
     let d = view c.args.items.now in
     let of_shape = shape_keywords {F = g.row.F.Denot} {N = g.row.F-Node.Denot} {O = g.row.F-Node-Number.Denot} {P = g.row.F-Node-PreparedKey.Denot} in
-    let absorbed = absorbed_keywords c.in_ok-absorbed.absorbed in
+    let absorbed = absorbed_keywords c.in_ok-absorbed.absorbed.value in
     let all = shape_reads spot ms d c.requires.fused c.requires.items absorbed c.in_ok-absorbed.ensures in
     subst (Makes of_shape c.with_items.result) (ap (λ q. map_ok (λ k. append_keywords absorbed (keyword q k no_keywords)) (items_value spot.setting spot.location ms d)) c.in_ok-location.ensures ∙ sym all)
     (c.with_items.ensures _ c.compile_schema.ensures)

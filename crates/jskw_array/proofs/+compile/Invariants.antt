@@ -1,9 +1,5 @@
 use Rattle.std.proofs.Common.{◌≡◌, ◌+◌, ◌*◌, drop}
-use Rattle.serde_json.specs.Data.{depth, items_depth, members_depth}
-use Rattle.serde_json.specs.View.{view, items_view, members_view}
-use Rattle.jskw_report.specs.Read.{part_named, read_each, read_words}
-use Rattle.jskw_array.specs.Meaning.{schemas_of}
-use Rattle.jskw_array.specs.Units.{after, begin_fused, keywords_of}
+use Rattle.jskw_array.specs.Words.{after, begin_fused, depth, items_depth, items_view, keywords_of, members_depth, members_view, part_named, read_each, read_words, schemas_of, view}
 use Rattle.jskw_array.proofs.EachSchema.{after as after_schemas}
 use Rattle.jskw_array.proofs.+compile.Given as goal
 

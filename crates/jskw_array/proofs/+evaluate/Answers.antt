@@ -1,22 +1,11 @@
 use Rattle.std.proofs.Common.{rules, ◌≡◌, ◌∙◌, ◌++◌, [], ◌∷◌, length, true, false, None, ap, ap₂, sym, subst, refl, IfOk, arith}
 use Rattle.std.proofs.Math.Nat.{le_trans}
 use Rattle.std.proofs.lemmas.Grind.{common_steps}
-use Rattle.jskw_value.specs.Pointer.{item_location}
-use Rattle.jskw_value.specs.Tree.{items}
+use Rattle.jskw_array.specs.Words.{absorbed_by, all_height, bounds_of, evaluate_pairs, failing_locations, false_schema, holds, item_location, items, keywords_of, matching_result, meaning_unit, node_at, of_children, pairs, path_of, prefix_annotation, result_of, schema_location, schemas_of, shape_keywords, tree, unit_location, unit_meaning, units}
 use Rattle.jskw_report.proofs.Gathering.{gathered_all, index_end, index_passed, index_taken, node_end, node_passed, node_taken}
 use Rattle.jskw_report.proofs.Valid.{tree_valid}
-use Rattle.jskw_report.specs.Applications.{all_height, pairs}
-use Rattle.jskw_report.specs.Evaluation.{evaluate_pairs, is_valid, node_at, of_children, prefix_annotation, tree, units}
-use Rattle.jskw_report.specs.EvaluationView.{result_of}
-use Rattle.jskw_report.specs.Holds.{holds}
-use Rattle.jskw_report.specs.Keyword.{false_schema, schema_location}
-use Rattle.jskw_report.specs.Meaning.{meaning_unit}
-use Rattle.jskw_report.specs.Paths.{path_of}
-use Rattle.jskw_array.specs.Fused.{shape_keywords}
-use Rattle.jskw_array.specs.Limits.{failing_locations, matching_result}
+use Rattle.jskw_report.specs.Evaluation.{is_valid}
 use Rattle.jskw_array.specs.Heights.{each_is_as_high, rest_is_as_high}
-use Rattle.jskw_array.specs.Meaning.{bounds_of, schemas_of}
-use Rattle.jskw_array.specs.Units.{absorbed_by, keywords_of, unit_location, unit_meaning}
 use Rattle.jskw_array.proofs.Keywords.{false_tree, items_height, keywords_end, one_pair, pairs_at, schema_height, schema_pairs, schema_tree, unit_height, unit_taken, unit_tall}
 use Rattle.jskw_array.proofs.MatchedItems.{matching_is_unit}
 use Rattle.jskw_array.proofs.Meant.{absurd-of, each_meets, each_no_assertion, items_unit_is, prefix_unit_is, rest_no_assertion}

@@ -1,11 +1,5 @@
 use Rattle.std.proofs.Common.{◌≡◌, ◌+◌, ◌*◌, ◌≤◌, ◌++◌, min, length, drop, sum_by}
-use Rattle.jskw_value.specs.Tree.{items}
-use Rattle.jskw_report.specs.Applications.{pairs, each_pairs, all_pairs, keyword_pairs, height, all_height, keyword_height}
-use Rattle.jskw_report.specs.Evaluation.{evaluate_each, evaluate_matching, evaluate_pairs, matching_indices, tree, units}
-use Rattle.jskw_report.specs.Holds.{holds}
-use Rattle.jskw_report.specs.Paths.{path_of}
-use Rattle.jskw_array.specs.Meaning.{each_keyword, rest_keyword, schemas_of, validator_keyword}
-use Rattle.jskw_array.specs.Units.{keywords_of}
+use Rattle.jskw_array.specs.Words.{all_height, all_pairs, each_keyword, each_pairs, evaluate_each, evaluate_matching, evaluate_pairs, height, holds, items, keyword_height, keyword_pairs, keywords_of, matching_indices, pairs, path_of, rest_keyword, schemas_of, tree, units, validator_keyword}
 use Rattle.jskw_array.proofs.Keywords.{unit_tall}
 use Rattle.jskw_array.proofs.+evaluate.Given as goal
 

@@ -1,11 +1,6 @@
 use Rattle.std.proofs.Common.{rules, ◌≡◌, ◌∙◌, ◌+◌, true, false, ◌&&◌, if◌then◌else◌, drop, sym, ap, arith}
-use Rattle.jskw_value.specs.Tree.{items}
-use Rattle.jskw_report.specs.Applications.{all_height, all_needed}
-use Rattle.jskw_report.specs.Holds.{all_hold}
-use Rattle.jskw_report.specs.Meaning.{meaning_holds, meaning_needed}
-use Rattle.jskw_array.specs.Fused.{shape_keywords}
+use Rattle.jskw_array.specs.Words.{all_height, all_hold, all_needed, items, keywords_of, meaning_holds, meaning_needed, shape_keywords, unit_meaning}
 use Rattle.jskw_array.specs.Heights.{each_is_as_high, rest_is_as_high}
-use Rattle.jskw_array.specs.Units.{keywords_of, unit_meaning}
 use Rattle.jskw_array.proofs.Accepted.{counted_within, one_needed}
 use Rattle.jskw_array.proofs.Keywords.{hold_at, items_height, needed_at, only_holds, only_lower, only_needs, schema_height, unit_height, unit_tall}
 use Rattle.jskw_array.proofs.Meant.{each_holds_of, each_needs, rest_holds_of, rest_needs}

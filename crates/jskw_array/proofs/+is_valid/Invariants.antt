@@ -1,10 +1,5 @@
 use Rattle.std.proofs.Common.{◌≡◌, ◌+◌, ◌*◌, ◌≤◌, min, length, drop, sum_by, count_by}
-use Rattle.std.specs.List.{list_all}
-use Rattle.jskw_value.specs.Tree.{items}
-use Rattle.jskw_report.specs.Applications.{needed, each_needed, all_needed, keyword_needed, sum_to_failure, height, all_height, keyword_height}
-use Rattle.jskw_report.specs.Holds.{holds, each_holds, all_hold, keyword_holds}
-use Rattle.jskw_array.specs.Meaning.{each_keyword, rest_keyword, schemas_of, validator_keyword}
-use Rattle.jskw_array.specs.Units.{keywords_of}
+use Rattle.jskw_array.specs.Words.{all_height, all_hold, all_needed, each_holds, each_keyword, each_needed, height, holds, items, keyword_height, keyword_holds, keyword_needed, keywords_of, list_all, needed, rest_keyword, schemas_of, sum_to_failure, validator_keyword}
 use Rattle.jskw_array.proofs.Keywords.{unit_tall}
 use Rattle.jskw_array.proofs.+is_valid.Given as goal
 

@@ -1,21 +1,11 @@
 use Rattle.std.proofs.Common.{rules, ◌≡◌, ◌∙◌, ◌+◌, ◌++◌, [], Err, refl, drop, if◌then◌else◌, ap, sym, subst, arith}
 use Rattle.std.proofs.lemmas.Grind.{common_steps}
-use Rattle.jskw_value.specs.Pointer.{item_location}
-use Rattle.jskw_value.specs.Tree.{items}
+use Rattle.jskw_array.specs.Words.{IsFirst, absorbed_keywords, all_fail, all_height, all_needed, each_fails, each_item, fail, holds, is_empty, item_location, items, keywords_of, meaning_fail, meaning_needed, needed, path_of, schemas_of, shape_keywords, unit_meaning}
 use Rattle.jskw_report.proofs.Appended.{fail_appended}
 use Rattle.jskw_report.proofs.Appending.{first_before}
 use Rattle.jskw_report.proofs.Fails.{holds_empty}
-use Rattle.jskw_report.specs.Applications.{all_height, all_needed, needed}
-use Rattle.jskw_report.specs.Fail.{all_fail, each_fails, each_item, fail, is_empty}
-use Rattle.jskw_report.specs.Holds.{holds}
-use Rattle.jskw_report.specs.Meaning.{meaning_fail, meaning_needed}
-use Rattle.jskw_report.specs.Observe.{IsFirst}
-use Rattle.jskw_report.specs.Paths.{path_of}
-use Rattle.jskw_array.specs.Fused.{absorbed_keywords, shape_keywords}
 use Rattle.jskw_array.specs.Heights.{each_is_as_high, rest_is_as_high}
-use Rattle.jskw_array.specs.Meaning.{schemas_of}
-use Rattle.jskw_array.specs.Units.{keywords_of, unit_meaning}
-use Rattle.jskw_array.proofs.Accepted.{counted_later, counted_within, no_errors, one_needed}
+use Rattle.jskw_array.proofs.Accepted.{counted_within, no_errors, one_needed}
 use Rattle.jskw_array.proofs.Keywords.{fail_at, items_height, items_keywords, keywords_end, needed_at, schema_fails, schema_height, schema_needs, unit_empty, unit_height, unit_tall}
 use Rattle.jskw_array.proofs.Meant.{absurd-of, each_fails_of, each_needs, each_no_assertion, rest_fails_of, rest_needs, rest_no_assertion}
 use Rattle.jskw_array.proofs.Meetings.{each_fails_at, each_fails_end, each_needed_at, fails_at, height_at, until_at}
@@ -226,28 +216,20 @@ items::array_shape::ArrayShapeValidatorValidate::validate-returns-in_err-validat
 
 -- ---- a node
 
-pub node::SchemaNode::validate-returns-then-accepts-clause-first : goal.node::SchemaNode::validate-returns-then-accepts-clause-first
-node::SchemaNode::validate-returns-then-accepts-clause-first g t c =
-    no_errors c.args.self.now (g.F.Node.Rooted.tree c.args.instance.now) (path_of c.args.location.now) (c.accepts.ensures.valid c.if-accepts.true)
-
-pub node::SchemaNode::validate-returns-then-accepts-clause-counted : goal.node::SchemaNode::validate-returns-then-accepts-clause-counted
-node::SchemaNode::validate-returns-then-accepts-clause-counted g t c =
-    counted_within _ _ _ c.accepts.result c.if-accepts.true (one_needed c.args.self.now (g.F.Node.Rooted.tree c.args.instance.now)) c.accepts.ensures.counted
-
-pub node::SchemaNode::validate-validate_units-requires : goal.node::SchemaNode::validate-validate_units-requires
-node::SchemaNode::validate-validate_units-requires g t c κs within =
+pub node::SchemaNode::validate_keywords-validate_units-requires : goal.node::SchemaNode::validate_keywords-validate_units-requires
+node::SchemaNode::validate_keywords-validate_units-requires g t c κs within =
     let below = schema_height c.args.self.now c.in-Some.units c.in-Some.ensures.units in
     (omega (arith, below, c.decreases), search rules)
 
-pub node::SchemaNode::validate-returns-clause-first : goal.node::SchemaNode::validate-returns-clause-first
-node::SchemaNode::validate-returns-clause-first g t c =
+pub node::SchemaNode::validate_keywords-returns-clause-first : goal.node::SchemaNode::validate_keywords-returns-clause-first
+node::SchemaNode::validate_keywords-returns-clause-first g t c =
     let tree = g.F.Node.Rooted.tree in
     let whole = schema_fails c.args.self.now c.in-Some.units c.in-Some.ensures.units (tree c.args.instance.now) (path_of c.args.location.now) in
     subst (λ fs. IsFirst tree fs c.validate_units.result) (sym whole) c.validate_units.ensures.first
 
-pub node::SchemaNode::validate-returns-clause-counted : goal.node::SchemaNode::validate-returns-clause-counted
-node::SchemaNode::validate-returns-clause-counted g t c =
+pub node::SchemaNode::validate_keywords-returns-clause-counted : goal.node::SchemaNode::validate_keywords-returns-clause-counted
+node::SchemaNode::validate_keywords-returns-clause-counted g t c =
     let whole = schema_needs c.args.self.now c.in-Some.units c.in-Some.ensures.units (g.F.Node.Rooted.tree c.args.instance.now) in
     let first = c.apply.ensures.counted in
     let rest = c.validate_units.ensures.counted in
-    counted_later _ _ _ _ c.accepts.result c.if-accepts.false c.accepts.ensures.counted (record { from = omega (arith, first.from, rest.from); to = omega (arith, whole, first.to, rest.to) })
+    record { from = omega (arith, first.from, rest.from); to = omega (arith, whole, first.to, rest.to) }

@@ -1,16 +1,10 @@
 use Rattle.std.proofs.Common.{◌≡◌, ◌+◌, ◌*◌, ◌≤◌, min, length, drop}
-use Rattle.jskw_value.specs.Tree.{items}
-use Rattle.jskw_report.specs.Applications.{needed, each_needed, all_needed, keyword_needed, sum_to_failure, height, all_height, keyword_height}
-use Rattle.jskw_report.specs.Fail.{fail, each_fails, each_item, all_fail, keyword_fail}
-use Rattle.jskw_report.specs.Holds.{holds}
-use Rattle.jskw_report.specs.Paths.{path_of}
-use Rattle.jskw_array.specs.Meaning.{each_keyword, rest_keyword, schemas_of, validator_keyword}
-use Rattle.jskw_array.specs.Units.{keywords_of}
+use Rattle.jskw_array.specs.Words.{all_fail, all_height, all_needed, each_fails, each_item, each_keyword, each_needed, fail, height, holds, items, keyword_fail, keyword_height, keyword_needed, keywords_of, needed, path_of, rest_keyword, schemas_of, sum_to_failure, validator_keyword}
 use Rattle.jskw_array.proofs.Keywords.{unit_tall}
 use Rattle.jskw_array.proofs.+validate.Given as goal
 
-abbrev pub decreases-node::SchemaNode::validate : goal.decreases-node::SchemaNode::validate
-decreases-node::SchemaNode::validate g l = 10 * height l.self.now
+abbrev pub decreases-node::SchemaNode::validate_keywords : goal.decreases-node::SchemaNode::validate_keywords
+decreases-node::SchemaNode::validate_keywords g l = 10 * height l.self.now
 
 abbrev pub decreases-node::SchemaNode::validate_item : goal.decreases-node::SchemaNode::validate_item
 decreases-node::SchemaNode::validate_item g l = 10 * height l.self.now + 1

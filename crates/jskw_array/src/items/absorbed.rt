@@ -1,22 +1,13 @@
 //! `type` of `array`, `minItems` and `maxItems` of the fused shape of an array.
-ghost use Rattle.std.specs.Prelude.{◌≡◌, [], ◌∷◌, IfOk, IfSome, IsTrue, is_some, length};
-ghost use Rattle.serde_json.specs.View.{members_view};
-ghost use Rattle.jskw_value.specs.Tree.{Tree, is_array as is_list, is_lawful, items};
-ghost use Rattle.jskw_report.specs.Compile.{Makes};
-ghost use Rattle.jskw_report.specs.Errors.{kind_of};
-ghost use Rattle.jskw_report.specs.Evaluation.{node_at, of_errors, unit, units};
-ghost use Rattle.jskw_report.specs.EvaluationView.{result_of};
-ghost use Rattle.jskw_report.specs.Fail.{all_fail, keyword_fail};
-ghost use Rattle.jskw_report.specs.Holds.{all_hold, assertion_holds};
-ghost use Rattle.jskw_report.specs.Meaning.{placed};
-ghost use Rattle.jskw_report.specs.Observe.{Appends, IsFirst, failures_unless};
-ghost use Rattle.jskw_report.specs.Paths.{path_of};
-ghost use Rattle.jskw_report.specs.Read.{part_named, read_words};
-ghost use Rattle.jskw_report.specs.Sibling.{is_fused, takes_size};
-ghost use Rattle.jskw_report.specs.declared.keyword.KeywordName.TheVariants as word;
-ghost use Rattle.jskw_number.specs.Meaning.{max_items, min_items};
-ghost use Rattle.jskw_array.specs.Fused.{absorbed_bounds, absorbed_keywords, absorbed_type};
-ghost use Rattle.jskw_array.specs.Fused.{Extends, count_of, optional};
+ghost use Rattle.std.specs.Prelude.{◌≡◌, ◌∷◌};
+ghost use Rattle.jskw_array.specs.Words.{[], Appends, Extends, IfOk, IfSome, IsFirst};
+ghost use Rattle.jskw_array.specs.Words.{IsTrue, Makes, Tree, absorbed_bounds, absorbed_keywords};
+ghost use Rattle.jskw_array.specs.Words.{absorbed_type, all_fail, all_hold, assertion_holds};
+ghost use Rattle.jskw_array.specs.Words.{count_of, failures_unless, is_array as is_list, is_fused};
+ghost use Rattle.jskw_array.specs.Words.{is_lawful, is_some, items, keyword_fail, kind_of, length};
+ghost use Rattle.jskw_array.specs.Words.{max_items, members_view, min_items, node_at, of_errors};
+ghost use Rattle.jskw_array.specs.Words.{optional, part_named, path_of, placed, read_words};
+ghost use Rattle.jskw_array.specs.Words.{result_of, takes_size, unit, units};
 
 use jskw_leaf::type_::ArrayTypeValidator;
 use jskw_number::max_items::MaxItemsValidator;
@@ -41,27 +32,29 @@ pub struct AbsorbedKeywords {
 }
 
 impl AbsorbedKeywords {
-    // Compiles the keywords of `parent`, which must have the fused shape. Fails only if memory runs
-    // out.
+    // Compiles the keywords of `parent`, which must have the fused shape. In a box they take no room
+    // in the frames of a deep schema. Fails only if memory runs out.
     #[inline(never)]
     pub(crate) fn compile<'a, F: Json>(
         alloc: Global,
         ctx: &Context<'_, F>,
         parent: &'a Map<String, Value>,
-    ) -> CompilationResult<'a, AbsorbedKeywords>
+    ) -> CompilationResult<'a, Box<AbsorbedKeywords>>
         requires { IsTrue (is_fused ctx.now.setting (members_view parent.now.entries)) }
-        ensures { let ms = members_view parent.now.entries in Makes absorbed_keywords result
-            (read_words (word.TypeKeyword ∷ word.MinItems ∷ word.MaxItems ∷ []) ctx.now.setting
-            ctx.now.location ms (λ name. part_named name ms)) }
+        ensures { let ms = members_view parent.now.entries in
+            Makes (λ a. absorbed_keywords a.value) result
+            (read_words (KeywordName.TypeKeyword ∷ KeywordName.MinItems ∷ KeywordName.MaxItems ∷ [])
+            ctx.now.setting ctx.now.location ms (λ name. part_named name ms)) }
     {
         let location = ctx.keyword_location(alloc, KeywordName::TypeKeyword)?;
         let min_items = compile_min_items(alloc, ctx, parent)?;
         let max_items = compile_max_items(alloc, ctx, parent)?;
-        Ok(AbsorbedKeywords {
+        let absorbed = AbsorbedKeywords {
             type_: ArrayTypeValidator::new(location),
             min_items,
             max_items,
-        })
+        };
+        Ok(Box::new(alloc, absorbed)?)
     }
 
     // Returns the number of items if the instance is an array that passes all three, else `None`.
@@ -149,11 +142,8 @@ impl AbsorbedKeywords {
     {
         let is_array = instance.is_array();
         children.push(self.evaluate_type::<F>(alloc, instance, is_array, path)?)?;
-        let count = if is_array {
-            Some(Array::len(instance) as u64)
-        } else {
-            None
-        };
+        let length = instance.item_count() as u64;
+        let count = if is_array { Some(length) } else { None };
         self.evaluate_counts::<F>(alloc, instance, count, path, children)
     }
 
@@ -171,13 +161,8 @@ impl AbsorbedKeywords {
             ≡ node_at a.location instance_location.now
             (unit (placed a) (F.Node.tree instance.now) instance_location.now)) }
     {
-        evaluate_assertion::<F, ArrayTypeValidator>(
-            alloc,
-            &self.type_,
-            is_array,
-            instance,
-            instance_location,
-        )
+        let type_ = &self.type_;
+        evaluate_assertion::<F, _>(alloc, type_, is_array, instance, instance_location)
     }
 
     /// Appends the evaluation nodes of `minItems` and `maxItems`, if the schema has them, for an
@@ -195,24 +180,11 @@ impl AbsorbedKeywords {
         ensures { Extends children.old.items children.new.items (units (absorbed_bounds self.now)
             (F.Node.tree instance.now) instance_location.now) result }
     {
+        let path = instance_location;
         let holds = self.min_items_hold(count);
-        evaluate_bound::<F, MinItemsValidator>(
-            alloc,
-            &self.min_items,
-            holds,
-            instance,
-            instance_location,
-            children,
-        )?;
+        evaluate_bound::<F, _>(alloc, &self.min_items, holds, instance, path, children)?;
         let holds = self.max_items_hold(count);
-        evaluate_bound::<F, MaxItemsValidator>(
-            alloc,
-            &self.max_items,
-            holds,
-            instance,
-            instance_location,
-            children,
-        )
+        evaluate_bound::<F, _>(alloc, &self.max_items, holds, instance, path, children)
     }
 }
 
@@ -222,9 +194,10 @@ fn compile_min_items<'a, F: Json>(
     ctx: &Context<'_, F>,
     parent: &'a Map<String, Value>,
 ) -> CompilationResult<'a, Option<MinItemsValidator>>
-    requires { IsTrue (takes_size ctx.now.setting (members_view parent.now.entries) word.MinItems) }
+    requires { let ms = members_view parent.now.entries in
+        IsTrue (takes_size ctx.now.setting ms KeywordName.MinItems) }
     ensures { let ms = members_view parent.now.entries in Makes (optional min_items) result
-        (read_words (word.MinItems ∷ []) ctx.now.setting ctx.now.location ms
+        (read_words (KeywordName.MinItems ∷ []) ctx.now.setting ctx.now.location ms
         (λ name. part_named name ms)) }
 {
     let Some(value) = member_of(parent, KeywordName::MinItems.as_str()) else {
@@ -239,9 +212,10 @@ fn compile_max_items<'a, F: Json>(
     ctx: &Context<'_, F>,
     parent: &'a Map<String, Value>,
 ) -> CompilationResult<'a, Option<MaxItemsValidator>>
-    requires { IsTrue (takes_size ctx.now.setting (members_view parent.now.entries) word.MaxItems) }
+    requires { let ms = members_view parent.now.entries in
+        IsTrue (takes_size ctx.now.setting ms KeywordName.MaxItems) }
     ensures { let ms = members_view parent.now.entries in Makes (optional max_items) result
-        (read_words (word.MaxItems ∷ []) ctx.now.setting ctx.now.location ms
+        (read_words (KeywordName.MaxItems ∷ []) ctx.now.setting ctx.now.location ms
         (λ name. part_named name ms)) }
 {
     let Some(value) = member_of(parent, KeywordName::MaxItems.as_str()) else {
@@ -261,13 +235,8 @@ fn validate_assertion<'i, F: Json, A: Assertion>(
         (F.Node.tree instance.now) (path_of location.now)) result }
 {
     let holds = assertion.holds::<F>(instance);
-    fail_unless(
-        holds,
-        assertion.kind(),
-        assertion.location(),
-        instance,
-        location,
-    )
+    let kind = assertion.kind();
+    fail_unless(holds, kind, assertion.location(), instance, location)
 }
 
 // Returns the error of the bound, or `Ok` if it holds or there is none.
@@ -286,28 +255,23 @@ fn validate_bound<'i, F: Json, A: Assertion>(
     }
 }
 
-// Returns the evaluation node of the assertion. `holds` must be whether it holds for the instance.
+// Returns the evaluation node of the assertion for the instance at `path`. `holds` must be whether
+// it holds.
 fn evaluate_assertion<F: Json, A: Assertion>(
     alloc: Global,
     assertion: &A,
     holds: bool,
     instance: &F::Node,
-    instance_location: &Location,
+    path: &Location,
 ) -> Result<EvaluationNode, AllocError>
     requires { holds ≡ assertion_holds (A.asserts assertion.now).claim (F.Node.tree instance.now) }
     ensures { let a = A.asserts assertion.now in IfOk result (λ node. node
-        ≡ node_at a.location instance_location.now
-        (unit (placed a) (F.Node.tree instance.now) instance_location.now)) }
+        ≡ node_at a.location path.now (unit (placed a) (F.Node.tree instance.now) path.now)) }
 {
-    let result = evaluate_unless::<F>(
-        alloc,
-        holds,
-        assertion.kind(),
-        assertion.location(),
-        instance,
-        instance_location,
-    )?;
-    EvaluationNode::new(alloc, result, assertion.location(), instance_location)
+    let kind = assertion.kind();
+    let schema_path = assertion.location();
+    let result = evaluate_unless::<F>(alloc, holds, kind, schema_path, instance, path)?;
+    EvaluationNode::new(alloc, result, schema_path, path)
 }
 
 // Returns the evaluation of an assertion: valid if `holds`, else with the error made of the other
@@ -319,16 +283,15 @@ fn evaluate_unless<'i, F: Json>(
     kind: ValidationErrorKind<'i>,
     schema_path: &'i Location,
     instance: &'i F::Node,
-    instance_location: &Location,
+    path: &Location,
 ) -> Result<EvaluationResult, AllocError>
     ensures { IfOk result (λ r. result_of r ≡ of_errors (failures_unless holds (kind_of kind.entry)
-        schema_path.now (F.Node.tree instance.now) instance_location.now)) }
+        schema_path.now (F.Node.tree instance.now) path.now)) }
 {
     if holds {
         return Ok(EvaluationResult::valid_empty(alloc));
     }
-    let path = instance_location.copy(alloc)?;
-    let error = ValidationError::new(kind, path, schema_path, instance);
+    let error = ValidationError::new(kind, path.copy(alloc)?, schema_path, instance);
     evaluate_first::<F>(alloc, Err(Fault::Invalid(error)))
 }
 
@@ -339,16 +302,16 @@ fn evaluate_bound<F: Json, A: Assertion>(
     bound: &Option<A>,
     holds: bool,
     instance: &F::Node,
-    instance_location: &Location,
+    path: &Location,
     children: &mut Vec<EvaluationNode>,
 ) -> Result<(), AllocError>
     requires { holds ≡ all_hold (optional A.asserts bound.now) (F.Node.tree instance.now) }
     ensures { Extends children.old.items children.new.items (units (optional A.asserts bound.now)
-        (F.Node.tree instance.now) instance_location.now) result }
+        (F.Node.tree instance.now) path.now) result }
 {
     let Some(bound) = bound else {
         return Ok(());
     };
-    children.push(evaluate_assertion::<F, A>(alloc, bound, holds, instance, instance_location)?)?;
+    children.push(evaluate_assertion::<F, A>(alloc, bound, holds, instance, path)?)?;
     Ok(())
 }

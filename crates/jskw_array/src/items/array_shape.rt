@@ -1,19 +1,12 @@
 //! The fused shape of an array: `type` of `array`, `minItems`, `maxItems` and `items` of one schema
 //! (JSON Schema Validation 6.1.1, 6.4.1, 6.4.2, Core 10.3.1.2), with no other keyword of items
 //! beside them. The type and the length are tested once, and then the items.
-ghost use Rattle.std.specs.Prelude.{◌≡◌, IsTrue, Result, Some};
-ghost use Rattle.serde_json.specs.Find.{get_member};
-ghost use Rattle.serde_json.specs.View.{view, members_view};
-ghost use Rattle.jskw_report.specs.Compile.{Makes};
-ghost use Rattle.jskw_report.specs.Keyword.{Keyword, append_keywords, keyword, no_keywords};
-ghost use Rattle.jskw_report.specs.KeywordValue.{Refusal, map_ok};
-ghost use Rattle.jskw_report.specs.Read.{part_named, read_words};
-ghost use Rattle.jskw_report.specs.Setting.{name_of};
-ghost use Rattle.jskw_report.specs.Sibling.{is_fused};
-ghost use Rattle.jskw_report.specs.declared.keyword.KeywordName.TheVariants as word;
-ghost use Rattle.jskw_array.specs.Fused.{absorbed_keywords, fused_words, shape_keywords};
-ghost use Rattle.jskw_array.specs.Fused.{shape_meaning};
-ghost use Rattle.jskw_array.specs.Meaning.{validator_keyword};
+ghost use Rattle.std.specs.Prelude.{◌≡◌};
+ghost use Rattle.jskw_array.specs.Words.{IsTrue, Keyword, Makes, Refusal, Result, Some};
+ghost use Rattle.jskw_array.specs.Words.{absorbed_keywords, append_keywords, fused_words};
+ghost use Rattle.jskw_array.specs.Words.{get_member, is_fused, keyword, map_ok, members_view};
+ghost use Rattle.jskw_array.specs.Words.{name_of, no_keywords, part_named, read_words};
+ghost use Rattle.jskw_array.specs.Words.{shape_keywords, shape_meaning, validator_keyword, view};
 
 use crate::items::{self, AbsorbedKeywords};
 use crate::unit::PlacedValidator;
@@ -54,7 +47,7 @@ impl<F: Json> ArrayShapeValidator<F> {
         items: &'a Value,
     ) -> CompilationResult<'a, ArrayShapeValidator<F>>
         requires fused { IsTrue (is_fused ctx.now.setting (members_view parent.now.entries)) }
-        requires items { get_member (name_of word.Items) (members_view parent.now.entries)
+        requires items { get_member (name_of KeywordName.Items) (members_view parent.now.entries)
             ≡ Some (view items.now) }
         ensures { let ms = members_view parent.now.entries in Makes shape_keywords result
             (read_words fused_words ctx.now.setting ctx.now.location ms
@@ -80,18 +73,19 @@ impl<F: Json> ArrayShapeValidator<F> {
 // Returns the validator of the other keywords and of `items`, if that was compiled.
 #[inline(never)]
 fn with_items<'a, F: Json>(
-    absorbed: AbsorbedKeywords,
+    absorbed: Box<AbsorbedKeywords>,
     location: Location,
     compiled: CompilationResult<'a, Validator<F>>,
 ) -> CompilationResult<'a, ArrayShapeValidator<F>>
     ensures { (read : Result Keyword Refusal) → Makes validator_keyword compiled.entry read
-        → Makes shape_keywords result (map_ok (λ k. append_keywords (absorbed_keywords absorbed)
-        (keyword location k no_keywords)) read) }
+        → Makes shape_keywords result (map_ok (λ k. append_keywords
+        (absorbed_keywords absorbed.value) (keyword location k no_keywords)) read) }
 {
     let items = PlacedValidator {
         validator: compiled?,
         location,
     };
+    let absorbed = Box::into_inner(absorbed);
     Ok(ArrayShapeValidator { absorbed, items })
 }
 

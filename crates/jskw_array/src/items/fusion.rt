@@ -1,12 +1,8 @@
 //! The test for the fused shape of an array.
-ghost use Rattle.std.specs.List.{list_all};
 ghost use Rattle.std.specs.Prelude.{◌≡◌};
-ghost use Rattle.serde_json.specs.View.{view, members_view};
-ghost use Rattle.jskw_value.specs.Types.{type_name};
-ghost use Rattle.jskw_value.specs.declared.types.JsonType.TheVariants.{Array};
-ghost use Rattle.jskw_report.specs.Sibling.{has_keyword, is_absent, is_fused, is_items_schema};
-ghost use Rattle.jskw_report.specs.Sibling.{is_string, takes_size, unfused_names};
-ghost use Rattle.jskw_report.specs.declared.keyword.KeywordName.TheVariants as word;
+ghost use Rattle.jskw_array.specs.Words.{Array, has_keyword, is_absent, is_fused};
+ghost use Rattle.jskw_array.specs.Words.{is_items_schema, is_string, list_all, members_view};
+ghost use Rattle.jskw_array.specs.Words.{takes_size, type_name, unfused_names};
 
 use crate::items::is_items_schema;
 use jskw_number::helpers::size_limit;
@@ -33,25 +29,18 @@ pub fn array_shape_fusion<F: Json>(ctx: &Context<'_, F>, parent: &Map<String, Va
 // Returns whether `type` is present, active and `array`.
 fn has_type_array<F: Json>(ctx: &Context<'_, F>, parent: &Map<String, Value>) -> bool
     ensures { result ≡ has_keyword ctx.now.setting (members_view parent.now.entries)
-        word.TypeKeyword (is_string (type_name Array)) }
+        KeywordName.TypeKeyword (is_string (type_name Array)) }
 {
     match member_of(parent, KeywordName::TypeKeyword.as_str()) {
-        Some(value) => is_array_name(value) && KeywordName::TypeKeyword.stands(ctx),
+        Some(value) => value.as_str() == Some("array") && KeywordName::TypeKeyword.stands(ctx),
         None => false,
     }
 }
 
-// Returns whether the value is the name of the type array.
-fn is_array_name(value: &Value) -> bool
-    ensures { result ≡ is_string (type_name Array) (view value.now) }
-{
-    value.as_str() == Some("array")
-}
-
 // Returns whether `items` is present, active and one schema that asserts something.
 fn has_items<F: Json>(ctx: &Context<'_, F>, parent: &Map<String, Value>) -> bool
-    ensures { result ≡ has_keyword ctx.now.setting (members_view parent.now.entries) word.Items
-        is_items_schema }
+    ensures { result ≡ has_keyword ctx.now.setting (members_view parent.now.entries)
+        KeywordName.Items is_items_schema }
 {
     match member_of(parent, KeywordName::Items.as_str()) {
         Some(value) => is_items_schema(value) && KeywordName::Items.stands(ctx),

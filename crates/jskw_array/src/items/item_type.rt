@@ -1,41 +1,28 @@
 //! `items` of a schema that has only `type` (JSON Schema Core 10.3.1.2, Validation 6.1.1): each
 //! item is tested in place, and no subschema is applied.
-ghost use Rattle.std.specs.Prelude.{◌≡◌, IfOk, IsTrue, Some, length, true};
-ghost use Rattle.serde_json.specs.Data.{member, no_members, object, string};
-ghost use Rattle.serde_json.specs.View.{view};
-ghost use Rattle.jskw_value.specs.Tree.{is_lawful, items};
-ghost use Rattle.jskw_value.specs.Types.{type_named};
-ghost use Rattle.jskw_value.specs.declared.types.JsonType.{JsonType};
-ghost use Rattle.jskw_report.specs.Compile.{Makes};
-ghost use Rattle.jskw_report.specs.Evaluation.{tree};
-ghost use Rattle.jskw_report.specs.Holds.{keyword_holds};
-ghost use Rattle.jskw_report.specs.Keyword.{items_from};
-ghost use Rattle.jskw_report.specs.KeywordValue.{map_ok};
-ghost use Rattle.jskw_report.specs.Meaning.{one, placed};
-ghost use Rattle.jskw_report.specs.Paths.{path_of};
-ghost use Rattle.jskw_report.specs.Read.{integers_of, keyword_location, read};
-ghost use Rattle.jskw_report.specs.Setting.{name_of, stands};
-ghost use Rattle.jskw_report.specs.Sibling.{is_inlined_type, is_only_type};
-ghost use Rattle.jskw_report.specs.declared.error.TypeKind.TheVariants.{Single};
-ghost use Rattle.jskw_report.specs.declared.keyword.KeywordName.TheVariants as word;
-ghost use Rattle.jskw_leaf.specs.Meaning.{leaf_keyword, single_type, type_at};
-ghost use Rattle.jskw_array.specs.Meaning.{bare_items, bare_schema, items_type};
-ghost use Rattle.jskw_array.specs.Meaning.{validator_keyword};
+ghost use Rattle.std.specs.Prelude.{◌≡◌};
+ghost use Rattle.jskw_array.specs.Words.{IfOk, IsTrue, JsonType, Makes, Single, Some};
+ghost use Rattle.jskw_array.specs.Words.{bare_items, bare_schema, integers_of, is_inlined_type};
+ghost use Rattle.jskw_array.specs.Words.{is_lawful, is_only_type, items, items_from, items_type};
+ghost use Rattle.jskw_array.specs.Words.{keyword_holds, keyword_location, leaf_keyword, length};
+ghost use Rattle.jskw_array.specs.Words.{map_ok, member, name_of, no_members, object, one, path_of};
+ghost use Rattle.jskw_array.specs.Words.{placed, read, rule_of, single_type, stands, string, tree};
+ghost use Rattle.jskw_array.specs.Words.{true, type_at, type_named, validator_keyword, view};
 
 use crate::items::items_unit;
 use crate::validator::Validator;
 use jskw_leaf::LeafValidator;
 use jskw_leaf::legacy::type_draft_4;
 use jskw_leaf::type_::{
-    BooleanType, BooleanTypeValidator, IntegerType, IntegerTypeValidator, NumberType,
-    NumberTypeValidator, SingleTypeValidator, StringType, StringTypeValidator, TypeTest,
+    BooleanType, IntegerRule, IntegerType, NumberType, SingleTypeValidator, StringType, TypeTest,
+    TypeValidator,
 };
 use jskw_report::{
     Assertion, CompilationResult, Context, Draft, EvaluationNode, EvaluationResult, Fault,
-    KeywordName, LazyLocation, Location, LocationSegment, Validate, ValidationContext,
+    KeywordName, LazyLocation, Location, LocationSegment, TypeKind, Validate, ValidationContext,
     ValidationError,
 };
-use jskw_value::{Array, Json, Node};
+use jskw_value::{Array, Json, JsonType, Node};
 use serde_json::Value;
 use std::alloc::{AllocError, Global};
 use std::marker::PhantomData;
@@ -47,12 +34,19 @@ pub trait ItemType: TypeTest {
         ensures { leaf_keyword result ≡ placed (type_at Self.json_type Self.rule location) };
 }
 
+// Returns the validator of one type.
+fn typed<F: Json>(json_type: JsonType, rule: IntegerRule, location: Location) -> LeafValidator<F>
+    ensures { leaf_keyword result ≡ placed (type_at json_type (rule_of rule) location) }
+{
+    LeafValidator::Types(TypeValidator::new(TypeKind::Single(json_type), rule, location))
+}
+
 /// Tests items for the type number.
 pub type NumberItems = NumberType;
 
 impl ItemType for NumberItems {
     fn compile_type<F: Json>(location: Location) -> LeafValidator<F> {
-        LeafValidator::NumberType(NumberTypeValidator::new(location))
+        typed(JsonType::Number, IntegerRule::ByValue, location)
     }
 }
 
@@ -61,7 +55,7 @@ pub type StringItems = StringType;
 
 impl ItemType for StringItems {
     fn compile_type<F: Json>(location: Location) -> LeafValidator<F> {
-        LeafValidator::StringType(StringTypeValidator::new(location))
+        typed(JsonType::String, IntegerRule::ByValue, location)
     }
 }
 
@@ -70,7 +64,7 @@ pub type BooleanItems = BooleanType;
 
 impl ItemType for BooleanItems {
     fn compile_type<F: Json>(location: Location) -> LeafValidator<F> {
-        LeafValidator::BooleanType(BooleanTypeValidator::new(location))
+        typed(JsonType::Boolean, IntegerRule::ByValue, location)
     }
 }
 
@@ -79,7 +73,7 @@ pub type IntegerItems = IntegerType;
 
 impl ItemType for IntegerItems {
     fn compile_type<F: Json>(location: Location) -> LeafValidator<F> {
-        LeafValidator::IntegerType(IntegerTypeValidator::new(location))
+        typed(JsonType::Integer, IntegerRule::ByValue, location)
     }
 }
 
@@ -88,7 +82,7 @@ pub type IntegerItemsDraft4 = type_draft_4::IntegerType;
 
 impl ItemType for IntegerItemsDraft4 {
     fn compile_type<F: Json>(location: Location) -> LeafValidator<F> {
-        LeafValidator::IntegerTypeDraft4(type_draft_4::IntegerTypeValidator::new(location))
+        typed(JsonType::Integer, IntegerRule::AsWritten, location)
     }
 }
 
@@ -245,10 +239,10 @@ pub(crate) fn compile_inline<'a, F: Json>(
     schema: &'a Value,
 ) -> CompilationResult<'a, Validator<F>>
     requires only_type { IsTrue (is_only_type (view schema.now)) }
-    requires stands { IsTrue (stands ctx.now.setting word.TypeKeyword) }
+    requires stands { IsTrue (stands ctx.now.setting KeywordName.TypeKeyword) }
     ensures { Makes validator_keyword result (map_ok (λ sub. items_from 0 sub true)
         (read (view schema.now) ctx.now.setting
-        (keyword_location ctx.now.location word.Items))) }
+        (keyword_location ctx.now.location KeywordName.Items))) }
 {
     let location = ctx.keyword_location(alloc, KeywordName::Items)?;
     let name = KeywordName::TypeKeyword.as_str();
@@ -260,7 +254,7 @@ pub(crate) fn compile_inline<'a, F: Json>(
 fn only_type(schema: &Value) -> &str
     requires { IsTrue (is_only_type (view schema.now)) }
     ensures { view schema.now
-        ≡ object (member (name_of word.TypeKeyword) (string result.now) no_members) }
+        ≡ object (member (name_of KeywordName.TypeKeyword) (string result.now) no_members) }
 {
     let Some(value) = schema.get("type") else {
         return "";

@@ -1,7 +1,6 @@
 use Rattle.std.proofs.Common.{Some, ap, sym, ◌∙◌}
 use Rattle.serde_json.proofs.Views.{items_len-items_view, view-Array}
-use Rattle.serde_json.specs.View.{view}
-use Rattle.jskw_array.specs.Siblings.{schema_count}
+use Rattle.jskw_array.specs.Words.{schema_count, view}
 use Rattle.jskw_array.proofs.compiler.item_count.Goals as goal
 
 pub returns-in-Array : goal.returns-in-Array

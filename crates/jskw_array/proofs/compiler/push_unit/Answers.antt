@@ -1,8 +1,5 @@
 use Rattle.std.proofs.Common.{◌∙◌, Ok, Some, ap, subst, sym}
-use Rattle.jskw_report.specs.Compile.{Compiles}
-use Rattle.jskw_report.specs.Read.{keyword_location}
-use Rattle.jskw_array.specs.Meaning.{validator_keyword}
-use Rattle.jskw_array.specs.Units.{keywords_of}
+use Rattle.jskw_array.specs.Words.{Compiles, keyword_location, keywords_of, validator_keyword}
 use Rattle.jskw_array.proofs.Turns.{appends_nothing, appends_one}
 use Rattle.jskw_array.proofs.Units.{keywords_of_more}
 use Rattle.jskw_array.proofs.compiler.push_unit.Goals as goal

@@ -1,9 +1,6 @@
 use Rattle.std.proofs.Common.{false, sym, ap, option_map, ◌≡◌, ◌∙◌}
-use Rattle.std.specs.Option.{option_map_or}
+use Rattle.jskw_array.specs.Words.{is_inlined_type, is_only_type, members_len, members_view, option_map_or, view}
 use Rattle.serde_json.proofs.Views.{members_len-members_view, view-Object}
-use Rattle.serde_json.specs.Events.{members_len}
-use Rattle.serde_json.specs.View.{view, members_view}
-use Rattle.jskw_report.specs.Sibling.{is_inlined_type, is_only_type}
 use Rattle.jskw_array.proofs.BareTypes.{many_members, only_type_at}
 use Rattle.jskw_array.proofs.items.is_only_type.Goals as goal
 

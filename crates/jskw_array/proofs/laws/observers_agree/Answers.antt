@@ -1,7 +1,5 @@
 use Rattle.std.proofs.Common.{subst}
-use Rattle.jskw_report.specs.Fail.{fail}
-use Rattle.jskw_report.specs.Observe.{Appends}
-use Rattle.jskw_report.specs.Paths.{path_of}
+use Rattle.jskw_array.specs.Words.{Appends, fail, path_of}
 use Rattle.jskw_array.proofs.Agreed.{agreed}
 use Rattle.jskw_array.proofs.laws.observers_agree.Goals as goal
 

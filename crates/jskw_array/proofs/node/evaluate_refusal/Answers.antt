@@ -1,8 +1,5 @@
 use Rattle.std.proofs.Common.{◌≡◌, ◌∙◌, ap₂, subst, IfOk, arith}
-use Rattle.jskw_report.specs.Evaluation.{node_at}
-use Rattle.jskw_report.specs.Fail.{fail}
-use Rattle.jskw_report.specs.Keyword.{false_schema}
-use Rattle.jskw_report.specs.Paths.{path_of}
+use Rattle.jskw_array.specs.Words.{fail, false_schema, node_at, path_of}
 use Rattle.jskw_array.proofs.Keywords.{refused_tree}
 use Rattle.jskw_array.proofs.node.evaluate_refusal.Goals as goal
 

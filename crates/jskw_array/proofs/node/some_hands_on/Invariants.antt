@@ -1,6 +1,5 @@
 use Rattle.std.proofs.Common.{◌≡◌, drop}
-use Rattle.jskw_report.specs.Keyword.{each_hands_on}
-use Rattle.jskw_array.specs.Meaning.{schemas_of}
+use Rattle.jskw_array.specs.Words.{each_hands_on, schemas_of}
 use Rattle.jskw_array.proofs.node.some_hands_on.Given as goal
 
 abbrev pub invariant-loop-node : goal.invariant-loop-node

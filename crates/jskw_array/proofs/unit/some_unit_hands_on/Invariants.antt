@@ -1,6 +1,5 @@
 use Rattle.std.proofs.Common.{◌≡◌, drop}
-use Rattle.jskw_report.specs.Keyword.{all_hand_on}
-use Rattle.jskw_array.specs.Units.{keywords_of}
+use Rattle.jskw_array.specs.Words.{all_hand_on, keywords_of}
 use Rattle.jskw_array.proofs.unit.some_unit_hands_on.Given as goal
 
 abbrev pub invariant-loop-unit : goal.invariant-loop-unit

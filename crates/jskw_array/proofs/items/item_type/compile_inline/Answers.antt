@@ -1,9 +1,6 @@
 use Rattle.std.proofs.Common.{◌∙◌, ap}
-use Rattle.serde_json.specs.View.{view}
-use Rattle.jskw_value.specs.Pointer.{member_location}
-use Rattle.jskw_report.specs.Read.{keyword_location}
+use Rattle.jskw_array.specs.Words.{keyword_location, member_location, validator_keyword, view}
 use Rattle.jskw_report.specs.declared.keyword.KeywordName.TheVariants.{Items, TypeKeyword}
-use Rattle.jskw_array.specs.Meaning.{validator_keyword}
 use Rattle.jskw_array.proofs.BareReading.{inline_reads, placed_items}
 use Rattle.jskw_array.proofs.items.item_type.compile_inline.Goals as goal
 

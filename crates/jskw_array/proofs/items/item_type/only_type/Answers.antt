@@ -1,5 +1,5 @@
 use Rattle.std.proofs.Common.{◌∙◌, option_map, ap, sym}
-use Rattle.serde_json.specs.View.{view}
+use Rattle.jskw_array.specs.Words.{view}
 use Rattle.jskw_array.proofs.BareReading.{only_text, typed}
 use Rattle.jskw_array.proofs.items.item_type.only_type.Goals as goal
 

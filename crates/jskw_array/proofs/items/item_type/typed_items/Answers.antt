@@ -1,8 +1,5 @@
 use Rattle.std.proofs.Common.{◌∙◌, ap}
-use Rattle.jskw_value.specs.declared.types.JsonType.TheVariants.{Integer}
-use Rattle.jskw_report.specs.Keyword.{as_written, by_value}
-use Rattle.jskw_report.specs.Read.{integers_of}
-use Rattle.jskw_report.specs.declared.error.TypeKind.TheVariants.{Single}
+use Rattle.jskw_array.specs.Words.{Integer, Single, as_written, by_value, integers_of}
 use Rattle.jskw_array.proofs.BareReading.{else_integer, integer_items, integers_by_value}
 use Rattle.jskw_array.proofs.items.item_type.typed_items.Goals as goal
 

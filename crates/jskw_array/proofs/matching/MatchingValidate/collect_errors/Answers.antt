@@ -1,7 +1,5 @@
 use Rattle.std.proofs.Common.{arith}
-use Rattle.jskw_value.specs.Tree.{items}
-use Rattle.jskw_report.specs.Paths.{path_of}
-use Rattle.jskw_array.specs.Meaning.{bounds_of}
+use Rattle.jskw_array.specs.Words.{bounds_of, items, path_of}
 use Rattle.jskw_array.proofs.MatchedItems.{contains_once, sum_needed}
 use Rattle.jskw_array.proofs.matching.MatchingValidate.collect_errors.Goals as goal
 

@@ -1,5 +1,5 @@
 use Rattle.std.proofs.Common.{◌∙◌, ap, sym, arith}
-use Rattle.jskw_report.specs.Keyword.{is_fused_schema, keywords_in}
+use Rattle.jskw_array.specs.Words.{is_fused_schema, keywords_in}
 use Rattle.jskw_array.proofs.Units.{begin_fused_first, shapes_begin}
 use Rattle.jskw_array.proofs.node.SchemaNode.array_shape.Goals as goal
 

@@ -1,9 +1,5 @@
 use Rattle.std.proofs.Common.{◌≡◌, ◌∙◌, ◌||◌, true, ap, sym, subst}
-use Rattle.jskw_value.specs.Tree.{Tree}
-use Rattle.jskw_report.specs.Holds.{all_hold}
-use Rattle.jskw_report.specs.Keyword.{all_hand_on}
-use Rattle.jskw_number.specs.QuickSet.{is_in}
-use Rattle.jskw_array.specs.Units.{keywords_of}
+use Rattle.jskw_array.specs.Words.{Tree, all_hand_on, all_hold, is_in, keywords_of}
 use Rattle.jskw_array.proofs.node.SchemaNode.of_keywords.Goals as goal
 use Rattle.jskw_array.proofs.node.SchemaNode.of_keywords.Goals.{then-hands_on, else-hands_on}
 

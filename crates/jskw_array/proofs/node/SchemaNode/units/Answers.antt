@@ -1,7 +1,5 @@
 use Rattle.std.proofs.Common.{◌≡◌, ◌∙◌, ap, sym}
-use Rattle.jskw_report.specs.Keyword.{schema_location, schema_object}
-use Rattle.jskw_array.specs.Node.{marked, schema_of}
-use Rattle.jskw_array.specs.Units.{keywords_of}
+use Rattle.jskw_array.specs.Words.{keywords_of, marked, schema_location, schema_object, schema_of}
 use Rattle.jskw_array.proofs.node.SchemaNode.units.Goals as goal
 
 pub returns-in-Keywords : goal.returns-in-Keywords

@@ -1,12 +1,7 @@
 use Rattle.std.proofs.Common.{sym, subst}
-use Rattle.jskw_number.specs.Meaning.{max_items, min_items}
+use Rattle.jskw_array.specs.Words.{Appends, absorbed_bounds, absorbed_type, all_fail, keyword_fail, max_items, min_items, optional, path_of, placed}
 use Rattle.jskw_report.proofs.Appended.{fail_appended}
 use Rattle.jskw_report.proofs.Appending.{appends_before, appends_behind}
-use Rattle.jskw_report.specs.Fail.{all_fail, keyword_fail}
-use Rattle.jskw_report.specs.Meaning.{placed}
-use Rattle.jskw_report.specs.Observe.{Appends}
-use Rattle.jskw_report.specs.Paths.{path_of}
-use Rattle.jskw_array.specs.Fused.{absorbed_bounds, absorbed_type, optional}
 use Rattle.jskw_array.proofs.Fused.{max_once, min_once, type_once}
 use Rattle.jskw_array.proofs.items.absorbed.AbsorbedKeywords.collect_errors.Goals as goal
 

@@ -1,8 +1,6 @@
 use Rattle.std.proofs.Common.{sym, subst}
-use Rattle.jskw_number.specs.Meaning.{max_items, min_items}
+use Rattle.jskw_array.specs.Words.{Extends, max_items, min_items, optional, units}
 use Rattle.jskw_report.proofs.Appended.{units_appended}
-use Rattle.jskw_report.specs.Evaluation.{units}
-use Rattle.jskw_array.specs.Fused.{Extends, optional}
 use Rattle.jskw_array.proofs.Fused.{extends_before}
 use Rattle.jskw_array.proofs.items.absorbed.AbsorbedKeywords.evaluate_counts.Goals as goal
 

@@ -1,10 +1,7 @@
 use Rattle.std.proofs.Common.{◌++◌, ap, sym, ◌∙◌}
-use Rattle.jskw_number.specs.Meaning.{max_items, min_items}
+use Rattle.jskw_array.specs.Words.{absorbed_bounds, all_fail, max_items, min_items, optional, path_of}
 use Rattle.jskw_report.proofs.Appended.{fail_appended}
 use Rattle.jskw_report.proofs.Appending.{first_before}
-use Rattle.jskw_report.specs.Fail.{all_fail}
-use Rattle.jskw_report.specs.Paths.{path_of}
-use Rattle.jskw_array.specs.Fused.{absorbed_bounds, optional}
 use Rattle.jskw_array.proofs.items.absorbed.AbsorbedKeywords.validate.Goals as goal
 
 pub returns-in_err-validate_bound : goal.returns-in_err-validate_bound

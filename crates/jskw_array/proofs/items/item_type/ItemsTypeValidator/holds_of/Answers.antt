@@ -1,7 +1,5 @@
 use Rattle.std.proofs.Common.{sym, ◌∙◌, arith}
-use Rattle.jskw_value.specs.Tree.{items}
-use Rattle.jskw_report.specs.Holds.{assertion_holds}
-use Rattle.jskw_leaf.specs.Meaning.{single_type}
+use Rattle.jskw_array.specs.Words.{assertion_holds, items, single_type}
 use Rattle.jskw_array.proofs.Bare.{bare_all_hold}
 use Rattle.jskw_array.proofs.Meetings.{all_end}
 use Rattle.jskw_array.proofs.items.item_type.ItemsTypeValidator.holds_of.Goals as goal

@@ -1,9 +1,5 @@
 use Rattle.std.proofs.Common.{◌≡◌, ◌-◌, ◌≤◌, drop}
-use Rattle.std.specs.List.{list_all}
-use Rattle.jskw_value.specs.Tree.{items}
-use Rattle.jskw_report.specs.Holds.{assertion_holds}
-use Rattle.jskw_report.specs.Keyword.{type_is}
-use Rattle.jskw_report.specs.declared.error.TypeKind.TheVariants.{Single}
+use Rattle.jskw_array.specs.Words.{Single, assertion_holds, items, list_all, type_is}
 use Rattle.jskw_array.proofs.items.item_type.ItemsTypeValidator.holds_of.Given as goal
 
 abbrev pub invariant-loop-index : goal.invariant-loop-index

@@ -1,15 +1,7 @@
 use Rattle.std.proofs.Common.{◌≡◌, ◌∙◌, ◌+◌, ◌++◌, drop, ap, sym, subst, refl, arith}
 use Rattle.std.proofs.lemmas.Grind.{common_steps}
-use Rattle.jskw_value.specs.Pointer.{item_location}
-use Rattle.jskw_value.specs.Tree.{items}
+use Rattle.jskw_array.specs.Words.{AppendsBeginning, Collects, bare_schema, each_item, fail, failures_of, item_location, items, keyword_fail, path_of, placed, single_type}
 use Rattle.jskw_report.proofs.Appending.{appends_begun, collects_more, collects_nothing, collects_part, collects_stopped}
-use Rattle.jskw_report.specs.Errors.{failures_of}
-use Rattle.jskw_report.specs.Fail.{each_item, fail, keyword_fail}
-use Rattle.jskw_report.specs.Meaning.{placed}
-use Rattle.jskw_report.specs.Observe.{AppendsBeginning, Collects}
-use Rattle.jskw_report.specs.Paths.{path_of}
-use Rattle.jskw_leaf.specs.Meaning.{single_type}
-use Rattle.jskw_array.specs.Meaning.{bare_schema}
 use Rattle.jskw_array.proofs.Bare.{bare_fail, type_fails_not}
 use Rattle.jskw_array.proofs.Meetings.{entered, fails_at}
 use Rattle.jskw_array.proofs.items.item_type.ItemsTypeValidatorValidate.collect_errors.Goals as goal

@@ -1,11 +1,5 @@
 use Rattle.std.proofs.Common.{◌≡◌, length, drop}
-use Rattle.jskw_value.specs.Tree.{items}
-use Rattle.jskw_report.specs.Errors.{failures_of}
-use Rattle.jskw_report.specs.Fail.{each_item, fail}
-use Rattle.jskw_report.specs.Observe.{Collects}
-use Rattle.jskw_report.specs.Paths.{path_of}
-use Rattle.jskw_leaf.specs.Meaning.{single_type}
-use Rattle.jskw_array.specs.Meaning.{bare_schema}
+use Rattle.jskw_array.specs.Words.{Collects, bare_schema, each_item, fail, failures_of, items, path_of, single_type}
 use Rattle.jskw_array.proofs.items.item_type.ItemsTypeValidatorValidate.collect_errors.Given as goal
 
 abbrev pub invariant-loop-index : goal.invariant-loop-index

@@ -1,13 +1,6 @@
 use Rattle.std.proofs.Common.{◌≡◌, ◌+◌, Err, drop, sym, subst, arith}
-use Rattle.jskw_value.specs.Pointer.{item_location}
-use Rattle.jskw_value.specs.Tree.{items}
+use Rattle.jskw_array.specs.Words.{IsFirst, bare_schema, each_item, fail, item_location, items, keyword_fail, path_of, placed, single_type}
 use Rattle.jskw_report.proofs.Appending.{first_before}
-use Rattle.jskw_report.specs.Fail.{each_item, fail, keyword_fail}
-use Rattle.jskw_report.specs.Meaning.{placed}
-use Rattle.jskw_report.specs.Observe.{IsFirst}
-use Rattle.jskw_report.specs.Paths.{path_of}
-use Rattle.jskw_leaf.specs.Meaning.{single_type}
-use Rattle.jskw_array.specs.Meaning.{bare_schema}
 use Rattle.jskw_array.proofs.Bare.{bare_fail}
 use Rattle.jskw_array.proofs.Meetings.{entered, fails_at}
 use Rattle.jskw_array.proofs.items.item_type.ItemsTypeValidatorValidate.validate.Goals as goal

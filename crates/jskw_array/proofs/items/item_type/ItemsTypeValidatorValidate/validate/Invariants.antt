@@ -1,9 +1,5 @@
 use Rattle.std.proofs.Common.{◌≡◌, length, drop}
-use Rattle.jskw_value.specs.Tree.{items}
-use Rattle.jskw_report.specs.Fail.{each_item, fail}
-use Rattle.jskw_report.specs.Paths.{path_of}
-use Rattle.jskw_leaf.specs.Meaning.{single_type}
-use Rattle.jskw_array.specs.Meaning.{bare_schema}
+use Rattle.jskw_array.specs.Words.{bare_schema, each_item, fail, items, path_of, single_type}
 use Rattle.jskw_array.proofs.items.item_type.ItemsTypeValidatorValidate.validate.Given as goal
 
 abbrev pub invariant-loop-index : goal.invariant-loop-index

@@ -1,0 +1,12 @@
+use Rattle.std.proofs.Common.{ap}
+use Rattle.jskw_array.specs.Words.{keywords, keywords_of, marks_of, members_view, part_named, read_words, whole}
+use Rattle.jskw_array.proofs.Faults.{refused_part}
+use Rattle.jskw_array.proofs.compiler.node_of.Goals as goal
+
+pub returns-in-Err : goal.returns-in-Err
+returns-in-Err g c =
+    let s = c.args.ctx.now.setting in
+    let p = c.args.ctx.now.location in
+    let ms = members_view c.args.parent.now.entries in
+    let read = read_words keywords s p ms (λ name. part_named name ms) in
+    refused_part (λ _. keywords_of c.args.units.items) (λ node. node) c.in-Err.fault c.args.made read _ c.in-Err.is c.requires.made (λ refusal is. ap (whole p (marks_of s ms)) is)

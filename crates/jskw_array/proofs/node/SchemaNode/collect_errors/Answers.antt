@@ -1,0 +1,15 @@
+use Rattle.std.proofs.Common.{◌∙◌, ◌++◌, ap, sym, append-nil}
+use Rattle.jskw_array.specs.Words.{failures_of, path_of}
+use Rattle.jskw_array.proofs.Accepted.{counted_within, no_errors}
+use Rattle.jskw_array.proofs.Keywords.{one_pair}
+use Rattle.jskw_array.proofs.node.SchemaNode.collect_errors.Goals as goal
+
+pub returns-then-accepts-clause-appended : goal.returns-then-accepts-clause-appended
+returns-then-accepts-clause-appended g c =
+    let old = failures_of g.F.Node.Rooted.tree c.args.errors.now.items in
+    let none = no_errors c.args.self.now (g.F.Node.Rooted.tree c.args.instance.now) (path_of c.args.location.now) (c.accepts.ensures.valid c.if-accepts.true) in
+    sym (ap (λ fs. old ++ fs) none ∙ append-nil old)
+
+pub returns-then-accepts-clause-counted : goal.returns-then-accepts-clause-counted
+returns-then-accepts-clause-counted g c =
+    counted_within _ _ _ c.accepts.result c.if-accepts.true (one_pair c.args.self.now (g.F.Node.Rooted.tree c.args.instance.now)) c.accepts.ensures.counted
