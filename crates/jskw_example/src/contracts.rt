@@ -1,4 +1,4 @@
-//! A function whose contract follows from those of the library.
+//! Functions whose contracts follow from those of the library.
 ghost use Rattle.std.specs.Prelude.{◌≡◌, IfSome, is_some};
 ghost use Rattle.lotsibegn.specs.{holds, is_lawful, value_tree};
 

@@ -1,6 +1,8 @@
-//! A value with exact decimals.
+//! Values with exact decimals.
+ghost use Rattle.std.specs.Prelude.{◌≡◌, IfSome};
+ghost use Rattle.lotsibegn.specs.{decimal_tree, holds};
 
-use crate::compiled;
+use crate::node_of;
 use lotsibegn::{
     Decimal, DecimalJson, DecimalTree, Fault, LazyLocation, Member, Members, Node, SchemaNode,
     ValidationContext, ValidationError, Value,
@@ -10,18 +12,14 @@ use std::io;
 
 const SCHEMA: &str = r#"{"items": {"const": {"price": 20}}}"#;
 
+const PRICED: &str = r#"{"enum": [{"price": 20}, {"price": 30}]}"#;
+
 // Prints the first error of `[{"price": 20.00}, {"price": 20.01}]`.
 pub(crate) fn print_example(rt: &HostRuntime) -> io::Result<()> {
-    let Ok(schema) = Value::from_str(rt.alloc(), SCHEMA) else {
-        return println!(rt; "the schema is not JSON");
-    };
-    let Ok(node) = compiled::<DecimalJson>(rt.alloc(), &schema) else {
-        return println!(rt; "the schema does not compile");
-    };
     let Some(prices) = prices(rt.alloc(), &[2000, 2001])? else {
         return println!(rt; "a price is out of range");
     };
-    print_first(rt, &node, &prices)
+    print_first(rt, &node_of(rt.alloc(), SCHEMA)?, &prices)
 }
 
 // Prints the first error of an instance.
@@ -74,5 +72,31 @@ fn priced(alloc: Global, cents: i128) -> Result<Option<DecimalTree>, AllocError>
     match Members::from_pairs(pairs) {
         Ok(members) => Ok(Some(DecimalTree::Object(members))),
         Err(_) => Ok(None),
+    }
+}
+
+// Prints whether prices in cents are among those of the shop.
+pub(crate) fn print_prices(rt: &HostRuntime) -> io::Result<()> {
+    let node = node_of(rt.alloc(), PRICED)?;
+    print_price(rt, &node, 2000)?;
+    print_price(rt, &node, 2001)
+}
+
+fn print_price(rt: &HostRuntime, node: &SchemaNode<DecimalJson>, cents: i128) -> io::Result<()> {
+    let Some(item) = priced(rt.alloc(), cents)? else {
+        return println!(rt; "out of range");
+    };
+    let is_priced = is_priced(node, &item) == Some(true);
+    println!(rt; "{cents} cents: {is_priced}")
+}
+
+// Returns whether an item has a price of the shop, or None if it holds a float.
+fn is_priced(schema: &SchemaNode<DecimalJson>, item: &DecimalTree) -> Option<bool>
+    ensures { IfSome result (λ valid. valid ≡ holds schema.now (decimal_tree item.now)) }
+{
+    if item.is_lawful() {
+        Some(schema.is_valid(item, &mut ValidationContext::new()))
+    } else {
+        None
     }
 }

@@ -1,9 +1,11 @@
 //! Checks the JSON value in each line of standard input against a schema and prints its errors.
-//! Then it prints an evaluation tree, and the first error of a value with decimals.
+//! Then it prints an evaluation tree, the first error of a value with decimals, and what a shop asks
+//! of its orders.
 #![tactic(auto)]
 
 mod contracts;
 mod decimals;
+mod orders;
 mod tree;
 
 use contracts::verdict;
@@ -56,15 +58,26 @@ fn check_lines(rt: &HostRuntime, node: &SchemaNode<SerdeJson>) -> io::Result<()>
 
 const SCHEMA: &str = r#"{"type": "array", "items": {"type": "object", "required": ["name"]}}"#;
 
-fn main(rt: HostRuntime) -> io::Result<()> {
-    let Ok(schema) = Value::from_str(rt.alloc(), SCHEMA) else {
-        return println!(rt; "the schema is not JSON");
-    };
-    match compiled(rt.alloc(), &schema) {
-        Ok(node) => check_lines(&rt, &node)?,
-        Err(CompileFault::Bad(error)) => println!(rt; "{}", error.message(rt.alloc())?)?,
+// Parses a text that is JSON.
+fn value_of(alloc: Global, text: &str) -> io::Result<Value> {
+    match Value::from_str(alloc, text) {
+        Ok(value) => Ok(value),
+        Err(_) => Err(io::ErrorKind::InvalidData)?,
+    }
+}
+
+// Compiles the text of a schema that is not refused.
+fn node_of<F: Json>(alloc: Global, text: &str) -> io::Result<SchemaNode<F>> {
+    match compiled(alloc, &value_of(alloc, text)?) {
+        Ok(node) => Ok(node),
+        Err(CompileFault::Bad(_)) => Err(io::ErrorKind::InvalidData)?,
         Err(CompileFault::Memory(error)) => Err(error)?,
     }
+}
+
+fn main(rt: HostRuntime) -> io::Result<()> {
+    check_lines(&rt, &node_of(rt.alloc(), SCHEMA)?)?;
     tree::print_example(&rt)?;
-    decimals::print_example(&rt)
+    decimals::print_example(&rt)?;
+    orders::print_example(&rt)
 }

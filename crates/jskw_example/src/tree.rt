@@ -1,6 +1,6 @@
 //! An evaluation tree.
 
-use crate::compiled;
+use crate::{node_of, value_of};
 use lotsibegn::{
     Annotations, EvaluationNode, Node, SchemaNode, SerdeJson, ValidationContext, Value,
 };
@@ -10,30 +10,28 @@ const SCHEMA: &str = r#"{"contains": {"minimum": 10}, "minContains": 1, "maxCont
 
 // Prints the tree of `[5, 10, 25]` under a `contains` with bounds.
 pub(crate) fn print_example(rt: &HostRuntime) -> io::Result<()> {
-    let Ok(schema) = Value::from_str(rt.alloc(), SCHEMA) else {
-        return println!(rt; "the schema is not JSON");
-    };
-    let Ok(node) = compiled::<SerdeJson>(rt.alloc(), &schema) else {
-        return println!(rt; "the schema does not compile");
-    };
-    let Ok(instance) = Value::from_str(rt.alloc(), "[5, 10, 25]") else {
-        return println!(rt; "the instance is not JSON");
-    };
-    print_evaluation(rt, &node, &instance)
+    print_tree(rt, 0, &evaluated(rt, SCHEMA, "[5, 10, 25]")?)
 }
 
-// Prints the tree of an instance.
-fn print_evaluation(
+// Returns the tree of an instance without floats under a schema.
+pub(crate) fn evaluated(
+    rt: &HostRuntime,
+    schema: &str,
+    instance: &str,
+) -> io::Result<EvaluationNode> {
+    let instance = value_of(rt.alloc(), instance)?;
+    evaluated_by(rt, &node_of(rt.alloc(), schema)?, &instance)
+}
+
+fn evaluated_by(
     rt: &HostRuntime,
     node: &SchemaNode<SerdeJson>,
     instance: &Value,
-) -> io::Result<()> {
+) -> io::Result<EvaluationNode> {
     if !instance.is_lawful() {
-        return println!(rt; "not checked: it holds a float");
+        return Err(io::ErrorKind::InvalidData)?;
     }
-    let mut ctx = ValidationContext::new();
-    let tree = node.evaluate_instance(rt.alloc(), instance, &mut ctx)?;
-    print_tree(rt, 0, &tree)
+    Ok(node.evaluate_instance(rt.alloc(), instance, &mut ValidationContext::new())?)
 }
 
 // Prints a node and those below it, each indented by its depth.

@@ -1,1 +1,7 @@
 pub mod Asks
+pub mod RowsApplications
+pub mod RowsErrors
+pub mod RowsEvaluation
+pub mod RowsRefusals
+pub mod RowsSiblings
+pub mod Worked

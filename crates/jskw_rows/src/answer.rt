@@ -5,7 +5,7 @@ use jskw_report::{EvaluationNode, Fault, ValidationError};
 use jskw_value::{Json, Node};
 use std::alloc::{AllocError, Global};
 
-/// What a row wants to be told beside the errors.
+/// What a row claims besides the errors.
 #[derive(Clone, Copy)]
 pub(crate) struct Claims {
     pub(crate) messages: bool,
@@ -15,6 +15,8 @@ pub(crate) struct Claims {
 /// What the observers of a schema, or of its keywords one after the other, say of an instance.
 #[derive(Drop)]
 pub(crate) struct Said {
+    alloc: Global,
+    place: Place,
     /// `is_valid`.
     pub(crate) holds: bool,
     /// `validate`: the line of its error with the message, or nothing.
@@ -29,9 +31,11 @@ pub(crate) struct Said {
 }
 
 impl Said {
-    /// What is said where nothing asserts anything.
-    pub(crate) fn new(alloc: Global) -> Said {
+    /// What is said at a place where nothing asserts anything.
+    pub(crate) fn new(alloc: Global, place: Place) -> Said {
         Said {
+            alloc,
+            place,
             holds: true,
             first: String::new(alloc),
             errors: String::new(alloc),
@@ -45,57 +49,42 @@ impl Said {
     /// Appends what `validate` says, unless an error was said before.
     pub(crate) fn push_first<F: Json>(
         &mut self,
-        alloc: Global,
-        place: Place,
         answer: Result<(), Fault<F>>,
     ) -> Result<(), AllocError> {
         match &answer {
             Err(Fault::Memory(_)) => Err(AllocError),
             Err(Fault::Invalid(error)) if self.first.is_empty() => {
-                push_error(alloc, &mut self.first, true, place, error)
+                push_error(self.alloc, &mut self.first, true, self.place, error)
             }
             _ => Ok(()),
         }
     }
 
-    /// Appends what `collect_errors` says.
     pub(crate) fn push_errors<F: Json>(
         &mut self,
-        alloc: Global,
-        place: Place,
         errors: &Vec<ValidationError<F>>,
     ) -> Result<(), AllocError> {
         for error in errors {
-            push_error(alloc, &mut self.errors, false, place, error)?;
-            push_error(alloc, &mut self.with_messages, true, place, error)?;
-            let (keyword, message) = (error.kind().keyword(), error.message(alloc)?);
+            push_error(self.alloc, &mut self.errors, false, self.place, error)?;
+            push_error(self.alloc, &mut self.with_messages, true, self.place, error)?;
+            let (keyword, message) = (error.kind().keyword(), error.message(self.alloc)?);
             write!(self.descriptions, "{keyword}: {message}\n")?;
         }
         Ok(())
     }
 
-    /// Appends what an evaluation says, so many levels below the root.
     pub(crate) fn push_tree(
         &mut self,
-        alloc: Global,
-        place: Place,
         depth: usize,
         tree: &EvaluationNode,
     ) -> Result<(), AllocError> {
-        push_tree(
-            alloc,
-            &mut self.tree,
-            &mut self.described,
-            place,
-            depth,
-            tree,
-        )
+        push_tree(&mut self.tree, &mut self.described, self.place, depth, tree)
     }
 
     /// The lines that a row wants: the errors or `valid`, and the evaluation if that is claimed. A
     /// line says so where another observer disagrees with the errors.
-    pub(crate) fn lines(&self, alloc: Global, claims: Claims) -> Result<String, AllocError> {
-        let mut lines = String::new(alloc);
+    pub(crate) fn lines(&self, claims: Claims) -> Result<String, AllocError> {
+        let mut lines = String::new(self.alloc);
         if self.errors.is_empty() {
             lines.push_str("valid\n")?;
         }

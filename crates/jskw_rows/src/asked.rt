@@ -1,4 +1,5 @@
-//! A representation whose nodes count how often they are asked whether they are null.
+//! A representation of the rows: its nodes count how often they are asked whether they are null, and
+//! its objects have their members by place.
 ghost use Rattle.std.specs.Prelude.{string_bytes};
 ghost use Rattle.jskw_rows.specs.Asks.{asked_tree};
 
@@ -7,62 +8,46 @@ use serde_json::Value;
 use std::alloc::{AllocError, Global};
 use std::cell::Cell;
 
-/// Null or an array, with how often it was asked whether it is null.
+/// Null or an array, with how often it was asked whether it is null; or an object.
 #[derive(Drop)]
 pub(crate) enum Asked {
     /// null
     Null(Cell<u64>),
     /// an array
     Array(Cell<u64>, Vec<Asked>),
+    /// the object with `x` and `y`, which are this
+    Pair(Box<Asked>),
 }
 
 /// The representation whose nodes are these.
 pub(crate) struct AskedJson;
 
 impl Asked {
-    /// Returns the array of these items: each an array of nulls, and of empty arrays where it has
-    /// others, or else null.
-    pub(crate) fn new(alloc: Global, items: &[Value]) -> Result<Asked, AllocError> {
+    /// Returns the array of a value that is one, with its arrays below; or else null.
+    pub(crate) fn of(alloc: Global, value: &Value) -> Result<Asked, AllocError> {
+        let Value::Array(items) = value else {
+            return Ok(Asked::Null(Cell::new(0)));
+        };
         let mut nodes = Vec::new(alloc);
         for item in items {
-            nodes.push(match item.as_array() {
-                Some(items) => Asked::of_nulls(alloc, items)?,
-                None => Asked::Null(Cell::new(0)),
-            })?;
+            nodes.push(Asked::of(alloc, item)?)?;
         }
         Ok(Asked::Array(Cell::new(0), nodes))
     }
 
-    // Returns the array of these items, each null or an empty array.
-    fn of_nulls(alloc: Global, items: &[Value]) -> Result<Asked, AllocError> {
-        let mut nodes = Vec::new(alloc);
-        for item in items {
-            nodes.push(match item.is_null() {
-                true => Asked::Null(Cell::new(0)),
-                false => Asked::Array(Cell::new(0), Vec::new(alloc)),
-            })?;
-        }
-        Ok(Asked::Array(Cell::new(0), nodes))
-    }
-
-    /// How often this node and those below it were asked since this call was made before.
-    pub(crate) fn take_count(&self, alloc: Global) -> Result<u64, AllocError> {
-        let mut nodes = Vec::new(alloc);
-        nodes.push(self)?;
-        let mut count = 0u64;
-        for _ in 0..u64::MAX {
-            match nodes.pop() {
-                None => break,
-                Some(Asked::Null(asks)) => count = count.saturating_add(asks.replace(0)),
-                Some(Asked::Array(asks, items)) => {
-                    count = count.saturating_add(asks.replace(0));
-                    for item in items {
-                        nodes.push(item)?;
-                    }
+    /// Returns how often this node and those below it were asked since this call was made before.
+    pub(crate) fn take_count(&self) -> u64 {
+        match self {
+            Asked::Null(asks) => asks.replace(0),
+            Asked::Array(asks, items) => {
+                let mut count = asks.replace(0);
+                for item in items {
+                    count = count.saturating_add(item.take_count());
                 }
+                count
             }
+            Asked::Pair(both) => both.take_count(),
         }
-        Ok(count)
     }
 }
 
@@ -75,47 +60,62 @@ impl Array for Asked {
     fn len(&self) -> usize {
         match self {
             Asked::Array(_, items) => items.len(),
-            Asked::Null(_) => unreachable!(),
+            _ => unreachable!(),
         }
     }
 
     fn item(&self, index: usize) -> &Asked {
         match self {
             Asked::Array(_, items) => &items[index],
-            Asked::Null(_) => unreachable!(),
+            _ => unreachable!(),
         }
     }
 }
 
-// None is an object.
-#[tactic(auto, using(crate::proofs::Asks::no_object))]
+#[tactic(auto, using(crate::proofs::Asks::objects))]
 impl Object for Asked {
     type PreparedKey = String;
 
     ghost key_name = { string_bytes };
 
     fn len(&self) -> usize {
-        unreachable!()
+        match self {
+            Asked::Pair(_) => 2,
+            _ => unreachable!(),
+        }
     }
 
-    fn name_at(&self, _place: usize) -> &str {
-        unreachable!()
+    fn name_at(&self, place: usize) -> &str {
+        match self {
+            Asked::Pair(_) if place == 0 => "x",
+            Asked::Pair(_) => "y",
+            _ => unreachable!(),
+        }
     }
 
     fn member_at(&self, _place: usize) -> &Asked {
-        unreachable!()
+        match self {
+            Asked::Pair(both) => both,
+            _ => unreachable!(),
+        }
     }
 
     fn walk(&self) -> Walk<'_, Asked> {
-        unreachable!()
+        // `len` is what says that the names are distinct.
+        let _count = Object::len(self);
+        Walk::by_place(self)
     }
 
-    fn find(&self, _name: &str) -> Option<&Asked> {
-        unreachable!()
+    fn find(&self, name: &str) -> Option<&Asked> {
+        match self {
+            Asked::Pair(both) if name == "x" || name == "y" => Some(both),
+            Asked::Pair(_) => None,
+            _ => unreachable!(),
+        }
     }
 
-    fn get(&self, _key: &String) -> Option<&Asked> {
-        unreachable!()
+    fn get(&self, key: &String) -> Option<&Asked> {
+        self.find(key.as_str())
     }
 }
 
@@ -127,20 +127,16 @@ impl Node for Asked {
         match self {
             Asked::Null(_) => JsonType::Null,
             Asked::Array(_, _) => JsonType::Array,
+            Asked::Pair(_) => JsonType::Object,
         }
     }
 
     fn is_null(&self) -> bool {
         match self {
-            Asked::Null(asks) => {
-                asks.set(asks.get().saturating_add(1));
-                true
-            }
-            Asked::Array(asks, _) => {
-                asks.set(asks.get().saturating_add(1));
-                false
-            }
+            Asked::Null(asks) | Asked::Array(asks, _) => asks.set(asks.get().saturating_add(1)),
+            Asked::Pair(_) => {}
         }
+        matches!(self, Asked::Null(_))
     }
 
     fn is_array(&self) -> bool {
@@ -148,7 +144,7 @@ impl Node for Asked {
     }
 
     fn is_object(&self) -> bool {
-        false
+        matches!(self, Asked::Pair(_))
     }
 
     fn as_boolean(&self) -> Option<bool> {

@@ -4,8 +4,8 @@ use jskw_value::{Json, JsonType, JsonTypeSet, Node, SerdeJson};
 use serde_json::Value;
 use std::alloc::{AllocError, Global};
 
-/// Where a schema and its instance stand: what all of their locations begin with. A row's own
-/// locations are without them.
+/// The locations of a schema and of its instance, with which all locations in them begin. A row's
+/// own locations are without them.
 #[derive(Clone, Copy)]
 pub(crate) struct Place {
     pub(crate) schema: &'static str,
@@ -30,8 +30,8 @@ impl Place {
     }
 }
 
-// The types in the order of their names.
-const TYPES: [(&str, JsonType); 7] = [
+/// The types in the order of their names.
+pub(crate) const TYPES: [(&str, JsonType); 7] = [
     ("array", JsonType::Array),
     ("boolean", JsonType::Boolean),
     ("integer", JsonType::Integer),
@@ -49,15 +49,9 @@ pub(crate) fn push_error<F: Json>(
     place: Place,
     error: &ValidationError<F>,
 ) -> Result<(), AllocError> {
-    push_kind(alloc, text, error.kind())?;
-    let at = place.at(error.instance_path().as_str());
-    let by = place.by(error.schema_path().as_str());
-    write!(text, " at {at} by {by} of ")?;
-    if error.evaluation_path() != error.schema_path() {
-        text.push_str("another path: ")?;
-    }
-    error.instance().write_json(text)?;
-    push_message(text, has_message, error.message(alloc)?.as_str())
+    let mut value = String::new(alloc);
+    error.instance().write_json(&mut value)?;
+    push_line(alloc, text, has_message, place, error, value.as_str())
 }
 
 /// The line of why a schema does not compile. The value at fault is written with its floats.
@@ -68,19 +62,32 @@ pub(crate) fn refusal(
     error: &ValidationError<SerdeJson>,
 ) -> Result<String, AllocError> {
     let mut text = String::from_str(alloc, "refused: ")?;
-    push_kind(alloc, &mut text, error.kind())?;
-    let at = error.instance_path().as_str();
-    let by = place.by(error.schema_path().as_str());
     let value = error.instance().to_string(alloc)?;
-    write!(text, " at {at} by {by} of {value}")?;
-    push_message(&mut text, has_message, error.message(alloc)?.as_str())?;
+    let place = Place {
+        schema: place.schema,
+        instance: "",
+    };
+    push_line(alloc, &mut text, has_message, place, error, value.as_str())?;
     Ok(text)
 }
 
-// Appends the end of a line, with the message before it if that is claimed.
-fn push_message(text: &mut String, has_message: bool, message: &str) -> Result<(), AllocError> {
+fn push_line<F: Json>(
+    alloc: Global,
+    text: &mut String,
+    has_message: bool,
+    place: Place,
+    error: &ValidationError<F>,
+    value: &str,
+) -> Result<(), AllocError> {
+    push_kind(alloc, text, error.kind())?;
+    let at = place.at(error.instance_path().as_str());
+    let by = place.by(error.schema_path().as_str());
+    write!(text, " at {at} by {by} of {value}")?;
+    if error.evaluation_path() != error.schema_path() {
+        text.push_str(", of another path")?;
+    }
     if has_message {
-        write!(text, ", {message}")?;
+        write!(text, ", {}", error.message(alloc)?)?;
     }
     text.push('\n')
 }
@@ -93,21 +100,13 @@ fn push_kind(
 ) -> Result<(), AllocError> {
     write!(text, "{} ", kind.keyword())?;
     match kind {
+        ValidationErrorKind::AdditionalItems { limit } => write!(text, "{limit}"),
         ValidationErrorKind::CompileError { message } => write!(text, "\"{message}\""),
         ValidationErrorKind::Constant { expected_value } => expected_value.write_json(text),
-        ValidationErrorKind::Enum { options } => push_options(text, options),
-        ValidationErrorKind::Required { property } => {
-            Value::String(String::from_str(alloc, property)?).write_json(text)
-        }
-        ValidationErrorKind::WrongType { kind } => push_types(text, *kind),
-        _ => push_limit(text, kind),
-    }
-}
-
-// Appends the limit of a kind that has one.
-fn push_limit(text: &mut String, kind: &ValidationErrorKind) -> Result<(), AllocError> {
-    match kind {
-        ValidationErrorKind::AdditionalItems { limit } => write!(text, "{limit}"),
+        ValidationErrorKind::Enum { options } => match options {
+            EnumOptions::Listed(options) => options.write_json(text),
+            EnumOptions::TypeNames => text.push_str("\"typeNames\""),
+        },
         ValidationErrorKind::MinItems { limit }
         | ValidationErrorKind::MaxItems { limit }
         | ValidationErrorKind::MinProperties { limit }
@@ -117,15 +116,11 @@ fn push_limit(text: &mut String, kind: &ValidationErrorKind) -> Result<(), Alloc
         | ValidationErrorKind::ExclusiveMinimum { limit }
         | ValidationErrorKind::ExclusiveMaximum { limit } => write!(text, "{limit}"),
         ValidationErrorKind::MultipleOf { multiple_of } => write!(text, "{multiple_of}"),
+        ValidationErrorKind::Required { property } => {
+            Value::String(String::from_str(alloc, property)?).write_json(text)
+        }
+        ValidationErrorKind::WrongType { kind } => push_types(text, *kind),
         _ => text.push_str("true"),
-    }
-}
-
-// Appends the options of an `enum`.
-fn push_options(text: &mut String, options: &EnumOptions) -> Result<(), AllocError> {
-    match options {
-        EnumOptions::Listed(options) => options.write_json(text),
-        EnumOptions::TypeNames => text.push_str("\"typeNames\""),
     }
 }
 

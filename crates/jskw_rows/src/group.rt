@@ -1,9 +1,9 @@
 //! Groups of rows: a schema under a setting, and tests of it.
 use crate::calls;
-use crate::members::{Members, is_true, items, known, lines, member, number, text};
+use crate::members::{Members, is_true, items, known, lines, member, number, settings_of, text};
+use crate::representations::decimals_of;
 use crate::requests::{self, request_of};
-use crate::row::{self, Most, Row, check_decimals, check_run};
-use crate::setting::settings_of;
+use crate::row::{self, Most, Row, check_run, check_tree};
 use crate::stop::Stop;
 use crate::tally::Tally;
 use crate::wanted::{Wanted, claims_of, of_refusal, of_test};
@@ -11,32 +11,11 @@ use jskw_report::Settings;
 use serde_json::Value;
 use std::alloc::Global;
 
-const GROUP: [&str; 10] = [
-    "description",
-    "drafts",
-    "vocabularies",
-    "overridden",
-    "objectLayer",
-    "schema",
-    "fused",
-    "handsOnRequired",
-    "refused",
-    "tests",
-];
+const GROUP: &str =
+    "description drafts vocabularies overridden objectLayer schema fused handsOnRequired refused tests";
 
-const TEST: [&str; 9] = [
-    "description",
-    "data",
-    "each",
-    "decimals",
-    "valid",
-    "errors",
-    "float",
-    "evaluation",
-    "applications",
-];
+const TEST: &str = "description data each decimals valid errors float evaluation applications";
 
-// A group in one of its drafts.
 #[derive(Clone, Copy)]
 struct Group<'g, 's> {
     members: &'g Members,
@@ -52,7 +31,7 @@ pub(crate) fn check<'v>(tally: &mut Tally, group: &'v Value) -> Result<(), Stop<
     if group.get("call").is_some() {
         return calls::check(tally, group);
     }
-    let members = known(group, &GROUP)?;
+    let members = known(group, GROUP)?;
     take_names(tally, members)?;
     if !members.contains_key("drafts") {
         return check_draft(tally, members, "2020-12");
@@ -70,7 +49,7 @@ fn take_names<'v>(tally: &mut Tally, members: &'v Members) -> Result<(), Stop<'v
         (Some(_), None) => tally.take_name(group, "refused"),
         (None, Some(_)) => {
             for test in items(members, "tests")? {
-                tally.take_name(group, text(known(test, &TEST)?, "description")?)?;
+                tally.take_name(group, text(known(test, TEST)?, "description")?)?;
             }
             Ok(())
         }
@@ -79,54 +58,38 @@ fn take_names<'v>(tally: &mut Tally, members: &'v Members) -> Result<(), Stop<'v
 }
 
 // Asks the rows of a group in one draft.
-fn check_draft<'v>(
-    tally: &mut Tally,
-    members: &'v Members,
-    draft: &'v str,
-) -> Result<(), Stop<'v>> {
-    let settings = settings_of(tally.alloc, members, draft)?;
-    let group = Group {
-        members,
+fn check_draft<'v>(tally: &mut Tally, group: &'v Members, draft: &'v str) -> Result<(), Stop<'v>> {
+    let settings = settings_of(tally.alloc, group, draft)?;
+    let asked = Group {
+        members: group,
         draft,
         settings: &settings,
     };
-    if let Some(refused) = members.get("refused") {
+    if let Some(refused) = group.get("refused") {
         let wanted = of_refusal(tally.alloc, refused)?;
-        return check_row(tally, group, members, &Value::Null, &wanted);
+        return check_row(tally, asked, group, &Value::Null, &wanted);
     }
-    for test in items(members, "tests")? {
-        check_test(tally, group, known(test, &TEST)?)?;
+    for test in items(group, "tests")? {
+        check_test(tally, asked, known(test, TEST)?)?;
     }
     Ok(())
 }
 
-// Asks a test of its instances.
 fn check_test<'v>(
     tally: &mut Tally,
     group: Group<'v, '_>,
     test: &'v Members,
 ) -> Result<(), Stop<'v>> {
-    match (test.get("data"), test.get("each")) {
-        (Some(instance), None) => check_instance(tally, group, test, instance),
-        (None, Some(_)) => {
-            for instance in items(test, "each")? {
-                check_instance(tally, group, test, instance)?;
-            }
-            Ok(())
-        }
-        _ => Err(Stop::Wrong("a test has one of", "data, each")),
+    let instances = match (test.get("data"), test.get("each")) {
+        (Some(instance), None) => std::slice::from_ref(instance),
+        (None, Some(_)) => items(test, "each")?,
+        _ => return Err(Stop::Wrong("a test has one of", "data, each")),
+    };
+    for instance in instances {
+        let wanted = of_test(tally.alloc, test, instance)?;
+        check_row(tally, group, test, instance, &wanted)?;
     }
-}
-
-// Asks a test of one instance.
-fn check_instance<'v>(
-    tally: &mut Tally,
-    group: Group<'v, '_>,
-    test: &'v Members,
-    instance: &Value,
-) -> Result<(), Stop<'v>> {
-    let wanted = of_test(tally.alloc, test, instance)?;
-    check_row(tally, group, test, instance, &wanted)
+    Ok(())
 }
 
 // Asks a row. `run` is asked too where it can be: it has no object layer, and reads no decimals.
@@ -142,7 +105,8 @@ fn check_row<'v>(
     let (object_layer, by_run) = layer_of(group.members)?;
     let has_decimals = is_true(test, "decimals")?;
     let request = request_of(alloc, group.members, group.draft, schema, instance)?;
-    take_question(tally, request.as_str(), object_layer, has_decimals)?;
+    let question = format!(in alloc; "{request}, {object_layer}, decimals: {has_decimals}")?;
+    tally.take_question(question.as_str())?;
     let name = name_of(alloc, group, test, instance)?;
     let leaves = leaves_of(alloc, test, wanted)?;
     let whole = whole_of(alloc, group.members, leaves.as_str())?;
@@ -157,7 +121,7 @@ fn check_row<'v>(
         leaves: leaves.as_str(),
     };
     if has_decimals {
-        return check_decimals(tally, &row, instance);
+        return Ok(check_tree(tally, &row, &decimals_of(alloc, instance)?)?);
     }
     row::check(tally, &row, instance)?;
     if by_run {
@@ -166,19 +130,6 @@ fn check_row<'v>(
     Ok(())
 }
 
-// Takes what a row asks.
-fn take_question(
-    tally: &mut Tally,
-    request: &str,
-    layer: bool,
-    decimals: bool,
-) -> Result<(), Stop<'static>> {
-    let alloc = tally.alloc;
-    let question = format!(in alloc; "{request}, object layer: {layer}, decimals: {decimals}")?;
-    tally.take_question(question.as_str())
-}
-
-// The name of a row.
 fn name_of<'v>(
     alloc: Global,
     group: Group<'v, '_>,
@@ -198,12 +149,8 @@ fn leaves_of<'v>(alloc: Global, test: &'v Members, wanted: &Wanted) -> Result<St
 
 // The wanted lines of the whole schema: what it says of itself before those.
 fn whole_of<'v>(alloc: Global, group: &'v Members, leaves: &str) -> Result<String, Stop<'v>> {
-    let fused = if is_true(group, "fused")? {
-        "fused\n"
-    } else {
-        ""
-    };
-    let hands_on = is_true(group, "handsOnRequired")?;
+    let (fused, hands_on) = (is_true(group, "fused")?, is_true(group, "handsOnRequired")?);
+    let fused = if fused { "fused\n" } else { "" };
     let hands_on = if hands_on { "hands on required\n" } else { "" };
     Ok(format!(in alloc; "{fused}{hands_on}{leaves}")?)
 }
@@ -223,7 +170,7 @@ fn most_of<'v>(test: &'v Members) -> Result<Option<Most>, Stop<'v>> {
     let Some(value) = test.get("applications") else {
         return Ok(None);
     };
-    let members = known(value, &["untilFirst", "ofAll", "collected"])?;
+    let members = known(value, "untilFirst ofAll collected")?;
     Ok(Some(Most {
         until_first: number(members, "untilFirst")?,
         of_all: number(members, "ofAll")?,

@@ -20,11 +20,11 @@ const PLACE: Place = Place {
     instance: "/7",
 };
 
-// A compiled keyword, and its keyword location.
+/// A compiled keyword, and its keyword location.
 #[derive(Drop)]
-struct Leaf<F: Json> {
-    location: Location,
-    validator: LeafValidator<F>,
+pub(crate) struct Leaf<F: Json> {
+    pub(crate) location: Location,
+    pub(crate) validator: LeafValidator<F>,
 }
 
 /// Whether the schema of a row is an object in which no keyword that is read has subschemas.
@@ -59,46 +59,44 @@ pub(crate) fn answer<F: Json>(
     }
 }
 
-// The compiled keywords of an object.
-fn compiled<'a, F: Json>(
+/// The compiled keywords of an object that are read and assert something.
+pub(crate) fn compiled<'a, F: Json>(
     alloc: Global,
     ctx: &Context<'_, F>,
     parent: &'a Map<String, Value>,
 ) -> Result<Vec<Leaf<F>>, CompileFault<'a>> {
     let mut leaves = Vec::new(alloc);
     for keyword in KeywordName::ALL {
-        push_leaf(alloc, ctx, parent, keyword, &mut leaves)?;
+        if let Some(leaf) = leaf_of(alloc, ctx, parent, keyword)? {
+            leaves.push(leaf)?;
+        }
     }
     Ok(leaves)
 }
 
-// Compiles a keyword, if the object has it and it is read and asserts something.
-fn push_leaf<'a, F: Json>(
+fn leaf_of<'a, F: Json>(
     alloc: Global,
     ctx: &Context<'_, F>,
     parent: &'a Map<String, Value>,
     keyword: KeywordName,
-    leaves: &mut Vec<Leaf<F>>,
-) -> Result<(), CompileFault<'a>> {
+) -> Result<Option<Leaf<F>>, CompileFault<'a>> {
     let Some(schema) = parent.get(keyword.as_str()) else {
-        return Ok(());
+        return Ok(None);
     };
     if !is_leaf(keyword) || !keyword.stands(ctx) {
-        return Ok(());
+        return Ok(None);
     }
     let Some(compiled) = jskw_leaf::compile(alloc, ctx, parent, keyword, schema) else {
-        return Ok(());
+        return Ok(None);
     };
     let validator = compiled?;
     let location = ctx.keyword_location(alloc, keyword)?;
-    leaves.push(Leaf {
+    Ok(Some(Leaf {
         location,
         validator,
-    })?;
-    Ok(())
+    }))
 }
 
-// The lines of what compiled keywords say.
 fn answer_of<F: Json>(
     alloc: Global,
     row: &Row<'_>,
@@ -108,13 +106,13 @@ fn answer_of<F: Json>(
     if !instance.is_lawful() {
         return float_line(alloc, instance);
     }
-    let mut said = Said::new(alloc);
+    let mut said = Said::new(alloc, PLACE);
     for leaf in leaves {
         push_said(alloc, &mut said, leaf, instance)?;
     }
     let root = if said.holds { "valid\n" } else { "invalid\n" };
     said.tree.insert_str(0, root)?;
-    said.lines(alloc, row.claims)
+    said.lines(row.claims)
 }
 
 // Appends what a keyword says of the item of the index 7.
@@ -131,14 +129,14 @@ fn push_said<F: Json>(
     let mut ctx = ValidationContext::new();
     said.holds = leaf.validator.is_valid(instance, &mut ctx) && said.holds;
     let first = leaf.validator.validate(instance, &mut location, &mut ctx);
-    said.push_first(alloc, PLACE, first)?;
+    said.push_first(first)?;
     let mut errors = Vec::new(alloc);
     leaf.validator
         .collect_errors(instance, &mut location, &mut ctx, &mut errors)?;
-    said.push_errors(alloc, PLACE, &errors)?;
+    said.push_errors(&errors)?;
     let unit = leaf
         .validator
         .evaluate(alloc, instance, &mut location, &mut ctx)?;
     let node = EvaluationNode::new(alloc, unit, &leaf.location, &location.render()?)?;
-    said.push_tree(alloc, PLACE, 1, &node)
+    said.push_tree(1, &node)
 }

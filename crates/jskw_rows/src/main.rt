@@ -1,8 +1,9 @@
 //! Asks each row of the files of a folder in every way that there is to ask it, and prints the rows
 //! whose answers differ from the wanted ones. `README.md` beside `src/` says what a row is.
 //!
-//! The one argument is the folder, the current one by default; its files whose names end in `.json`
-//! are read. The status is 0 if no row differs and no group is wrong, else 1.
+//! The one argument is the folder; its files whose names end in `.json` are read. The status is 0 if
+//! no row differs and no group is wrong, else 1. Without an argument the folder is the current one,
+//! and behind its rows the calls of each line of standard input are made, which `memory` lists.
 #![tactic(auto)]
 
 mod answer;
@@ -12,10 +13,10 @@ mod error_lines;
 mod group;
 mod leaves;
 mod members;
+mod memory;
 mod representations;
 mod requests;
 mod row;
-mod setting;
 mod stop;
 mod tally;
 mod tree_lines;
@@ -57,14 +58,15 @@ fn check_text(tally: &mut Tally, text: &str) -> Result<(), AllocError> {
 
 // Asks the rows of a group, and tells of it if it is wrong.
 fn check_group(tally: &mut Tally, value: &Value) -> Result<(), AllocError> {
-    let (what, with) = match group::check(tally, value) {
-        Ok(()) => return Ok(()),
-        Err(Stop::Memory(error)) => return Err(error),
-        Err(Stop::Wrong(what, with)) => (what, with),
-    };
-    let what = format!(in tally.alloc; "{what}: {with}")?;
-    let group = value.get("description").and_then(Value::as_str);
-    tally.tell_wrong(group.unwrap_or("no description"), what.as_str())
+    match group::check(tally, value) {
+        Ok(()) => Ok(()),
+        Err(Stop::Memory(error)) => Err(error),
+        Err(Stop::Wrong(what, with)) => {
+            let what = format!(in tally.alloc; "{what}: {with}")?;
+            let group = value.get("description").and_then(Value::as_str);
+            tally.tell_wrong(group.unwrap_or("no description"), what.as_str())
+        }
+    }
 }
 
 // Asks the rows of a file, and prints those that differ and how many there are.
@@ -79,16 +81,26 @@ fn check_file(rt: &HostRuntime, tally: &mut Tally, folder: &str, name: &str) -> 
     println!(rt; "{}{name}: {rows} rows", tally.told)
 }
 
-fn main(rt: HostRuntime) -> io::Result<ExitCode> {
-    let folder = match env::args(&rt)?.nth(1) {
-        Some(folder) => folder,
-        None => String::from_str(rt.alloc(), ".")?,
-    };
+// Asks the rows of a folder, and returns whether no row differs and no group is wrong.
+fn check_folder(rt: &HostRuntime, folder: &str) -> io::Result<bool> {
     let mut tally = Tally::new(rt.alloc());
-    for name in &file_names(&rt, folder.as_str())? {
-        check_file(&rt, &mut tally, folder.as_str(), name.as_str())?;
+    for name in &file_names(rt, folder)? {
+        check_file(rt, &mut tally, folder, name.as_str())?;
     }
     let (rows, differing, wrong) = (tally.rows, tally.differing, tally.wrong);
     println!(rt; "{rows} rows, {differing} answers differ, {wrong} groups are wrong")?;
-    Ok(ExitCode::from(if differing == 0 && wrong == 0 { 0 } else { 1 }))
+    Ok(differing == 0 && wrong == 0)
+}
+
+fn main(rt: HostRuntime) -> io::Result<ExitCode> {
+    let is_right = if let Some(folder) = env::args(&rt)?.nth(1) {
+        check_folder(&rt, folder.as_str())?
+    } else {
+        let is_right = check_folder(&rt, ".")?;
+        for line in rt.lines(rt.alloc()) {
+            memory::make(&rt, line?.as_str())?;
+        }
+        is_right
+    };
+    Ok(ExitCode::from(if is_right { 0 } else { 1 }))
 }

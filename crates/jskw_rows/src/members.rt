@@ -1,13 +1,15 @@
-//! The members of the objects that rows are made of.
+//! The members of the objects that rows are made of, and the settings that they say.
 use crate::stop::Stop;
+use jskw_report::Settings;
+use jskw_service::{draft_named, overridden_of, vocabularies_of};
 use serde_json::{Map, Value};
 use std::alloc::Global;
 
 pub(crate) type Members = Map<String, Value>;
 
-/// The members of a value that is an object with no other names than these.
-pub(crate) fn known<'v>(value: &'v Value, names: &[&str]) -> Result<&'v Members, Stop<'v>> {
-    let members = value.as_object().ok_or(Stop::Wrong("no object", ""))?;
+/// The members of a value that is an object with no other names than these words.
+pub(crate) fn known<'v>(value: &'v Value, names: &str) -> Result<&'v Members, Stop<'v>> {
+    let members = wanted(value.as_object(), "an object")?;
     for (name, _) in members.iter() {
         if !is_one_of(name.as_str(), names) {
             return Err(Stop::Wrong("an unknown member", name.as_str()));
@@ -16,30 +18,27 @@ pub(crate) fn known<'v>(value: &'v Value, names: &[&str]) -> Result<&'v Members,
     Ok(members)
 }
 
-/// Whether a name is one of these.
-pub(crate) fn is_one_of(name: &str, names: &[&str]) -> bool {
-    names.iter().any(|one| *one == name)
+/// Whether a name is one of these words.
+pub(crate) fn is_one_of(name: &str, names: &str) -> bool {
+    names.split(' ').any(|one| one == name)
 }
 
-/// The member of a name, which has to be there.
+/// What is found, if it is there and of its kind; the name says where it was looked for.
+pub(crate) fn wanted<T: Drop>(found: Option<T>, name: &str) -> Result<T, Stop<'_>> {
+    found.ok_or(Stop::Wrong("missing, or of another kind", name))
+}
+
+/// The member of a name, which has to be there. Those below also say of which kind it has to be.
 pub(crate) fn member<'v>(members: &'v Members, name: &'static str) -> Result<&'v Value, Stop<'v>> {
-    members
-        .get(name)
-        .ok_or(Stop::Wrong("a member is missing", name))
+    wanted(members.get(name), name)
 }
 
-/// The text of the member of a name, which has to be there.
 pub(crate) fn text<'v>(members: &'v Members, name: &'static str) -> Result<&'v str, Stop<'v>> {
-    member(members, name)?
-        .as_str()
-        .ok_or(Stop::Wrong("no text", name))
+    wanted(member(members, name)?.as_str(), name)
 }
 
-/// The number of the member of a name, which has to be there.
 pub(crate) fn number<'v>(members: &'v Members, name: &'static str) -> Result<u64, Stop<'v>> {
-    member(members, name)?
-        .as_u64()
-        .ok_or(Stop::Wrong("no number", name))
+    wanted(member(members, name)?.as_u64(), name)
 }
 
 /// The items of the member of a name, which has to be an array of at least one.
@@ -61,8 +60,7 @@ pub(crate) fn lines<'v>(
         return Ok(lines);
     }
     for line in items(members, name)? {
-        let line = line.as_str().ok_or(Stop::Wrong("a line is a text", name))?;
-        write!(lines, "{line}\n")?;
+        write!(lines, "{}\n", wanted(line.as_str(), name)?)?;
     }
     Ok(lines)
 }
@@ -74,4 +72,19 @@ pub(crate) fn is_true<'v>(members: &'v Members, name: &'static str) -> Result<bo
         Some(Value::Bool(true)) => Ok(true),
         Some(_) => Err(Stop::Wrong("it may be `true` alone", name)),
     }
+}
+
+/// The settings of a group in the draft of this name.
+pub(crate) fn settings_of<'v>(
+    alloc: Global,
+    group: &'v Members,
+    draft: &'v str,
+) -> Result<Settings, Stop<'v>> {
+    let vocabularies = vocabularies_of(group.get("vocabularies"));
+    let overridden = overridden_of(alloc, group.get("overridden"))?;
+    Ok(Settings::new(
+        draft_named(draft).ok_or(Stop::Wrong("no draft", draft))?,
+        vocabularies.ok_or(Stop::Wrong("unknown names", "vocabularies"))?,
+        overridden.ok_or(Stop::Wrong("no names", "overridden"))?,
+    ))
 }

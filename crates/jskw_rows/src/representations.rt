@@ -1,92 +1,58 @@
 //! Trees of decimals: from texts, and with two other ways to look for required names.
+use crate::members::wanted;
 use crate::stop::Stop;
 use jskw_value::{Decimal, DecimalJson, DecimalTree, Json, Members};
 use serde_json::Value;
 use std::alloc::{AllocError, Global};
 
-/// Trees of decimals, of which every required name is looked up.
-pub(crate) struct Keys0;
+/// Trees of decimals of which `N` members are visited in the time of a lookup: with 0 every
+/// required name is looked up, with `usize::MAX` all are walked for.
+pub(crate) struct Keys<const N: usize>;
 
-impl Json for Keys0 {
+impl<const N: usize> Json for Keys<N> {
     type Node = DecimalTree;
 
-    const KEYS_PER_LOOKUP: usize = 0;
+    const KEYS_PER_LOOKUP: usize = N;
 
     fn prepare_key(alloc: Global, name: &str) -> Result<String, AllocError> {
         DecimalJson::prepare_key(alloc, name)
     }
 }
 
-/// Trees of decimals, of which required names are always walked for.
-pub(crate) struct KeysMax;
-
-impl Json for KeysMax {
-    type Node = DecimalTree;
-
-    const KEYS_PER_LOOKUP: usize = usize::MAX;
-
-    fn prepare_key(alloc: Global, name: &str) -> Result<String, AllocError> {
-        DecimalJson::prepare_key(alloc, name)
-    }
-}
-
-/// Returns the tree of a value that is a text, an object, or an array of these, maybe inside arrays
-/// of one item: each text, also of a member, stands for a decimal.
+/// Returns the tree of a value in which each decimal is written as a text.
 pub(crate) fn decimals_of(alloc: Global, value: &Value) -> Result<DecimalTree, Stop<'static>> {
-    let (mut value, mut depth) = (value, 0usize);
-    for _ in 0..200 {
-        match value.as_array().map(|items| items.as_slice()) {
-            Some([item]) => value = item,
-            _ => break,
-        }
-        depth = depth.saturating_add(1);
-    }
-    let mut tree = match value.as_array() {
-        Some(items) => array_of(alloc, items)?,
-        None => tree_of(alloc, value)?,
-    };
-    for _ in 0..depth {
-        tree = DecimalTree::Array(Vec::from_array(alloc, [tree])?);
-    }
-    Ok(tree)
-}
-
-fn array_of(alloc: Global, items: &[Value]) -> Result<DecimalTree, Stop<'static>> {
-    let mut trees = Vec::new(alloc);
-    for item in items {
-        trees.push(tree_of(alloc, item)?)?;
-    }
-    Ok(DecimalTree::Array(trees))
-}
-
-// Returns the tree of a value that is a text or an object.
-fn tree_of(alloc: Global, value: &Value) -> Result<DecimalTree, Stop<'static>> {
-    let Some(members) = value.as_object() else {
-        return leaf_of(alloc, value);
-    };
-    let mut object = Members::new(alloc);
-    for (name, value) in members.iter() {
-        let name = String::from_str(alloc, name)?;
-        if object.insert(name, leaf_of(alloc, value)?).is_err() {
-            return Err(Stop::Wrong("a member is not inserted", "decimals"));
-        }
-    }
-    Ok(DecimalTree::Object(object))
-}
-
-// Returns the decimal that a text stands for; another value as it is.
-fn leaf_of(alloc: Global, value: &Value) -> Result<DecimalTree, Stop<'static>> {
-    if let Some(text) = value.as_str() {
-        return match decimal_of(alloc, text) {
+    match value {
+        Value::String(text) => match decimal_of(alloc, text.as_str()) {
             Ok(decimal) => Ok(DecimalTree::Number(decimal)),
-            Err(_) => Err(Stop::Wrong("a text is no decimal", "decimals")),
-        };
+            Err(_) => Ok(DecimalTree::Text(text.clone()?)),
+        },
+        Value::Array(items) => {
+            let mut trees = Vec::new(alloc);
+            for item in items {
+                trees.push(decimals_of(alloc, item)?)?;
+            }
+            Ok(DecimalTree::Array(trees))
+        }
+        Value::Object(members) => {
+            let mut object = Members::new(alloc);
+            for (name, value) in members.iter() {
+                if object
+                    .insert(name.clone()?, decimals_of(alloc, value)?)
+                    .is_err()
+                {
+                    return Err(Stop::Memory(AllocError));
+                }
+            }
+            Ok(DecimalTree::Object(object))
+        }
+        _ => wanted(
+            DecimalTree::from_value(alloc, value)?,
+            "a number of 64 bits",
+        ),
     }
-    let tree = DecimalTree::from_value(alloc, value)?;
-    tree.ok_or(Stop::Wrong("a float", "decimals"))
 }
 
-/// Returns the decimal that a text stands for: `-0.50` is -50 with the scale 2.
+/// Returns the decimal that is written as a text: `-0.50` is -50 with the scale 2.
 pub(crate) fn decimal_of<'t>(alloc: Global, text: &'t str) -> Result<Decimal, Stop<'t>> {
     let (whole, fraction) = text.split_once('.').unwrap_or((text, ""));
     let digits = format!(in alloc; "{whole}{fraction}")?;

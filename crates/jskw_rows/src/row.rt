@@ -1,7 +1,6 @@
 //! A row, and how it is asked.
 use crate::answer::{Claims, float_line};
-use crate::representations::{Keys0, KeysMax, decimals_of};
-use crate::stop::Stop;
+use crate::representations::Keys;
 use crate::tally::Tally;
 use crate::{leaves, requests, whole};
 use jskw_report::Settings;
@@ -46,17 +45,6 @@ pub(crate) fn check(tally: &mut Tally, row: &Row<'_>, instance: &Value) -> Resul
     }
 }
 
-/// Asks a row over an instance in which each text stands for a decimal.
-pub(crate) fn check_decimals(
-    tally: &mut Tally,
-    row: &Row<'_>,
-    instance: &Value,
-) -> Result<(), Stop<'static>> {
-    let tree = decimals_of(tally.alloc, instance)?;
-    Ok(check_tree(tally, row, &tree)?)
-}
-
-/// Asks the service.
 pub(crate) fn check_run(
     tally: &mut Tally,
     name: &str,
@@ -67,11 +55,15 @@ pub(crate) fn check_run(
     tally.compare(name, "by run", wanted, found.as_str())
 }
 
-// Asks a row over each representation whose nodes are trees of decimals.
-fn check_tree(tally: &mut Tally, row: &Row<'_>, tree: &DecimalTree) -> Result<(), AllocError> {
+/// Asks a row over each representation whose nodes are trees of decimals.
+pub(crate) fn check_tree(
+    tally: &mut Tally,
+    row: &Row<'_>,
+    tree: &DecimalTree,
+) -> Result<(), AllocError> {
     check_over::<DecimalJson>(tally, row, tree, "over decimals")?;
-    check_over::<Keys0>(tally, row, tree, "over decimals, by lookups")?;
-    check_over::<KeysMax>(tally, row, tree, "over decimals, by walks")
+    check_over::<Keys<0>>(tally, row, tree, "over decimals, by lookups")?;
+    check_over::<Keys<0xffff_ffff_ffff_ffff>>(tally, row, tree, "over decimals, by walks")
 }
 
 // Asks a row over one representation: the whole schema, and its keywords one by one.

@@ -1,12 +1,12 @@
 //! Why a group of rows can't be asked.
 use std::alloc::{AllocError, AllocFailed};
+use std::io;
 
 /// Why a group of rows can't be asked.
 #[derive(Drop)]
 pub(crate) enum Stop<'v> {
     /// What is wrong, and with which member or text of the group.
     Wrong(&'static str, &'v str),
-    /// Memory ran out.
     Memory(AllocError),
 }
 
@@ -19,5 +19,14 @@ impl From<AllocError> for Stop<'_> {
 impl<T: Drop> From<AllocFailed<T>> for Stop<'_> {
     fn from(_error: AllocFailed<T>) -> Self {
         Stop::Memory(AllocError)
+    }
+}
+
+impl From<Stop<'_>> for io::Error {
+    fn from(stop: Stop<'_>) -> Self {
+        match stop {
+            Stop::Wrong(_, _) => io::Error::from(io::ErrorKind::InvalidInput),
+            Stop::Memory(error) => io::Error::from(error),
+        }
     }
 }

@@ -8,19 +8,16 @@ use std::collections::BTreeSet;
 pub(crate) struct Tally {
     pub(crate) alloc: Global,
     pub(crate) file: String,
-    /// What is to be printed.
     pub(crate) told: String,
     pub(crate) rows: u64,
     /// How many answers were not the wanted ones.
     pub(crate) differing: u64,
-    /// How many groups are wrong.
     pub(crate) wrong: u64,
     // the names of the tests with their files, and what the rows ask
     taken: BTreeSet<String>,
 }
 
 impl Tally {
-    /// Of no row yet.
     pub(crate) fn new(alloc: Global) -> Tally {
         Tally {
             alloc,
@@ -52,13 +49,13 @@ impl Tally {
         Err(Stop::Wrong("a row that stands elsewhere too", ""))
     }
 
-    /// Tells that a group is wrong, and how.
+    /// Records that a group is wrong, and how.
     pub(crate) fn tell_wrong(&mut self, group: &str, what: &str) -> Result<(), AllocError> {
         self.wrong = self.wrong.saturating_add(1);
         write!(self.told, "{}: {group}\n  wrong: {what}\n", self.file)
     }
 
-    /// Tells of a row if what was found is not what was wanted; `way` says how it was asked.
+    /// Records a row whose answer is not the wanted one. `way` is the call that gave it.
     pub(crate) fn compare(
         &mut self,
         name: &str,

@@ -1,6 +1,6 @@
 //! What a row wants: the lines of the answers, and what `run` writes.
 use crate::answer::Claims;
-use crate::members::{Members, is_one_of, items, member, text};
+use crate::members::{Members, is_one_of, items, member, text, wanted};
 use crate::representations::decimals_of;
 use crate::stop::Stop;
 use jskw_value::Node;
@@ -17,7 +17,7 @@ pub(crate) struct Wanted {
 }
 
 // The members of an error beside the one of its keyword.
-const PARTS: [&str; 4] = ["instanceLocation", "keywordLocation", "value", "message"];
+const PARTS: &str = "instanceLocation keywordLocation value message";
 
 // An error as a row has it.
 #[derive(Clone, Copy)]
@@ -74,8 +74,10 @@ fn of_errors<'v>(alloc: Global, test: &'v Members, instance: &Value) -> Result<W
         if error.members.contains_key("value") {
             return Err(Stop::Wrong("the instance has the value of", "an error"));
         }
-        let value = instance.pointer(error.at);
-        let value = value.ok_or(Stop::Wrong("the instance has no value at", error.at))?;
+        let value = wanted(
+            instance.pointer(error.at),
+            "a value at the instanceLocation",
+        )?;
         let mut text = String::new(alloc);
         if test.contains_key("decimals") {
             decimals_of(alloc, value)?.write_json(&mut text)?;
@@ -103,14 +105,13 @@ pub(crate) fn of_refusal(alloc: Global, error: &Value) -> Result<Wanted, Stop<'_
 
 // The error that a value is. It has one member beside the parts: its keyword, with the payload.
 fn error_of(value: &Value) -> Result<Error<'_>, Stop<'_>> {
-    let members = value
-        .as_object()
-        .ok_or(Stop::Wrong("an error is no object", ""))?;
+    let members = wanted(value.as_object(), "an error")?;
     let mut kinds = members
         .iter()
-        .filter(|(name, _)| !is_one_of(name.as_str(), &PARTS));
-    let kind = kinds.next();
-    let (keyword, payload) = kind.ok_or(Stop::Wrong("an error without a keyword", ""))?;
+        .filter(|(name, _)| !is_one_of(name.as_str(), PARTS));
+    let Some((keyword, payload)) = kinds.next() else {
+        return Err(Stop::Wrong("an error without a keyword", ""));
+    };
     if let Some((name, _)) = kinds.next() {
         return Err(Stop::Wrong("an error with an unknown member", name.as_str()));
     }

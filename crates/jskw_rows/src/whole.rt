@@ -12,8 +12,7 @@ use jskw_report::{CompileFault, Context, LazyLocation, ValidationContext};
 use jskw_value::{Json, Node};
 use std::alloc::{AllocError, Global};
 
-/// The lines of what the schema of a row says of itself, and of the instance, or of why it does not
-/// compile.
+/// The lines of what the schema of a row says of itself and of the instance, or of its refusal.
 pub(crate) fn answer<F: Json>(
     alloc: Global,
     row: &Row<'_>,
@@ -57,11 +56,10 @@ fn push_shape<F: Json>(
 struct Counts {
     is_valid: ValidationContext,
     validate: ValidationContext,
-    collect_errors: ValidationContext,
+    collect: ValidationContext,
     evaluate: ValidationContext,
 }
 
-// The lines of what a compiled schema says of an instance.
 fn answer_of<F: Json>(
     alloc: Global,
     row: &Row<'_>,
@@ -72,7 +70,7 @@ fn answer_of<F: Json>(
         return float_line(alloc, instance);
     }
     let mut counts = Counts::new();
-    let mut lines = said(alloc, &mut counts, node, instance)?.lines(alloc, row.claims)?;
+    let mut lines = said(alloc, &mut counts, node, instance)?.lines(row.claims)?;
     if let Some(most) = row.most {
         counts.push_lines(&mut lines, 1, most)?;
         let _ = said(alloc, &mut counts, node, instance)?;
@@ -81,7 +79,6 @@ fn answer_of<F: Json>(
     Ok(lines)
 }
 
-// What a compiled schema says of an instance.
 fn said<F: Json>(
     alloc: Global,
     counts: &mut Counts,
@@ -90,21 +87,16 @@ fn said<F: Json>(
 ) -> Result<Said, AllocError>
     requires { IsTrue (is_lawful (F.Node.tree instance.now)) }
 {
-    let mut said = Said::new(alloc);
+    let mut said = Said::new(alloc, WHOLE);
     let mut location = LazyLocation::new(alloc);
     said.holds = node.is_valid(instance, &mut counts.is_valid);
     let first = node.validate(instance, &mut location, &mut counts.validate);
-    said.push_first(alloc, WHOLE, first)?;
+    said.push_first(first)?;
     let mut errors = Vec::new(alloc);
-    node.collect_errors(
-        instance,
-        &mut location,
-        &mut counts.collect_errors,
-        &mut errors,
-    )?;
-    said.push_errors(alloc, WHOLE, &errors)?;
+    node.collect_errors(instance, &mut location, &mut counts.collect, &mut errors)?;
+    said.push_errors(&errors)?;
     let tree = node.evaluate_instance(alloc, instance, &mut counts.evaluate)?;
-    said.push_tree(alloc, WHOLE, 0, &tree)?;
+    said.push_tree(0, &tree)?;
     Ok(said)
 }
 
@@ -113,42 +105,26 @@ impl Counts {
         Counts {
             is_valid: ValidationContext::new(),
             validate: ValidationContext::new(),
-            collect_errors: ValidationContext::new(),
+            collect: ValidationContext::new(),
             evaluate: ValidationContext::new(),
         }
     }
 
     // Appends a line for each count that is out of its range, so many times over.
     fn push_lines(&self, lines: &mut String, times: u64, most: Most) -> Result<(), AllocError> {
-        let (first, all) = ((1, most.until_first), (1, most.of_all));
-        push_count(lines, "is_valid", times, first, &self.is_valid)?;
-        push_count(lines, "validate", times, first, &self.validate)?;
-        let collected = (most.collected, most.of_all);
-        push_count(
-            lines,
-            "collect_errors",
-            times,
-            collected,
-            &self.collect_errors,
-        )?;
-        push_count(lines, "evaluate_instance", times, all, &self.evaluate)
+        let (first, all) = (most.until_first, most.of_all);
+        for (observer, least, most, ctx) in [
+            ("is_valid", 1, first, &self.is_valid),
+            ("validate", 1, first, &self.validate),
+            ("collect_errors", most.collected, all, &self.collect),
+            ("evaluate_instance", 1, all, &self.evaluate),
+        ] {
+            let (count, most) = (ctx.applications(), most.saturating_mul(times));
+            if count < least.saturating_mul(times) || count > most {
+                let what = "subschemas, asked";
+                write!(lines, "{observer} applies {count} {what} {times} times\n")?;
+            }
+        }
+        Ok(())
     }
-}
-
-// Appends a line if a count is out of its range, so many times over.
-fn push_count(
-    lines: &mut String,
-    observer: &str,
-    times: u64,
-    (least, most): (u64, u64),
-    ctx: &ValidationContext,
-) -> Result<(), AllocError> {
-    let count = ctx.applications();
-    if least.saturating_mul(times) <= count && count <= most.saturating_mul(times) {
-        return Ok(());
-    }
-    write!(
-        lines,
-        "{observer} applies {count} subschemas, asked {times} times\n"
-    )
 }

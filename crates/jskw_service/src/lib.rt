@@ -36,16 +36,12 @@
 #![tactic(auto)]
 
 mod device;
-#[cfg(test)]
-mod memory;
 mod request;
 mod service;
 mod std_device;
-#[cfg(test)]
-mod tests;
 mod whole;
 
 pub use device::{DeviceFault, Sink, Source};
-pub use request::overridden_of;
+pub use request::{draft_named, overridden_of, vocabularies_of};
 pub use service::{Reply, RunFault, Verdict, read_value, reply_to, reply_to_instance, run, status};
 pub use std_device::{StdSink, StdSource};

@@ -74,8 +74,8 @@ fn draft_of(member: Option<&Value>) -> Option<Draft>
     }
 }
 
-// Returns the draft of this name.
-fn draft_named(name: &str) -> Option<Draft>
+/// Returns the draft of this name, or `None` if there is none.
+pub fn draft_named(name: &str) -> Option<Draft>
     ensures { result ≡ draft_named name.now }
 {
     match name {
@@ -88,8 +88,9 @@ fn draft_named(name: &str) -> Option<Draft>
     }
 }
 
-// Returns the vocabularies of the member `vocabularies`, or all if there is none.
-fn vocabularies_of(member: Option<&Value>) -> Option<VocabularySet>
+/// Returns the vocabularies that are present: those that the items of `member` name, or all if there
+/// is no member. Returns `None` if the member is not an array of names of vocabularies.
+pub fn vocabularies_of(member: Option<&Value>) -> Option<VocabularySet>
     ensures { result ≡ vocabularies_of (option_map (λ x. view x.now) member.entry) }
 {
     match member {

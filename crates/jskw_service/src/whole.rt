@@ -35,7 +35,8 @@ impl From<DeviceFault> for ReadFault {
     }
 }
 
-// Reads to the end.
+// Reads to the end. Not inlined: the block would stay on the stack while the request is answered.
+#[inline(never)]
 pub(crate) fn read_all<R: Source>(alloc: Global, reader: &mut R) -> Result<Vec<u8>, ReadFault>
     requires { R.has_failed reader.old ≡ false }
     ensures bytes { IfOk result

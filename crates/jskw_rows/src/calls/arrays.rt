@@ -1,6 +1,7 @@
 //! Calls of keywords with subschemas, and of schemas below another one.
 use super::{Answer, Call};
 use crate::error_lines::WHOLE;
+use crate::members::wanted;
 use crate::stop::Stop;
 use crate::tree_lines::push_tree;
 use jskw_array::compiler::compile;
@@ -9,23 +10,22 @@ use jskw_array::items::{
     ItemsTypeValidator, NumberItems, StringItems, array_shape_fusion,
 };
 use jskw_array::{SchemaNode, additional_items};
+use jskw_report::compiler::member_of;
 use jskw_report::{
     Context, EvaluationNode, LazyLocation, Location, LocationSegment, Validate, ValidationContext,
 };
 use jskw_value::{Array, DecimalJson, DecimalTree, Node};
 use std::alloc::{AllocError, Global};
 
-// Appends the lines of a node.
 fn push_node(alloc: Global, text: &mut String, node: &EvaluationNode) -> Result<(), AllocError> {
-    push_tree(alloc, text, &mut String::new(alloc), WHOLE, 0, node)
+    push_tree(text, &mut String::new(alloc), WHOLE, 0, node)
 }
 
-// Returns whether an instance is valid under a fused shape by itself, and the nodes of the absorbed
-// keywords.
+// Returns whether a fused shape by itself holds, and the nodes of the absorbed keywords.
 pub(super) fn shape<'v>(alloc: Global, call: Call<'v>) -> Answer<'v> {
     let (settings, parent) = (call.settings(alloc)?, call.object(1)?);
     let ctx: Context<DecimalJson> = Context::new(alloc, &settings);
-    let Some(items) = jskw_report::compiler::member_of(parent, "items") else {
+    let Some(items) = member_of(parent, "items") else {
         return Err(Stop::Wrong("no items", call.name));
     };
     if !array_shape_fusion(&ctx, parent) {
@@ -65,8 +65,7 @@ fn shape_text(
     Ok(text)
 }
 
-// Returns whether an item is of a type, by the test, by the validator of the type, and by that of
-// items.
+// Returns whether an item is of a type, by the test and by the validators of the type and of items.
 pub(super) fn item<'v>(alloc: Global, call: Call<'v>) -> Answer<'v> {
     let item = call.tree(alloc, 1)?;
     Ok(match call.text(0)? {
@@ -95,14 +94,11 @@ fn item_text<T: ItemType>(alloc: Global, item: DecimalTree) -> Result<String, Al
     format!(in alloc; "{matches} {by_type} {by_items}")
 }
 
-// Returns how many schemas the evaluation of `additionalItems` by itself applies, if they are
-// compiled.
+// Returns how many schemas the evaluation of `additionalItems` by itself applies.
 pub(super) fn additional<'v>(alloc: Global, call: Call<'v>) -> Answer<'v> {
     let (settings, parent) = (call.settings(alloc)?, call.object(1)?);
     let instance = call.tree(alloc, 2)?;
-    let Some(value) = parent.get("additionalItems") else {
-        return Err(Stop::Wrong("no additionalItems", call.name));
-    };
+    let value = wanted(parent.get("additionalItems"), call.name)?;
     let ctx: Context<DecimalJson> = Context::new(alloc, &settings);
     match &additional_items::compile(alloc, &ctx, parent, value) {
         None => Ok(String::from_str(alloc, "not compiled")?),

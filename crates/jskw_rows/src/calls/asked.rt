@@ -1,4 +1,5 @@
-//! How often observers ask the nodes of an instance whether they are null.
+//! Calls over a representation of the rows: how often observers ask the nodes of an instance whether
+//! they are null, and walks over the members of an object.
 ghost use Rattle.std.specs.Prelude.{IsTrue};
 ghost use Rattle.jskw_value.specs.Tree.{is_lawful};
 ghost use Rattle.jskw_rows.specs.Asks.{asked_tree};
@@ -9,15 +10,16 @@ use crate::stop::Stop;
 use jskw_array::SchemaNode;
 use jskw_array::compiler::compile;
 use jskw_report::{Context, Fault, LazyLocation, ValidationContext};
-use jskw_value::Node;
+use jskw_value::{Node, Object};
 use std::alloc::{AllocError, Global};
+use std::cell::Cell;
 
-// Which observers of a schema ask more often than they may: `is_valid` and `validate` up to the
-// first failure, `collect_errors` and `evaluate_instance` in all; asked once, and once more.
+// How often each observer of a schema asks, if one asks more often than it may: `is_valid` and
+// `validate` up to the first failure, the others in all; asked once, and once more.
 pub(super) fn counted<'v>(alloc: Global, call: Call<'v>) -> Answer<'v> {
     let settings = call.settings(alloc)?;
     let (until_first, of_all) = (call.number(4)?, call.number(5)?);
-    let tree = Asked::new(alloc, call.list(3)?)?;
+    let tree = Asked::of(alloc, call.value(3)?)?;
     let ctx: Context<AskedJson> = Context::new(alloc, &settings);
     let compiled = compile(alloc, &ctx, call.value(2)?);
     let Ok(node) = &compiled else {
@@ -28,25 +30,46 @@ pub(super) fn counted<'v>(alloc: Global, call: Call<'v>) -> Answer<'v> {
         if !tree.is_lawful() {
             return Err(Stop::Wrong("a float", call.name));
         }
-        let [is_valid, validate, collect_errors, evaluate] = counts(alloc, node, &tree)?;
-        if is_out(is_valid, until_first) || is_out(validate, until_first) {
-            write!(
-                text,
-                "{time}: {is_valid} by is_valid, {validate} by validate; "
-            )?;
-        }
-        if is_out(collect_errors, of_all) || is_out(evaluate, of_all) {
-            write!(
-                text,
-                "{time}: {collect_errors} by collect_errors, {evaluate} by evaluate; "
-            )?;
+        let counts = counts(alloc, node, &tree)?;
+        let most = [until_first, until_first, of_all, of_all];
+        if counts
+            .iter()
+            .zip(most)
+            .any(|(count, most)| *count == 0 || *count > most)
+        {
+            write!(text, "{time}: {counts:?}; ")?;
         }
     }
     Ok(text)
 }
 
-fn is_out(count: u64, most: u64) -> bool {
-    count == 0 || count > most
+// Returns the names and the texts of the members of a value, and of an object that is walked over by
+// place; whether that object and an array of a null are equal to the value, and to one another.
+pub(super) fn walks<'v>(alloc: Global, call: Call<'v>) -> Answer<'v> {
+    let value = call.value(0)?;
+    let pair = Asked::Pair(Box::new(alloc, null())?);
+    let nulls = Asked::Array(Cell::new(0), Vec::from_array(alloc, [null()])?);
+    let mut text = walked(alloc, value)?;
+    write!(text, " {} ", walked(alloc, &pair)?)?;
+    let (is_pair, is_array) = (pair.equals_value(value), nulls.equals_value(value));
+    write!(text, "{is_pair} {is_array} {}", nulls.equals(&pair))?;
+    Ok(text)
+}
+
+fn null() -> Asked {
+    Asked::Null(Cell::new(0))
+}
+
+// Returns the names of an object's members, each followed by its member's text.
+fn walked<N: Node>(alloc: Global, node: &N) -> Result<String, AllocError> {
+    let mut text = String::new(alloc);
+    if node.is_object() {
+        for (name, member) in node.walk() {
+            text.push_str(name)?;
+            member.write_json(&mut text)?;
+        }
+    }
+    Ok(text)
 }
 
 // How often each observer asks whether a node of the instance is null.
@@ -55,14 +78,14 @@ fn counts(alloc: Global, node: &SchemaNode<AskedJson>, tree: &Asked) -> Result<[
 {
     let (mut location, mut ctx) = (LazyLocation::new(alloc), ValidationContext::new());
     let _ = node.is_valid(tree, &mut ctx);
-    let is_valid = tree.take_count(alloc)?;
+    let is_valid = tree.take_count();
     if let Err(Fault::Memory(error)) = node.validate(tree, &mut location, &mut ctx) {
         return Err(error);
     }
-    let validate = tree.take_count(alloc)?;
+    let validate = tree.take_count();
     let mut errors = Vec::new(alloc);
     node.collect_errors(tree, &mut location, &mut ctx, &mut errors)?;
-    let collect_errors = tree.take_count(alloc)?;
+    let collect_errors = tree.take_count();
     let _ = node.evaluate_instance(alloc, tree, &mut ctx)?;
-    Ok([is_valid, validate, collect_errors, tree.take_count(alloc)?])
+    Ok([is_valid, validate, collect_errors, tree.take_count()])
 }

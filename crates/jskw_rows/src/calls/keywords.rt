@@ -1,6 +1,7 @@
 //! Calls of keywords without subschemas.
 use super::{Answer, Call};
 use crate::error_lines::{WHOLE, push_error, refusal};
+use crate::members::wanted;
 use crate::stop::Stop;
 use jskw_leaf::boolean::FalseValidator;
 use jskw_leaf::enum_;
@@ -125,8 +126,7 @@ fn said<V: Validate<DecimalJson> + Drop>(
     Ok(text)
 }
 
-// Returns what a `required` that is compiled for `/a`, where nothing is handed on, says of an
-// object.
+// Returns what a `required` that is compiled for `/a`, and handed on to no other code, says.
 pub(super) fn required<'v>(alloc: Global, call: Call<'v>) -> Answer<'v> {
     let object = call.tree(alloc, 1)?;
     let at = Location::new(alloc).join(alloc, LocationSegment::Name("a"))?;
@@ -138,8 +138,7 @@ pub(super) fn required<'v>(alloc: Global, call: Call<'v>) -> Answer<'v> {
     }
 }
 
-// Returns whether an instance is an option of an `enum` of ten thousand integers, or texts of them,
-// and a last option.
+// Returns whether an instance is one of ten thousand integers, or texts of them, or a last option.
 pub(super) fn many_options<'v>(alloc: Global, call: Call<'v>) -> Answer<'v> {
     let (settings, parent) = (call.settings(alloc)?, Map::new(alloc));
     let mut text = String::from_str(alloc, "[")?;
@@ -148,9 +147,7 @@ pub(super) fn many_options<'v>(alloc: Global, call: Call<'v>) -> Answer<'v> {
         write!(text, "{quote}{number}{quote},")?;
     }
     write!(text, "{}]", call.value(3)?.to_string(alloc)?)?;
-    let Ok(options) = Value::from_str(alloc, text.as_str()) else {
-        return Err(Stop::Wrong("no options", call.name));
-    };
+    let options = wanted(Value::from_str(alloc, text.as_str()).ok(), call.name)?;
     let ctx: Context<DecimalJson> = Context::new(alloc, &settings);
     let compiled = enum_::compile(alloc, &ctx, &parent, &options);
     let instance = call.tree(alloc, 4)?;

@@ -1,27 +1,32 @@
-//! Calls of settings, contexts, locations and errors.
+//! Calls of settings, contexts, locations, errors and evaluations.
 use super::{Answer, Call};
-use crate::setting::vocabularies_of;
+use crate::error_lines::{TYPES, WHOLE};
+use crate::members::wanted;
 use crate::stop::Stop;
+use crate::tree_lines::push_tree;
 use jskw_report::compiler::member_of;
 use jskw_report::validator::{append_first, evaluate_first};
 use jskw_report::{
-    CompileFault, Context, EnumOptions, Fault, LazyLocation, Location, LocationSegment, TypeKind,
+    Annotations, CompileFault, Context, EnumOptions, ErrorDescription, EvaluationNode,
+    EvaluationResult, Fault, LazyLocation, Location, LocationSegment, TypeKind, ValidationContext,
     ValidationError, ValidationErrorKind, Vocabulary, VocabularySet,
 };
+use jskw_service::vocabularies_of;
 use jskw_value::{
     DecimalJson, Json, JsonType, JsonTypeSet, NotNullable, Nullability, Nullable, SerdeJson,
 };
 use serde_json::Value;
 use std::alloc::{AllocError, Global};
 
-// Returns the draft of settings, whether all vocabularies are in their set, and each vocabulary
-// that they have, with whether it is in the set.
-pub(super) fn vocabularies<'v>(alloc: Global, call: Call<'v>) -> Answer<'v> {
+// Returns the draft of settings, whether all vocabularies are in their set, each vocabulary that
+// they have, with whether it is in the set, and whether they override a name; also of a context.
+pub(super) fn settings<'v>(alloc: Global, call: Call<'v>) -> Answer<'v> {
     let settings = call.settings(alloc)?;
     let ctx = Context::<SerdeJson>::new(alloc, &settings);
-    let Some(set) = vocabularies_of(call.object(1)?.get("vocabularies")) else {
-        return Err(Stop::Wrong("unknown names", "vocabularies"));
-    };
+    let set = wanted(
+        vocabularies_of(call.object(1)?.get("vocabularies")),
+        "vocabularies",
+    )?;
     let is_one = settings.draft() == ctx.draft();
     let is_all = set == VocabularySet::all();
     let mut text = format!(in alloc; "{:?} {is_one} {is_all}", ctx.draft())?;
@@ -37,15 +42,13 @@ pub(super) fn vocabularies<'v>(alloc: Global, call: Call<'v>) -> Answer<'v> {
             write!(text, " {vocabulary:?} {}", set.contains(vocabulary))?;
         }
     }
+    let of_settings = settings.is_keyword_overridden(call.text(2)?);
+    write!(
+        text,
+        ", {of_settings} {}",
+        ctx.is_keyword_overridden(call.text(2)?)
+    )?;
     Ok(text)
-}
-
-// Returns whether settings, and a context of them, override a name.
-pub(super) fn overridden<'v>(alloc: Global, call: Call<'v>) -> Answer<'v> {
-    let (settings, name) = (call.settings(alloc)?, call.text(2)?);
-    let ctx = Context::<SerdeJson>::new(alloc, &settings);
-    let of_settings = settings.is_keyword_overridden(name);
-    Ok(format!(in alloc; "{of_settings} {}", ctx.is_keyword_overridden(name))?)
 }
 
 // Returns the location, the draft and the object layer of a context, of one without the layer, of
@@ -55,19 +58,27 @@ pub(super) fn contexts<'v>(alloc: Global, call: Call<'v>) -> Answer<'v> {
     let mut text = String::new(alloc);
     let whole = Context::<SerdeJson>::new(alloc, &settings);
     push_context(&mut text, &whole)?;
-    let without = whole.with_object_layer(false);
-    push_context(&mut text, &without)?;
-    let items = without.new_at_location(alloc, LocationSegment::Name("items"))?;
-    push_context(&mut text, &items)?;
-    let second = items.new_at_location(alloc, LocationSegment::Index(1))?;
-    push_context(&mut text, &second)?;
-    push_context(&mut text, &second.with_object_layer(true))?;
+    push_contexts(alloc, &mut text, &whole.with_object_layer(false))?;
     let (there, absent) = (
         member_of(call.object(1)?, "x"),
         member_of(call.object(1)?, "y"),
     );
     write!(text, "{} {}", there.is_some(), absent.is_some())?;
     Ok(text)
+}
+
+// Appends a context, one below it, one below that, and the last with the object layer.
+fn push_contexts(
+    alloc: Global,
+    text: &mut String,
+    whole: &Context<'_, SerdeJson>,
+) -> Result<(), AllocError> {
+    push_context(text, whole)?;
+    let items = whole.new_at_location(alloc, LocationSegment::Name("items"))?;
+    push_context(text, &items)?;
+    let second = items.new_at_location(alloc, LocationSegment::Index(1))?;
+    push_context(text, &second)?;
+    push_context(text, &second.with_object_layer(true))
 }
 
 fn push_context(text: &mut String, ctx: &Context<'_, SerdeJson>) -> Result<(), AllocError> {
@@ -111,15 +122,7 @@ pub(super) fn stack<'v>(alloc: Global, call: Call<'v>) -> Answer<'v> {
 // options that are no array, and sets of one type and of all.
 pub(super) fn messages<'v>(alloc: Global, call: Call<'v>) -> Answer<'v> {
     let mut all = JsonTypeSet::empty();
-    for json_type in [
-        JsonType::Array,
-        JsonType::Boolean,
-        JsonType::Integer,
-        JsonType::Null,
-    ] {
-        all = all.insert(json_type);
-    }
-    for json_type in [JsonType::Number, JsonType::Object, JsonType::String] {
+    for (_, json_type) in TYPES {
         all = all.insert(json_type);
     }
     let options = EnumOptions::Listed(call.value(0)?);
@@ -149,14 +152,87 @@ pub(super) fn wanting<'v>(alloc: Global) -> Answer<'v> {
     let is_appended = append_first(Err(fault), &mut errors).is_ok();
     let is_unit = evaluate_first::<SerdeJson>(alloc, Err(Fault::Memory(AllocError))).is_ok();
     let mut text = format!(in alloc; "{is_fault} {is_compile_fault} {is_appended} {is_unit}")?;
-    write!(text, " {}", errors.len())?;
     let (serde, decimals) = (SerdeJson::KEYS_PER_LOOKUP, DecimalJson::KEYS_PER_LOOKUP);
-    write!(text, ", {serde} {decimals}")?;
+    let (with_null, without) = (Nullable::ACCEPTS_NULL, NotNullable::ACCEPTS_NULL);
     write!(
         text,
-        ", {} {}",
-        Nullable::ACCEPTS_NULL,
-        NotNullable::ACCEPTS_NULL
+        " {}, {serde} {decimals}, {with_null} {without}",
+        errors.len()
     )?;
     Ok(text)
+}
+
+// Returns the lines of a node of nodes that are made of names, those that begin with `x` invalid,
+// and of the errors that it describes; and the counts of a context before any application, after one
+// and after two.
+pub(super) fn unit<'v>(alloc: Global, call: Call<'v>) -> Answer<'v> {
+    let unit = unit_of(alloc, call.text(0)?, call.list(1)?)?;
+    let (by, at) = (location_of(alloc, "items")?, location_of(alloc, "7")?);
+    let node = EvaluationNode::new(alloc, unit, &by, &at)?;
+    let (mut lines, mut described) = (String::new(alloc), String::new(alloc));
+    push_tree(&mut lines, &mut described, WHOLE, 0, &node)?;
+    let mut ctx = ValidationContext::new();
+    let none = ctx.applications();
+    ctx.count_one();
+    let one = ctx.applications();
+    ctx.count_one();
+    Ok(format!(in alloc; "{lines}{described}{none} {one} {}", ctx.applications())?)
+}
+
+// Returns a unit of nodes: as it is, annotated twice, with an error of its own, or with two and no
+// nodes.
+fn unit_of(alloc: Global, way: &str, names: &[Value]) -> Result<EvaluationResult, AllocError> {
+    let children = nodes_of(alloc, names)?;
+    let mut unit = match way {
+        "invalid" => EvaluationResult::Invalid {
+            errors: errors_of(alloc, &["type"])?,
+            children,
+            annotations: None,
+        },
+        "empty" => EvaluationResult::invalid_empty(alloc, errors_of(alloc, &["type", "enum"])?),
+        _ => EvaluationResult::from_children(alloc, children),
+    };
+    match way {
+        "children" => {}
+        "annotated" => {
+            unit.annotate(Annotations::Bool(true));
+            unit.annotate(Annotations::Index(7));
+        }
+        _ => unit.annotate(Annotations::Indices(Vec::from_array(alloc, [0, 2])?)),
+    }
+    Ok(unit)
+}
+
+// Returns the location of the member of a name in the whole value.
+fn location_of(alloc: Global, name: &str) -> Result<Location, AllocError> {
+    Location::new(alloc).join(alloc, LocationSegment::Name(name))
+}
+
+// Returns descriptions of these keywords, of which `type` has a text.
+fn errors_of(
+    alloc: Global,
+    keywords: &[&'static str],
+) -> Result<Vec<ErrorDescription>, AllocError> {
+    let mut errors = Vec::new(alloc);
+    for keyword in keywords {
+        let message = if *keyword == "type" { "a text" } else { "" };
+        errors.push(ErrorDescription::new(keyword, String::from_str(alloc, message)?))?;
+    }
+    Ok(errors)
+}
+
+// Returns a node for each name, without nodes below.
+fn nodes_of(alloc: Global, names: &[Value]) -> Result<Vec<EvaluationNode>, AllocError> {
+    let mut nodes = Vec::new(alloc);
+    for name in names {
+        let name = name.as_str().unwrap_or("");
+        let unit = if name.starts_with('x') {
+            EvaluationResult::invalid_empty(alloc, errors_of(alloc, &["type"])?)
+        } else {
+            EvaluationResult::valid_empty(alloc)
+        };
+        let by = location_of(alloc, name)?;
+        nodes.push(EvaluationNode::new(alloc, unit, &by, &Location::new(alloc))?)?;
+    }
+    Ok(nodes)
 }

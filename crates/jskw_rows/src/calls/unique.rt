@@ -1,7 +1,7 @@
 //! Whether items are unique, among more of them than are compared pair by pair.
 use super::{Answer, Call};
+use crate::members::wanted;
 use crate::representations::decimal_of;
-use crate::stop::Stop;
 use jskw_value::fingerprint::of_whole;
 use jskw_value::laws::equal_values_have_one_fingerprint;
 use jskw_value::seed::seed_of;
@@ -9,8 +9,7 @@ use jskw_value::{Array, Decimal, DecimalTree, Node};
 use serde_json::Value;
 use std::alloc::{AllocError, Global};
 
-// Returns whether the integers from 0 up to a count are unique with one more item behind them: a
-// decimal, or a text in quotes.
+// Returns whether the integers below a count are unique with a decimal, or a text, behind them.
 pub(super) fn integers<'v>(alloc: Global, call: Call<'v>) -> Answer<'v> {
     let mut items = Vec::new(alloc);
     for number in 0..call.number(0)? {
@@ -40,8 +39,7 @@ pub(super) fn alike<'v>(alloc: Global, call: Call<'v>) -> Answer<'v> {
     Ok(answers(alloc, &items)?)
 }
 
-// Returns the answers for the integers below two millions that crowd a sketch: the fingerprint of
-// each falls into a sixteenth of the words.
+// Returns the answers for integers whose fingerprints crowd a sixteenth of the words of a sketch.
 pub(super) fn crowding<'v>(alloc: Global) -> Answer<'v> {
     let mut items = Vec::new(alloc);
     for number in 0..2_000_000u64 {
@@ -109,12 +107,8 @@ pub(super) fn colliding<'v>(alloc: Global, call: Call<'v>) -> Answer<'v> {
         items.push(object_text(alloc, call.list(0)?, number)?)?;
     }
     let (array, other) = (text_of(alloc, &items, 0, 0)?, text_of(alloc, &items, 0, 1)?);
-    let (Ok(array), Ok(other)) = (
-        Value::from_str(alloc, array.as_str()),
-        Value::from_str(alloc, other.as_str()),
-    ) else {
-        return Err(Stop::Wrong("no values", call.name));
-    };
+    let array = wanted(Value::from_str(alloc, array.as_str()).ok(), call.name)?;
+    let other = wanted(Value::from_str(alloc, other.as_str()).ok(), call.name)?;
     let mut text = answers(alloc, &items)?;
     let seed = seed_of(&array);
     for seed in [0, 1, seed] {

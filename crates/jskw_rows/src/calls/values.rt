@@ -3,6 +3,7 @@ ghost use Rattle.std.specs.Prelude.{IsTrue};
 ghost use Rattle.jskw_value.specs.Tree.{is_object};
 
 use super::{Answer, Call};
+use crate::members::wanted;
 use crate::representations::{decimal_of, decimals_of};
 use crate::stop::Stop;
 use jskw_value::pointer::push_name;
@@ -24,36 +25,26 @@ pub(super) fn made<'v>(alloc: Global, call: Call<'v>) -> Answer<'v> {
     })
 }
 
-pub(super) fn order<'v>(alloc: Global, call: Call<'v>) -> Answer<'v> {
+// Returns what a decimal says of itself, how it compares with a whole number, whether it is a
+// multiple of it if that can be, and whether it is equal to another one, in both orders.
+pub(super) fn decimal<'v>(alloc: Global, call: Call<'v>) -> Answer<'v> {
     let number = decimal_of(alloc, call.text(0)?)?;
-    let whole = match call.value(1)?.as_i64() {
+    let other = decimal_of(alloc, call.text(2)?)?;
+    let mut text = number_text(alloc, &number)?;
+    let order = number.cmp_whole(match call.value(1)?.as_i64() {
         Some(whole) => i128::from(whole),
         None => i128::from(call.number(1)?),
+    });
+    let is_multiple = match call.value(1)?.as_u64() {
+        None | Some(0) => None,
+        Some(divisor) => Some(number.is_multiple_of(divisor)),
     };
-    Ok(format!(in alloc; "{:?}", number.cmp_whole(whole))?)
+    let (equal, is_equal) = (number.equals(&other), other.equals(&number));
+    write!(text, ", {order:?} {is_multiple:?}, {equal} {is_equal}")?;
+    Ok(text)
 }
 
-pub(super) fn multiple<'v>(alloc: Global, call: Call<'v>) -> Answer<'v> {
-    let number = decimal_of(alloc, call.text(0)?)?;
-    match call.number(1)? {
-        0 => Err(Stop::Wrong("no divisor", call.name)),
-        divisor => Ok(format!(in alloc; "{}", number.is_multiple_of(divisor))?),
-    }
-}
-
-// Returns whether two decimals are equal, asked in both orders.
-pub(super) fn equal_decimals<'v>(alloc: Global, call: Call<'v>) -> Answer<'v> {
-    let left = decimal_of(alloc, call.text(0)?)?;
-    let right = decimal_of(alloc, call.text(1)?)?;
-    Ok(format!(in alloc; "{} {}", left.equals(&right), right.equals(&left))?)
-}
-
-pub(super) fn number<'v>(alloc: Global, call: Call<'v>) -> Answer<'v> {
-    Ok(number_text(alloc, &decimal_of(alloc, call.text(0)?)?)?)
-}
-
-// Returns whether a number is an integer, and is written as one; its `u64`, its `i64` and whether
-// it is its own decimal.
+// Returns whether a number is an integer, and written as one; `u64`, `i64`, and its own decimal.
 fn number_text<A: JsonNumber>(alloc: Global, number: &A) -> Result<String, AllocError> {
     if !number.is_lawful() {
         return String::from_str(alloc, "a float");
@@ -65,8 +56,7 @@ fn number_text<A: JsonNumber>(alloc: Global, number: &A) -> Result<String, Alloc
     Ok(text)
 }
 
-// Returns the type of a value, and what it is, over both representations, or over the first alone
-// where it holds a float.
+// Returns the type of a value, and what it is, over each representation that has it.
 pub(super) fn node<'v>(alloc: Global, call: Call<'v>) -> Answer<'v> {
     let value = call.value(0)?;
     let found = node_text::<SerdeJson>(alloc, value)?;
@@ -117,8 +107,7 @@ fn push_string<N: Node>(text: &mut String, node: &N, index: usize) -> Result<(),
     }
 }
 
-// Appends names and values by place; whether a key and a text find the empty name, `b` and `c`;
-// whether there is no member.
+// Appends members by place, whether a key and a text find three names, and whether it is empty.
 fn push_members<F: Json>(alloc: Global, text: &mut String, node: &F::Node) -> Result<(), AllocError>
     requires { IsTrue (is_object (F.Node.tree node.now)) }
 {
@@ -128,18 +117,13 @@ fn push_members<F: Json>(alloc: Global, text: &mut String, node: &F::Node) -> Re
     }
     for name in ["", "b", "c"] {
         let key = F::prepare_key(alloc, name)?;
-        write!(
-            text,
-            " {} {}",
-            node.get(&key).is_some(),
-            node.find(name).is_some()
-        )?;
+        let (by_key, by_name) = (node.get(&key), node.find(name));
+        write!(text, " {} {}", by_key.is_some(), by_name.is_some())?;
     }
     write!(text, " {}", node.is_empty())
 }
 
-// Returns whether two values are equal, in both orders, and across representations, where that can
-// be.
+// Returns whether two values are equal, in both orders, and across representations.
 pub(super) fn equal<'v>(alloc: Global, call: Call<'v>) -> Answer<'v> {
     let (left, right) = (call.value(0)?, call.value(1)?);
     let across = DecimalTree::from_value(alloc, left)?.map(|tree| tree.equals_value(right));
@@ -147,29 +131,24 @@ pub(super) fn equal<'v>(alloc: Global, call: Call<'v>) -> Answer<'v> {
     Ok(format!(in alloc; "{equal} {across_same} {across:?}")?)
 }
 
-// Returns whether a value in which each text stands for a decimal is equal to another one.
-pub(super) fn equal_to_decimals<'v>(alloc: Global, call: Call<'v>) -> Answer<'v> {
-    let tree = decimals_of(alloc, call.value(0)?)?;
-    Ok(format!(in alloc; "{}", tree.equals_value(call.value(1)?))?)
-}
-
-// Returns the text of a value in which each text stands for a decimal, behind another text.
-pub(super) fn written<'v>(alloc: Global, call: Call<'v>) -> Answer<'v> {
-    let mut text = String::from_str(alloc, "old ")?;
-    decimals_of(alloc, call.value(0)?)?.write_json(&mut text)?;
+// Returns the text of a value in which each text stands for a decimal, behind another text, and
+// whether it is equal to another value.
+pub(super) fn decimals<'v>(alloc: Global, call: Call<'v>) -> Answer<'v> {
+    let (tree, mut text) = (
+        decimals_of(alloc, call.value(0)?)?,
+        String::from_str(alloc, "old ")?,
+    );
+    tree.write_json(&mut text)?;
+    write!(text, " {}", tree.equals_value(call.value(1)?))?;
     Ok(text)
 }
 
-// Returns what members of these names have, by two calls: no member; how many; the values of four
-// names.
+// Returns whether there is no member, how many there are, and the values of four names by two calls.
 pub(super) fn members<'v>(alloc: Global, call: Call<'v>) -> Answer<'v> {
     let mut members = Members::new(alloc);
     for number in 0..call.number(0)? {
-        let value = DecimalTree::Number(Decimal::from(number));
-        if members
-            .insert(format!(in alloc; "{number}")?, value)
-            .is_err()
-        {
+        let (name, value) = (format!(in alloc; "{number}")?, Decimal::from(number));
+        if members.insert(name, DecimalTree::Number(value)).is_err() {
             return Err(Stop::Wrong("not inserted", call.name));
         }
     }
@@ -189,62 +168,87 @@ fn coefficient(tree: Option<&DecimalTree>) -> Option<i128> {
         .map(|number| number.coefficient())
 }
 
-// Inserts names with the values 0, 1 and so on: each name that is there already, with the value
-// that comes back, and then the members.
+// Returns what `insert_names` appends, and then the members.
 pub(super) fn inserted<'v>(alloc: Global, call: Call<'v>) -> Answer<'v> {
     let (mut members, mut text) = (Members::new(alloc), String::new(alloc));
-    for (place, name) in call.list(0)?.iter().enumerate() {
-        let name = String::from_str(alloc, name.as_str().unwrap_or(""))?;
-        match members.insert(name, DecimalTree::Number(Decimal::from(place as u64))) {
-            Ok(()) => {}
-            Err(InsertFault::Memory(_, _)) => return Err(AllocError)?,
-            Err(InsertFault::Repeated(name, value)) => push_pair(&mut text, name.as_str(), &value)?,
-        }
-    }
+    insert_names(alloc, &mut members, call.list(0)?, &mut text)?;
     DecimalTree::Object(members).write_json(&mut text)?;
     Ok(text)
 }
 
-// Appends a name and the text of its value.
-fn push_pair(text: &mut String, name: &str, value: &DecimalTree) -> Result<(), AllocError> {
-    write!(text, "{name} ")?;
-    value.write_json(text)?;
-    text.push_str(", ")
+/// Inserts names with the values 0, 1 and so on, and appends each name that is there already, with
+/// the value that comes back.
+pub(crate) fn insert_names(
+    alloc: Global,
+    members: &mut Members,
+    names: &[Value],
+    text: &mut String,
+) -> Result<(), AllocError> {
+    for (place, name) in names.iter().enumerate() {
+        let name = String::from_str(alloc, name.as_str().unwrap_or(""))?;
+        match members.insert(name, DecimalTree::Number(Decimal::from(place as u64))) {
+            Ok(()) => {}
+            Err(InsertFault::Memory(_, _)) => return Err(AllocError),
+            Err(InsertFault::Repeated(name, value)) => push_pair(text, name.as_str(), &value)?,
+        }
+    }
+    Ok(())
 }
 
-// Makes members of names, each of which is its own value: the members, or all pairs and the place
-// of the first name that stands twice.
+/// Appends a name and the text of its value.
+pub(crate) fn push_pair(to: &mut String, name: &str, tree: &DecimalTree) -> Result<(), AllocError> {
+    write!(to, "{name} ")?;
+    tree.write_json(to)?;
+    to.push_str(", ")
+}
+
+// Returns the members that are made of names, each of which is its own value.
 pub(super) fn paired<'v>(alloc: Global, call: Call<'v>) -> Answer<'v> {
+    let (mut text, pairs) = (String::new(alloc), pairs_of(alloc, call.list(0)?)?);
+    push_made(&mut text, Members::from_pairs(pairs))?;
+    Ok(text)
+}
+
+/// Returns pairs of a name and its text.
+pub(crate) fn pairs_of(
+    alloc: Global,
+    names: &[Value],
+) -> Result<Vec<Member<DecimalTree>>, AllocError> {
     let mut pairs = Vec::new(alloc);
-    for name in call.list(0)? {
+    for name in names {
         let name = name.as_str().unwrap_or("");
         let value = DecimalTree::Text(String::from_str(alloc, name)?);
         let name = String::from_str(alloc, name)?;
         pairs.push(Member { name, value })?;
     }
-    let mut text = String::new(alloc);
-    match Members::from_pairs(pairs) {
-        Ok(members) => DecimalTree::Object(members).write_json(&mut text)?,
-        Err(RepeatedName { pairs, place }) => {
-            for pair in &pairs {
-                push_pair(&mut text, pair.name.as_str(), &pair.value)?;
-            }
-            write!(text, "repeated at {place}")?;
-        }
-    }
-    Ok(text)
+    Ok(pairs)
 }
 
-// Returns, of a float below a name of so many times a text, the length of its pointer and of the
-// value's text, and whether it is the pointer that is made of the name, and the name is found.
+/// Appends members that were made of pairs, or all pairs and the place of the first name that two
+/// of them have.
+pub(crate) fn push_made(
+    text: &mut String,
+    made: Result<Members, RepeatedName<DecimalTree>>,
+) -> Result<(), AllocError> {
+    match made {
+        Ok(members) => DecimalTree::Object(members).write_json(text),
+        Err(RepeatedName { pairs, place }) => {
+            for pair in &pairs {
+                push_pair(text, pair.name.as_str(), &pair.value)?;
+            }
+            write!(text, "repeated at {place}")
+        }
+    }
+}
+
+// Returns, of a float below a name of so many times a text, the lengths of its pointer and of the
+// value's text, whether the pointer is that of the name, and whether the name is found.
 pub(super) fn long_name<'v>(alloc: Global, call: Call<'v>) -> Answer<'v> {
     let name = call.text(0)?.repeat(alloc, call.number(1)? as usize)?;
     let mut pointer = String::new(alloc);
     push_name(&mut pointer, name.as_str())?;
     let text = format!(in alloc; "{{\"{name}\":1.5}}")?;
-    let Ok(value) = Value::from_str(alloc, text.as_str()) else {
-        return Err(Stop::Wrong("no value", call.name));
-    };
+    let value = wanted(Value::from_str(alloc, text.as_str()).ok(), call.name)?;
     let is_pointer = value.first_unlawful(alloc)?.as_ref() == Some(&pointer);
     let is_found = Node::is_object(&value) && value.find(name.as_str()).is_some();
     let mut written = String::new(alloc);

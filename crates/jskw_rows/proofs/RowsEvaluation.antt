@@ -7,7 +7,7 @@ use Rattle.std.proofs.Common.{refl}
 use Rattle.jskw_report.specs.declared.settings.Draft.TheVariants.{Draft4, Draft7}
 use Rattle.jskw_report.specs.Evaluation.{Evaluation, flag, index, indices, of_errors}
 use Rattle.jskw_report.specs.Read.{asserted, read_word}
-use Rattle.jskw_tests.proofs.Worked.{Row, row, Right, num, str, yes, no, arr, is, obj, under, latest, ev, evaluated}
+use Rattle.jskw_rows.proofs.Worked.{Row, row, Right, num, str, yes, no, arr, is, obj, under, latest, ev, evaluated}
 
 -- ---- evaluation trees
 

@@ -1,0 +1,192 @@
+//! Calls of the service over bytes that are no text, and over readers and writers that fail.
+ghost use Rattle.std.specs.Prelude.{◌≡◌, IfOk, IfSome, false};
+
+use super::{Answer, Call};
+use crate::stop::Stop;
+use jskw_service::{
+    DeviceFault, RunFault, Sink, Source, StdSink, StdSource, Verdict, reply_to, run, status,
+};
+use serde_json::Value;
+use std::alloc::Global;
+use std::io::{self, ErrorKind, Read, Write};
+
+// A request, which is read in 8 pieces of 4 bytes and the end. Its reply is written in 5 pieces of 3.
+const REQUEST: &[u8] = b"{\"schema\":false,\"instance\":null}";
+
+// Errors after which a call may be tried again, those that say that nothing is left, and others.
+const ERRORS: [(&str, ErrorKind); 8] = [
+    ("Interrupted", ErrorKind::Interrupted),
+    ("WouldBlock", ErrorKind::WouldBlock),
+    ("TimedOut", ErrorKind::TimedOut),
+    ("UnexpectedEof", ErrorKind::UnexpectedEof),
+    ("WriteZero", ErrorKind::WriteZero),
+    ("OutOfMemory", ErrorKind::OutOfMemory),
+    ("BrokenPipe", ErrorKind::BrokenPipe),
+    ("Other", ErrorKind::Other),
+];
+
+// A device that fails once, after `calls` calls, and works before and afterwards. As a reader or a
+// writer of std without an error to give it moves no byte then.
+#[derive(Drop)]
+struct FailsOnce<T> {
+    device: T,
+    calls: usize,
+    error: Option<ErrorKind>,
+    has_failed: bool,
+}
+
+impl<T> FailsOnce<T> {
+    fn new(device: T, calls: usize, error: Option<ErrorKind>) -> FailsOnce<T>
+        ensures { result.has_failed ≡ false }
+    {
+        FailsOnce {
+            device,
+            calls,
+            error,
+            has_failed: false,
+        }
+    }
+
+    // Returns whether this call is not the one that fails.
+    fn works_now(&mut self) -> bool
+        ensures device { self.new.device ≡ self.old.device }
+        ensures failed { self.new.has_failed ≡ self.old.has_failed }
+    {
+        let works = self.has_failed || self.calls > 0;
+        self.calls = self.calls.saturating_sub(1);
+        works
+    }
+
+    // Returns what this call gives, if it is the one that fails.
+    fn fault(&mut self) -> io::Result<Option<usize>>
+        ensures { IfOk result (λ found. IfSome found (λ n. n ≡ 0)) }
+    {
+        if self.works_now() {
+            return Ok(None);
+        }
+        self.has_failed = true;
+        match self.error {
+            Some(kind) => Err(kind)?,
+            None => Ok(Some(0)),
+        }
+    }
+}
+
+impl<R: Read> Read for FailsOnce<R> {
+    fn read(&mut self, buf: &mut [u8]) -> io::Result<usize> {
+        match self.fault()? {
+            Some(none) => Ok(none),
+            None => {
+                let most = buf.len().min(4);
+                self.device.read(&mut buf[..most])
+            }
+        }
+    }
+}
+
+impl<W: Write> Write for FailsOnce<W> {
+    fn write(&mut self, bytes: &[u8]) -> io::Result<usize> {
+        match self.fault()? {
+            Some(none) => Ok(none),
+            None => self.device.write(&bytes[..bytes.len().min(3)]),
+        }
+    }
+
+    fn flush(&mut self) -> io::Result<()> {
+        self.device.flush()
+    }
+}
+
+impl<S: Source> Source for FailsOnce<S> {
+    ghost remaining = { λ s. S.remaining s.device };
+
+    ghost has_failed = { λ s. s.has_failed };
+
+    fn read(&mut self, buf: &mut [u8]) -> Result<usize, DeviceFault> {
+        let most = buf.len().min(4);
+        if self.works_now() {
+            if let Ok(n) = self.device.read(&mut buf[..most]) {
+                return Ok(n);
+            }
+        }
+        self.has_failed = true;
+        Err(DeviceFault)
+    }
+}
+
+impl<S: Sink> Sink for FailsOnce<S> {
+    ghost contents = { λ s. S.contents s.device };
+
+    ghost has_failed = { λ s. s.has_failed };
+
+    fn write(&mut self, bytes: &[u8]) -> Result<usize, DeviceFault> {
+        if self.works_now() {
+            if let Ok(n) = self.device.write(&bytes[..bytes.len().min(3)]) {
+                return Ok(n);
+            }
+        }
+        self.has_failed = true;
+        Err(DeviceFault)
+    }
+}
+
+// Returns the verdict and the text of the reply to a request of texts and bytes.
+pub(super) fn reply<'v>(alloc: Global, call: Call<'v>) -> Answer<'v> {
+    let mut bytes = Vec::new(alloc);
+    for part in call.list(0)? {
+        match (part.as_str(), part.as_u64()) {
+            (Some(text), _) => bytes.extend_from_slice(text.as_bytes())?,
+            (None, Some(byte)) if byte < 256 => bytes.push(byte as u8)?,
+            _ => return Err(Stop::Wrong("no byte", call.name)),
+        }
+    }
+    let reply = reply_to(alloc, bytes.as_slice())?;
+    let text = std::str::from_utf8(reply.text()).unwrap_or("no text");
+    Ok(format!(in alloc; "{:?} {text}", reply.verdict())?)
+}
+
+// Returns how a run over a device that fails ends, its status, and what it writes.
+pub(super) fn ended<'v>(alloc: Global, call: Call<'v>) -> Answer<'v> {
+    let (device, error, calls) = (call.text(0)?, error_of(call.value(1)?), call.number(2)?);
+    match device {
+        "source" => over(alloc, calls as usize, usize::MAX),
+        "sink" => over(alloc, usize::MAX, calls as usize),
+        "reader" => over_std(alloc, calls as usize, usize::MAX, error),
+        "writer" => over_std(alloc, usize::MAX, calls as usize, error),
+        _ => Err(Stop::Wrong("no device", call.name)),
+    }
+}
+
+fn error_of(name: &Value) -> Option<ErrorKind> {
+    let name = name.as_str()?;
+    let found = ERRORS.iter().find(|error| error.0 == name);
+    found.map(|error| error.1)
+}
+
+fn over(alloc: Global, reads: usize, writes: usize) -> Result<String, Stop<'static>> {
+    let mut source = FailsOnce::new(StdSource::new(REQUEST), reads, None);
+    let mut sink = FailsOnce::new(StdSink::new(Vec::new(alloc)), writes, None);
+    let outcome = run(alloc, &mut source, &mut sink);
+    text_of(alloc, outcome, sink.device.into_inner().as_slice())
+}
+
+fn over_std(
+    alloc: Global,
+    reads: usize,
+    writes: usize,
+    error: Option<ErrorKind>,
+) -> Result<String, Stop<'static>> {
+    let mut source = StdSource::new(FailsOnce::new(REQUEST, reads, error));
+    let mut sink = StdSink::new(FailsOnce::new(Vec::new(alloc), writes, error));
+    let outcome = run(alloc, &mut source, &mut sink);
+    text_of(alloc, outcome, sink.into_inner().device.as_slice())
+}
+
+fn text_of(
+    alloc: Global,
+    outcome: Result<Verdict, RunFault>,
+    written: &[u8],
+) -> Result<String, Stop<'static>> {
+    let written = std::str::from_utf8(written).unwrap_or("?");
+    Ok(format!(in alloc; "{outcome:?} {} {written}", status(&outcome))?)
+}

@@ -1,0 +1,61 @@
+//! The words around a call, and what it gave.
+use crate::error_lines::{WHOLE, push_error};
+use crate::tree_lines::push_tree;
+use jskw_report::{EvaluationNode, LazyLocation, ValidationError};
+use jskw_value::{Json, Node};
+use std::io;
+
+/// Says that the call of this name comes next, and whether it takes memory.
+pub(super) fn announce(rt: &HostRuntime, call: &str, takes_memory: bool) -> io::Result<()> {
+    if takes_memory {
+        print!(rt; "{call} asked")
+    } else {
+        print!(rt; "{call} ready")
+    }
+}
+
+/// Says that the call has returned, and whether it ran out of memory.
+pub(super) fn told(rt: &HostRuntime, is_memory: bool) -> io::Result<()> {
+    println!(rt; ", {}", word(is_memory))
+}
+
+/// The same, with what the location is then.
+pub(super) fn told_at(rt: &HostRuntime, is_memory: bool, at: &LazyLocation) -> io::Result<()> {
+    print!(rt; ", {}", word(is_memory))?;
+    println!(rt; " at {}", at.render()?.as_str())
+}
+
+fn word(is_memory: bool) -> &'static str {
+    if is_memory { "memory" } else { "answered" }
+}
+
+/// Prints each line of a text behind a tab.
+pub(super) fn print_lines(rt: &HostRuntime, text: &str) -> io::Result<()> {
+    for line in text.lines() {
+        println!(rt; "\t{line}")?;
+    }
+    Ok(())
+}
+
+pub(super) fn print_text<N: Node>(rt: &HostRuntime, node: &N) -> io::Result<()> {
+    let mut text = String::new(rt.alloc());
+    node.write_json(&mut text)?;
+    print_lines(rt, text.as_str())
+}
+
+pub(super) fn print_error<F: Json>(
+    rt: &HostRuntime,
+    error: &ValidationError<'_, F>,
+) -> io::Result<()> {
+    let mut text = String::new(rt.alloc());
+    push_error(rt.alloc(), &mut text, true, WHOLE, error)?;
+    print_lines(rt, text.as_str())
+}
+
+/// Prints the lines of a tree and of the errors that it describes.
+pub(super) fn print_tree(rt: &HostRuntime, root: &EvaluationNode) -> io::Result<()> {
+    let (mut lines, mut described) = (String::new(rt.alloc()), String::new(rt.alloc()));
+    push_tree(&mut lines, &mut described, WHOLE, 0, root)?;
+    print_lines(rt, lines.as_str())?;
+    print_lines(rt, described.as_str())
+}

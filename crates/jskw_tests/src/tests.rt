@@ -1,2 +1,0 @@
-// What is no row of `jskw_rows`: walks over a representation of the tests.
-mod value;

@@ -1,2 +1,0 @@
-// What values answer of themselves.
-mod walks;
