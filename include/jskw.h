@@ -5,7 +5,7 @@
  * proved: that this header agrees with those functions, and the C compiler.
  *
  * What a caller owes; nothing checks it:
- *   - No pointer is NULL, also if its size is 0. `bytes` and `size` are one block of so many bytes, at most
+ *   - No pointer is NULL, also if its size is 0. `bytes` and `size` are one block of that many bytes, at most
  *     PTRDIFF_MAX, which no one writes during the call.
  *   - A `buffer` has `buffer_size` bytes that can be written. It overlaps no other block, `length` or handle.
  *   - A jskw_schema begins as JSKW_SCHEMA_EMPTY. After that only these functions read or write it, one call at a time,
@@ -54,7 +54,7 @@ enum { JSKW_CORE = 1, JSKW_APPLICATOR = 2, JSKW_VALIDATION = 4, JSKW_ALL = 7 };
 typedef struct jskw_schema { void *compiled; } jskw_schema;
 #define JSKW_SCHEMA_EMPTY { 0 }
 
-/* The version of this library and that of the kit that it was proved with, a line each. */
+/* The version of this library and that of the logic that it was proved in, a line each. */
 uint32_t jskw_version(uint8_t *buffer, size_t buffer_size, size_t *length);
 
 /* Answers a request, a JSON object with `schema` and `instance` (docs/USE.md), as the program jskw does: JSKW_VALID,

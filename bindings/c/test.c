@@ -1,5 +1,7 @@
-/* Tests jskw.h: the README's example, the rows of bindings/rows.txt, empty handles, buffers of every length, and each
- * allocation refused in turn. The argument is rows.txt. The last line is `N passed, M failed`. Link with
+/* Tests jskw.h: the README's example, empty handles, and the rows of bindings/rows.txt; for each row each call with
+ * buffers of every length from 0 to one too many, and with each of its allocations refused in turn. Each text and each
+ * buffer is a block of its own, so that valgrind notices a byte beside it. The argument is rows.txt. The last line is
+ * `N passed, M failed`. Link with
  * -Wl,--wrap=malloc,--wrap=realloc,--wrap=calloc,--wrap=aligned_alloc,--wrap=posix_memalign. */
 #include <errno.h>
 #include <stdio.h>
@@ -39,29 +41,65 @@ int __wrap_posix_memalign(void **to, size_t align, size_t size) {
     return refuses() ? ENOMEM : __real_posix_memalign(to, align, size);
 }
 
-/* ---- the calls that tell a text, by number; the handle is that of `compile` too */
+/* ---- texts, each in a block of exactly its size */
+
+struct text {
+    uint8_t *bytes;
+    size_t size;
+};
+
+static struct text text_of(const char *bytes) {
+    struct text text = {malloc(strlen(bytes) ? strlen(bytes) : 1), strlen(bytes)};
+    memcpy(text.bytes, bytes, text.size);
+    /* of no bytes: behind the only one */
+    if (text.size == 0) text.bytes++;
+    return text;
+}
+
+static void free_text(struct text text) { free(text.size ? text.bytes : text.bytes - 1); }
+
+/* What a row asks. */
+struct asked {
+    uint32_t draft, vocabularies;
+    struct text overridden, schema, instance, request;
+};
+
+static struct asked asked_of(const char *draft, const char *vocabularies, const char *overridden, const char *schema,
+                             const char *instance) {
+    char request[ROOM];
+    snprintf(request, sizeof request, "{\"overridden\":%s,\"schema\":%s,\"instance\":%s}", overridden, schema, instance);
+    struct asked asked = {(uint32_t)atoi(draft), (uint32_t)atoi(vocabularies), text_of(overridden), text_of(schema),
+                          text_of(instance), text_of(request)};
+    return asked;
+}
+
+static void free_asked(struct asked asked) {
+    free_text(asked.overridden);
+    free_text(asked.schema);
+    free_text(asked.instance);
+    free_text(asked.request);
+}
+
+/* ---- the calls, by number */
 
 static const char *const SCHEMA = "{\"required\":[\"name\",\"age\"],\"minProperties\":2}";
-static const char *const REQUEST =
-    "{\"overridden\":[\"x\"],\"schema\":{\"required\":[\"name\",\"age\"],\"minProperties\":2},\"instance\":{\"age\":36}}";
 static const char *const INVALID = "{\"age\":36}";
 
-enum { VERSION, ANSWER, COMPILE, COMPILE_BAD, FIRST_ERROR, ERRORS, EVALUATE, FLOAT_ERRORS, CALLS };
-static const char *const NAMES[] = {"version", "answer", "compile", "compile of a bad schema", "first_error", "errors",
-                                    "evaluate", "errors of a float"};
+enum { VERSION, IS_VALID, FIRST_ERROR, ERRORS, EVALUATE, ANSWER, COMPILE, CALLS };
+static const char *const NAMES[] = {"version", "is_valid", "first_error", "errors", "evaluate", "answer", "compile"};
 
-static uint32_t call(int which, jskw_schema *handle, uint8_t *buffer, size_t room, size_t *length) {
+static uint32_t call(int which, struct asked a, jskw_schema *handle, uint8_t *buffer, size_t room, size_t *length) {
+    const uint8_t *bytes = a.instance.bytes;
+    size_t size = a.instance.size;
     switch (which) {
     case VERSION: return jskw_version(buffer, room, length);
-    case ANSWER: return jskw_answer(BYTES(REQUEST), buffer, room, length);
-    case COMPILE: return jskw_compile(7, JSKW_ALL, BYTES("[\"x\"]"), BYTES("{\"enum\":[1,2,3],\"maxItems\":1}"), handle,
-                                      buffer, room, length);
-    case COMPILE_BAD: return jskw_compile(7, JSKW_ALL, BYTES(""), BYTES("{\"items\":{\"type\":\"foo\"}}"), handle,
-                                          buffer, room, length);
-    case FIRST_ERROR: return jskw_first_error(handle, BYTES(INVALID), buffer, room, length);
-    case ERRORS: return jskw_errors(handle, BYTES(INVALID), buffer, room, length);
-    case EVALUATE: return jskw_evaluate(handle, BYTES(INVALID), buffer, room, length);
-    default: return jskw_errors(handle, BYTES("[1,{\"a\\tb\":1.5}]"), buffer, room, length);
+    case IS_VALID: *length = 0; return jskw_is_valid(handle, bytes, size);
+    case FIRST_ERROR: return jskw_first_error(handle, bytes, size, buffer, room, length);
+    case ERRORS: return jskw_errors(handle, bytes, size, buffer, room, length);
+    case EVALUATE: return jskw_evaluate(handle, bytes, size, buffer, room, length);
+    case ANSWER: return jskw_answer(a.request.bytes, a.request.size, buffer, room, length);
+    default: return jskw_compile(a.draft, a.vocabularies, a.overridden.bytes, a.overridden.size, a.schema.bytes,
+                                 a.schema.size, handle, buffer, room, length);
     }
 }
 
@@ -71,10 +109,21 @@ static uint32_t compile(jskw_schema *handle, const char *schema) {
     return jskw_compile(2020, JSKW_ALL, BYTES(""), BYTES(schema), handle, buffer, 0, &length);
 }
 
-/* Whether the handle still has SCHEMA. */
+/* Whether the handle has SCHEMA. */
 static int has_schema(jskw_schema *handle) {
     return jskw_is_valid(handle, BYTES("{\"name\":1,\"age\":2}")) == JSKW_VALID
         && jskw_is_valid(handle, BYTES(INVALID)) == JSKW_INVALID;
+}
+
+/* The handle for a call: SCHEMA for a compile, which has to leave it there or to take its place, else the row's own, or
+ * none if it does not compile. */
+static jskw_schema handle_for(int which, struct asked a) {
+    jskw_schema handle = JSKW_SCHEMA_EMPTY;
+    uint8_t buffer[ROOM];
+    size_t length;
+    if (which == COMPILE) compile(&handle, SCHEMA);
+    else call(COMPILE, a, &handle, buffer, ROOM, &length);
+    return handle;
 }
 
 static void readme(void) {
@@ -86,8 +135,10 @@ static void readme(void) {
                          "required\t\t/required\t\"name\" is a required property\n";
     check("errors", jskw_errors(&handle, BYTES(INVALID), buffer, ROOM, &length) == JSKW_INVALID
         && length == strlen(wanted) && !memcmp(buffer, wanted, length));
+    const char *request =
+        "{\"schema\":{\"required\":[\"name\",\"age\"],\"minProperties\":2},\"instance\":{\"age\":36}}";
     wanted = "minProperties\t\t/minProperties\nrequired\t\t/required\n";
-    check("answer", jskw_answer(BYTES(REQUEST), buffer, ROOM, &length) == JSKW_INVALID
+    check("answer", jskw_answer(BYTES(request), buffer, ROOM, &length) == JSKW_INVALID
         && length == strlen(wanted) && !memcmp(buffer, wanted, length));
     check("no text", jskw_is_valid(&handle, BYTES("\"\xff\"")) == JSKW_NOT_JSON);
     wanted = "jskw " JSKW_VERSION "\n";
@@ -101,69 +152,68 @@ static void empty_handles(void) {
     uint8_t buffer[ROOM];
     size_t length = 1;
     jskw_schema handle = JSKW_SCHEMA_EMPTY;
-    check("is_valid, empty", jskw_is_valid(&handle, BYTES("1")) == JSKW_NO_SCHEMA);
-    for (int which = FIRST_ERROR; which < CALLS; which++)
-        check(NAMES[which], call(which, &handle, buffer, ROOM, &length) == JSKW_NO_SCHEMA && length == 0);
-    check("compile, refused", call(COMPILE_BAD, &handle, buffer, ROOM, &length) == JSKW_BAD_SCHEMA);
+    struct asked bad = asked_of("7", "7", "", "{\"items\":{\"type\":\"foo\"}}", "1");
+    for (int which = IS_VALID; which <= EVALUATE; which++)
+        check(NAMES[which], call(which, bad, &handle, buffer, ROOM, &length) == JSKW_NO_SCHEMA && length == 0);
+    check("compile, refused", call(COMPILE, bad, &handle, buffer, ROOM, &length) == JSKW_BAD_SCHEMA);
     check("still empty", !handle.compiled && jskw_is_valid(&handle, BYTES("1")) == JSKW_NO_SCHEMA);
     jskw_free(&handle);
     check("compile, after free", compile(&handle, SCHEMA) == JSKW_VALID && has_schema(&handle));
-    check("compile, refused", call(COMPILE_BAD, &handle, buffer, ROOM, &length) == JSKW_BAD_SCHEMA && has_schema(&handle));
+    check("compile, refused", call(COMPILE, bad, &handle, buffer, ROOM, &length) == JSKW_BAD_SCHEMA && has_schema(&handle));
     check("compile, in its place", compile(&handle, "false") == JSKW_VALID && jskw_is_valid(&handle, BYTES("1")) == JSKW_INVALID);
     jskw_free(&handle);
     jskw_free(&handle);
+    free_asked(bad);
 }
 
-/* Buffers of every length from 0 to one too many, each a block of its own, so that a byte behind it is noticed. */
-static void buffers(void) {
-    for (int which = 0; which < CALLS; which++) {
-        uint8_t whole[ROOM];
-        size_t size, length;
-        jskw_schema handle = JSKW_SCHEMA_EMPTY;
-        compile(&handle, SCHEMA);
-        uint32_t status = call(which, &handle, whole, ROOM, &size);
-        int holds = status < JSKW_NO_SCHEMA && (size > 0) == (which != COMPILE);
-        for (size_t room = 0; room <= size + 1; room++) {
-            uint8_t *buffer = malloc(room ? room : 1);
-            memset(buffer, '.', room ? room : 1);
-            uint32_t told = call(which, &handle, buffer, room, &length);
-            holds &= length == size && told == (room < size ? (uint32_t)JSKW_TOO_SMALL : status);
-            size_t written = room < size ? 0 : size;
-            holds &= !memcmp(buffer, whole, written);
-            for (size_t i = written; i < room; i++) holds &= buffer[i] == '.';
-            free(buffer);
+/* Whether a call with a buffer of each length from 0 to one too many gives the whole text, or says that the buffer is
+ * too small and leaves it unchanged. */
+static int buffers(int which, struct asked a) {
+    uint8_t whole[ROOM];
+    size_t size, length;
+    jskw_schema handle = handle_for(which, a);
+    uint32_t status = call(which, a, &handle, whole, ROOM, &size);
+    int holds = status < JSKW_NO_MEMORY && size < ROOM;
+    for (size_t room = 0; room <= size + 1; room++) {
+        uint8_t *buffer = malloc(room ? room : 1);
+        memset(buffer, '.', room ? room : 1);
+        /* a buffer of no bytes is behind the only one */
+        uint32_t told = call(which, a, &handle, buffer + (room == 0), room, &length);
+        holds &= length == size && told == (room < size ? (uint32_t)JSKW_TOO_SMALL : status);
+        size_t written = room < size ? 0 : size;
+        holds &= !memcmp(buffer, whole, written);
+        for (size_t i = written; i < room; i++) holds &= buffer[i] == '.';
+        free(buffer);
+    }
+    jskw_free(&handle);
+    return holds;
+}
+
+/* Whether a call with one of its allocations refused, alone or with all later ones, tells that memory ran out and leaves
+ * handle and buffer unchanged; each allocation in turn. Adds how many were refused. */
+static int refusals(int which, struct asked a, unsigned long *times) {
+    uint8_t whole[ROOM], buffer[ROOM];
+    size_t size = 0, length = 0;
+    int holds = 1;
+    for (and_later = 0; and_later < 2; and_later++) {
+        jskw_schema handle = handle_for(which, a);
+        uint32_t status = call(which, a, &handle, whole, ROOM, &size);
+        for (unsigned long turn = 1;; turn++, ++*times) {
+            if (which == COMPILE) compile(&handle, SCHEMA);
+            void *compiled = handle.compiled;
+            memset(buffer, '.', ROOM);
+            seen = 0, refused = turn, length = 0;
+            uint32_t told = call(which, a, &handle, buffer, ROOM, &length);
+            refused = 0;
+            int same = told == status && length == size && !memcmp(buffer, whole, size);
+            if (seen < turn && same) break;
+            /* a growing block may be refused without need */
+            holds &= same || (told == JSKW_NO_MEMORY && length == 0 && buffer[0] == '.' && handle.compiled == compiled
+                && (which != COMPILE || has_schema(&handle)));
         }
         jskw_free(&handle);
-        check(NAMES[which], holds);
     }
-}
-
-/* Each allocation of a call refused: alone, then with all later ones. */
-static void refusals(void) {
-    for (int which = ANSWER; which <= CALLS; which++) {
-        for (and_later = 0; and_later < 2; and_later++) {
-            uint8_t whole[ROOM], buffer[ROOM];
-            size_t size = 0, length = 0;
-            jskw_schema handle = JSKW_SCHEMA_EMPTY;
-            compile(&handle, SCHEMA);
-            uint32_t status = which == CALLS ? jskw_is_valid(&handle, BYTES(INVALID)) : call(which, &handle, whole, ROOM, &size);
-            int holds = 1, times = 0;
-            for (unsigned long turn = 1;; turn++, times++) {
-                compile(&handle, SCHEMA);
-                memset(buffer, '.', ROOM);
-                seen = 0, refused = turn, length = 0;
-                uint32_t told = which == CALLS ? jskw_is_valid(&handle, BYTES(INVALID)) : call(which, &handle, buffer, ROOM, &length);
-                refused = 0;
-                if (told == status && seen < turn) break;
-                holds &= (told == JSKW_NO_MEMORY && length == 0 && buffer[0] == '.' && has_schema(&handle))
-                    /* a growing block may be refused without need */
-                    || (told == status && length == size && !memcmp(buffer, whole, size));
-            }
-            holds &= times > 0 && length == size && !memcmp(buffer, whole, size);
-            jskw_free(&handle);
-            check(which == CALLS ? "is_valid, memory refused" : NAMES[which], holds);
-        }
-    }
+    return holds;
 }
 
 /* ---- rows */
@@ -182,45 +232,75 @@ static void tell(char *told, const char *text, size_t size, int words) {
 
 static const char *const RESULTS[] = {"valid", "invalid", "", "not JSON", "float", "bad schema", "bad setting"};
 
-static void row(char *line) {
-    char *part[7], name[ROOM], told[ROOM] = "";
-    snprintf(name, sizeof name, "%s", line);
+/* Splits a line of rows.txt. */
+static void split(char *line, char *part[7]) {
     for (int i = 0; i < 7; i++) {
         part[i] = line;
         line += strcspn(line, "\t\n");
         if (*line) *line++ = 0;
     }
-    uint8_t buffer[ROOM];
-    size_t length;
+}
+
+/* Whether the calls agree, and say what the row says. */
+static int says(struct asked a, const char *result, const char *wanted) {
+    uint8_t buffer[ROOM], first[ROOM], tree[ROOM];
+    char told[ROOM] = "";
+    size_t length, first_length, none;
     jskw_schema handle = JSKW_SCHEMA_EMPTY;
-    uint32_t status = jskw_compile((uint32_t)atoi(part[0]), (uint32_t)atoi(part[1]), BYTES(part[2]), BYTES(part[3]), &handle,
-                                   buffer, ROOM, &length);
+    uint32_t status = call(COMPILE, a, &handle, buffer, ROOM, &length);
     int agree = 1;
     if (status == JSKW_VALID) {
-        uint8_t first[ROOM], tree[ROOM];
-        size_t first_length, tree_length;
-        status = jskw_is_valid(&handle, BYTES(part[4]));
-        agree &= status == jskw_first_error(&handle, BYTES(part[4]), first, ROOM, &first_length);
-        agree &= status == jskw_evaluate(&handle, BYTES(part[4]), tree, ROOM, &tree_length);
-        agree &= status == jskw_errors(&handle, BYTES(part[4]), buffer, ROOM, &length);
+        status = call(IS_VALID, a, &handle, buffer, ROOM, &none);
+        agree &= status == call(FIRST_ERROR, a, &handle, first, ROOM, &first_length);
+        agree &= status == call(EVALUATE, a, &handle, tree, ROOM, &none);
+        agree &= status == call(ERRORS, a, &handle, buffer, ROOM, &length);
         agree &= first_length <= length && !memcmp(first, buffer, first_length) && (first_length > 0) == (length > 0);
     }
     tell(told, (char *)buffer, length, status == JSKW_BAD_SCHEMA ? 2 : 3);
     jskw_free(&handle);
-    check(name, agree && status < 7 && !strcmp(RESULTS[status], part[5]) && !strcmp(told, part[6]));
+    return agree && status < 7 && !strcmp(RESULTS[status], result) && !strcmp(told, wanted);
+}
+
+static void row(char *line, unsigned long times[CALLS]) {
+    char *part[7], name[ROOM], what[ROOM + 64];
+    snprintf(name, sizeof name, "%.*s", (int)strcspn(line, "\n"), line);
+    split(line, part);
+    struct asked a = asked_of(part[0], part[1], part[2], part[3], part[4]);
+    check(name, says(a, part[5], part[6]));
+    for (int which = 0; which < CALLS; which++) {
+        snprintf(what, sizeof what, "%s, buffers: %s", NAMES[which], name);
+        check(what, buffers(which, a));
+        snprintf(what, sizeof what, "%s, memory refused: %s", NAMES[which], name);
+        check(what, refusals(which, a, &times[which]));
+    }
+    free_asked(a);
+}
+
+/* A schema is freed without an allocation. */
+static void frees(void) {
+    jskw_schema handle = JSKW_SCHEMA_EMPTY;
+    compile(&handle, SCHEMA);
+    seen = 0, and_later = 1, refused = 1;
+    jskw_free(&handle);
+    refused = 0;
+    check("free, memory refused", seen == 0 && !handle.compiled);
 }
 
 int main(int count, char **words) {
+    unsigned long times[CALLS] = {0};
     readme();
     empty_handles();
-    buffers();
-    refusals();
+    frees();
     FILE *file = count > 1 ? fopen(words[1], "r") : NULL;
     check("rows", file != NULL);
     char line[ROOM];
     while (file && fgets(line, sizeof line, file))
-        if (line[0] != '#') row(line);
+        if (line[0] != '#') row(line, times);
     if (file) fclose(file);
+    for (int which = 0; which < CALLS; which++) {
+        printf("%s: %lu allocations refused\n", NAMES[which], times[which]);
+        check(NAMES[which], (times[which] > 0) == (which != VERSION));
+    }
     printf("%d passed, %d failed\n", passed, failed);
     return failed != 0;
 }

@@ -130,7 +130,7 @@ def _lines(text):
 
 
 def version():
-    """The versions of the library and of the kit that it was proved with."""
+    """The versions of the library and of the logic that it was proved in."""
     return _asked(_jskw.jskw_version)[1].split("\n")[:2]
 
 

@@ -12,6 +12,8 @@ use Rattle.jskw_report.specs.Keyword.{Schema}
 use Rattle.jskw_service.specs.Request.{value_of}
 use Rattle.jskw_c.specs.Evaluated.{evaluation_text}
 use Rattle.jskw_c.specs.Line.{AreErrorLines, words_line}
+use Rattle.jskw_c.specs.declared.ask.Report.{Report}
+use Rattle.jskw_c.specs.declared.ask.Report.TheVariants.{FirstError, Errors, Evaluation}
 use Rattle.jskw_c.specs.declared.status.TheConstants.{VALID, INVALID, NOT_JSON, FLOAT, NO_SCHEMA}
 
 -- what the bytes of an instance are
@@ -70,3 +72,9 @@ SaysFirst s t text = AreErrorLines (first_of (fail s t [])) text
 -- the evaluation tree
 abbrev pub SaysTree : Schema → Tree → List ℕ → Type 0
 SaysTree s t text = text ≡ evaluation_text (tree s t [])
+
+-- each of the three
+abbrev pub Says : Report → Schema → Tree → List ℕ → Type 0
+Says FirstError = SaysFirst
+Says Errors = SaysErrors
+Says Evaluation = SaysTree

@@ -3,7 +3,8 @@ ghost use Rattle.std.specs.Prelude.{◌≡◌, [], IfOk, Some};
 ghost use Rattle.jskw_value.specs.Serde.{value_tree};
 ghost use Rattle.jskw_report.specs.Errors.{failures_of};
 ghost use Rattle.jskw_report.specs.Fail.{is_empty};
-ghost use Rattle.jskw_c.specs.Asked.{SaysErrors, SaysFirst, SaysTree, instance_in, status_of, verdict};
+ghost use Rattle.jskw_c.specs.Asked.{Says, SaysErrors, SaysFirst, SaysTree, instance_in};
+ghost use Rattle.jskw_c.specs.Asked.{status_of, verdict};
 ghost use Rattle.jskw_c.specs.Compiled.{compiled_of, setting_numbered};
 ghost use Rattle.jskw_c.specs.Replies.{CompilesTo, Reads, Reports};
 
@@ -118,8 +119,33 @@ fn read_instance(alloc: Global, bytes: &[u8]) -> Result<Result<Value, Told>, All
     }
 }
 
+// What is told of an instance, besides whether it is valid.
+#[derive(Clone, Copy)]
+pub(crate) enum Report {
+    FirstError,
+    Errors,
+    Evaluation,
+}
+
+// Returns the report on the instance of these bytes.
+pub(crate) fn report_of(
+    alloc: Global,
+    report: Report,
+    schema: &SchemaNode<SerdeJson>,
+    instance: &[u8],
+) -> Result<Told, AllocError>
+    ensures { IfOk result
+        (λ told. Reports (Says report) (Some schema.now) (instance_in instance.now) told) }
+{
+    match report {
+        Report::FirstError => first_error_of(alloc, schema, instance),
+        Report::Errors => errors_of(alloc, schema, instance),
+        Report::Evaluation => evaluation_of(alloc, schema, instance),
+    }
+}
+
 // Returns a line for each error of the instance of these bytes.
-pub(crate) fn errors_of(
+fn errors_of(
     alloc: Global,
     schema: &SchemaNode<SerdeJson>,
     instance: &[u8],
@@ -141,7 +167,7 @@ pub(crate) fn errors_of(
 }
 
 // Returns the line of the first error of the instance of these bytes.
-pub(crate) fn first_error_of(
+fn first_error_of(
     alloc: Global,
     schema: &SchemaNode<SerdeJson>,
     instance: &[u8],
@@ -164,7 +190,7 @@ pub(crate) fn first_error_of(
 }
 
 // Returns the evaluation tree of the instance of these bytes.
-pub(crate) fn evaluation_of(
+fn evaluation_of(
     alloc: Global,
     schema: &SchemaNode<SerdeJson>,
     instance: &[u8],

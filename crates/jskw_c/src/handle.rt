@@ -16,8 +16,8 @@ use std::ptr::null_mut;
 /// A compiled schema, or none if the pointer is null. A caller in C keeps it, and neither follows
 /// nor copies the pointer.
 ///
-/// A schema is asked of while it is taken out: behind a `&` a pointer that owns memory can't be
-/// read. So a handle is in one call at a time.
+/// A call takes the schema out of the handle and puts it back, because a pointer that owns memory
+/// cannot be read behind a `&`. So a handle is in one call at a time.
 #[repr(C)]
 pub struct SchemaHandle {
     at: *mut u8,

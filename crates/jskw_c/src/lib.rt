@@ -13,8 +13,8 @@
 ghost use Rattle.std.specs.Prelude.{◌≡◌, ◌⊎◌, codes, None};
 ghost use Rattle.jskw_service.specs.Answer.{output, verdict};
 ghost use Rattle.jskw_service.specs.Run.{status_of_verdict};
-ghost use Rattle.jskw_c.specs.Asked.{IsReport, SaysErrors, SaysFirst, SaysTree, instance_in};
-ghost use Rattle.jskw_c.specs.Asked.{status_of};
+ghost use Rattle.jskw_c.specs.Asked.{IsReport, Says, SaysErrors, SaysFirst, SaysTree};
+ghost use Rattle.jskw_c.specs.Asked.{instance_in, status_of};
 ghost use Rattle.jskw_c.specs.Compiled.{Compiles, compiled_of, setting_numbered};
 ghost use Rattle.jskw_c.specs.Told.{Gives, Tells};
 
@@ -30,20 +30,25 @@ mod tell;
 #[cfg(test)]
 mod tests;
 
-use crate::ask::{compile_schema, errors_of, evaluation_of, first_error_of, validity};
+use crate::ask::{Report, compile_schema, report_of, validity};
 use crate::handle::SchemaHandle;
 use crate::status::{INVALID, NO_MEMORY, NO_SCHEMA, REFUSED, VALID};
 use crate::tell::{tell, tell_no_memory};
 use jskw_service::{Verdict, reply_to};
 use std::alloc::{AllocError, Global};
 
-/// Tells the version of this library and that of the kit that it is proved with, a line each.
+/// Writes the version of this library and that of the logic that it is proved in, a line each.
 #[unsafe(no_mangle)]
 pub extern "C" fn jskw_version(buffer: &mut [u8], length: &mut usize) -> u32
-    ensures { Gives result 0 (codes "jskw 0.1.0\nrattle-kit-13f\n") buffer.old buffer.new
+    ensures { Gives result 0 (codes "jskw 0.1.0\nrattle logic dac8208d650f15bf\n") buffer.old buffer.new
         length.new }
 {
-    tell(VALID, b"jskw 0.1.0\nrattle-kit-13f\n", buffer, length)
+    tell(
+        VALID,
+        b"jskw 0.1.0\nrattle logic dac8208d650f15bf\n",
+        buffer,
+        length,
+    )
 }
 
 /// Answers a request as the program `jskw` does: with its exit status and its output.
@@ -121,7 +126,32 @@ pub extern "C" fn jskw_is_valid(alloc: Global, handle: &mut SchemaHandle, instan
     }
 }
 
-/// Tells the line of the first error of the instance: its keyword, instance location, keyword
+// Writes the report on the instance.
+fn tell_report(
+    alloc: Global,
+    report: Report,
+    handle: &mut SchemaHandle,
+    instance: &[u8],
+    buffer: &mut [u8],
+    length: &mut usize,
+) -> u32
+    ensures kept { handle.new.schema ≡ handle.old.schema }
+    ensures told { Tells (IsReport (Says report) handle.old.schema (instance_in instance.now))
+        result (status_of handle.old.schema (instance_in instance.now)) buffer.old buffer.new
+        length.new }
+{
+    let Some(schema) = handle.take(alloc) else {
+        return tell(NO_SCHEMA, &[], buffer, length);
+    };
+    let answer = report_of(alloc, report, schema.node(), instance);
+    handle.put(alloc, schema);
+    match answer {
+        Ok(told) => tell(told.status, told.text.as_slice(), buffer, length),
+        Err(AllocError) => tell_no_memory(length),
+    }
+}
+
+/// Writes the line of the first error of the instance: its keyword, instance location, keyword
 /// location and message. If the instance contains a float, the line is the location of the first.
 #[unsafe(no_mangle)]
 pub extern "C" fn jskw_first_error(
@@ -136,18 +166,10 @@ pub extern "C" fn jskw_first_error(
         (status_of handle.old.schema (instance_in instance.now)) buffer.old buffer.new
         length.new }
 {
-    let Some(schema) = handle.take(alloc) else {
-        return tell(NO_SCHEMA, &[], buffer, length);
-    };
-    let answer = first_error_of(alloc, schema.node(), instance);
-    handle.put(alloc, schema);
-    match answer {
-        Ok(told) => tell(told.status, told.text.as_slice(), buffer, length),
-        Err(AllocError) => tell_no_memory(length),
-    }
+    tell_report(alloc, Report::FirstError, handle, instance, buffer, length)
 }
 
-/// Tells the lines of all errors of the instance, in order. If the instance contains a float, the
+/// Writes the lines of all errors of the instance, in order. If the instance contains a float, the
 /// line is the location of the first.
 #[unsafe(no_mangle)]
 pub extern "C" fn jskw_errors(
@@ -162,18 +184,10 @@ pub extern "C" fn jskw_errors(
         (status_of handle.old.schema (instance_in instance.now)) buffer.old buffer.new
         length.new }
 {
-    let Some(schema) = handle.take(alloc) else {
-        return tell(NO_SCHEMA, &[], buffer, length);
-    };
-    let answer = errors_of(alloc, schema.node(), instance);
-    handle.put(alloc, schema);
-    match answer {
-        Ok(told) => tell(told.status, told.text.as_slice(), buffer, length),
-        Err(AllocError) => tell_no_memory(length),
-    }
+    tell_report(alloc, Report::Errors, handle, instance, buffer, length)
 }
 
-/// Tells the evaluation tree of the instance as JSON. If the instance contains a float, the text is
+/// Writes the evaluation tree of the instance as JSON. If the instance contains a float, the text is
 /// a line with the location of the first.
 #[unsafe(no_mangle)]
 pub extern "C" fn jskw_evaluate(
@@ -188,15 +202,7 @@ pub extern "C" fn jskw_evaluate(
         (status_of handle.old.schema (instance_in instance.now)) buffer.old buffer.new
         length.new }
 {
-    let Some(schema) = handle.take(alloc) else {
-        return tell(NO_SCHEMA, &[], buffer, length);
-    };
-    let answer = evaluation_of(alloc, schema.node(), instance);
-    handle.put(alloc, schema);
-    match answer {
-        Ok(told) => tell(told.status, told.text.as_slice(), buffer, length),
-        Err(AllocError) => tell_no_memory(length),
-    }
+    tell_report(alloc, Report::Evaluation, handle, instance, buffer, length)
 }
 
 /// Frees the schema of the handle, if it has one. It has none from then on.

@@ -175,5 +175,11 @@ fn tells_its_version(rt: HostRuntime) {
     let mut buffer = [0; 64];
     let mut length = 0;
     assert_eq!(rt; jskw_version(&mut buffer, &mut length), 0);
-    assert!(rt; is_told(&buffer, length, b"jskw 0.1.0\nrattle-kit-13f\n"));
+    assert!(rt;
+        is_told(
+            &buffer,
+            length,
+            b"jskw 0.1.0\nrattle logic dac8208d650f15bf\n"
+        )
+    );
 }
