@@ -32,12 +32,12 @@ def processor():
 
 def conditions(given):
     """Returns pairs of a name and a value. `given` is the path of a program that was already built, or None."""
-    built = f"{given}, already built: nothing says that it is proved, or of this commit"
+    built = given and f"{given.name}, already built: nothing says that it is proved, or of this commit"
     now = datetime.datetime.now(datetime.timezone.utc)
     return [
         ("date", now.strftime("%Y-%m-%d %H:%M UTC")),
         ("commit", commit()),
-        ("program", built if given else "proved and built by rt"),
+        ("program", built or "proved and built by rt"),
         ("processor", f"{processor()}, {os.cpu_count()} of them, one used; load at the start {os.getloadavg()[0]:.1f}"),
         ("kernel", f"{platform.system()} {platform.release()}"),
         ("rt version", said_by("rt", "version")),

@@ -1,8 +1,9 @@
 // Times ajv. Each line of standard input is a name, a schema and an instance, with a tab between each two. It prints
-// the name, the answer, and nanoseconds: a compile, is_valid, the first error, all errors.
+// the name, the answer, and nanoseconds: a compile, is_valid, the first error, all errors. With a number as argument it
+// times texts, as timing.py describes.
 "use strict";
 const Ajv = require("ajv");
-const { fastest, COPIES } = require("./timing.js");
+const { batch, fastest, COPIES } = require("./timing.js");
 
 // schemas aren't checked against the meta-schema: the others don't do it either
 const first = new Ajv({ validateSchema: false });
@@ -13,13 +14,17 @@ function compile(ajv, schema) {
   return ajv.compile(schema);
 }
 
+function word(answer) {
+  return answer ? "valid" : "invalid";
+}
+
 function row(name, schema, text) {
   schema = JSON.parse(schema);
   const instances = Array.from({ length: COPIES }, () => JSON.parse(text));
   const validate = compile(first, schema);
   const validateAll = compile(all, schema);
   const answers = instances.flatMap((instance) => [validate(instance), validateAll(instance)]);
-  const answer = answers.every((one) => one === answers[0]) ? (answers[0] ? "valid" : "invalid") : "differs";
+  const answer = answers.every((one) => one === answers[0]) ? word(answers[0]) : "differs";
   // it makes an error for the first failure in any case
   const isValid = fastest(COPIES, (place) => validate(instances[place]));
   const times = [
@@ -31,6 +36,14 @@ function row(name, schema, text) {
   return [name, answer, ...times].join("\t");
 }
 
+function textRow(count, name, schema, text) {
+  const validate = compile(first, JSON.parse(schema));
+  const bytes = Buffer.from(text);
+  const call = () => validate(JSON.parse(bytes));
+  return [name, word(call()), batch(count, 1, call) / count].join("\t");
+}
+
+const count = Number(process.argv[2] ?? 0);
 for (const line of require("fs").readFileSync(0, "utf8").trimEnd().split("\n")) {
-  console.log(row(...line.split("\t")));
+  console.log(count ? textRow(count, ...line.split("\t")) : row(...line.split("\t")));
 }

@@ -46,14 +46,31 @@ struct Row {
     double times[4];
 };
 
-template <class RowOf> int answer_lines(const RowOf &row_of) {
+// What a validator says of a text, and the mean time of a call that parses it.
+struct TextRow {
+    bool answer;
+    double time;
+};
+
+template <class Call> TextRow text_row(std::size_t count, const Call &call) {
+    bool answer = call();
+    return {answer, batch(count, 1, [&](std::size_t) { return call(); }) / count};
+}
+
+template <class RowOf, class TextOf> int answer_lines(int words, char **word, const RowOf &row_of, const TextOf &text_of) {
     for (std::string line; std::getline(std::cin, line);) {
         std::size_t one = line.find('\t'), two = line.find('\t', one + 1);
+        std::string name = line.substr(0, one), text = line.substr(two + 1);
         rapidjson::Document schema = parsed(line.substr(one + 1, two - one - 1));
+        if (words > 1) {
+            TextRow row = text_of(schema, text, std::stoul(word[1]));
+            std::printf("%s\t%s\t%.1f\n", name.c_str(), row.answer ? "valid" : "invalid", row.time);
+            continue;
+        }
         std::vector<rapidjson::Document> instances;
-        for (std::size_t place = 0; place < COPIES; ++place) instances.push_back(parsed(line.substr(two + 1)));
+        for (std::size_t place = 0; place < COPIES; ++place) instances.push_back(parsed(text));
         Row row = row_of(schema, instances);
-        std::printf("%s\t%s", line.substr(0, one).c_str(), row.answer ? "valid" : "invalid");
+        std::printf("%s\t%s", name.c_str(), row.answer ? "valid" : "invalid");
         for (double time : row.times) time < 0 ? std::printf("\t-") : std::printf("\t%.3f", time);
         std::printf("\n");
     }

@@ -29,4 +29,4 @@ function fastest(calls, call) {
   return best / (rounds * calls);
 }
 
-module.exports = { fastest, COPIES };
+module.exports = { batch, fastest, COPIES };

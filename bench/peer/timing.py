@@ -1,6 +1,9 @@
-"""Times calls as timing.js does, and answers lines of standard input: a name, a schema and an instance, with a tab
-between each two. For each it prints the name, the answer, and nanoseconds: a compile, is_valid, the first error, all
-errors; `-` stands for a call that a validator lacks."""
+"""Times calls as timing.js does. Each line of standard input is a name, a schema and an instance, with a tab between
+each two. Without an argument it prints for each the name, the answer, and nanoseconds: a compile, is_valid, the first
+error, all errors; `-` stands for a call that a validator lacks.
+
+With a number as argument it times texts: it prints the name, the answer, and the mean nanoseconds of so many calls of
+is_valid, each of which parses the bytes of the instance's text. The schema is compiled before."""
 
 import json
 import sys
@@ -29,14 +32,37 @@ def fastest(instances, call):
     return best / (rounds * len(instances))
 
 
+def lines():
+    """The names, schemas and texts of standard input."""
+    for line in sys.stdin:
+        name, schema, text = line.rstrip("\n").split("\t")
+        yield name, json.loads(schema), text
+
+
+def word_of(answer):
+    return "valid" if answer else "invalid"
+
+
+def answer_texts(call_of):
+    """`call_of` returns of a schema a call that says of the bytes of a text whether it is valid."""
+    count = int(sys.argv[1])
+    for name, schema, text in lines():
+        call, text = call_of(schema), text.encode()
+        print(name, word_of(call(text)), batch(count, [text], call) / count, sep="\t")
+
+
 def answer_lines(calls_of):
     """`calls_of` returns of a schema four calls, or None for one that lacks: a compile of the schema, and of an
     instance whether it is valid, its first error, and all of them."""
-    for line in sys.stdin:
-        name, schema, text = line.rstrip("\n").split("\t")
-        schema, instances = json.loads(schema), [json.loads(text) for _ in range(COPIES)]
+    if len(sys.argv) > 1:
+        return answer_texts(lambda schema: parsing(calls_of(schema)[1]))
+    for name, schema, text in lines():
+        instances = [json.loads(text) for _ in range(COPIES)]
         compile_schema, is_valid, first, every = calls_of(schema)
-        word = "valid" if is_valid(instances[0]) else "invalid"
         times = [fastest([schema], compile_schema) if compile_schema else "-"]
         times += [fastest(instances, call) if call else "-" for call in (is_valid, first, every)]
-        print(name, word, *times, sep="\t")
+        print(name, word_of(is_valid(instances[0])), *times, sep="\t")
+
+
+def parsing(is_valid):
+    return lambda text: is_valid(json.loads(text))
