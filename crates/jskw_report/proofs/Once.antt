@@ -1,5 +1,5 @@
 -- Failures of an assertion that is not `required`.
-use Rattle.std.proofs.Common.{◌≡◌, ◌≤◌, length, map, Bool, true, false, ap, sym, subst, arith}
+use Rattle.std.proofs.Common.{◌≡◌, ◌≤◌, ◌∙◌, length, map, Bool, true, false, ap, sym, subst, arith}
 use Rattle.jskw_value.specs.Pointer.{Pointer}
 use Rattle.jskw_value.specs.Tree.{Tree}
 use Rattle.jskw_report.specs.Fail.{error_kinds, keyword_fail, unless}
@@ -23,3 +23,8 @@ as_unless a k h q t p = ap (λ ks. map (λ k. record { kind = k; instance_locati
 pub fails_at_most_once : (a : Placed) (k : ErrorKind) → ((t : Tree) → error_kinds a.claim t ≡ unless (assertion_holds a.claim t) k)
     → (t : Tree) (p : Pointer) → length (keyword_fail (placed a) t p) ≤ 1
 fails_at_most_once a k h t p = subst (λ fs. length fs ≤ 1) (sym (as_unless a.claim k h a.location t p)) (once (assertion_holds a.claim t) k a.location t p)
+
+-- by that kind where it does not hold
+pub fails_unless : (a : Placed) (k : ErrorKind) → ((t : Tree) → error_kinds a.claim t ≡ unless (assertion_holds a.claim t) k)
+    → (t : Tree) (p : Pointer) (b : Bool) → b ≡ assertion_holds a.claim t → keyword_fail (placed a) t p ≡ failures_unless b k a.location t p
+fails_unless a k law t p b is = as_unless a.claim k law a.location t p ∙ ap (λ h. failures_unless h k a.location t p) (sym is)

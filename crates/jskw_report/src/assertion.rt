@@ -1,13 +1,15 @@
 //! The trait of validators that give at most one error: those of the keywords without subschemas
 //! (JSON Schema Core 7.6) other than `required`, of the schema `false`, and of `additionalItems`
 //! with `false`.
-ghost use Rattle.std.specs.Prelude.{◌≡◌, IsTrue};
+ghost use Rattle.std.specs.Prelude.{◌≡◌, IsTrue, false};
 ghost use Rattle.jskw_value.specs.Tree.{Tree, is_lawful};
 ghost use Rattle.jskw_report.specs.Errors.{kind_of};
 ghost use Rattle.jskw_report.specs.Fail.{error_kinds, unless};
 ghost use Rattle.jskw_report.specs.Holds.{assertion_holds};
 ghost use Rattle.jskw_report.specs.Kind.{ErrorKind};
 ghost use Rattle.jskw_report.specs.Meaning.{Placed, placed, one};
+ghost use Rattle.jskw_report.specs.Observe.{Appends, IsFirst, failures_unless};
+ghost use Rattle.jskw_report.specs.Paths.{path_of};
 
 use crate::error::{Fault, ValidationError, ValidationErrorKind};
 use crate::evaluation::EvaluationResult;
@@ -59,18 +61,23 @@ impl<F: Json, A: Assertion> Validate<F> for A {
         location: &mut LazyLocation,
         _ctx: &mut ValidationContext,
     ) -> Result<(), Fault<'i, F>> {
-        let holds = self.holds::<F>(instance);
-        fail_unless(holds, self.kind(), self.location(), instance, location)
+        if self.holds::<F>(instance) {
+            return Ok(());
+        }
+        refuse(self, instance, location)
     }
 
     fn collect_errors<'i>(
         &'i self,
         instance: &'i F::Node,
         location: &mut LazyLocation,
-        ctx: &mut ValidationContext,
+        _ctx: &mut ValidationContext,
         errors: &mut Vec<ValidationError<'i, F>>,
     ) -> Result<(), AllocError> {
-        append_first(self.validate(instance, location, ctx), errors)
+        if self.holds::<F>(instance) {
+            return Ok(());
+        }
+        append_refusal(self, instance, location, errors)
     }
 
     fn evaluate(
@@ -85,4 +92,35 @@ impl<F: Json, A: Assertion> Validate<F> for A {
             Validate::<F>::validate(self, instance, location, ctx),
         )
     }
+}
+
+// Returns the error of an assertion that does not hold of the instance. A function of its own, so
+// that the frame of an error is not cleared where the assertion holds.
+#[inline(never)]
+fn refuse<'i, F: Json, A: Assertion>(
+    assertion: &'i A,
+    instance: &'i F::Node,
+    location: &LazyLocation,
+) -> Result<(), Fault<'i, F>>
+    ensures { let a = A.asserts assertion.now in IsFirst F.Node.tree (failures_unless false
+        (A.error assertion.now) a.location (F.Node.tree instance.now) (path_of location.now))
+        result }
+{
+    let schema_path = assertion.location();
+    fail_unless(false, assertion.kind(), schema_path, instance, location)
+}
+
+// Appends the error of an assertion that does not hold of the instance.
+#[inline(never)]
+fn append_refusal<'i, F: Json, A: Assertion>(
+    assertion: &'i A,
+    instance: &'i F::Node,
+    location: &LazyLocation,
+    errors: &mut Vec<ValidationError<'i, F>>,
+) -> Result<(), AllocError>
+    ensures { let a = A.asserts assertion.now in Appends F.Node.tree errors.old.items
+        errors.new.items (failures_unless false (A.error assertion.now) a.location
+        (F.Node.tree instance.now) (path_of location.now)) result }
+{
+    append_first(refuse(assertion, instance, location), errors)
 }
