@@ -1,12 +1,9 @@
 pub mod Accepted
 pub mod Agreed
-pub mod Bare
 pub mod BareReading
 pub mod BareTypes
 pub mod Depths
 pub mod EachSchema
-pub mod Faults
-pub mod Fused
 pub mod FusedReading
 pub mod Keywords
 pub mod MatchedItems

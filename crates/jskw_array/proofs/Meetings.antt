@@ -1,16 +1,10 @@
 -- What a walk over items has left at an item, and at the end.
 use Rattle.std.proofs.Common.{◌≡◌, ℕ, zero, suc, ◌+◌, ◌<◌, ◌≤◌, min, List, [], ◌∷◌, ◌++◌, length, get_or, drop, sum_by, Bool, true, if◌then◌else◌, refl, ap, ap₂, ◌∙◌, arith}
 use Rattle.std.proofs.Math.Seq.{drop-nil}
-use Rattle.std.proofs.lemmas.List.{drop_all}
 use Rattle.std.proofs.lemmas.List.Sums.{sum_by-cons}
-use Rattle.jskw_array.specs.Words.{Failure, Pointer, Schema, Schemas, Tree, each_fails, each_height, each_holds, each_item, each_needed, each_pairs, evaluate_pairs, fail, height, holds, item_location, list_all, needed, no_schemas, pairs, path_of, schema, schemas_of, sum_to_failure}
+use Rattle.jskw_array.specs.Words.{Pointer, Schema, Schemas, Tree, each_fails, each_height, each_holds, each_needed, each_pairs, evaluate_pairs, fail, height, holds, item_location, needed, no_schemas, pairs, schema, schemas_of, sum_to_failure}
 use Rattle.jskw_report.proofs.Gathering.{drop_here}
-use Rattle.jskw_report.proofs.Pointers.{path_of_push}
 use Rattle.jskw_report.specs.Evaluation.{schema_count}
-
--- where an item stands that was entered
-pub entered : {new now old : List ℕ} (i : ℕ) → new ≡ now ++ i ∷ [] → now ≡ old → path_of new ≡ item_location (path_of old) i
-entered {old = old} i pushed same = ap path_of (pushed ∙ ap (λ is. is ++ i ∷ []) same) ∙ path_of_push old i
 
 -- ---- one schema for all items
 
@@ -21,15 +15,6 @@ module _ (ts : List Tree) (i : ℕ) (t : Tree) (within : i < length ts) (is : t 
   pub until_at : (p : Tree → Bool) (f : Tree → ℕ)
       → sum_to_failure p f (drop i ts) ≡ f t + (if p t then sum_to_failure p f (drop (i + 1) ts) else 0)
   until_at p f = ap (sum_to_failure p f) (drop_here ts i t within is)
-
-  pub fails_at : (f : Tree → Pointer → List Failure) (p : Pointer)
-      → each_item f i (drop i ts) p ≡ f t (item_location p i) ++ each_item f (i + 1) (drop (i + 1) ts) p
-  fails_at f p = ap (λ us. each_item f i us p) (drop_here ts i t within is)
-      ∙ ap (λ j. f t (item_location p i) ++ each_item f j (drop (i + 1) ts) p) (omega arith)
-
-module _ (ts : List Tree) (i : ℕ) (end : length ts ≤ i) where
-  pub all_end : (p : Tree → Bool) → list_all p (drop i ts) ≡ true
-  all_end p = ap (list_all p) (drop_all i ts end)
 
 -- ---- a schema for each item
 

@@ -6,7 +6,7 @@ use Rattle.jskw_report.proofs.Appended.{append_append, append_none}
 use Rattle.jskw_report.proofs.Reading.{read_absent, read_not_standing, read_standing}
 use Rattle.jskw_report.specs.declared.error.CompileFault.{CompileFault}
 use Rattle.jskw_array.proofs.Depths.{member_depth}
-use Rattle.jskw_array.proofs.Faults.{refused_whole}
+use Rattle.jskw_leaf.proofs.Faults.{refused_whole}
 
 -- ---- keywords that are put together
 

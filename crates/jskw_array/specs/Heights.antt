@@ -9,7 +9,8 @@ use Rattle.jskw_value.specs.declared.json.Rooted as rooted
 use Rattle.jskw_report.specs.Applications.{height, all_height, keyword_height, each_height}
 use Rattle.jskw_report.proofs.Appended.{height_appended}
 use Rattle.jskw_report.specs.Keyword.{Schema, Schemas, keyword, no_keywords}
-use Rattle.jskw_array.specs.Fused.{absorbed_keywords, shape_keywords}
+use Rattle.jskw_leaf.specs.Items.{absorbed_keywords}
+use Rattle.jskw_array.specs.Fused.{shape_keywords}
 use Rattle.jskw_array.specs.Meaning.{each_keyword, each_of, rest_keyword, rest_of, schemas_of, validator_keyword}
 use Rattle.jskw_array.specs.Node.{schema_of}
 use Rattle.jskw_array.specs.Units.{keywords_of}

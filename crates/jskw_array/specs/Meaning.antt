@@ -1,14 +1,12 @@
 -- What each validator stands for. A node is seen as the schema that it stands for.
-use Rattle.std.specs.Prelude.{ℕ, List, [], ◌∷◌, Bool, true, false, if◌then◌else◌, unwrap_or}
-use Rattle.jskw_value.specs.Pointer.{Pointer}
-use Rattle.jskw_value.specs.declared.types.JsonType.{JsonType}
+use Rattle.std.specs.Prelude.{ℕ, List, [], ◌∷◌, Bool, false, if◌then◌else◌, unwrap_or}
 use Rattle.jskw_value.specs.declared.types.JsonType.TheVariants.{Boolean, Integer, Number, String}
-use Rattle.jskw_report.specs.Keyword.{Schema, schema_object, no_marks, no_keywords, Keyword, keyword, additional_items, at_most, contains, items_list, items_from, prefix_items, Schemas, no_schemas, schema, Bounds, Integers, by_value, as_written}
+use Rattle.jskw_report.specs.Keyword.{Schema, Keyword, additional_items, at_most, contains, items_list, items_from, prefix_items, Schemas, no_schemas, schema, Bounds, by_value, as_written}
 use Rattle.jskw_report.specs.Meaning.{Placed, placed}
-use Rattle.jskw_leaf.specs.Meaning.{leaf_keyword, single_type}
+use Rattle.jskw_leaf.specs.Items.{items_type}
+use Rattle.jskw_leaf.specs.Meaning.{leaf_keyword}
 use Rattle.jskw_array.specs.declared.additional_items.AdditionalItemsBooleanValidator.{AdditionalItemsBooleanValidator}
 use Rattle.jskw_array.specs.declared.each.Each.{Each}
-use Rattle.jskw_array.specs.declared.items.item_type.ItemsTypeValidator.{ItemsTypeValidator}
 use Rattle.jskw_array.specs.declared.matching.ItemBounds.{ItemBounds}
 use Rattle.jskw_array.specs.declared.matching.Matching.{Matching}
 use Rattle.jskw_array.specs.declared.rest.Rest.{Rest}
@@ -23,22 +21,6 @@ schemas_of (s ∷ ss) = schema s (schemas_of ss)
 -- the bounds of `contains`
 abbrev pub bounds_of : ItemBounds → Bounds
 bounds_of b = record { lower = b.lower; upper = b.upper; few = b.too_few_at; many = unwrap_or b.too_many_at b.too_few_at }
-
--- ---- bare type checks
-
--- the schema at q that has the assertion alone
-abbrev pub bare_schema : Pointer → Placed → Schema
-bare_schema q a = schema_object q no_marks (keyword a.location (placed a) no_keywords)
-
--- `items` at q of that schema, checked in place
-abbrev pub bare_items : Pointer → Placed → Keyword
-bare_items q a = items_from 0 (bare_schema q a) true
-
--- T tests for the type j by the rule; F, N, O and P are the types of a representation
-abbrev pub items_type : {T F N O P : Type 0} → JsonType → Integers → ItemsTypeValidator T F N O P → Keyword
-items_type j rule v = bare_items v.location (single_type j rule v.validator)
-
--- ---- the others
 
 -- a schema for each item: `prefixItems`, or `items` of an array of schemas
 abbrev pub each_of : Bool → Schemas → Keyword

@@ -4,7 +4,8 @@ use Rattle.jskw_value.specs.Pointer.{Pointer}
 use Rattle.jskw_report.specs.Keyword.{Keywords, no_keywords, keyword, append_keywords, all_hand_on, keyword_hands_on}
 use Rattle.jskw_report.specs.KeywordValue.{Refusal, map_ok}
 use Rattle.jskw_report.specs.Meaning.{Meaning, one}
-use Rattle.jskw_array.specs.Fused.{absorbed_keywords, shape_keywords, shape_meaning}
+use Rattle.jskw_leaf.specs.Items.{absorbed_keywords}
+use Rattle.jskw_array.specs.Fused.{shape_keywords, shape_meaning}
 use Rattle.jskw_array.specs.Meaning.{validator_keyword}
 use Rattle.jskw_array.specs.declared.items.array_shape.ArrayShapeValidator.{ArrayShapeValidator}
 use Rattle.jskw_array.specs.declared.unit.Unit.{Unit as TheUnit}

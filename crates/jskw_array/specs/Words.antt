@@ -1,7 +1,7 @@
 -- The vocabulary of this crate's clauses and proofs: definitions of the crates below and of this one, by their names.
 
 -- std
-pub use Rattle.std.specs.Prelude.{[], true, false, Some, Ok, Err, Result, IfOk, IfSome, IsTrue, count_by, is_some, length, min, nat_lt, option_map, refl, sum_by}
+pub use Rattle.std.specs.Prelude.{[], true, Some, Ok, Err, Result, IfOk, IfSome, IsTrue, count_by, is_some, length, min, option_map, refl, sum_by}
 pub use Rattle.std.specs.List.{list_all}
 pub use Rattle.std.specs.Option.{option_map_or}
 -- values of schemas, and their members
@@ -18,36 +18,36 @@ pub use Rattle.jskw_value.specs.declared.types.JsonType.TheVariants.{Array, Bool
 pub use Rattle.jskw_report.specs.Paths.{path_of}
 pub use Rattle.jskw_report.specs.declared.error.TypeKind.TheVariants.{Single}
 -- what a schema says: its keywords, and how they are read with settings
-pub use Rattle.jskw_report.specs.Keyword.{Bounds, Integers, Keyword, Keywords, MaxItems, MinItems, Schema, Schemas, Size, additional_items, all_hand_on, append_keywords, as_written, assertion, at_most, by_value, contains, each_hands_on, false_schema, hands_on_required, is_fused_schema, items_from, items_list, keyword, keyword_hands_on, keywords_in, no_keywords, no_schemas, prefix_items, schema, schema_location, schema_object, size, type_is}
-pub use Rattle.jskw_report.specs.KeywordValue.{Refusal, join_ok, map_ok, of_type, of_types, size_value, wrong}
-pub use Rattle.jskw_report.specs.Read.{Asserts, Part, Reading, additional_keyword, asserts, before, bound_beside, bound_value, bounds_of as bounds_between, integers_of, items_start, keyword_location, marks_of, part, part_named, read, read_bounds, read_each, read_words, size_keyword, type_keyword, whole}
+pub use Rattle.jskw_report.specs.Keyword.{Bounds, Integers, Keyword, Keywords, Schema, Schemas, additional_items, all_hand_on, append_keywords, as_written, assertion, at_most, by_value, contains, each_hands_on, false_schema, hands_on_required, is_fused_schema, items_from, items_list, keyword, keyword_hands_on, keywords_in, no_keywords, no_schemas, prefix_items, schema, schema_location, schema_object}
+pub use Rattle.jskw_report.specs.KeywordValue.{Refusal, join_ok, map_ok, of_type, of_types, wrong}
+pub use Rattle.jskw_report.specs.Read.{Asserts, Part, Reading, additional_keyword, asserts, before, bound_beside, bound_value, bounds_of as bounds_between, integers_of, items_start, keyword_location, marks_of, part, part_named, read, read_bounds, read_each, read_words, whole}
 unfoldable pub use Rattle.jskw_report.specs.Read.{asserted, read_word}
 pub use Rattle.jskw_report.specs.Setting.{Setting, Spot, is_2020_12, keywords, name_of, stands}
-pub use Rattle.jskw_report.specs.Sibling.{has_keyword, is_absent, is_array as is_list, is_bare, is_inlined_type, is_items_schema, is_only_type, is_size, is_string, item_count, member_passes, takes_size, unfused_names}
+pub use Rattle.jskw_report.specs.Sibling.{has_keyword, is_absent, is_array as is_list, is_bare, is_inlined_type, is_items_schema, is_only_type, is_string, item_count, member_passes, takes_size, unfused_names}
 unfoldable pub use Rattle.jskw_report.specs.Sibling.{is_fused, is_handed_on}
-pub use Rattle.jskw_report.specs.Compile.{Compiles, Makes, reading, refusal_of}
+pub use Rattle.jskw_report.specs.Compile.{Compiles, Makes, reading}
 pub use Rattle.jskw_report.specs.declared.keyword.KeywordName.{KeywordName}
 -- what it says of an instance: whether it holds, its errors, its evaluation tree, and how many schemas that takes
-pub use Rattle.jskw_report.specs.Holds.{all_hold, assertion_holds, each_holds, holds, keyword_holds}
-pub use Rattle.jskw_report.specs.Fail.{Failure, all_fail, each_fails, each_item, error_kinds, fail, failing_bound, is_empty, keyword_fail, passes, size_kind, unless}
-pub use Rattle.jskw_report.specs.Kind.{AdditionalItems, ErrorKind, WrongType}
-pub use Rattle.jskw_report.specs.Evaluation.{Evaluation, evaluate_each, evaluate_matching, evaluate_pairs, flag, indices, matching_indices, node_at, of_children, prefix_annotation, tree, unit, units, valid_unit}
+pub use Rattle.jskw_report.specs.Holds.{all_hold, each_holds, holds, keyword_holds}
+pub use Rattle.jskw_report.specs.Fail.{Failure, all_fail, each_fails, each_item, fail, failing_bound, is_empty, keyword_fail, passes}
+pub use Rattle.jskw_report.specs.Kind.{AdditionalItems}
+pub use Rattle.jskw_report.specs.Evaluation.{Evaluation, evaluate_each, evaluate_matching, evaluate_pairs, indices, matching_indices, node_at, of_children, prefix_annotation, tree, unit, units}
 unfoldable pub use Rattle.jskw_report.specs.Evaluation.{of_errors}
 pub use Rattle.jskw_report.specs.Applications.{all_height, all_needed, all_pairs, each_height, each_needed, each_pairs, height, keyword_height, keyword_needed, keyword_pairs, needed, pairs, sum_to_failure}
 -- what the validators of a keyword stand for, and what their results say
-pub use Rattle.jskw_report.specs.Meaning.{Placed, is_assertion, meaning_fail, meaning_holds, meaning_needed, meaning_pairs, meaning_unit, one, placed}
-pub use Rattle.jskw_report.specs.Observe.{Appends, AppendsBeginning, Collects, CountsUpTo, IsFirst, failures_unless}
-pub use Rattle.jskw_report.specs.Errors.{failures_of, kind_of}
+pub use Rattle.jskw_report.specs.Meaning.{is_assertion, meaning_fail, meaning_holds, meaning_needed, meaning_pairs, meaning_unit, one}
+pub use Rattle.jskw_report.specs.Observe.{Appends, AppendsBeginning, Collects, CountsUpTo, IsFirst}
+pub use Rattle.jskw_report.specs.Errors.{failures_of}
 pub use Rattle.jskw_report.specs.EvaluationParts.{annotation_of}
 pub use Rattle.jskw_report.specs.EvaluationView.{result_of}
-pub use Rattle.jskw_number.specs.Meaning.{max_items, min_items}
 pub use Rattle.jskw_number.specs.QuickSet.{Accepts, is_in}
-pub use Rattle.jskw_leaf.specs.Meaning.{leaf_keyword, rule_of, single_type, type_at}
+pub use Rattle.jskw_leaf.specs.Items.{Extends, absorbed_keywords, bare_items, bare_schema}
+pub use Rattle.jskw_leaf.specs.Meaning.{type_at}
 pub use Rattle.jskw_leaf.specs.Names.{is_leaf}
 -- the same of this crate
-pub use Rattle.jskw_array.specs.Meaning.{bare_items, bare_schema, bounds_of, each_keyword, each_of, items_type, matching_keyword, no_additional_items, rest_keyword, rest_of, schemas_of, validator_keyword}
+pub use Rattle.jskw_array.specs.Meaning.{bounds_of, each_keyword, each_of, matching_keyword, no_additional_items, rest_keyword, rest_of, schemas_of, validator_keyword}
 pub use Rattle.jskw_array.specs.Limits.{deciding_count, failing_locations, locations_of, matching_result}
-pub use Rattle.jskw_array.specs.Fused.{Begins, Extends, absorbed_bounds, absorbed_keywords, absorbed_type, count_of, fused_words, optional, shape_keywords, shape_meaning}
+pub use Rattle.jskw_array.specs.Fused.{Begins, fused_words, shape_keywords, shape_meaning}
 pub use Rattle.jskw_array.specs.Units.{IsShape, absorbed_by, after, begin_fused, is_shape, keywords_of, unit_hands_on, unit_location, unit_meaning}
 pub use Rattle.jskw_array.specs.Node.{HasUnits, boolean_schema, marked, schema_of}
 pub use Rattle.jskw_array.specs.Siblings.{active_member, schema_count}

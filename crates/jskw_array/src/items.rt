@@ -1,38 +1,28 @@
 //! `items`: one schema, for every item that `prefixItems` has no schema for (JSON Schema Core
 //! 10.3.1.2), or an array of schemas, each for the item at its index (Draft 7 Validation 6.4.1).
 ghost use Rattle.std.specs.Prelude.{◌≡◌};
-ghost use Rattle.jskw_array.specs.Words.{Compiles, IsTrue, Makes, Some, false, flag};
-ghost use Rattle.std.specs.Prelude.{if◌then◌else◌};
-ghost use Rattle.jskw_array.specs.Words.{is_array, is_bare, is_inlined_type};
-ghost use Rattle.jskw_array.specs.Words.{is_items_schema, is_list, is_only_type, items, items_from};
-ghost use Rattle.jskw_array.specs.Words.{items_start, keyword_location, length, map_ok};
-ghost use Rattle.jskw_array.specs.Words.{member_passes, members_view, nat_lt, of_children, read};
-ghost use Rattle.jskw_array.specs.Words.{reading, result_of, string, valid_unit, validator_keyword};
-ghost use Rattle.jskw_array.specs.Words.{view};
+ghost use Rattle.jskw_array.specs.Words.{Compiles, IsTrue, Makes, is_bare, is_inlined_type};
+ghost use Rattle.jskw_array.specs.Words.{is_items_schema, is_list, is_only_type, items_from};
+ghost use Rattle.jskw_array.specs.Words.{items_start, keyword_location, map_ok, member_passes};
+ghost use Rattle.jskw_array.specs.Words.{members_view, read, reading, validator_keyword, view};
 
-mod absorbed;
 mod array_shape;
-mod fusion;
-mod item_type;
+mod inline;
 
 use crate::compiler::{compile_at, compile_each_at, schema_count};
 use crate::each::{Each, of_schemas};
 use crate::rest::{Rest, of_schema};
 use crate::validator::Validator;
-pub use absorbed::AbsorbedKeywords;
 pub use array_shape::ArrayShapeValidator;
-pub use fusion::array_shape_fusion;
-use item_type::compile_inline;
-pub use item_type::{
-    BooleanItems, IntegerItems, IntegerItemsDraft4, ItemType, ItemsTypeValidator, NumberItems,
-    StringItems,
+use inline::compile_inline;
+use jskw_leaf::items::fusion::is_items_schema;
+pub use jskw_leaf::items::{
+    AbsorbedKeywords, BooleanItems, IntegerItems, IntegerItemsDraft4, ItemType, ItemsTypeValidator,
+    NumberItems, StringItems, array_shape_fusion,
 };
 use jskw_report::compiler::member_of;
-use jskw_report::{
-    Annotations, CompilationResult, CompileFault, Context, Draft, EvaluationNode, EvaluationResult,
-    KeywordName,
-};
-use jskw_value::{Json, Node};
+use jskw_report::{CompilationResult, CompileFault, Context, Draft, KeywordName};
+use jskw_value::Json;
 use serde_json::{Map, Value};
 use std::alloc::Global;
 
@@ -44,26 +34,6 @@ pub type ItemsObjectValidator<F> = Rest<F>;
 
 /// The validator of `items` of one schema, for the items behind those of `prefixItems`.
 pub type ItemsObjectSkipPrefixValidator<F> = Rest<F>;
-
-// Returns the evaluation of `items` of one schema for the items from `start` on. `nodes` are the
-// nodes of these items. The annotation is whether there are any.
-pub(crate) fn items_unit<N: Node>(
-    alloc: Global,
-    start: usize,
-    nodes: Vec<EvaluationNode>,
-    instance: &N,
-) -> EvaluationResult
-    ensures { result_of result ≡ (if is_array (N.tree instance.now)
-        then of_children (Some (flag (nat_lt start (length (items (N.tree instance.now)))))) nodes.items
-        else valid_unit) }
-{
-    if !instance.is_array() {
-        return EvaluationResult::valid_empty(alloc);
-    }
-    let mut unit = EvaluationResult::from_children(alloc, nodes);
-    unit.annotate(Annotations::Bool(start < instance.item_count()));
-    unit
-}
 
 /// Compiles `items`. The value is an array of schemas, each for the item at its index, or one
 /// schema: an object or `false`. In 2020-12 one schema is for the items behind those that an array
@@ -123,13 +93,6 @@ pub(crate) fn compile_schema<'a, F: Json>(
         false,
         compile_at(alloc, ctx, KeywordName::Items, schema),
     )
-}
-
-// Returns whether the value is one schema that asserts something: an object or `false`.
-pub(crate) fn is_items_schema(value: &Value) -> bool
-    ensures { result ≡ is_items_schema (view value.now) }
-{
-    matches!(value, Value::Object(_) | Value::Bool(false))
 }
 
 // Returns whether the items are tested in place: the value of `items` has only an active `type`,

@@ -6,9 +6,9 @@ ghost use Rattle.jskw_array.specs.Words.{items, keyword_fail, keyword_holds, key
 ghost use Rattle.jskw_array.specs.Words.{keyword_pairs, length, map_ok, of_errors, one, path_of};
 ghost use Rattle.jskw_array.specs.Words.{rest_keyword, rest_of, result_of, validator_keyword};
 
-use crate::items::items_unit;
 use crate::node::SchemaNode;
 use crate::validator::Validator;
+use jskw_leaf::items::item_type::items_unit;
 use jskw_report::validator::evaluate_errors;
 use jskw_report::{
     CompilationResult, EvaluationResult, Fault, LazyLocation, Validate, ValidationContext,

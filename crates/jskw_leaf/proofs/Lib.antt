@@ -1,5 +1,9 @@
+pub mod Bare
 pub mod Counting
 pub mod Distinct
+pub mod Faults
+pub mod Fused
+pub mod FusedReading
 pub mod Lacking
 pub mod Leaves
 pub mod Lookups
@@ -9,3 +13,4 @@ pub mod Sizes
 pub mod Tables
 pub mod Types
 pub mod Values
+pub mod Walks

@@ -39,6 +39,7 @@ pub mod boolean;
 pub mod const_;
 pub mod enum_;
 mod floats;
+pub mod items;
 mod keywords;
 pub mod leaf;
 pub mod legacy;

@@ -7,7 +7,8 @@ use Rattle.jskw_array.specs.Heights.{each_is_as_high, rest_is_as_high}
 use Rattle.jskw_array.proofs.Accepted.{counted_within, no_errors}
 use Rattle.jskw_array.proofs.Keywords.{fail_at, items_height, items_keywords, keywords_end, one_pair, pairs_at, schema_fails, schema_height, schema_pairs, unit_height, unit_tall}
 use Rattle.jskw_array.proofs.Meant.{absurd-of, each_fails_of, each_meets, each_no_assertion, rest_fails_of, rest_meets, rest_no_assertion}
-use Rattle.jskw_array.proofs.Meetings.{each_fails_at, each_fails_end, each_pairs_at, entered, fails_at, height_at, sum_at}
+use Rattle.jskw_leaf.proofs.Walks.{entered, fails_at}
+use Rattle.jskw_array.proofs.Meetings.{each_fails_at, each_fails_end, each_pairs_at, height_at, sum_at}
 use Rattle.jskw_array.proofs.+collect_errors.Goals as goal
 
 -- ---- an item

@@ -1,10 +1,11 @@
 use Rattle.std.proofs.Common.{rules, ◌≡◌, [], ◌∷◌, ◌++◌, Bool, ℕ, Some, None, Result, Ok, Err, true, false, drop, get_or, refl, sym, ap, ap₂, subst, ◌+◌, ◌∙◌, arith}
-use Rattle.jskw_array.specs.Words.{Array, Keyword, Makes, Refusal, Schema, absorbed_keywords, active_member, after, append_keywords, as_array, before, begin_fused, boolean_schema, bounds_of, contains, fused_words, get_member, is_fused, is_items_schema, item_location, items_depth, items_from, items_view, join_ok, keyword, keyword_location, keywords, keywords_of, map_ok, marked, marks_of, members_view, name_of, no_keywords, of_type, part_named, read, read_bounds, read_each, read_words, reading, schema_count, schema_object, shape_keywords, validator_keyword, view, whole, wrong}
+use Rattle.jskw_array.specs.Words.{Array, Keyword, Makes, Refusal, Schema, absorbed_keywords, active_member, after, append_keywords, as_array, before, begin_fused, bounds_of, contains, fused_words, get_member, is_fused, is_items_schema, item_location, items_depth, items_from, items_view, join_ok, keyword, keyword_location, keywords, keywords_of, map_ok, members_view, name_of, no_keywords, of_type, part_named, read, read_bounds, read_each, read_words, reading, schema_count, shape_keywords, validator_keyword, view, wrong}
 use Rattle.jskw_report.specs.declared.keyword.KeywordName.TheVariants as word
 use Rattle.jskw_array.proofs.Depths.{depth_array, item_depth, member_depth}
 use Rattle.jskw_array.proofs.EachSchema.{after_none as after_no_schemas, each_end, each_made, each_refused, schemas_in}
-use Rattle.jskw_array.proofs.Faults.{compiles_as, handed_on, refused_whole}
-use Rattle.jskw_array.proofs.FusedReading.{fused_behind, fused_items, fused_refused, is_one, is_there, items_value, shape_reads}
+use Rattle.jskw_leaf.proofs.Faults.{compiles_as, handed_on, refused_whole}
+use Rattle.jskw_leaf.proofs.FusedReading.{fused_items, is_there}
+use Rattle.jskw_array.proofs.FusedReading.{fused_behind, fused_refused, is_one, items_value, shape_reads}
 use Rattle.jskw_array.proofs.Readings.{additional_absent, additional_false, additional_of_schema, additional_true, bare_is_type, bare_stands, bare_start, contains_of_schema, contains_read, items_of_array, items_of_one, items_silent, prefix_of_array, prefix_refused, read_boolean, view-Bool}
 use Rattle.jskw_array.proofs.Turns.{active_depth, active_reads, after_empty, inactive_reads, ok_then, turn_end, turn_made, turn_refused, turn_silent}
 use Rattle.jskw_array.proofs.+compile.Goals as goal

@@ -8,7 +8,8 @@ use Rattle.jskw_array.specs.Heights.{each_is_as_high, rest_is_as_high}
 use Rattle.jskw_array.proofs.Accepted.{counted_within, no_errors, one_needed}
 use Rattle.jskw_array.proofs.Keywords.{fail_at, items_height, items_keywords, keywords_end, needed_at, schema_fails, schema_height, schema_needs, unit_empty, unit_height, unit_tall}
 use Rattle.jskw_array.proofs.Meant.{absurd-of, each_fails_of, each_needs, each_no_assertion, rest_fails_of, rest_needs, rest_no_assertion}
-use Rattle.jskw_array.proofs.Meetings.{each_fails_at, each_fails_end, each_needed_at, fails_at, height_at, until_at}
+use Rattle.jskw_leaf.proofs.Walks.{fails_at}
+use Rattle.jskw_array.proofs.Meetings.{each_fails_at, each_fails_end, each_needed_at, height_at, until_at}
 use Rattle.jskw_array.proofs.+validate.Goals as goal
 
 -- ---- an item

@@ -1,0 +1,53 @@
+-- What the schema of a bare type check says: what its assertion says.
+use Rattle.std.proofs.Common.{◌≡◌, zero, List, [], ◌∷◌, ◌++◌, get_or, Result, Ok, Err, true, false, ◌&&◌, refl, sym, subst, ap, ◌∙◌, append-nil, map}
+use Rattle.jskw_report.specs.declared.error.Fault.{Fault}
+use Rattle.jskw_report.specs.declared.error.Fault.TheVariants.{Invalid, Memory}
+use Rattle.jskw_report.specs.Observe.{IsFirst}
+use Rattle.jskw_report.specs.Keyword.{Integers, type_is}
+use Rattle.jskw_value.specs.declared.types.JsonType.{JsonType}
+use Rattle.jskw_report.specs.Meaning.{Placed, placed}
+use Rattle.jskw_value.specs.Pointer.{Pointer}
+use Rattle.jskw_report.specs.declared.error.TypeKind.TheVariants.{Single}
+use Rattle.jskw_value.specs.Tree.{Tree}
+use Rattle.jskw_report.specs.Kind.{WrongType}
+use Rattle.jskw_report.specs.Holds.{assertion_holds, holds}
+use Rattle.jskw_leaf.specs.Items.{bare_schema}
+use Rattle.jskw_report.specs.Fail.{Failure, fail, keyword_fail, unless}
+use Rattle.std.specs.List.{list_all}
+use Rattle.jskw_leaf.specs.Meaning.{type_at}
+
+module _ (q : Pointer) (a : Placed) where
+  pub bare_holds : (t : Tree) → holds (bare_schema q a) t ≡ assertion_holds a.claim t
+  bare_holds t = go (assertion_holds a.claim t)
+    where
+      go : (b : _) → (b && true) ≡ b
+      go true = refl
+      go false = refl
+
+  pub bare_all_hold : (ts : List Tree) → list_all (holds (bare_schema q a)) ts ≡ list_all (assertion_holds a.claim) ts
+  bare_all_hold [] = refl
+  bare_all_hold (t ∷ ts) = ap (λ b. b && list_all (holds (bare_schema q a)) ts) (bare_holds t) ∙ ap (λ b. assertion_holds a.claim t && b) (bare_all_hold ts)
+
+  pub bare_fail : (t : Tree) (p : Pointer) → fail (bare_schema q a) t p ≡ keyword_fail (placed a) t p
+  bare_fail t p = append-nil (keyword_fail (placed a) t p)
+
+-- a type check does not fail of what is of the type
+pub type_fails_not : (j : JsonType) (rule : Integers) (q r : Pointer) (t : Tree) (p : Pointer)
+    → assertion_holds (type_is (Single j) rule) t ≡ true → fail (bare_schema q (type_at j rule r)) t p ≡ []
+type_fails_not j rule q r t p h = bare_fail q (type_at j rule r) t p
+    ∙ ap (λ b. map (λ k. record { kind = k; instance_location = p; keyword_location = r; tree = t }) (unless b (WrongType (Single j)))) h
+
+-- of what is not of the type it fails once, whatever fails behind it
+pub type_fails_first : {F N O P : Type 0} (tree : N → Tree) (j : JsonType) (rule : Integers) (q r : Pointer) (t : Tree) (p : Pointer) (rest : List Failure) (answer : Result Unit (Fault F N O P))
+    → assertion_holds (type_is (Single j) rule) t ≡ false → IsFirst tree (keyword_fail (placed (type_at j rule r)) t p) answer
+    → IsFirst tree (fail (bare_schema q (type_at j rule r)) t p ++ rest) answer
+type_fails_first {F} {N} {O} {P} tree j rule q r t p rest answer fails first =
+    let x : Failure = record { kind = WrongType (Single j); instance_location = p; keyword_location = r; tree = t } in
+    let one : keyword_fail (placed (type_at j rule r)) t p ≡ x ∷ [] = ap (λ b. map (λ k. record { kind = k; instance_location = p; keyword_location = r; tree = t }) (unless b (WrongType (Single j)))) fails in
+    let all : fail (bare_schema q (type_at j rule r)) t p ++ rest ≡ x ∷ rest = ap (λ fs. fs ++ rest) (bare_fail q (type_at j rule r) t p ∙ one) in
+    subst (λ fs. IsFirst tree fs answer) (sym all) (go x answer (subst (λ fs. IsFirst tree fs answer) one first))
+  where
+    go : (x : Failure) (a : Result Unit (Fault F N O P)) → IsFirst tree (x ∷ []) a → IsFirst tree (x ∷ rest) a
+    go x (Ok u) is = cc
+    go x (Err (Invalid e)) (more, is) = (rest, ap (λ fs. get_or fs zero x ∷ rest) is)
+    go x (Err (Memory m)) is = tt

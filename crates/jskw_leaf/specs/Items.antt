@@ -1,0 +1,59 @@
+-- What the validators of `items` that apply no subschema stand for: bare type checks, and the keywords that the fused shape of
+-- an array has beside `items`.
+use Rattle.std.specs.Prelude.{◌≡◌, ℕ, suc, List, [], ◌∷◌, ◌++◌, length, Bool, true, Option, Some, None, Result, Ok, Err, if◌then◌else◌}
+use Rattle.jskw_value.specs.Pointer.{Pointer}
+use Rattle.jskw_value.specs.Tree.{Tree, is_array, items}
+use Rattle.jskw_value.specs.declared.types.JsonType.{JsonType}
+use Rattle.jskw_value.specs.declared.types.JsonType.TheVariants.{Array}
+use Rattle.jskw_report.specs.Keyword.{Schema, schema_object, no_marks, Keyword, Keywords, no_keywords, keyword, append_keywords, items_from, Integers, by_value}
+use Rattle.jskw_report.specs.Meaning.{Placed, placed}
+use Rattle.jskw_number.specs.Meaning.{min_items, max_items}
+use Rattle.jskw_leaf.specs.Meaning.{single_type}
+use Rattle.jskw_leaf.specs.declared.items.absorbed.AbsorbedKeywords.{AbsorbedKeywords}
+use Rattle.jskw_leaf.specs.declared.items.item_type.ItemsTypeValidator.{ItemsTypeValidator}
+
+-- ---- bare type checks
+
+-- the schema at q that has the assertion alone
+abbrev pub bare_schema : Pointer → Placed → Schema
+bare_schema q a = schema_object q no_marks (keyword a.location (placed a) no_keywords)
+
+-- `items` at q of that schema, checked in place
+abbrev pub bare_items : Pointer → Placed → Keyword
+bare_items q a = items_from 0 (bare_schema q a) true
+
+-- T tests for the type j by the rule; F, N, O and P are the types of a representation
+abbrev pub items_type : {T F N O P : Type 0} → JsonType → Integers → ItemsTypeValidator T F N O P → Keyword
+items_type j rule v = bare_items v.location (single_type j rule v.validator)
+
+-- the number of elements before the first that fails the check
+abbrev pub leading : {A : Type 0} → (A → Bool) → List A → ℕ
+leading check [] = 0
+leading check (x ∷ xs) = if check x then suc (leading check xs) else 0
+
+-- ---- the keywords beside `items`
+
+-- the number of items of an array; nothing else has one
+abbrev pub count_of : Tree → Option ℕ
+count_of t = if is_array t then Some (length (items t)) else None
+
+-- the list is the old one followed by all of these, or, if memory ran out, by a beginning of them
+abbrev pub Extends : {A E : Type 0} → List A → List A → List A → Result Unit E → Type 0
+Extends old new all (Ok u) = new ≡ old ++ all
+Extends {A} old new all (Err e) = (done : List A) × (rest : List A) × (new ≡ old ++ done) × (done ++ rest ≡ all)
+
+-- the keyword of a validator that may not be there
+abbrev pub optional : {V : Type 0} → (V → Placed) → Option V → Keywords
+optional asserts None = no_keywords
+optional asserts (Some v) = keyword (asserts v).location (placed (asserts v)) no_keywords
+
+-- `type` of `array`
+abbrev pub absorbed_type : AbsorbedKeywords → Placed
+absorbed_type a = single_type Array by_value a.type_
+
+-- `minItems` and `maxItems`
+abbrev pub absorbed_bounds : AbsorbedKeywords → Keywords
+absorbed_bounds a = append_keywords (optional min_items a.min_items) (optional max_items a.max_items)
+
+abbrev pub absorbed_keywords : AbsorbedKeywords → Keywords
+absorbed_keywords a = keyword (absorbed_type a).location (placed (absorbed_type a)) (absorbed_bounds a)

@@ -1,0 +1,337 @@
+//! `type` of `array`, `minItems` and `maxItems` of the fused shape of an array.
+ghost use Rattle.std.specs.Prelude.{◌≡◌, ◌∷◌, [], IfOk, IfSome, IsTrue, is_some, length, true};
+ghost use Rattle.serde_json.specs.View.{members_view};
+ghost use Rattle.jskw_value.specs.Tree.{Tree, is_array as is_list, is_lawful, items};
+ghost use Rattle.jskw_report.specs.Compile.{Makes};
+ghost use Rattle.jskw_report.specs.Errors.{kind_of};
+ghost use Rattle.jskw_report.specs.Evaluation.{node_at, of_errors, unit, units};
+ghost use Rattle.jskw_report.specs.EvaluationView.{result_of};
+ghost use Rattle.jskw_report.specs.Fail.{all_fail, keyword_fail};
+ghost use Rattle.jskw_report.specs.Holds.{all_hold, assertion_holds};
+ghost use Rattle.jskw_report.specs.Meaning.{placed};
+ghost use Rattle.jskw_report.specs.Observe.{Appends, IsFirst, failures_unless};
+ghost use Rattle.jskw_report.specs.Paths.{path_of};
+ghost use Rattle.jskw_report.specs.Read.{part_named, read_words};
+ghost use Rattle.jskw_report.specs.Sibling.{is_fused, takes_size};
+ghost use Rattle.jskw_number.specs.Meaning.{sized};
+ghost use Rattle.jskw_number.specs.Size.{size_of, word_of};
+ghost use Rattle.jskw_leaf.specs.Items.{Extends, absorbed_bounds, absorbed_keywords, absorbed_type};
+ghost use Rattle.jskw_leaf.specs.Items.{count_of, optional};
+
+use crate::type_::ArrayTypeValidator;
+use jskw_number::max_items::MaxItemsValidator;
+use jskw_number::min_items::MinItemsValidator;
+use jskw_number::sizes::SizeLimit;
+use jskw_report::compiler::member_of;
+use jskw_report::validator::{append_first, evaluate_first, fail_unless};
+use jskw_report::{
+    Assertion, CompilationResult, Context, EvaluationNode, EvaluationResult, Fault, KeywordName,
+    LazyLocation, Location, ValidationError, ValidationErrorKind,
+};
+use jskw_value::{Array, Json, Node};
+use serde_json::{Map, Value};
+use std::alloc::{AllocError, Global};
+
+/// The validators of `type` of `array`, `minItems` and `maxItems` in the fused shape: those that
+/// the schema has.
+#[derive(Drop)]
+pub struct AbsorbedKeywords {
+    type_: ArrayTypeValidator,
+    min_items: Option<MinItemsValidator>,
+    max_items: Option<MaxItemsValidator>,
+}
+
+impl AbsorbedKeywords {
+    /// Compiles the keywords of `parent`, for which
+    /// [`array_shape_fusion`](crate::items::array_shape_fusion) must be true. In a box they take no
+    /// room in the frames of a deep schema.
+    ///
+    /// # Errors
+    ///
+    /// Fails only if memory runs out.
+    #[inline(never)]
+    pub fn compile<'a, F: Json>(
+        alloc: Global,
+        ctx: &Context<'_, F>,
+        parent: &'a Map<String, Value>,
+    ) -> CompilationResult<'a, Box<AbsorbedKeywords>>
+        requires { IsTrue (is_fused ctx.now.setting (members_view parent.now.entries)) }
+        ensures { let ms = members_view parent.now.entries in
+            Makes (λ a. absorbed_keywords a.value) result
+            (read_words (KeywordName.TypeKeyword ∷ KeywordName.MinItems ∷ KeywordName.MaxItems ∷ [])
+            ctx.now.setting ctx.now.location ms (λ name. part_named name ms)) }
+    {
+        let location = ctx.keyword_location(alloc, KeywordName::TypeKeyword)?;
+        let min_items = compile_bound::<true, F>(alloc, ctx, parent)?;
+        let max_items = compile_bound::<false, F>(alloc, ctx, parent)?;
+        let absorbed = AbsorbedKeywords {
+            type_: ArrayTypeValidator::new(location),
+            min_items,
+            max_items,
+        };
+        Ok(Box::new(alloc, absorbed)?)
+    }
+
+    /// Returns the number of items if the instance is an array that passes all three, else `None`.
+    pub fn valid_count<N: Node>(&self, instance: &N) -> Option<usize>
+        ensures holds { is_some result ≡ all_hold (absorbed_keywords self.now) (N.tree instance.now) }
+        ensures count { IfSome result (λ n. n ≡ length (items (N.tree instance.now))) }
+    {
+        if !instance.is_array() {
+            return None;
+        }
+        let length = Array::len(instance);
+        let count = Some(length as u64);
+        if bound_holds(&self.min_items, count) && bound_holds(&self.max_items, count) {
+            Some(length)
+        } else {
+            None
+        }
+    }
+
+    /// Returns the first error of the three, or `Ok` if the instance passes them. The instance must
+    /// be lawful.
+    ///
+    /// # Errors
+    ///
+    /// - [`Fault::Invalid`] with the first error, if the instance is invalid.
+    /// - [`Fault::Memory`] if memory runs out.
+    pub fn validate<'i, F: Json>(
+        &'i self,
+        instance: &'i F::Node,
+        location: &LazyLocation,
+    ) -> Result<(), Fault<'i, F>>
+        requires { IsTrue (is_lawful (F.Node.tree instance.now)) }
+        ensures { IsFirst F.Node.tree (all_fail (absorbed_keywords self.now)
+            (F.Node.tree instance.now) (path_of location.now)) result }
+    {
+        let answer = validate_assertion(&self.type_, instance, location);
+        if answer.is_err() {
+            return answer;
+        }
+        let answer = validate_bound(&self.min_items, instance, location);
+        if answer.is_err() {
+            return answer;
+        }
+        validate_bound(&self.max_items, instance, location)
+    }
+
+    /// Appends the errors of the three, in order. The instance must be lawful. If memory runs out,
+    /// `errors` keeps what it held, and a beginning of the new errors follows.
+    pub fn collect_errors<'i, F: Json>(
+        &'i self,
+        instance: &'i F::Node,
+        location: &LazyLocation,
+        errors: &mut Vec<ValidationError<'i, F>>,
+    ) -> Result<(), AllocError>
+        requires { IsTrue (is_lawful (F.Node.tree instance.now)) }
+        ensures { Appends F.Node.tree errors.old.items errors.new.items (all_fail
+            (absorbed_keywords self.now) (F.Node.tree instance.now) (path_of location.now)) result }
+    {
+        append_first(validate_assertion(&self.type_, instance, location), errors)?;
+        append_first(validate_bound(&self.min_items, instance, location), errors)?;
+        append_first(validate_bound(&self.max_items, instance, location), errors)
+    }
+
+    /// Appends the evaluation nodes of the three for the instance at `path`. If memory runs out, a
+    /// beginning of the nodes is appended.
+    pub fn evaluate<F: Json>(
+        &self,
+        alloc: Global,
+        instance: &F::Node,
+        path: &Location,
+        children: &mut Vec<EvaluationNode>,
+    ) -> Result<(), AllocError>
+        ensures { Extends children.old.items children.new.items (units (absorbed_keywords self.now)
+            (F.Node.tree instance.now) path.now) result }
+    {
+        let is_array = instance.is_array();
+        children.push(self.evaluate_type::<F>(alloc, instance, is_array, path)?)?;
+        let length = instance.item_count() as u64;
+        let count = if is_array { Some(length) } else { None };
+        self.evaluate_counts::<F>(alloc, instance, count, path, children)
+    }
+
+    /// Returns the evaluation node of `type` for an instance at `instance_location`. `is_array`
+    /// must be true exactly if the instance is an array. Fails only if memory runs out.
+    pub fn evaluate_type<F: Json>(
+        &self,
+        alloc: Global,
+        instance: &F::Node,
+        is_array: bool,
+        instance_location: &Location,
+    ) -> Result<EvaluationNode, AllocError>
+        requires { is_array ≡ is_list (F.Node.tree instance.now) }
+        ensures { let a = absorbed_type self.now in IfOk result (λ node. node
+            ≡ node_at a.location instance_location.now
+            (unit (placed a) (F.Node.tree instance.now) instance_location.now)) }
+    {
+        let type_ = &self.type_;
+        evaluate_assertion::<F, _>(alloc, type_, is_array, instance, instance_location)
+    }
+
+    /// Appends the evaluation nodes of `minItems` and `maxItems`, if the schema has them, for an
+    /// instance at `instance_location`. `count` must be the number of items, or `None` for a
+    /// non-array. If memory runs out, a beginning of the nodes is appended.
+    pub fn evaluate_counts<F: Json>(
+        &self,
+        alloc: Global,
+        instance: &F::Node,
+        count: Option<u64>,
+        instance_location: &Location,
+        children: &mut Vec<EvaluationNode>,
+    ) -> Result<(), AllocError>
+        requires { count ≡ count_of (F.Node.tree instance.now) }
+        ensures { Extends children.old.items children.new.items (units (absorbed_bounds self.now)
+            (F.Node.tree instance.now) instance_location.now) result }
+    {
+        let path = instance_location;
+        let holds = bound_holds(&self.min_items, count);
+        evaluate_bound::<F, _>(alloc, &self.min_items, holds, instance, path, children)?;
+        let holds = bound_holds(&self.max_items, count);
+        evaluate_bound::<F, _>(alloc, &self.max_items, holds, instance, path, children)
+    }
+}
+
+// Compiles `minItems` if `IS_LEAST`, else `maxItems`. Returns `None` if `parent` lacks it.
+fn compile_bound<'a, const IS_LEAST: bool, F: Json>(
+    alloc: Global,
+    ctx: &Context<'_, F>,
+    parent: &'a Map<String, Value>,
+) -> CompilationResult<'a, Option<SizeLimit<true, IS_LEAST>>>
+    requires { IsTrue (takes_size ctx.now.setting (members_view parent.now.entries)
+        (word_of (size_of true IS_LEAST))) }
+    ensures { let which = size_of true IS_LEAST in let ms = members_view parent.now.entries in
+        Makes (optional (sized which)) result (read_words (word_of which ∷ []) ctx.now.setting
+        ctx.now.location ms (λ name. part_named name ms)) }
+{
+    let Some(value) = member_of(parent, bound_keyword::<IS_LEAST>().as_str()) else {
+        return Ok(None);
+    };
+    Ok(Some(SizeLimit::compile(alloc, ctx, value)?))
+}
+
+// Returns `minItems` if `IS_LEAST`, else `maxItems`.
+fn bound_keyword<const IS_LEAST: bool>() -> KeywordName
+    ensures { result ≡ word_of (size_of true IS_LEAST) }
+{
+    if IS_LEAST {
+        KeywordName::MinItems
+    } else {
+        KeywordName::MaxItems
+    }
+}
+
+// Returns whether the bound, if there is one, holds for an array of `count` items, or for a
+// non-array if `count` is `None`.
+fn bound_holds<const IS_LEAST: bool>(
+    bound: &Option<SizeLimit<true, IS_LEAST>>,
+    count: Option<u64>,
+) -> bool
+    ensures { (t : Tree) → count ≡ count_of t
+        → result ≡ all_hold (optional (sized (size_of true IS_LEAST)) bound.now) t }
+{
+    match (bound, count) {
+        (Some(bound), Some(count)) => bound.accepts(count),
+        _ => true,
+    }
+}
+
+// Returns the error of the assertion, or `Ok` if it holds.
+fn validate_assertion<'i, F: Json, A: Assertion>(
+    assertion: &'i A,
+    instance: &'i F::Node,
+    location: &LazyLocation,
+) -> Result<(), Fault<'i, F>>
+    requires { IsTrue (is_lawful (F.Node.tree instance.now)) }
+    ensures { IsFirst F.Node.tree (keyword_fail (placed (A.asserts assertion.now))
+        (F.Node.tree instance.now) (path_of location.now)) result }
+{
+    if assertion.holds::<F>(instance) {
+        return Ok(());
+    }
+    fail_unless(
+        false,
+        assertion.kind(),
+        assertion.location(),
+        instance,
+        location,
+    )
+}
+
+// Returns the error of the bound, or `Ok` if it holds or there is none.
+fn validate_bound<'i, F: Json, A: Assertion>(
+    bound: &'i Option<A>,
+    instance: &'i F::Node,
+    location: &LazyLocation,
+) -> Result<(), Fault<'i, F>>
+    requires { IsTrue (is_lawful (F.Node.tree instance.now)) }
+    ensures { IsFirst F.Node.tree (all_fail (optional A.asserts bound.now)
+        (F.Node.tree instance.now) (path_of location.now)) result }
+{
+    match bound {
+        Some(bound) => validate_assertion(bound, instance, location),
+        None => Ok(()),
+    }
+}
+
+// Returns the evaluation node of the assertion for the instance at `path`. `holds` must be whether
+// it holds.
+fn evaluate_assertion<F: Json, A: Assertion>(
+    alloc: Global,
+    assertion: &A,
+    holds: bool,
+    instance: &F::Node,
+    path: &Location,
+) -> Result<EvaluationNode, AllocError>
+    requires { holds ≡ assertion_holds (A.asserts assertion.now).claim (F.Node.tree instance.now) }
+    ensures { let a = A.asserts assertion.now in IfOk result (λ node. node
+        ≡ node_at a.location path.now (unit (placed a) (F.Node.tree instance.now) path.now)) }
+{
+    let kind = assertion.kind();
+    let schema_path = assertion.location();
+    let result = evaluate_unless::<F>(alloc, holds, kind, schema_path, instance, path)?;
+    EvaluationNode::new(alloc, result, schema_path, path)
+}
+
+// Returns the evaluation of an assertion: valid if `holds`, else with the error made of the other
+// arguments.
+#[tactic(auto, unfolding(jskw_report::specs::Evaluation::of_errors))]
+fn evaluate_unless<'i, F: Json>(
+    alloc: Global,
+    holds: bool,
+    kind: ValidationErrorKind<'i>,
+    schema_path: &'i Location,
+    instance: &'i F::Node,
+    path: &Location,
+) -> Result<EvaluationResult, AllocError>
+    ensures { IfOk result (λ r. result_of r ≡ of_errors (failures_unless holds (kind_of kind.entry)
+        schema_path.now (F.Node.tree instance.now) path.now)) }
+{
+    if holds {
+        return Ok(EvaluationResult::valid_empty(alloc));
+    }
+    let error = ValidationError::new(kind, path.copy(alloc)?, schema_path, instance);
+    evaluate_first::<F>(alloc, Err(Fault::Invalid(error)))
+}
+
+// Appends the evaluation node of the bound, if there is one. `holds` must be whether it holds for
+// the instance.
+fn evaluate_bound<F: Json, A: Assertion>(
+    alloc: Global,
+    bound: &Option<A>,
+    holds: bool,
+    instance: &F::Node,
+    path: &Location,
+    children: &mut Vec<EvaluationNode>,
+) -> Result<(), AllocError>
+    requires { holds ≡ all_hold (optional A.asserts bound.now) (F.Node.tree instance.now) }
+    ensures { Extends children.old.items children.new.items (units (optional A.asserts bound.now)
+        (F.Node.tree instance.now) path.now) result }
+{
+    let Some(bound) = bound else {
+        return Ok(());
+    };
+    children.push(evaluate_assertion::<F, A>(alloc, bound, holds, instance, path)?)?;
+    Ok(())
+}

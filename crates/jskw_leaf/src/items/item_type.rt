@@ -1,0 +1,266 @@
+//! `items` of a schema that has only `type` (JSON Schema Core 10.3.1.2, Validation 6.1.1): each
+//! item is tested in place, and no subschema is applied.
+ghost use Rattle.std.specs.Prelude.{◌≡◌, ◌≤◌, ◌+◌, if◌then◌else◌};
+ghost use Rattle.std.specs.Prelude.{IfOk, IsTrue, Some, drop, length, nat_lt};
+ghost use Rattle.jskw_value.specs.Tree.{is_array, is_lawful, items};
+ghost use Rattle.jskw_report.specs.Evaluation.{flag, of_children, tree, valid_unit};
+ghost use Rattle.jskw_report.specs.EvaluationView.{result_of};
+ghost use Rattle.jskw_report.specs.Holds.{assertion_holds, keyword_holds};
+ghost use Rattle.jskw_report.specs.Keyword.{type_is};
+ghost use Rattle.jskw_report.specs.Meaning.{one, placed};
+ghost use Rattle.jskw_report.specs.Paths.{path_of};
+ghost use Rattle.jskw_report.specs.declared.error.TypeKind.TheVariants.{Single};
+ghost use Rattle.jskw_leaf.specs.Items.{bare_items, bare_schema, items_type, leading};
+ghost use Rattle.jskw_leaf.specs.Meaning.{leaf_keyword, rule_of, single_type, type_at};
+
+use crate::leaf::LeafValidator;
+use crate::legacy::type_draft_4;
+use crate::type_::{
+    BooleanType, IntegerRule, IntegerType, NumberType, SingleTypeValidator, StringType, TypeTest,
+    TypeValidator,
+};
+use jskw_report::{
+    Annotations, Assertion, EvaluationNode, EvaluationResult, Fault, LazyLocation, Location,
+    TypeKind, Validate, ValidationContext, ValidationError,
+};
+use jskw_value::{Array, Json, JsonType, Node};
+use std::alloc::{AllocError, Global};
+use std::marker::PhantomData;
+
+/// A type that items are tested for in place.
+pub trait ItemType: TypeTest {
+    /// Returns the validator of the type. `location` is the keyword location of `type` in `items`.
+    fn compile_type<F: Json>(location: Location) -> LeafValidator<F>
+        ensures { leaf_keyword result ≡ placed (type_at Self.json_type Self.rule location) };
+}
+
+// Returns the validator of one type.
+fn typed<F: Json>(json_type: JsonType, rule: IntegerRule, location: Location) -> LeafValidator<F>
+    ensures { leaf_keyword result ≡ placed (type_at json_type (rule_of rule) location) }
+{
+    LeafValidator::Types(TypeValidator::new(TypeKind::Single(json_type), rule, location))
+}
+
+/// Tests items for the type number.
+pub type NumberItems = NumberType;
+
+impl ItemType for NumberItems {
+    fn compile_type<F: Json>(location: Location) -> LeafValidator<F> {
+        typed(JsonType::Number, IntegerRule::ByValue, location)
+    }
+}
+
+/// Tests items for the type string.
+pub type StringItems = StringType;
+
+impl ItemType for StringItems {
+    fn compile_type<F: Json>(location: Location) -> LeafValidator<F> {
+        typed(JsonType::String, IntegerRule::ByValue, location)
+    }
+}
+
+/// Tests items for the type boolean.
+pub type BooleanItems = BooleanType;
+
+impl ItemType for BooleanItems {
+    fn compile_type<F: Json>(location: Location) -> LeafValidator<F> {
+        typed(JsonType::Boolean, IntegerRule::ByValue, location)
+    }
+}
+
+/// Tests items for the type integer after Draft 4: a number whose fractional part is zero.
+pub type IntegerItems = IntegerType;
+
+impl ItemType for IntegerItems {
+    fn compile_type<F: Json>(location: Location) -> LeafValidator<F> {
+        typed(JsonType::Integer, IntegerRule::ByValue, location)
+    }
+}
+
+/// Tests items for the type integer of Draft 4: a number that is written without a fraction.
+pub type IntegerItemsDraft4 = type_draft_4::IntegerType;
+
+impl ItemType for IntegerItemsDraft4 {
+    fn compile_type<F: Json>(location: Location) -> LeafValidator<F> {
+        typed(JsonType::Integer, IntegerRule::AsWritten, location)
+    }
+}
+
+/// The validator of `items` of a schema that has only `type`. It accepts an array whose items are
+/// all of the type, and every non-array. It applies no subschema.
+#[derive(Drop)]
+pub struct ItemsTypeValidator<T: ItemType, F: Json> {
+    // that of `items`
+    location: Location,
+    // that of the `type` in it
+    validator: SingleTypeValidator<T>,
+    representation: PhantomData<F>,
+}
+
+impl<T: ItemType, F: Json> ItemsTypeValidator<T, F> {
+    /// Creates the validator. The arguments are the keyword locations of `items` and of the `type`
+    /// in it.
+    pub fn new(location: Location, type_location: Location) -> ItemsTypeValidator<T, F>
+        ensures { items_type T.json_type T.rule result
+            ≡ bare_items location (type_at T.json_type T.rule type_location) }
+    {
+        ItemsTypeValidator {
+            location,
+            validator: SingleTypeValidator::new(type_location),
+            representation: PhantomData,
+        }
+    }
+
+    /// Returns whether each item of `instance` is of the type. `count` must be the number of items,
+    /// which is 0 for a non-array, and the instance must be lawful.
+    pub fn holds_of(&self, count: usize, instance: &F::Node) -> bool
+        requires lawful { IsTrue (is_lawful (F.Node.tree instance.now)) }
+        requires count { count ≡ length (items (F.Node.tree instance.now)) }
+        ensures { result
+            ≡ keyword_holds (items_type T.json_type T.rule self.now) (F.Node.tree instance.now) }
+    {
+        first_other::<T, F>(0, count, instance) == count
+    }
+
+    // Returns the evaluation of an item by a schema that has only `type`.
+    fn evaluate_item(
+        &self,
+        alloc: Global,
+        item: &F::Node,
+        location: &mut LazyLocation,
+        ctx: &mut ValidationContext,
+    ) -> Result<EvaluationNode, AllocError>
+        requires { IsTrue (is_lawful (F.Node.tree item.now)) }
+        ensures gives { let check = single_type T.json_type T.rule self.now.validator in
+            IfOk result (λ node. node ≡ tree (bare_schema self.now.location check)
+            (F.Node.tree item.now) (path_of location.old)) }
+        ensures location { location.new ≡ location.old }
+        ensures counted { ctx.new ≡ ctx.old }
+    {
+        let path = location.render()?;
+        let unit = Validate::<F>::evaluate(&self.validator, alloc, item, location, ctx)?;
+        let mut children = Vec::new(alloc);
+        children.push(EvaluationNode::new(alloc, unit, self.validator.location(), &path)?)?;
+        let result = EvaluationResult::from_children(alloc, children);
+        EvaluationNode::new(alloc, result, &self.location, &path)
+    }
+}
+
+impl<T: ItemType, F: Json> Validate<F> for ItemsTypeValidator<T, F> {
+    ghost meaning = { λ v. one (items_type T.json_type T.rule v) };
+
+    fn is_valid(&self, instance: &F::Node, _ctx: &mut ValidationContext) -> bool {
+        self.holds_of(instance.item_count(), instance)
+    }
+
+    fn validate<'i>(
+        &'i self,
+        instance: &'i F::Node,
+        location: &mut LazyLocation,
+        ctx: &mut ValidationContext,
+    ) -> Result<(), Fault<'i, F>> {
+        let count = instance.item_count();
+        let index = first_other::<T, F>(0, count, instance);
+        if index == count {
+            return Ok(());
+        }
+        location.push(index)?;
+        let item = instance.item(index);
+        let answer = self.validator.validate(item, location, ctx);
+        location.pop();
+        answer
+    }
+
+    fn collect_errors<'i>(
+        &'i self,
+        instance: &'i F::Node,
+        location: &mut LazyLocation,
+        ctx: &mut ValidationContext,
+        errors: &mut Vec<ValidationError<'i, F>>,
+    ) -> Result<(), AllocError> {
+        let count = instance.item_count();
+        let mut index = first_other::<T, F>(0, count, instance);
+        while index < count {
+            location.push(index)?;
+            let item = instance.item(index);
+            let answer = self.validator.collect_errors(item, location, ctx, errors);
+            location.pop();
+            answer?;
+            index = first_other::<T, F>(index + 1, count, instance);
+        }
+        Ok(())
+    }
+
+    fn evaluate(
+        &self,
+        alloc: Global,
+        instance: &F::Node,
+        location: &mut LazyLocation,
+        ctx: &mut ValidationContext,
+    ) -> Result<EvaluationResult, AllocError> {
+        let mut children = Vec::new(alloc);
+        for index in 0..instance.item_count() {
+            location.push(index)?;
+            let answer = self.evaluate_item(alloc, instance.item(index), location, ctx);
+            location.pop();
+            children.push(answer?)?;
+        }
+        Ok(items_unit(alloc, 0, children, instance))
+    }
+}
+
+// Returns the index of the first item from `from` on that is not of the type, or `count`, the number
+// of items, if there is none.
+fn first_other<T: ItemType, F: Json>(from: usize, count: usize, instance: &F::Node) -> usize
+    requires lawful { IsTrue (is_lawful (F.Node.tree instance.now)) }
+    requires count { count ≡ length (items (F.Node.tree instance.now)) }
+    requires from { from ≤ count }
+    ensures first { result ≡ from + leading (assertion_holds (type_is (Single T.json_type) T.rule))
+        (drop from (items (F.Node.tree instance.now))) }
+    ensures within { result ≤ count }
+{
+    let mut index = from;
+    // Four items a turn, with a return at each: a turn of one item is as long as its test.
+    while count - index >= 4 {
+        if !T::matches::<F>(instance.item(index)) {
+            return index;
+        }
+        if !T::matches::<F>(instance.item(index + 1)) {
+            return index + 1;
+        }
+        if !T::matches::<F>(instance.item(index + 2)) {
+            return index + 2;
+        }
+        if !T::matches::<F>(instance.item(index + 3)) {
+            return index + 3;
+        }
+        index += 4;
+    }
+    for rest in index..count {
+        if !T::matches::<F>(instance.item(rest)) {
+            return rest;
+        }
+    }
+    count
+}
+
+/// Returns the evaluation of `items` of one schema for the items from `start` on. `nodes` are the
+/// nodes of these items. The annotation is whether there are any. A non-array has the evaluation of
+/// an absent keyword.
+pub fn items_unit<N: Node>(
+    alloc: Global,
+    start: usize,
+    nodes: Vec<EvaluationNode>,
+    instance: &N,
+) -> EvaluationResult
+    ensures { result_of result ≡ (if is_array (N.tree instance.now)
+        then of_children (Some (flag (nat_lt start (length (items (N.tree instance.now)))))) nodes.items
+        else valid_unit) }
+{
+    if !instance.is_array() {
+        return EvaluationResult::valid_empty(alloc);
+    }
+    let mut unit = EvaluationResult::from_children(alloc, nodes);
+    unit.annotate(Annotations::Bool(start < instance.item_count()));
+    unit
+}
