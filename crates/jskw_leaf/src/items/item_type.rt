@@ -245,8 +245,7 @@ fn first_other<T: ItemType, F: Json>(from: usize, count: usize, instance: &F::No
 }
 
 /// Returns the evaluation of `items` of one schema for the items from `start` on. `nodes` are the
-/// nodes of these items. The annotation is whether there are any. A non-array has the evaluation of
-/// an absent keyword.
+/// nodes of these items. The annotation is whether there are any. A non-array gets no annotation.
 pub fn items_unit<N: Node>(
     alloc: Global,
     start: usize,
