@@ -46,7 +46,12 @@ impl<F: Json> Validate<F> for Each<F> {
         ctx: &mut ValidationContext,
     ) -> Result<(), Fault<'i, F>> {
         for index in 0..instance.item_count().min(self.nodes.len()) {
-            self.nodes[index].validate_item(index, instance.item(index), location, ctx)?;
+            let node = &self.nodes[index];
+            let item = instance.item(index);
+            if node.accepts(item, ctx) {
+                continue;
+            }
+            node.validate_item(index, item, location, ctx)?;
         }
         Ok(())
     }

@@ -178,7 +178,7 @@ impl<F: Json> SchemaNode<F> {
     // Applies the schema to an instance that is known to be valid without a look at the keywords.
     // Returns whether it is; if not, nothing is applied.
     #[inline(always)]
-    fn accepts(&self, instance: &F::Node, ctx: &mut ValidationContext) -> bool
+    pub(crate) fn accepts(&self, instance: &F::Node, ctx: &mut ValidationContext) -> bool
         requires { IsTrue (is_lawful (F.Node.tree instance.now)) }
         ensures valid { result ≡ true → holds self.now (F.Node.tree instance.now) ≡ true }
         ensures applied { result ≡ true → min (ctx.old + 1) u64.MAX ≤ ctx.new }
@@ -271,7 +271,7 @@ impl<F: Json> SchemaNode<F> {
         validate_units(units, instance, location, ctx)
     }
 
-    // Returns `validate` for the item at `index` of the instance at `location`.
+    // Returns `validate` by the keywords for the item at `index` of the instance at `location`.
     #[inline(always)]
     #[cycle(validate)]
     pub(crate) fn validate_item<'i>(
@@ -287,9 +287,6 @@ impl<F: Json> SchemaNode<F> {
         ensures location { location.new ≡ location.old }
         ensures counted { CountsUpTo ctx.old ctx.new (needed self.now (F.Node.tree item.now)) }
     {
-        if self.accepts(item, ctx) {
-            return Ok(());
-        }
         location.push(index)?;
         let answer = self.validate_keywords(item, location, ctx);
         location.pop();

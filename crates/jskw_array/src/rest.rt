@@ -90,8 +90,11 @@ impl<F: Json> Validate<F> for Rest<F> {
         ctx: &mut ValidationContext,
     ) -> Result<(), Fault<'i, F>> {
         for index in self.start..instance.item_count() {
-            self.node
-                .validate_item(index, instance.item(index), location, ctx)?;
+            let item = instance.item(index);
+            if self.node.accepts(item, ctx) {
+                continue;
+            }
+            self.node.validate_item(index, item, location, ctx)?;
         }
         Ok(())
     }

@@ -1,18 +1,18 @@
 -- The keywords of the fused shape of an array.
-use Rattle.std.proofs.Common.{◌≡◌, ℕ, ◌≤◌, length, Option, Some, None, List, [], ◌++◌, map, Bool, true, false, Result, Ok, Err, IsErrAnd, refl, subst, sym, ap, ◌∙◌, append_assoc, append-nil, arith}
+use Rattle.std.proofs.Common.{◌≡◌, ℕ, ◌≤◌, length, Option, Some, None, List, [], ◌∷◌, ◌++◌, true, false, Result, Ok, Err, IsErrAnd, refl, subst, sym, ap, ◌∙◌, append_assoc, append-nil, arith}
 use Rattle.jskw_value.specs.declared.types.JsonType.TheVariants.{Array}
-use Rattle.jskw_report.specs.Kind.{ErrorKind, WrongType}
+use Rattle.jskw_report.specs.Kind.{WrongType}
 use Rattle.jskw_leaf.specs.Items.{Extends, absorbed_type, optional}
-use Rattle.jskw_report.specs.Fail.{Failure, all_fail, error_kinds, keyword_fail, size_kind, unless}
-use Rattle.jskw_report.specs.Keyword.{MaxItems, MinItems, Size, size}
+use Rattle.jskw_report.specs.Fail.{Failure, all_fail, is_empty, keyword_fail, size_kind}
+use Rattle.jskw_report.specs.Keyword.{Keywords, MaxItems, MinItems, Size, size}
 use Rattle.jskw_report.specs.Meaning.{Placed, placed}
 use Rattle.jskw_value.specs.Pointer.{Pointer}
 use Rattle.jskw_report.specs.declared.error.TypeKind.TheVariants.{Single}
 use Rattle.jskw_value.specs.Tree.{Tree}
-use Rattle.jskw_report.specs.Holds.{assertion_holds}
-use Rattle.jskw_report.specs.Observe.{failures_unless}
+use Rattle.jskw_report.specs.Holds.{all_hold}
 use Rattle.jskw_number.specs.Meaning.{max_items, min_items}
 use Rattle.jskw_number.specs.declared.sizes.SizeLimit.{SizeLimit}
+use Rattle.jskw_report.proofs.Fails.{all_empty}
 use Rattle.jskw_report.proofs.Once.{fails_at_most_once}
 use Rattle.jskw_leaf.specs.declared.items.absorbed.AbsorbedKeywords.{AbsorbedKeywords}
 use Rattle.std.specs.Result.{is_err}
@@ -39,11 +39,18 @@ pub max_once : {A L : ℕ} (o : Option (SizeLimit A L)) (t : Tree) (p : Pointer)
 max_once None t p = omega arith
 max_once (Some v) t p = alone (keyword_fail (placed (max_items v)) t p) (size_once MaxItems v.limit v.location t p)
 
--- an assertion with one kind of error fails by that kind where it does not hold
-pub fails_unless : (a : Placed) (k : ErrorKind) → ((t : Tree) → error_kinds a.claim t ≡ unless (assertion_holds a.claim t) k)
-    → (t : Tree) (p : Pointer) (b : Bool) → b ≡ assertion_holds a.claim t → keyword_fail (placed a) t p ≡ failures_unless b k a.location t p
-fails_unless a k law t p b is =
-    ap (λ ks. map (λ j. record { kind = j; instance_location = p; keyword_location = a.location; tree = t }) ks) (law t) ∙ ap (λ h. failures_unless h k a.location t p) (sym is)
+-- ---- none fails where all hold
+
+pub none_fail : (ks : Keywords) (t : Tree) (p : Pointer) → all_hold ks t ≡ true → all_fail ks t p ≡ []
+none_fail ks t p hold = go (all_fail ks t p) (sym (all_empty ks t p) ∙ hold)
+  where
+    go : (fs : List Failure) → is_empty fs ≡ true → fs ≡ []
+    go [] e = refl
+    go (f ∷ fs) e = cc
+
+-- then none is appended
+pub none_appended : (old fs : List Failure) → fs ≡ [] → old ≡ old ++ fs
+none_appended old fs none = sym (ap (λ gs. old ++ gs) none ∙ append-nil old)
 
 -- ---- nodes that are appended
 

@@ -5,22 +5,12 @@ use Rattle.jskw_report.proofs.Appended.{fail_appended}
 use Rattle.jskw_report.proofs.Appending.{first_before}
 use Rattle.jskw_report.proofs.Fails.{holds_empty}
 use Rattle.jskw_array.specs.Heights.{each_is_as_high, rest_is_as_high}
-use Rattle.jskw_array.proofs.Accepted.{counted_within, no_errors, one_needed}
+use Rattle.jskw_array.proofs.Accepted.{counted_not, counted_within, no_errors, one_needed}
 use Rattle.jskw_array.proofs.Keywords.{fail_at, items_height, items_keywords, keywords_end, needed_at, schema_fails, schema_height, schema_needs, unit_empty, unit_height, unit_tall}
 use Rattle.jskw_array.proofs.Meant.{absurd-of, each_fails_of, each_needs, each_no_assertion, rest_fails_of, rest_needs, rest_no_assertion}
 use Rattle.jskw_leaf.proofs.Walks.{fails_at}
 use Rattle.jskw_array.proofs.Meetings.{each_fails_at, each_fails_end, each_needed_at, height_at, until_at}
 use Rattle.jskw_array.proofs.+validate.Goals as goal
-
--- ---- an item
-
-pub node::SchemaNode::validate_item-returns-then-accepts-clause-first : goal.node::SchemaNode::validate_item-returns-then-accepts-clause-first
-node::SchemaNode::validate_item-returns-then-accepts-clause-first g t c =
-    no_errors c.args.self.now (g.F.Node.Rooted.tree c.args.item.now) (item_location (path_of c.args.location.now) c.args.index) (c.accepts.ensures.valid c.if-accepts.true)
-
-pub node::SchemaNode::validate_item-returns-then-accepts-clause-counted : goal.node::SchemaNode::validate_item-returns-then-accepts-clause-counted
-node::SchemaNode::validate_item-returns-then-accepts-clause-counted g t c =
-    counted_within _ _ _ c.accepts.result c.if-accepts.true (one_needed c.args.self.now (g.F.Node.Rooted.tree c.args.item.now)) c.accepts.ensures.counted
 
 -- ---- a schema for each item
 
@@ -36,10 +26,33 @@ each::EachValidate::validate-loop-index-init g t c =
       counted_to = omega (arith, each_needs v instance);
     }
 
+pub each::EachValidate::validate-loop-index-preserved-then-accepts : goal.each::EachValidate::validate-loop-index-preserved-then-accepts
+each::EachValidate::validate-loop-index-preserved-then-accepts g t c =
+    let l = c.loop-index in
+    let tree = g.F.Node.Rooted.tree in
+    let ts = items (tree c.args.instance.now) in
+    let ss = c.args.self.now.nodes.items in
+    let p = path_of c.args.location.now in
+    let s = c.index-node.result.now in
+    let u = tree c.item-item.result.now in
+    let holds_here = c.accepts.ensures.valid c.if-accepts.true in
+    let none = no_errors s u (item_location p l.index) holds_here in
+    let counted = counted_within _ _ _ c.accepts.result c.if-accepts.true (one_needed s u) c.accepts.ensures.counted in
+    let here = each_fails_at ss ts l.index s u (omega arith) (omega arith) c.index-node.ensures c.item-item.ensures.value p in
+    let cost = each_needed_at ss ts l.index s u (omega arith) (omega arith) c.index-node.ensures c.item-item.ensures.value in
+    let rest = each_fails (schemas_of (drop (l.index + 1) ss)) (l.index + 1) (drop (l.index + 1) ts) p in
+    record {
+      last = l.invariant.last;
+      left = sym (here ∙ ap (λ fs. fs ++ rest) none) ∙ l.invariant.left;
+      location = l.invariant.location;
+      counted_from = grind (arith, common_steps);
+      counted_to = grind (arith, common_steps);
+    }
+
 pub each::EachValidate::validate-validate_item-requires : goal.each::EachValidate::validate-validate_item-requires
 each::EachValidate::validate-validate_item-requires g t c κs within =
     let v = c.args.self.now in
-    let below = height_at v.nodes.items c.loop-index.index c.index.result.now (omega arith) c.index.ensures in
+    let below = height_at v.nodes.items c.loop-index.index c.index-node.result.now (omega arith) c.index-node.ensures in
     (omega (arith, below, each_is_as_high v, c.decreases), search rules)
 
 pub each::EachValidate::validate-returns-in_err-validate_item-clause-quiet : goal.each::EachValidate::validate-returns-in_err-validate_item-clause-quiet
@@ -52,10 +65,10 @@ each::EachValidate::validate-returns-in_err-validate_item-clause-first g t c =
     let ts = items (tree c.args.instance.now) in
     let ss = c.args.self.now.nodes.items in
     let p = path_of c.args.location.now in
-    let s = c.index.result.now in
-    let u = tree c.item.result.now in
+    let s = c.index-node.result.now in
+    let u = tree c.item-item.result.now in
     let e = c.in_err-validate_item.field-0.0 in
-    let here = each_fails_at ss ts l.index s u (omega arith) (omega arith) c.index.ensures c.item.ensures.value p in
+    let here = each_fails_at ss ts l.index s u (omega arith) (omega arith) c.index-node.ensures c.item-item.ensures.value p in
     let first = subst (λ q. IsFirst tree (fail s u (item_location (path_of q) l.index)) (Err e)) l.invariant.location c.in_err-validate_item.ensures.first in
     let rest = each_fails (schemas_of (drop (l.index + 1) ss)) (l.index + 1) (drop (l.index + 1) ts) p in
     first_before tree _ e (fail s u (item_location p l.index)) rest _ c.from_residual.ensures.1 first (sym here ∙ l.invariant.left)
@@ -63,16 +76,17 @@ each::EachValidate::validate-returns-in_err-validate_item-clause-first g t c =
 pub each::EachValidate::validate-loop-index-preserved : goal.each::EachValidate::validate-loop-index-preserved
 each::EachValidate::validate-loop-index-preserved g t c =
     let l = c.loop-index in
+    let same = counted_not _ _ c.accepts.result c.if-accepts.false c.accepts.ensures.counted in
     let tree = g.F.Node.Rooted.tree in
     let ts = items (tree c.args.instance.now) in
     let ss = c.args.self.now.nodes.items in
     let p = path_of c.args.location.now in
-    let s = c.index.result.now in
-    let u = tree c.item.result.now in
+    let s = c.index-node.result.now in
+    let u = tree c.item-item.result.now in
     let none = subst (λ q. fail s u (item_location (path_of q) l.index) ≡ []) l.invariant.location c.in_ok-validate_item.ensures.first in
     let holds_here = holds_empty s u (item_location p l.index) ∙ ap is_empty none in
-    let here = each_fails_at ss ts l.index s u (omega arith) (omega arith) c.index.ensures c.item.ensures.value p in
-    let cost = each_needed_at ss ts l.index s u (omega arith) (omega arith) c.index.ensures c.item.ensures.value in
+    let here = each_fails_at ss ts l.index s u (omega arith) (omega arith) c.index-node.ensures c.item-item.ensures.value p in
+    let cost = each_needed_at ss ts l.index s u (omega arith) (omega arith) c.index-node.ensures c.item-item.ensures.value in
     let rest = each_fails (schemas_of (drop (l.index + 1) ss)) (l.index + 1) (drop (l.index + 1) ts) p in
     record {
       last = l.invariant.last;
@@ -101,6 +115,27 @@ rest::RestValidate::validate-loop-index-init g t c =
       counted_to = omega (arith, rest_needs v instance);
     }
 
+pub rest::RestValidate::validate-loop-index-preserved-then-accepts : goal.rest::RestValidate::validate-loop-index-preserved-then-accepts
+rest::RestValidate::validate-loop-index-preserved-then-accepts g t c =
+    let l = c.loop-index in
+    let tree = g.F.Node.Rooted.tree in
+    let ts = items (tree c.args.instance.now) in
+    let s = c.args.self.now.node in
+    let p = path_of c.args.location.now in
+    let u = tree c.item-item.result.now in
+    let holds_here = c.accepts.ensures.valid c.if-accepts.true in
+    let none = no_errors s u (item_location p l.index) holds_here in
+    let counted = counted_within _ _ _ c.accepts.result c.if-accepts.true (one_needed s u) c.accepts.ensures.counted in
+    let here = fails_at ts l.index u (omega arith) c.item-item.ensures.value (fail s) p in
+    let cost = until_at ts l.index u (omega arith) c.item-item.ensures.value (holds s) (needed s) in
+    record {
+      last = l.invariant.last;
+      left = sym (here ∙ ap (λ fs. fs ++ each_item (fail s) (l.index + 1) (drop (l.index + 1) ts) p) none) ∙ l.invariant.left;
+      location = l.invariant.location;
+      counted_from = grind (arith, common_steps);
+      counted_to = grind (arith, common_steps);
+    }
+
 pub rest::RestValidate::validate-validate_item-requires : goal.rest::RestValidate::validate-validate_item-requires
 rest::RestValidate::validate-validate_item-requires g t c κs within = (omega (arith, rest_is_as_high c.args.self.now, c.decreases), search rules)
 
@@ -114,9 +149,9 @@ rest::RestValidate::validate-returns-in_err-validate_item-clause-first g t c =
     let ts = items (tree c.args.instance.now) in
     let s = c.args.self.now.node in
     let p = path_of c.args.location.now in
-    let u = tree c.item.result.now in
+    let u = tree c.item-item.result.now in
     let e = c.in_err-validate_item.field-0.0 in
-    let here = fails_at ts l.index u (omega arith) c.item.ensures.value (fail s) p in
+    let here = fails_at ts l.index u (omega arith) c.item-item.ensures.value (fail s) p in
     let first = subst (λ q. IsFirst tree (fail s u (item_location (path_of q) l.index)) (Err e)) l.invariant.location c.in_err-validate_item.ensures.first in
     let rest = each_item (fail s) (l.index + 1) (drop (l.index + 1) ts) p in
     first_before tree _ e (fail s u (item_location p l.index)) rest _ c.from_residual.ensures.1 first (sym here ∙ l.invariant.left)
@@ -124,15 +159,16 @@ rest::RestValidate::validate-returns-in_err-validate_item-clause-first g t c =
 pub rest::RestValidate::validate-loop-index-preserved : goal.rest::RestValidate::validate-loop-index-preserved
 rest::RestValidate::validate-loop-index-preserved g t c =
     let l = c.loop-index in
+    let same = counted_not _ _ c.accepts.result c.if-accepts.false c.accepts.ensures.counted in
     let tree = g.F.Node.Rooted.tree in
     let ts = items (tree c.args.instance.now) in
     let s = c.args.self.now.node in
     let p = path_of c.args.location.now in
-    let u = tree c.item.result.now in
+    let u = tree c.item-item.result.now in
     let none = subst (λ q. fail s u (item_location (path_of q) l.index) ≡ []) l.invariant.location c.in_ok-validate_item.ensures.first in
     let holds_here = holds_empty s u (item_location p l.index) ∙ ap is_empty none in
-    let here = fails_at ts l.index u (omega arith) c.item.ensures.value (fail s) p in
-    let cost = until_at ts l.index u (omega arith) c.item.ensures.value (holds s) (needed s) in
+    let here = fails_at ts l.index u (omega arith) c.item-item.ensures.value (fail s) p in
+    let cost = until_at ts l.index u (omega arith) c.item-item.ensures.value (holds s) (needed s) in
     record {
       last = l.invariant.last;
       left = sym (here ∙ ap (λ fs. fs ++ each_item (fail s) (l.index + 1) (drop (l.index + 1) ts) p) none) ∙ l.invariant.left;

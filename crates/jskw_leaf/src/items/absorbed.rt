@@ -105,6 +105,23 @@ impl AbsorbedKeywords {
         ensures { IsFirst F.Node.tree (all_fail (absorbed_keywords self.now)
             (F.Node.tree instance.now) (path_of location.now)) result }
     {
+        if self.valid_count(instance).is_some() {
+            return Ok(());
+        }
+        self.first_error(instance, location)
+    }
+
+    // `validate` keyword by keyword.
+    #[inline(never)]
+    fn first_error<'i, F: Json>(
+        &'i self,
+        instance: &'i F::Node,
+        location: &LazyLocation,
+    ) -> Result<(), Fault<'i, F>>
+        requires { IsTrue (is_lawful (F.Node.tree instance.now)) }
+        ensures { IsFirst F.Node.tree (all_fail (absorbed_keywords self.now)
+            (F.Node.tree instance.now) (path_of location.now)) result }
+    {
         let answer = validate_assertion(&self.type_, instance, location);
         if answer.is_err() {
             return answer;
@@ -119,6 +136,24 @@ impl AbsorbedKeywords {
     /// Appends the errors of the three, in order. The instance must be lawful. If memory runs out,
     /// `errors` keeps what it held, and a beginning of the new errors follows.
     pub fn collect_errors<'i, F: Json>(
+        &'i self,
+        instance: &'i F::Node,
+        location: &LazyLocation,
+        errors: &mut Vec<ValidationError<'i, F>>,
+    ) -> Result<(), AllocError>
+        requires { IsTrue (is_lawful (F.Node.tree instance.now)) }
+        ensures { Appends F.Node.tree errors.old.items errors.new.items (all_fail
+            (absorbed_keywords self.now) (F.Node.tree instance.now) (path_of location.now)) result }
+    {
+        if self.valid_count(instance).is_some() {
+            return Ok(());
+        }
+        self.append_errors(instance, location, errors)
+    }
+
+    // `collect_errors` keyword by keyword.
+    #[inline(never)]
+    fn append_errors<'i, F: Json>(
         &'i self,
         instance: &'i F::Node,
         location: &LazyLocation,

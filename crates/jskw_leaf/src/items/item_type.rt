@@ -211,6 +211,7 @@ impl<T: ItemType, F: Json> Validate<F> for ItemsTypeValidator<T, F> {
 
 // Returns the index of the first item from `from` on that is not of the type, or `count`, the number
 // of items, if there is none.
+#[inline(never)]
 fn first_other<T: ItemType, F: Json>(from: usize, count: usize, instance: &F::Node) -> usize
     requires lawful { IsTrue (is_lawful (F.Node.tree instance.now)) }
     requires count { count ≡ length (items (F.Node.tree instance.now)) }
