@@ -1,6 +1,5 @@
 mod Askings
 mod Compiles
+mod Handles
 mod Lines
-mod Slots
 mod Texts
-mod Values

@@ -7,7 +7,6 @@ ghost use Rattle.jskw_c.specs.Slot.{slot_owns};
 ghost use Rattle.jskw_c.specs.contracts.compiled.CompiledSchema.{the_row};
 
 use crate::compiled::CompiledSchema;
-use crate::loose::Loose;
 use std::alloc::Global;
 use std::marker::Model;
 use std::mem;
@@ -29,42 +28,26 @@ impl Model for SchemaHandle {
 }
 
 impl SchemaHandle {
-    // Returns the handle with no schema. By hand, since it makes a pointer.
-    pub(crate) fn empty() -> SchemaHandle
-        ensures { result.schema ≡ None }
+    // Returns the handle with this schema. Proved by hand, because it makes a pointer.
+    pub(crate) fn of(schema: Option<Box<CompiledSchema>>) -> SchemaHandle
+        ensures { result.schema ≡ option_map (λ schema. schema.value) schema }
     {
-        SchemaHandle { at: null_mut() }
-    }
-
-    // Returns the handle with this schema. By hand, since it casts a pointer.
-    fn of_loose(loose: Loose<CompiledSchema, Global>) -> SchemaHandle
-        ensures { result.schema ≡ Some loose.value }
-    {
-        let Loose { at, alloc: _ } = loose;
+        let Some(schema) = schema else {
+            return SchemaHandle { at: null_mut() };
+        };
+        let (at, _) = Box::into_raw_with_allocator(schema);
         SchemaHandle { at: at as *mut u8 }
     }
 
-    // Returns the schema, if there is one. By hand, since it compares a pointer with null.
-    fn into_loose(self, alloc: Global) -> Option<Loose<CompiledSchema, Global>>
-        ensures { option_map (λ loose. loose.value) result ≡ self.schema }
-    {
-        let SchemaHandle { at } = self;
-        if at.is_null() {
-            None
-        } else {
-            let at = at as *mut CompiledSchema;
-            Some(Loose { at, alloc })
-        }
-    }
-
-    // Returns the schema as a box, if there is one.
+    // Returns the schema, if there is one. Proved by hand, because it tests a pointer and casts it.
     fn into_box(self, alloc: Global) -> Option<Box<CompiledSchema>>
         ensures { option_map (λ schema. schema.value) result ≡ self.schema }
     {
-        match self.into_loose(alloc) {
-            Some(loose) => Some(loose.into_box()),
-            None => None,
+        let SchemaHandle { at } = self;
+        if at.is_null() {
+            return None;
         }
+        unsafe { Some(Box::from_raw(alloc, at as *mut CompiledSchema)) }
     }
 
     /// Takes the schema out.
@@ -72,14 +55,14 @@ impl SchemaHandle {
         ensures taken { option_map (λ schema. schema.value) result ≡ self.old.schema }
         ensures left { self.new.schema ≡ None }
     {
-        mem::replace(self, SchemaHandle::empty()).into_box(alloc)
+        mem::replace(self, SchemaHandle::of(None)).into_box(alloc)
     }
 
     /// Puts a schema in, and frees the one that is there.
     pub fn put(&mut self, alloc: Global, schema: Box<CompiledSchema>)
         ensures { self.new.schema ≡ Some schema.value }
     {
-        let handle = SchemaHandle::of_loose(Loose::of(schema));
+        let handle = SchemaHandle::of(Some(schema));
         drop(mem::replace(self, handle).into_box(alloc));
     }
 

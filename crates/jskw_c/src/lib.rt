@@ -23,7 +23,6 @@ mod compiled;
 mod evaluation;
 mod handle;
 mod line;
-mod loose;
 mod settings;
 mod status;
 mod tell;

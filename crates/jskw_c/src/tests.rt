@@ -28,10 +28,31 @@ fn is_told(buffer: &[u8], length: usize, text: &[u8]) -> bool {
     length == text.len() && buffer.starts_with(text)
 }
 
+// Compiles a schema under a setting into a handle, and returns the status and the text's length.
+fn compile_as(
+    handle: &mut SchemaHandle,
+    alloc: Global,
+    (draft, vocabularies, overridden): (u32, u32, &[u8]),
+    schema: &[u8],
+    buffer: &mut [u8],
+) -> (u32, usize) {
+    let mut length = 0;
+    let status = jskw_compile(
+        alloc,
+        draft,
+        vocabularies,
+        overridden,
+        schema,
+        handle,
+        buffer,
+        &mut length,
+    );
+    (status, length)
+}
+
 // Compiles a schema of Draft 2020-12 into a handle, and returns the status.
 fn compile_into(handle: &mut SchemaHandle, alloc: Global, schema: &[u8]) -> u32 {
-    let mut length = 0;
-    jskw_compile(alloc, 2020, 7, &[], schema, handle, &mut [], &mut length)
+    compile_as(handle, alloc, (2020, 7, &[]), schema, &mut []).0
 }
 
 #[test]
@@ -56,7 +77,7 @@ fn answers_a_request(rt: HostRuntime) {
 
 #[test]
 fn asks_whether_instances_are_valid(rt: HostRuntime) {
-    let mut handle = SchemaHandle::empty();
+    let mut handle = SchemaHandle::of(None);
     assert_eq!(rt; jskw_is_valid(rt.alloc(), &mut handle, b"1"), 7);
     assert_eq!(rt; compile_into(&mut handle, rt.alloc(), SCHEMA), 0);
     let valid = br#"{"name":"Ada","age":36}"#;
@@ -76,7 +97,7 @@ fn asks_whether_instances_are_valid(rt: HostRuntime) {
 fn tells_errors(rt: HostRuntime) {
     let mut buffer = [0; 256];
     let mut length = 0;
-    let mut handle = SchemaHandle::empty();
+    let mut handle = SchemaHandle::of(None);
     let status = jskw_errors(rt.alloc(), &mut handle, b"1", &mut buffer, &mut length);
     assert_eq!(rt; status, 7);
     assert_eq!(rt; compile_into(&mut handle, rt.alloc(), SCHEMA), 0);
@@ -100,7 +121,7 @@ fn tells_errors(rt: HostRuntime) {
 fn tells_an_evaluation(rt: HostRuntime) {
     let mut buffer = [0; 1024];
     let mut length = 0;
-    let mut handle = SchemaHandle::empty();
+    let mut handle = SchemaHandle::of(None);
     let status = jskw_evaluate(rt.alloc(), &mut handle, b"1", &mut buffer, &mut length);
     assert_eq!(rt; status, 7);
     let schema = br#"{"contains":{"minimum":10},"minItems":3}"#;
@@ -114,54 +135,17 @@ fn tells_an_evaluation(rt: HostRuntime) {
 #[test]
 fn refuses_what_does_not_compile(rt: HostRuntime) {
     let mut buffer = [0; 64];
-    let mut length = 0;
-    let mut handle = SchemaHandle::empty();
+    let mut handle = SchemaHandle::of(None);
     assert_eq!(rt; compile_into(&mut handle, rt.alloc(), b"false"), 0);
     let bad = br#"{"items":{"type":"foo"}}"#;
-    let status = jskw_compile(
-        rt.alloc(),
-        7,
-        7,
-        &[],
-        bad,
-        &mut handle,
-        &mut buffer,
-        &mut length,
-    );
+    let (status, length) = compile_as(&mut handle, rt.alloc(), (7, 7, &[]), bad, &mut buffer);
     assert_eq!(rt; status, 5);
     assert!(rt; is_told(&buffer, length, REFUSAL));
-    let status = jskw_compile(
-        rt.alloc(),
-        5,
-        7,
-        &[],
-        b"true",
-        &mut handle,
-        &mut buffer,
-        &mut length,
-    );
+    let (status, _) = compile_as(&mut handle, rt.alloc(), (5, 7, &[]), b"true", &mut buffer);
     assert_eq!(rt; status, 6);
-    let status = jskw_compile(
-        rt.alloc(),
-        7,
-        8,
-        &[],
-        b"true",
-        &mut handle,
-        &mut buffer,
-        &mut length,
-    );
+    let (status, _) = compile_as(&mut handle, rt.alloc(), (7, 8, &[]), b"true", &mut buffer);
     assert_eq!(rt; status, 6);
-    let status = jskw_compile(
-        rt.alloc(),
-        7,
-        7,
-        b"{}",
-        b"true",
-        &mut handle,
-        &mut buffer,
-        &mut length,
-    );
+    let (status, _) = compile_as(&mut handle, rt.alloc(), (7, 7, b"{}"), b"true", &mut buffer);
     assert_eq!(rt; status, 6);
     assert_eq!(rt; compile_into(&mut handle, rt.alloc(), b"{"), 3);
     assert_eq!(rt; jskw_is_valid(rt.alloc(), &mut handle, b"1"), 1);
