@@ -113,6 +113,7 @@ impl<T: ItemType, F: Json> ItemsTypeValidator<T, F> {
 
     /// Returns whether each item of `instance` is of the type. `count` must be the number of items,
     /// which is 0 for a non-array, and the instance must be lawful.
+    #[inline(never)]
     pub fn holds_of(&self, count: usize, instance: &F::Node) -> bool
         requires lawful { IsTrue (is_lawful (F.Node.tree instance.now)) }
         requires count { count ≡ length (items (F.Node.tree instance.now)) }
