@@ -32,8 +32,8 @@ use jskw_value::{Array, Json, Node};
 use serde_json::{Map, Value};
 use std::alloc::{AllocError, Global};
 
-/// The validators of `type` of `array`, `minItems` and `maxItems` in the fused shape: those that
-/// the schema has.
+/// The validators of `type` of `array`, `minItems` and `maxItems` (JSON Schema Validation 6.1.1,
+/// 6.4.2, 6.4.1) in the fused shape: those that the schema has.
 #[derive(Drop)]
 pub struct AbsorbedKeywords {
     type_: ArrayTypeValidator,

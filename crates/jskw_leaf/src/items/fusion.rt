@@ -28,7 +28,8 @@ pub fn array_shape_fusion<F: Json>(ctx: &Context<'_, F>, parent: &Map<String, Va
         && lacks_other_keywords(parent)
 }
 
-/// Returns whether the value is one schema that asserts something: an object or `false`.
+/// Returns whether the value of `items` is one schema that asserts something: an object or `false`
+/// (JSON Schema Core 10.3.1.2, 4.3).
 pub fn is_items_schema(value: &Value) -> bool
     ensures { result ≡ is_items_schema (view value.now) }
 {

@@ -246,8 +246,9 @@ fn first_other<T: ItemType, F: Json>(from: usize, count: usize, instance: &F::No
     count
 }
 
-/// Returns the evaluation of `items` of one schema for the items from `start` on. `nodes` are the
-/// nodes of these items. The annotation is whether there are any. A non-array gets no annotation.
+/// Returns the evaluation of `items` of one schema (JSON Schema Core 10.3.1.2) for the items from
+/// `start` on. `nodes` are the nodes of these items. The annotation is whether there are any. A
+/// non-array gets no annotation.
 pub fn items_unit<N: Node>(
     alloc: Global,
     start: usize,
