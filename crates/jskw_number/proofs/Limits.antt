@@ -61,5 +61,10 @@ by_order ExclusiveMinimum z (number (exact c k)) = let m : ℤ = z *ℤ pos (10 
 by_order ExclusiveMaximum z (number (exact c k)) = let m : ℤ = z *ℤ pos (10 ^ k) in sym (is_lt_of c m (int_lt c m) (int_lt m c))
 by_order _ z _ = refl
 
+-- every limit holds of what is no number
+pub limit_other : (r : Relation) (z : ℤ) (t : Tree) → as_number t ≡ None → limit_holds r z t ≡ true
+limit_other r z (number x) h = cc
+limit_other r z _ h = refl
+
 -- a limit's test, of a number that is an integer of its type, of any other, and of what is none
 pub ruleset holding = (by_order, stands_as_number, stands_number, stands_other)

@@ -6,16 +6,18 @@ use Rattle.std.proofs.lemmas.Int.{ints}
 use Rattle.std.specs.Option.{option_map_or}
 use Rattle.std.specs.Prelude.{int_le, int_lt, nat_lt, unsigned_abs}
 use Rattle.jskw_value.specs.Number.{Num, exact, float, is_multiple_of}
-use Rattle.jskw_value.specs.Tree.{Tree, null, boolean, number, string, array, object, is_array, is_object}
+use Rattle.jskw_value.specs.Tree.{Tree, null, boolean, number, string, array, object, as_number, is_array}
 use Rattle.jskw_value.specs.Types as types
 use Rattle.jskw_value.specs.declared.types.JsonTypeSet.{JsonTypeSet}
 use Rattle.jskw_value.specs.declared.types.JsonType.TheVariants.{Array, Boolean, Integer, Null, Number, Object, String}
-use Rattle.jskw_report.specs.Holds.{keyword_holds, is_integer, is_of, limit_holds, multiple_holds, stands_in}
+use Rattle.jskw_report.specs.Holds.{is_integer, is_of, limit_holds, multiple_holds, stands_in}
 use Rattle.jskw_report.specs.Keyword.{Keyword, Integers, by_value, as_written, Relation, Minimum, Maximum, ExclusiveMinimum, ExclusiveMaximum}
 use Rattle.jskw_number.specs.declared.quick_set.IntegerRange.{IntegerRange}
 use Rattle.jskw_number.specs.declared.quick_set.QuickSet.{QuickSet}
 use Rattle.jskw_number.specs.QuickSet.{Accepts, divides, has_number, in_range, is_in}
 use Rattle.jskw_report.proofs.Elsewhere.{IsOther, holds_of_other, subject}
+use Rattle.jskw_number.proofs.Divisors.{divides_other}
+use Rattle.jskw_number.proofs.Limits.{limit_other}
 
 times_one : (n : ℤ) → n *ℤ pos (10 ^ 0) ≡ n
 unfolding one
@@ -61,42 +63,33 @@ in_both range other divided above both d l u z h =
 
 -- ---- numbers of a range
 
+-- an integer that is in the range where it is kept
+if_kept : (g : IntegerRange) (c : ℤ) (kept : Bool) → option_map_or (in_range g) (if kept then Some c else None) false ≡ true → in_range g c ≡ true
+if_kept g c true h = h
+if_kept g c false h = absurd (true≢false (sym h))
+
 -- an integer of the range is in it as itself
 whole_in : (g : IntegerRange) (c : ℤ) → has_number g (exact c zero) ≡ true → in_range g c ≡ true
-whole_in g (pos n) h = go (nat_lt n (2 ^ 63)) h
-  where
-    go : (b : Bool) → option_map_or (in_range g) (if b then Some (pos n) else None) false ≡ true → in_range g (pos n) ≡ true
-    go true h = h
-    go false h = absurd (true≢false (sym h))
-whole_in g (negsuc n) h = go (nat_lt n (2 ^ 63)) h
-  where
-    go : (b : Bool) → option_map_or (in_range g) (if b then Some (negsuc n) else None) false ≡ true → in_range g (negsuc n) ≡ true
-    go true h = h
-    go false h = absurd (true≢false (sym h))
+whole_in g (pos n) h = if_kept g (pos n) (nat_lt n (2 ^ 63)) h
+whole_in g (negsuc n) h = if_kept g (negsuc n) (nat_lt n (2 ^ 63)) h
 
--- a range within a limit, as a set beside all that is no number
+-- a test that accepts the integers of a range, and all that is no number, accepts the set of these
+accepted : (q : QuickSet) (g : IntegerRange) (test : Tree → Bool) → ((m : Num) → is_in q (number m) ≡ has_number g m) → ((z : ℤ) → in_range g z ≡ true → test (number (exact z zero)) ≡ true)
+    → ((t : Tree) → as_number t ≡ None → test t ≡ true) → (t : Tree) → is_in q t ≡ true → test t ≡ true
+accepted q g test e within others (number (exact c zero)) h = within c (whole_in g c (sym (e (exact c zero)) ∙ h))
+accepted q g test e within others (number (exact c (suc k))) h = absurd (true≢false (sym h ∙ e (exact c (suc k))))
+accepted q g test e within others (number float) h = absurd (true≢false (sym h ∙ e float))
+accepted q g test e within others t h = others t refl
+
+-- a range within a limit
 pub accepted_limit : (q : QuickSet) (g : IntegerRange) (r : Relation) (n : ℤ) → ((m : Num) → is_in q (number m) ≡ has_number g m) → ((z : ℤ) → in_range g z ≡ true → stands_in r z 0 n ≡ true)
     → (t : Tree) → is_in q t ≡ true → limit_holds r n t ≡ true
-accepted_limit q g r n e within (number (exact c zero)) h = within c (whole_in g c (sym (e (exact c zero)) ∙ h))
-accepted_limit q g r n e within (number (exact c (suc k))) h = absurd (true≢false (sym h ∙ e (exact c (suc k))))
-accepted_limit q g r n e within (number float) h = absurd (true≢false (sym h ∙ e float))
-accepted_limit q g r n e within null h = refl
-accepted_limit q g r n e within (boolean b) h = refl
-accepted_limit q g r n e within (string s) h = refl
-accepted_limit q g r n e within (array ts) h = refl
-accepted_limit q g r n e within (object ms) h = refl
+accepted_limit q g r n e within = accepted q g (limit_holds r n) e within (limit_other r n)
 
 -- and a range of multiples
 pub accepted_multiple : (q : QuickSet) (g : IntegerRange) (d : ℕ) → ((m : Num) → is_in q (number m) ≡ has_number g m) → ((z : ℤ) → in_range g z ≡ true → is_multiple_of z 0 d ≡ true)
     → (t : Tree) → is_in q t ≡ true → multiple_holds d t ≡ true
-accepted_multiple q g d e within (number (exact c zero)) h = within c (whole_in g c (sym (e (exact c zero)) ∙ h))
-accepted_multiple q g d e within (number (exact c (suc k))) h = absurd (true≢false (sym h ∙ e (exact c (suc k))))
-accepted_multiple q g d e within (number float) h = absurd (true≢false (sym h ∙ e float))
-accepted_multiple q g d e within null h = refl
-accepted_multiple q g d e within (boolean b) h = refl
-accepted_multiple q g d e within (string s) h = refl
-accepted_multiple q g d e within (array ts) h = refl
-accepted_multiple q g d e within (object ms) h = refl
+accepted_multiple q g d e within = accepted q g (multiple_holds d) e within (divides_other d)
 
 -- a multiple of d is one of d * 10 ^ 0
 pub multiple_whole : (z : ℤ) (d : ℕ) → (unsigned_abs z % d == 0) ≡ true → is_multiple_of z 0 d ≡ true
@@ -127,31 +120,15 @@ accepted_types q s a b n o st i rule (number float) h = absurd (true≢false (sy
 
 -- ---- what a keyword is not about
 
-pub but_arrays : (k : Keyword) (t : Tree) → subject k ≡ Some Array → is_array t ≡ false → keyword_holds k t ≡ true
-but_arrays k t about other = holds_of_other k t (subst (λ o. IsOther o t) (sym about) (go t other))
-  where
-    go : (t : Tree) → is_array t ≡ false → IsOther (Some Array) t
-    go (array ts) h e = absurd (true≢false h)
-    go null h e = cc
-    go (boolean x) h e = cc
-    go (number n) h e = cc
-    go (string x) h e = cc
-    go (object ms) h e = cc
+-- what is no array is of another type
+no_array : (t : Tree) → is_array t ≡ false → IsOther (Some Array) t
+no_array (array ts) h e = absurd (true≢false h)
+no_array null h e = cc
+no_array (boolean x) h e = cc
+no_array (number n) h e = cc
+no_array (string x) h e = cc
+no_array (object ms) h e = cc
 
-pub but_objects : (k : Keyword) (t : Tree) → subject k ≡ Some Object → is_object t ≡ false → keyword_holds k t ≡ true
-but_objects k t about other = holds_of_other k t (subst (λ o. IsOther o t) (sym about) (go t other))
-  where
-    go : (t : Tree) → is_object t ≡ false → IsOther (Some Object) t
-    go (object ms) h e = absurd (true≢false h)
-    go null h e = cc
-    go (boolean x) h e = cc
-    go (number n) h e = cc
-    go (string x) h e = cc
-    go (array ts) h e = cc
-
--- the sets of all values but arrays, and but objects
+-- the set of all values but arrays
 pub without_arrays : (q : QuickSet) (k : Keyword) → subject k ≡ Some Array → ((t : Tree) → is_in q t ≡ true → is_array t ≡ false) → Accepts q k
-without_arrays q k about none t h = but_arrays k t about (none t h)
-
-pub without_objects : (q : QuickSet) (k : Keyword) → subject k ≡ Some Object → ((t : Tree) → is_in q t ≡ true → is_object t ≡ false) → Accepts q k
-without_objects q k about none t h = but_objects k t about (none t h)
+without_arrays q k about none t h = holds_of_other k t (subst (λ o. IsOther o t) (sym about) (no_array t (none t h)))
