@@ -4,11 +4,20 @@ use Rattle.std.proofs.lemmas.List.{drop-drop}
 use Rattle.std.specs.List.{list_all}
 use Rattle.jskw_value.specs.Pointer.{Pointer, item_location}
 use Rattle.jskw_value.specs.Tree.{Tree}
-use Rattle.jskw_report.specs.Fail.{Failure, each_item}
+use Rattle.jskw_value.specs.declared.types.JsonType.{JsonType}
+use Rattle.jskw_report.specs.Fail.{Failure, each_item, fail, keyword_fail}
+use Rattle.jskw_report.specs.Holds.{assertion_holds}
+use Rattle.jskw_report.specs.Keyword.{Integers, type_is}
+use Rattle.jskw_report.specs.Meaning.{placed}
+use Rattle.jskw_report.specs.Observe.{AppendsBeginning, Collects}
 use Rattle.jskw_report.specs.Paths.{path_of}
+use Rattle.jskw_report.specs.declared.error.TypeKind.TheVariants.{Single}
+use Rattle.jskw_report.proofs.Appending.{collects_more, collects_nothing, collects_part}
 use Rattle.jskw_report.proofs.Gathering.{drop_here}
 use Rattle.jskw_report.proofs.Pointers.{path_of_push}
-use Rattle.jskw_leaf.specs.Items.{leading}
+use Rattle.jskw_leaf.specs.Items.{bare_schema, leading}
+use Rattle.jskw_leaf.specs.Meaning.{type_at}
+use Rattle.jskw_leaf.proofs.Bare.{bare_fail, type_fails_not}
 
 -- where an item stands that was entered
 pub entered : {new now old : List ℕ} (i : ℕ) → new ≡ now ++ i ∷ [] → now ≡ old → path_of new ≡ item_location (path_of old) i
@@ -66,3 +75,41 @@ module _ (check : Tree → Bool) (f : Tree → Pointer → List Failure) (p : Po
   passed_over ts i j is =
       each_from (drop i ts) i ∙ ap (λ us. each_item f (i + leading check (drop i ts)) us p) (drop-drop (leading check (drop i ts)) i ts)
       ∙ ap (λ m. each_item f m (drop m ts) p) (sym is)
+
+-- ---- a walk over the items of an array at p, by the schema at q that has the type check alone
+
+module _ (j : JsonType) (rule : Integers) (q r : Pointer) (ts : List Tree) (p : Pointer) where
+  -- what fails from an index on
+  abbrev fails_from : ℕ → List Failure
+  fails_from i = each_item (fail (bare_schema q (type_at j rule r))) i (drop i ts) p
+
+  -- what fails of an item at a place
+  abbrev fails_of : Tree → Pointer → List Failure
+  fails_of t place = keyword_fail (placed (type_at j rule r)) t place
+
+  -- it passes over what is of the type
+  pub of_type_passed : (i n : ℕ) → n ≡ i + leading (assertion_holds (type_is (Single j) rule)) (drop i ts) → fails_from i ≡ fails_from n
+  of_type_passed i n is = passed_over (assertion_holds (type_is (Single j) rule)) (fail (bare_schema q (type_at j rule r))) p (λ t place h. type_fails_not j rule q r t place h) ts i n is
+
+  -- at an item
+  type_at_item : (i : ℕ) (t : Tree) (place : Pointer) → i < length ts → t ≡ get_or ts i t → place ≡ item_location p i → fails_from i ≡ fails_of t place ++ fails_from (i + 1)
+  type_at_item i t place within is at = fails_at ts i t within is (fail (bare_schema q (type_at j rule r))) p
+      ∙ ap (λ fs. fs ++ fails_from (i + 1)) (bare_fail q (type_at j rule r) t (item_location p i) ∙ ap (fails_of t) (sym at))
+
+  -- before the first item that is not of the type
+  pub type_begins : (old : List Failure) (n : ℕ) → n ≡ 0 + leading (assertion_holds (type_is (Single j) rule)) (drop 0 ts) → Collects old old (fails_from n) (fails_from 0)
+  type_begins old n is = subst (λ fs. Collects old old fs (fails_from 0)) (of_type_passed 0 n is) (collects_nothing old (fails_from 0))
+
+  -- the errors of an item are appended, and it goes on to the next that is not of the type
+  pub type_appended : (old now new : List Failure) (i n : ℕ) (t : Tree) (place : Pointer) → i < length ts → t ≡ get_or ts i t → place ≡ item_location p i
+      → n ≡ i + 1 + leading (assertion_holds (type_is (Single j) rule)) (drop (i + 1) ts)
+      → Collects old now (fails_from i) (fails_from 0) → new ≡ now ++ fails_of t place → Collects old new (fails_from n) (fails_from 0)
+  type_appended old now new i n t place within is at next c e =
+      let left = subst (λ fs. Collects old now fs (fails_from 0)) (type_at_item i t place within is at) c in
+      subst (λ fs. Collects old new fs (fails_from 0)) (of_type_passed (i + 1) n next) (collects_more (fails_of t place) (fails_from (i + 1)) left e)
+
+  -- a beginning of them is appended
+  pub type_begun : (old now new : List Failure) (i : ℕ) (t : Tree) (place : Pointer) → i < length ts → t ≡ get_or ts i t → place ≡ item_location p i
+      → Collects old now (fails_from i) (fails_from 0) → AppendsBeginning now new (fails_of t place) → AppendsBeginning old new (fails_from 0)
+  type_begun old now new i t place within is at c b =
+      collects_part (fails_of t place) (fails_from (i + 1)) (subst (λ fs. Collects old now fs (fails_from 0)) (type_at_item i t place within is at) c) b

@@ -9,8 +9,8 @@ use Rattle.jskw_report.specs.Observe.{IsFirst}
 use Rattle.jskw_report.specs.Paths.{path_of}
 use Rattle.jskw_leaf.specs.Items.{bare_schema, leading}
 use Rattle.jskw_leaf.specs.Meaning.{single_type}
-use Rattle.jskw_leaf.proofs.Bare.{type_fails_first, type_fails_not}
-use Rattle.jskw_leaf.proofs.Walks.{entered, fails_at, leading_fails, passed_over}
+use Rattle.jskw_leaf.proofs.Bare.{type_fails_first}
+use Rattle.jskw_leaf.proofs.Walks.{entered, fails_at, leading_fails, of_type_passed}
 use Rattle.jskw_leaf.proofs.items.item_type.ItemsTypeValidatorValidate.validate.Goals as goal
 
 pub returns-then-index-count-clause-first : goal.returns-then-index-count-clause-first
@@ -23,7 +23,7 @@ returns-then-index-count-clause-first g c =
     let ts = items (g.F.Node.Rooted.tree c.args.instance.now) in
     let p = path_of c.args.location.now in
     let i = c.first_other-index.result in
-    passed_over (assertion_holds a.claim) (fail s) p (λ t q h. type_fails_not j rule v.location a.location t q h) ts 0 i c.first_other-index.ensures.first
+    of_type_passed j rule v.location a.location ts p 0 i c.first_other-index.ensures.first
     ∙ ap (λ us. each_item (fail s) i us p) (drop_all i ts (omega arith))
 
 pub returns-clause-first : goal.returns-clause-first
@@ -46,6 +46,6 @@ returns-clause-first g c =
     let fails = leading_fails check ts i u behind within c.item-item.ensures.value in
     let at_item = subst (λ q. IsFirst tree (keyword_fail (placed a) u q) r) (entered i c.in_ok-push.ensures.pushed refl) c.validate-answer.ensures.first in
     let rest = each_item (fail s) (i + 1) (drop (i + 1) ts) p in
-    let whole = passed_over check (fail s) p (λ t q h. type_fails_not j rule v.location a.location t q h) ts 0 i c.first_other-index.ensures.first
+    let whole = of_type_passed j rule v.location a.location ts p 0 i first
     ∙ fails_at ts i u within c.item-item.ensures.value (fail s) p in
     subst (λ fs. IsFirst tree fs r) (sym whole) (type_fails_first tree j rule v.location a.location u (item_location p i) rest r fails at_item)
