@@ -2,21 +2,25 @@
 use Rattle.std.proofs.Common.{◌≡◌, ℕ, ◌≤◌, length, Option, Some, None, List, [], ◌∷◌, ◌++◌, true, false, Result, Ok, Err, IsErrAnd, refl, subst, sym, ap, ◌∙◌, append_assoc, append-nil, arith}
 use Rattle.jskw_value.specs.declared.types.JsonType.TheVariants.{Array}
 use Rattle.jskw_report.specs.Kind.{WrongType}
-use Rattle.jskw_leaf.specs.Items.{Extends, absorbed_type, optional}
+use Rattle.jskw_leaf.specs.Items.{Extends, absorbed_bounds, absorbed_keywords, absorbed_type, optional}
 use Rattle.jskw_report.specs.Fail.{Failure, all_fail, is_empty, keyword_fail, size_kind}
 use Rattle.jskw_report.specs.Keyword.{Keywords, MaxItems, MinItems, Size, size}
-use Rattle.jskw_report.specs.Meaning.{Placed, placed}
+use Rattle.jskw_report.specs.Meaning.{placed}
 use Rattle.jskw_value.specs.Pointer.{Pointer}
 use Rattle.jskw_report.specs.declared.error.TypeKind.TheVariants.{Single}
 use Rattle.jskw_value.specs.Tree.{Tree}
 use Rattle.jskw_report.specs.Holds.{all_hold}
 use Rattle.jskw_number.specs.Meaning.{max_items, min_items}
 use Rattle.jskw_number.specs.declared.sizes.SizeLimit.{SizeLimit}
+use Rattle.jskw_report.proofs.Appended.{fail_appended}
+use Rattle.jskw_report.proofs.Appending.{appends_behind}
 use Rattle.jskw_report.proofs.Fails.{all_empty}
 use Rattle.jskw_report.proofs.Once.{fails_at_most_once}
 use Rattle.jskw_leaf.specs.declared.items.absorbed.AbsorbedKeywords.{AbsorbedKeywords}
 use Rattle.std.specs.Result.{is_err}
-use Rattle.jskw_report.specs.Observe.{IsFirst}
+use Rattle.jskw_report.specs.Errors.{failures_of}
+use Rattle.jskw_report.specs.Observe.{Appends, IsFirst}
+use Rattle.jskw_report.specs.declared.error.ValidationError.{ValidationError}
 use Rattle.jskw_report.specs.declared.error.Fault.{Fault}
 use Rattle.jskw_report.specs.declared.error.Fault.TheVariants.{Invalid, Memory}
 
@@ -38,6 +42,15 @@ min_once (Some v) t p = alone (keyword_fail (placed (min_items v)) t p) (size_on
 pub max_once : {A L : ℕ} (o : Option (SizeLimit A L)) (t : Tree) (p : Pointer) → length (all_fail (optional max_items o) t p) ≤ 1
 max_once None t p = omega arith
 max_once (Some v) t p = alone (keyword_fail (placed (max_items v)) t p) (size_once MaxItems v.limit v.location t p)
+
+-- ---- the errors of `type`, and those of the bounds behind them
+
+pub behind_type : {F N O P E : Type 0} (a : AbsorbedKeywords) (t : Tree) (p : Pointer) (tree : N → Tree) (old now new : List (ValidationError F N O P)) (r : Result Unit E)
+    → failures_of tree now ≡ failures_of tree old ++ keyword_fail (placed (absorbed_type a)) t p
+    → Appends tree now new (all_fail (optional min_items a.min_items) t p ++ all_fail (optional max_items a.max_items) t p) r
+    → Appends tree old new (all_fail (absorbed_keywords a) t p) r
+behind_type a t p tree old now new r before bounds = appends_behind tree old now new (keyword_fail (placed (absorbed_type a)) t p) (all_fail (absorbed_bounds a) t p) r before
+    (subst (λ fs. Appends tree now new fs r) (sym (fail_appended t p (optional min_items a.min_items) (optional max_items a.max_items))) bounds)
 
 -- ---- none fails where all hold
 
