@@ -1,9 +1,9 @@
 -- The keywords of the fused shape of an array.
-use Rattle.std.proofs.Common.{◌≡◌, ℕ, ◌≤◌, length, Option, Some, None, List, [], ◌∷◌, ◌++◌, true, false, Result, Ok, Err, IsErrAnd, refl, subst, sym, ap, ◌∙◌, append_assoc, append-nil, arith}
+use Rattle.std.proofs.Common.{◌≡◌, ℕ, ◌≤◌, length, Option, Some, None, List, [], ◌++◌, true, false, Result, Ok, Err, IsErrAnd, refl, subst, sym, ap, ◌∙◌, append_assoc, append-nil, arith}
 use Rattle.jskw_value.specs.declared.types.JsonType.TheVariants.{Array}
 use Rattle.jskw_report.specs.Kind.{WrongType}
 use Rattle.jskw_leaf.specs.Items.{Extends, absorbed_bounds, absorbed_keywords, absorbed_type, optional}
-use Rattle.jskw_report.specs.Fail.{Failure, all_fail, is_empty, keyword_fail, size_kind}
+use Rattle.jskw_report.specs.Fail.{Failure, all_fail, keyword_fail, size_kind}
 use Rattle.jskw_report.specs.Keyword.{Keywords, MaxItems, MinItems, Size, size}
 use Rattle.jskw_report.specs.Meaning.{placed}
 use Rattle.jskw_value.specs.Pointer.{Pointer}
@@ -14,7 +14,7 @@ use Rattle.jskw_number.specs.Meaning.{max_items, min_items}
 use Rattle.jskw_number.specs.declared.sizes.SizeLimit.{SizeLimit}
 use Rattle.jskw_report.proofs.Appended.{fail_appended}
 use Rattle.jskw_report.proofs.Appending.{appends_behind}
-use Rattle.jskw_report.proofs.Fails.{all_empty}
+use Rattle.jskw_report.proofs.Fails.{all_empty, no_element}
 use Rattle.jskw_report.proofs.Once.{fails_at_most_once}
 use Rattle.jskw_leaf.specs.declared.items.absorbed.AbsorbedKeywords.{AbsorbedKeywords}
 use Rattle.std.specs.Result.{is_err}
@@ -55,11 +55,7 @@ behind_type a t p tree old now new r before bounds = appends_behind tree old now
 -- ---- none fails where all hold
 
 pub none_fail : (ks : Keywords) (t : Tree) (p : Pointer) → all_hold ks t ≡ true → all_fail ks t p ≡ []
-none_fail ks t p hold = go (all_fail ks t p) (sym (all_empty ks t p) ∙ hold)
-  where
-    go : (fs : List Failure) → is_empty fs ≡ true → fs ≡ []
-    go [] e = refl
-    go (f ∷ fs) e = cc
+none_fail ks t p hold = no_element (all_fail ks t p) (sym (all_empty ks t p) ∙ hold)
 
 -- then none is appended
 pub none_appended : (old fs : List Failure) → fs ≡ [] → old ≡ old ++ fs

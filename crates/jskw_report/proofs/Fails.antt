@@ -13,6 +13,11 @@ use Rattle.jskw_report.specs.Fail.{Failure, unless, missing, error_kinds, passes
 
 -- ---- empty lists
 
+-- an empty list has no element
+pub no_element : {A : Type 0} (xs : List A) → is_empty xs ≡ true → xs ≡ []
+no_element [] e = refl
+no_element (x ∷ xs) e = cc
+
 -- two lists, one after the other, are empty where both are
 is_empty-append : {A : Type 0} (xs ys : List A) → is_empty (xs ++ ys) ≡ (is_empty xs && is_empty ys)
 is_empty-append [] ys = refl
