@@ -1,9 +1,9 @@
 -- The values that a schema is known to accept, by its keywords.
-use Rattle.std.proofs.Common.{◌≡◌, ◌≢◌, ℕ, ◌+◌, ◌<◌, ◌≤◌, List, [], ◌∷◌, length, get_or, drop, Bool, true, false, ◌&&◌, Some, if◌then◌else◌, refl, sym, ap, ◌∙◌, arith}
+use Rattle.std.proofs.Common.{◌≡◌, ◌≢◌, ℕ, ◌+◌, ◌<◌, ◌≤◌, List, [], length, get_or, drop, Bool, true, false, ◌&&◌, Some, if◌then◌else◌, refl, sym, ap, ◌∙◌, arith}
 use Rattle.std.proofs.lemmas.Bool.{and_parts, true≢false}
-use Rattle.jskw_array.specs.Words.{Array, CountsUpTo, Each, Failure, Pointer, Rest, Schema, TheUnit, Tree, all_hold, each_keyword, fail, false_schema, holds, is_empty, is_in, keywords_of, meaning_holds, needed, rest_keyword, schema_object, unit_meaning, validator_keyword}
+use Rattle.jskw_array.specs.Words.{Array, CountsUpTo, Each, Pointer, Rest, Schema, TheUnit, Tree, all_hold, each_keyword, fail, false_schema, holds, is_in, keywords_of, meaning_holds, needed, rest_keyword, schema_object, unit_meaning, validator_keyword}
 use Rattle.jskw_report.proofs.Elsewhere.{subject}
-use Rattle.jskw_report.proofs.Fails.{holds_empty}
+use Rattle.jskw_report.proofs.Fails.{holds_empty, no_element}
 use Rattle.jskw_number.specs.declared.quick_set.QuickSet.{QuickSet}
 use Rattle.jskw_array.proofs.Keywords.{hold_at, keywords_end}
 use Rattle.jskw_array.proofs.Meant.{either}
@@ -57,11 +57,7 @@ one_needed (schema_object q marks ks) t = omega arith
 
 -- what is valid has no errors
 pub no_errors : (s : Schema) (t : Tree) (p : Pointer) → holds s t ≡ true → fail s t p ≡ []
-no_errors s t p h = go (fail s t p) (sym (holds_empty s t p) ∙ h)
-  where
-    go : (fs : List Failure) → is_empty fs ≡ true → fs ≡ []
-    go [] e = refl
-    go (f ∷ fs) e = absurd (true≢false (sym e))
+no_errors s t p h = no_element (fail s t p) (sym (holds_empty s t p) ∙ h)
 
 -- one application that is counted is no more than n
 pub counted_within : (old new n : ℕ) (b : Bool) → b ≡ true → 1 ≤ n → CountsUpTo old new (if b then 1 else 0) → CountsUpTo old new n
