@@ -1,5 +1,5 @@
 -- What is told of an instance, case by case.
-use Rattle.std.proofs.Common.{◌≡◌, ◌∙◌, ℕ, List, [], ◌∷◌, true, false, true≢false, IsTrue, Option, Some, None, is_none, Ok, Err, refl, sym, ap, subst}
+use Rattle.std.proofs.Common.{◌≡◌, ◌∙◌, ℕ, List, [], ◌∷◌, true, false, true≢false, Option, Some, None, is_none, Ok, Err, refl, sym, ap, subst}
 use Rattle.serde_json.specs.Data.{Data}
 use Rattle.serde_json.specs.View.{view}
 use Rattle.serde_json.specs.declared.value.Value.{Value}
@@ -15,7 +15,7 @@ use Rattle.jskw_report.specs.Keyword.{Schema}
 use Rattle.jskw_report.proofs.Fails.{holds_empty}
 use Rattle.jskw_report.proofs.Valid.{tree_valid}
 use Rattle.jskw_service.specs.Request.{value_of}
-use Rattle.jskw_c.specs.Asked.{Instance, not_json, float_at, lawful, judged, instance_of, instance_in, verdict, status_of, SaysErrors, SaysFirst, SaysTree, first_of}
+use Rattle.jskw_c.specs.Asked.{lawful, judged, instance_of, instance_in, verdict, status_of, SaysErrors, SaysFirst, SaysTree, first_of}
 use Rattle.jskw_c.specs.Evaluated.{evaluation_text}
 use Rattle.jskw_c.specs.Line.{AreErrorLines, words_line}
 use Rattle.jskw_c.specs.Replies.{Reads, Reports}
@@ -65,51 +65,31 @@ reads_lawful bytes v read none =
     let is : is_lawful (value_tree v) ≡ true = sym (none_where_lawful (value_tree v)) ∙ ap is_none (sym none) in
     subst (λ o. Reads (Ok v) (instance_of o)) read (subst (λ q. Reads (Ok v) (judged (value_tree v) q)) none (refl, is))
 
--- a value that is read holds no float
-pub lawful_read : (i : Instance) (v : Value) → Reads (Ok v) i → IsTrue (is_lawful (value_tree v))
-lawful_read (lawful t) v r = subst (λ u. IsTrue (is_lawful u)) (sym r.0) r.1
-lawful_read not_json v r = absurd r
-lawful_read (float_at p) v r = absurd r
-
 -- ---- reports
 
--- of what cannot be judged
-pub reports_told : (Says : Schema → Tree → List ℕ → Type 0) (s : Schema) (i : Instance) (told : Told) → Reads (Err told) i → Reports Says (Some s) i told
-reports_told Says s not_json told r = record { status_is = r.status_is; text_is = r.text_is }
-reports_told Says s (float_at p) told r = record { status_is = r.status_is; text_is = r.text_is }
-reports_told Says s (lawful t) told r = absurd r
-
-reports_lawful : (Says : Schema → Tree → List ℕ → Type 0) (s : Schema) (i : Instance) (v : Value) (told : Told) → Reads (Ok v) i
-    → told.status ≡ verdict (holds s (value_tree v)) → Says s (value_tree v) told.text.items → Reports Says (Some s) i told
-reports_lawful Says s (lawful t) v told r st text =
-    record { status_is = st ∙ ap (λ u. verdict (holds s u)) r.0; text_is = subst (λ u. Says s u told.text.items) r.0 text }
-reports_lawful Says s not_json v told r st text = absurd r
-reports_lawful Says s (float_at p) v told r st text = absurd r
-
 -- all errors
-pub reports_errors : (s : Schema) (i : Instance) (v : Value) (told : Told) (fs : List Failure) → Reads (Ok v) i → fs ≡ fail s (value_tree v) []
-    → told.status ≡ verdict (is_empty fs) → AreErrorLines fs told.text.items → Reports SaysErrors (Some s) i told
-reports_errors s i v told fs r all st text =
-    let same : is_empty fs ≡ holds s (value_tree v) = ap is_empty all ∙ sym (holds_empty s (value_tree v) []) in
-    reports_lawful SaysErrors s i v told r (st ∙ ap verdict same) (subst (λ gs. AreErrorLines gs told.text.items) all text)
+pub reports_errors : (s : Schema) (t : Tree) (told : Told) (fs : List Failure) → fs ≡ fail s t []
+    → told.status ≡ verdict (is_empty fs) → AreErrorLines fs told.text.items → Reports SaysErrors (Some s) (lawful t) told
+reports_errors s t told fs all st text =
+    let same : is_empty fs ≡ holds s t = ap is_empty all ∙ sym (holds_empty s t []) in
+    record { status_is = st ∙ ap verdict same; text_is = subst (λ gs. AreErrorLines gs told.text.items) all text }
 
 -- the first error
-pub reports_first : (s : Schema) (i : Instance) (v : Value) (told : Told) (f : Failure) (rest : List Failure) → Reads (Ok v) i
-    → fail s (value_tree v) [] ≡ f ∷ rest → told.status ≡ INVALID → AreErrorLines (f ∷ []) told.text.items → Reports SaysFirst (Some s) i told
-reports_first s i v told f rest r all st text =
-    let same : holds s (value_tree v) ≡ false = holds_empty s (value_tree v) [] ∙ ap is_empty all in
-    reports_lawful SaysFirst s i v told r (st ∙ ap verdict (sym same)) (subst (λ gs. AreErrorLines (first_of gs) told.text.items) (sym all) text)
+pub reports_first : (s : Schema) (t : Tree) (told : Told) (f : Failure) (rest : List Failure)
+    → fail s t [] ≡ f ∷ rest → told.status ≡ INVALID → AreErrorLines (f ∷ []) told.text.items → Reports SaysFirst (Some s) (lawful t) told
+reports_first s t told f rest all st text =
+    let same : holds s t ≡ false = holds_empty s t [] ∙ ap is_empty all in
+    record { status_is = st ∙ ap verdict (sym same); text_is = subst (λ gs. AreErrorLines (first_of gs) told.text.items) (sym all) text }
 
 -- no error
-pub reports_no_error : (s : Schema) (i : Instance) (v : Value) (told : Told) → Reads (Ok v) i
-    → fail s (value_tree v) [] ≡ [] → told.status ≡ VALID → told.text.items ≡ [] → Reports SaysFirst (Some s) i told
-reports_no_error s i v told r none st text =
-    let same : holds s (value_tree v) ≡ true = holds_empty s (value_tree v) [] ∙ ap is_empty none in
-    reports_lawful SaysFirst s i v told r (st ∙ ap verdict (sym same)) (subst (λ gs. AreErrorLines (first_of gs) told.text.items) (sym none) text)
+pub reports_no_error : (s : Schema) (t : Tree) (told : Told) → fail s t [] ≡ [] → told.status ≡ VALID → told.text.items ≡ [] → Reports SaysFirst (Some s) (lawful t) told
+reports_no_error s t told none st text =
+    let same : holds s t ≡ true = holds_empty s t [] ∙ ap is_empty none in
+    record { status_is = st ∙ ap verdict (sym same); text_is = subst (λ gs. AreErrorLines (first_of gs) told.text.items) (sym none) text }
 
 -- the evaluation tree
-pub reports_tree : (s : Schema) (i : Instance) (v : Value) (told : Told) (e : Evaluation) → Reads (Ok v) i → e ≡ tree s (value_tree v) []
-    → told.status ≡ verdict (is_valid e) → told.text.items ≡ evaluation_text e → Reports SaysTree (Some s) i told
-reports_tree s i v told e r is st text =
-    let same : is_valid e ≡ holds s (value_tree v) = ap is_valid is ∙ tree_valid s (value_tree v) [] in
-    reports_lawful SaysTree s i v told r (st ∙ ap verdict same) (text ∙ ap evaluation_text is)
+pub reports_tree : (s : Schema) (t : Tree) (told : Told) (e : Evaluation) → e ≡ tree s t []
+    → told.status ≡ verdict (is_valid e) → told.text.items ≡ evaluation_text e → Reports SaysTree (Some s) (lawful t) told
+reports_tree s t told e is st text =
+    let same : is_valid e ≡ holds s t = ap is_valid is ∙ tree_valid s t [] in
+    record { status_is = st ∙ ap verdict same; text_is = text ∙ ap evaluation_text is }

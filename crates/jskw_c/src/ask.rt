@@ -1,9 +1,10 @@
 //! What exports do with bytes: compiles schemas and checks instances.
-ghost use Rattle.std.specs.Prelude.{◌≡◌, [], IfOk, Some};
+ghost use Rattle.std.specs.Prelude.{◌≡◌, [], IfOk, IsTrue, Some};
 ghost use Rattle.jskw_value.specs.Serde.{value_tree};
+ghost use Rattle.jskw_value.specs.Tree.{is_lawful};
 ghost use Rattle.jskw_report.specs.Errors.{failures_of};
 ghost use Rattle.jskw_report.specs.Fail.{is_empty};
-ghost use Rattle.jskw_c.specs.Asked.{Says, SaysErrors, SaysFirst, SaysTree, instance_in};
+ghost use Rattle.jskw_c.specs.Asked.{Says, SaysErrors, SaysFirst, SaysTree, instance_in, lawful};
 ghost use Rattle.jskw_c.specs.Asked.{status_of, verdict};
 ghost use Rattle.jskw_c.specs.Compiled.{compiled_of, setting_numbered};
 ghost use Rattle.jskw_c.specs.Replies.{CompilesTo, Reads, Reports};
@@ -137,6 +138,23 @@ pub(crate) fn report_of(
     ensures { IfOk result
         (λ told. Reports (Says report) (Some schema.now) (instance_in instance.now) told) }
 {
+    match read_instance(alloc, instance)? {
+        Ok(value) => report_on(alloc, report, schema, &value),
+        Err(told) => Ok(told),
+    }
+}
+
+// Returns the report on an instance, which must contain no float.
+fn report_on(
+    alloc: Global,
+    report: Report,
+    schema: &SchemaNode<SerdeJson>,
+    instance: &Value,
+) -> Result<Told, AllocError>
+    requires { IsTrue (is_lawful (value_tree instance.now)) }
+    ensures { IfOk result
+        (λ told. Reports (Says report) (Some schema.now) (lawful (value_tree instance.now)) told) }
+{
     match report {
         Report::FirstError => first_error_of(alloc, schema, instance),
         Report::Errors => errors_of(alloc, schema, instance),
@@ -144,42 +162,38 @@ pub(crate) fn report_of(
     }
 }
 
-// Returns a line for each error of the instance of these bytes.
+// Returns a line for each error of the instance, which must contain no float.
 fn errors_of(
     alloc: Global,
     schema: &SchemaNode<SerdeJson>,
-    instance: &[u8],
+    instance: &Value,
 ) -> Result<Told, AllocError>
-    ensures { IfOk result (λ told. Reports SaysErrors (Some schema.now) (instance_in instance.now) told) }
+    requires { IsTrue (is_lawful (value_tree instance.now)) }
+    ensures { IfOk result
+        (λ told. Reports SaysErrors (Some schema.now) (lawful (value_tree instance.now)) told) }
 {
-    let value = match read_instance(alloc, instance)? {
-        Ok(value) => value,
-        Err(told) => return Ok(told),
-    };
     let mut errors = Vec::new(alloc);
     let mut location = LazyLocation::new(alloc);
     let mut ctx = ValidationContext::new();
-    schema.collect_errors(&value, &mut location, &mut ctx, &mut errors)?;
+    schema.collect_errors(instance, &mut location, &mut ctx, &mut errors)?;
     Ok(Told {
         status: status_of_errors(errors.as_slice()),
         text: error_lines(alloc, errors.as_slice())?,
     })
 }
 
-// Returns the line of the first error of the instance of these bytes.
+// Returns the line of the first error of the instance, which must contain no float.
 fn first_error_of(
     alloc: Global,
     schema: &SchemaNode<SerdeJson>,
-    instance: &[u8],
+    instance: &Value,
 ) -> Result<Told, AllocError>
-    ensures { IfOk result (λ told. Reports SaysFirst (Some schema.now) (instance_in instance.now) told) }
+    requires { IsTrue (is_lawful (value_tree instance.now)) }
+    ensures { IfOk result
+        (λ told. Reports SaysFirst (Some schema.now) (lawful (value_tree instance.now)) told) }
 {
-    let value = match read_instance(alloc, instance)? {
-        Ok(value) => value,
-        Err(told) => return Ok(told),
-    };
     let mut location = LazyLocation::new(alloc);
-    match schema.validate(&value, &mut location, &mut ValidationContext::new()) {
+    match schema.validate(instance, &mut location, &mut ValidationContext::new()) {
         Ok(()) => Ok(status_alone(alloc, VALID)),
         Err(Fault::Invalid(error)) => Ok(Told {
             status: INVALID,
@@ -189,19 +203,17 @@ fn first_error_of(
     }
 }
 
-// Returns the evaluation tree of the instance of these bytes.
+// Returns the evaluation tree of the instance, which must contain no float.
 fn evaluation_of(
     alloc: Global,
     schema: &SchemaNode<SerdeJson>,
-    instance: &[u8],
+    instance: &Value,
 ) -> Result<Told, AllocError>
-    ensures { IfOk result (λ told. Reports SaysTree (Some schema.now) (instance_in instance.now) told) }
+    requires { IsTrue (is_lawful (value_tree instance.now)) }
+    ensures { IfOk result
+        (λ told. Reports SaysTree (Some schema.now) (lawful (value_tree instance.now)) told) }
 {
-    let value = match read_instance(alloc, instance)? {
-        Ok(value) => value,
-        Err(told) => return Ok(told),
-    };
-    let tree = schema.evaluate_instance(alloc, &value, &mut ValidationContext::new())?;
+    let tree = schema.evaluate_instance(alloc, instance, &mut ValidationContext::new())?;
     Ok(Told {
         status: verdict(tree.valid()),
         text: tree_text(alloc, &tree)?,
