@@ -58,7 +58,7 @@ inlined_named s h = go (bytes_eq (type_name Number) s) (bytes_eq (type_name Stri
     go false false false false e f g k h = absurd (false≢true h)
 
 -- and that of integers where it is none of the others
-pub else_integer : (s : List ℕ) → is_inlined_type (string s) ≡ true → (s ≡ type_name Number → ⊥) → (s ≡ type_name String → ⊥) → (s ≡ type_name Boolean → ⊥)
+else_integer : (s : List ℕ) → is_inlined_type (string s) ≡ true → (s ≡ type_name Number → ⊥) → (s ≡ type_name String → ⊥) → (s ≡ type_name Boolean → ⊥)
     → s ≡ type_name Integer
 else_integer s h no_number no_string no_boolean =
     go (bytes_eq (type_name Number) s) (bytes_eq (type_name String) s) (bytes_eq (type_name Boolean) s) (bytes_eq (type_name Integer) s) refl refl refl refl h
@@ -81,9 +81,11 @@ pub integers_by_value : (draft : Draft) → (draft ≡ Draft4 → ⊥) → integ
 integers_by_value Draft4 other = absurd (other refl)
 integers_by_value _ other = refl
 
-pub integer_items : (s : List ℕ) (j : JsonType) (draft : Draft) (rule : Integers) (q r : Pointer) → s ≡ type_name Integer → type_named s ≡ Some j
+pub integer_items : (s : List ℕ) (j : JsonType) (draft : Draft) (rule : Integers) (q r : Pointer)
+    → is_inlined_type (string s) ≡ true → (s ≡ type_name Number → ⊥) → (s ≡ type_name String → ⊥) → (s ≡ type_name Boolean → ⊥) → type_named s ≡ Some j
     → integers_of draft (Single Integer) ≡ rule → bare_items q (type_at Integer rule r) ≡ bare_items q (type_at j (integers_of draft (Single j)) r)
-integer_items s j draft rule q r is named e =
+integer_items s j draft rule q r inlined no_number no_string no_boolean named e =
+    let is : s ≡ type_name Integer = else_integer s inlined no_number no_string no_boolean in
     let j_is : Some Integer ≡ Some j = sym (ap type_named is) ∙ named in
     ap (λ x. bare_items q (type_at Integer x r)) (sym e) ∙ ap (λ o. option_map_or (λ i. bare_items q (type_at i (integers_of draft (Single i)) r)) o (bare_items q (type_at Integer rule r))) j_is
 
