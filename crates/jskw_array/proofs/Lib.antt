@@ -10,5 +10,6 @@ pub mod MatchedItems
 pub mod Meant
 pub mod Meetings
 pub mod Readings
+pub mod Taken
 pub mod Turns
 pub mod Units

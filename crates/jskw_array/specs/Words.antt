@@ -1,7 +1,7 @@
 -- The vocabulary of this crate's clauses and proofs: definitions of the crates below and of this one, by their names.
 
 -- std
-pub use Rattle.std.specs.Prelude.{[], true, Some, Ok, Err, Result, IfOk, IfSome, IsTrue, count_by, is_some, length, min, option_map, refl, sum_by}
+pub use Rattle.std.specs.Prelude.{[], true, Some, Ok, Err, Result, IfOk, IfSome, IsTrue, count_by, drop, is_some, length, min, option_map, refl, sum_by, take}
 pub use Rattle.std.specs.List.{list_all}
 pub use Rattle.std.specs.Option.{option_map_or}
 -- values of schemas, and their members
@@ -36,7 +36,7 @@ unfoldable pub use Rattle.jskw_report.specs.Evaluation.{of_errors}
 pub use Rattle.jskw_report.specs.Applications.{all_height, all_needed, all_pairs, each_height, each_needed, each_pairs, height, keyword_height, keyword_needed, keyword_pairs, needed, pairs, sum_to_failure}
 -- what the validators of a keyword stand for, and what their results say
 pub use Rattle.jskw_report.specs.Meaning.{is_assertion, meaning_fail, meaning_holds, meaning_needed, meaning_pairs, meaning_unit, one}
-pub use Rattle.jskw_report.specs.Observe.{Appends, AppendsBeginning, Collects, CountsUpTo, IsFirst}
+pub use Rattle.jskw_report.specs.Observe.{Appends, AppendsBeginning, Collects, CountsUpTo, Finds, IsFirst}
 pub use Rattle.jskw_report.specs.Errors.{failures_of}
 pub use Rattle.jskw_report.specs.EvaluationParts.{annotation_of}
 pub use Rattle.jskw_report.specs.EvaluationView.{result_of}

@@ -1,6 +1,9 @@
 //! A schema for each item: `prefixItems` (JSON Schema Core 10.3.1.1), and `items` of an array of
 //! schemas (Draft 7 Validation 6.4.1). A non-array has no items.
-ghost use Rattle.jskw_array.specs.Words.{Compiles, Makes, Refusal, Result, Schemas, Some};
+ghost use Rattle.std.specs.Prelude.{◌≡◌, ◌+◌, ◌≤◌};
+ghost use Rattle.jskw_array.specs.Words.{Compiles, CountsUpTo, IsTrue, Makes, Refusal, Result};
+ghost use Rattle.jskw_array.specs.Words.{Schemas, Some, drop, each_holds, each_needed, is_lawful};
+ghost use Rattle.jskw_array.specs.Words.{items, length, min, take, true};
 ghost use Rattle.jskw_array.specs.Words.{each_keyword, each_of, map_ok, one, schemas_of};
 ghost use Rattle.jskw_array.specs.Words.{validator_keyword};
 
@@ -8,7 +11,7 @@ use crate::node::SchemaNode;
 use crate::prefix_items::prefix_unit;
 use crate::validator::Validator;
 use jskw_report::{
-    CompilationResult, EvaluationResult, Fault, LazyLocation, Validate, ValidationContext,
+    CompilationResult, EvaluationResult, LazyLocation, Stop, Validate, ValidationContext,
     ValidationError,
 };
 use jskw_value::{Array, Json, Node};
@@ -24,34 +27,89 @@ pub struct Each<F: Json> {
     pub(crate) is_prefix: bool,
 }
 
-impl<F: Json> Validate<F> for Each<F> {
-    ghost meaning = { λ v. one (each_keyword v) };
+impl<F: Json> Each<F> {
+    // Applies each schema to its item, as far as the schemas take them. Returns the index of the first
+    // item that its schema does not take, or `count`, if there is none.
+    #[inline(always)]
+    fn take_items(&self, count: usize, instance: &F::Node, ctx: &mut ValidationContext) -> usize
+        requires lawful { IsTrue (is_lawful (F.Node.tree instance.now)) }
+        requires count { count ≡ min (length (items (F.Node.tree instance.now)))
+            (length self.now.nodes.items) }
+        ensures within { result ≤ count }
+        ensures valid { each_holds (schemas_of (take result self.now.nodes.items))
+            (items (F.Node.tree instance.now)) ≡ true }
+        ensures applied { min (ctx.old + result) u64.MAX ≤ ctx.new }
+        ensures counted { CountsUpTo ctx.old ctx.new result }
+    {
+        for index in 0..count {
+            if !self.nodes[index].takes(instance.item(index)) {
+                ctx.count_more(index);
+                return index;
+            }
+        }
+        ctx.count_more(count);
+        count
+    }
 
+    // Returns `is_valid` for the items from `first` on.
     #[inline(never)]
     #[cycle(is_valid)]
-    fn is_valid(&self, instance: &F::Node, ctx: &mut ValidationContext) -> bool {
-        for index in 0..instance.item_count().min(self.nodes.len()) {
+    fn are_valid(
+        &self,
+        first: usize,
+        count: usize,
+        instance: &F::Node,
+        ctx: &mut ValidationContext,
+    ) -> bool
+        requires lawful { IsTrue (is_lawful (F.Node.tree instance.now)) }
+        requires count { count ≡ min (length (items (F.Node.tree instance.now)))
+            (length self.now.nodes.items) }
+        requires first { first ≤ count }
+        ensures answer { result ≡ each_holds (schemas_of (drop first self.now.nodes.items))
+            (drop first (items (F.Node.tree instance.now))) }
+        ensures counted { CountsUpTo ctx.old ctx.new (each_needed
+            (schemas_of (drop first self.now.nodes.items))
+            (drop first (items (F.Node.tree instance.now)))) }
+    {
+        for index in first..count {
             if !self.nodes[index].is_valid(instance.item(index), ctx) {
                 return false;
             }
         }
         true
     }
+}
 
-    #[cycle(validate)]
-    fn validate<'i>(
+impl<F: Json> Validate<F> for Each<F> {
+    ghost meaning = { λ v. one (each_keyword v) };
+
+    #[inline(never)]
+    #[cycle(is_valid)]
+    fn is_valid(&self, instance: &F::Node, ctx: &mut ValidationContext) -> bool {
+        let count = instance.item_count().min(self.nodes.len());
+        let first = self.take_items(count, instance, ctx);
+        if first == count {
+            return true;
+        }
+        self.are_valid(first, count, instance, ctx)
+    }
+
+    #[cycle(find_error)]
+    fn find_error<'i>(
         &'i self,
         instance: &'i F::Node,
         location: &mut LazyLocation,
         ctx: &mut ValidationContext,
-    ) -> Result<(), Fault<'i, F>> {
-        for index in 0..instance.item_count().min(self.nodes.len()) {
+        error: &mut Option<ValidationError<'i, F>>,
+    ) -> Result<(), Stop> {
+        let count = instance.item_count().min(self.nodes.len());
+        for index in self.take_items(count, instance, ctx)..count {
             let node = &self.nodes[index];
             let item = instance.item(index);
             if node.accepts(item, ctx) {
                 continue;
             }
-            node.validate_item(index, item, location, ctx)?;
+            node.find_error_of_item(index, item, location, ctx, error)?;
         }
         Ok(())
     }
@@ -64,7 +122,8 @@ impl<F: Json> Validate<F> for Each<F> {
         ctx: &mut ValidationContext,
         errors: &mut Vec<ValidationError<'i, F>>,
     ) -> Result<(), AllocError> {
-        for index in 0..instance.item_count().min(self.nodes.len()) {
+        let count = instance.item_count().min(self.nodes.len());
+        for index in self.take_items(count, instance, ctx)..count {
             self.nodes[index].collect_item(index, instance.item(index), location, ctx, errors)?;
         }
         Ok(())

@@ -9,7 +9,7 @@ ghost use Rattle.jskw_array.specs.Words.{matching_result, needed, one, result_of
 use crate::node::SchemaNode;
 use jskw_report::validator::append_first;
 use jskw_report::{
-    Annotations, ErrorDescription, EvaluationNode, EvaluationResult, Fault, LazyLocation, Location,
+    Annotations, ErrorDescription, EvaluationNode, EvaluationResult, LazyLocation, Location, Stop,
     Validate, ValidationContext, ValidationError, ValidationErrorKind,
 };
 use jskw_value::{Array, Json, Node};
@@ -130,18 +130,20 @@ impl<F: Json> Validate<F> for Matching<F> {
         self.failing_location(instance, ctx).is_none()
     }
 
-    fn validate<'i>(
+    fn find_error<'i>(
         &'i self,
         instance: &'i F::Node,
         location: &mut LazyLocation,
         ctx: &mut ValidationContext,
-    ) -> Result<(), Fault<'i, F>> {
+        error: &mut Option<ValidationError<'i, F>>,
+    ) -> Result<(), Stop> {
         let Some(schema_path) = self.failing_location(instance, ctx) else {
             return Ok(());
         };
         let kind = ValidationErrorKind::Contains;
         let instance_path = location.render()?;
-        Err(Fault::Invalid(ValidationError::new(kind, instance_path, schema_path, instance)))
+        *error = Some(ValidationError::new(kind, instance_path, schema_path, instance));
+        Err(Stop::Invalid)
     }
 
     fn collect_errors<'i>(

@@ -1,25 +1,26 @@
 //! A compiled schema: the validators of its keywords, in the order in which a schema is read.
-ghost use Rattle.std.specs.Prelude.{◌≡◌, ◌+◌, ◌≤◌};
+ghost use Rattle.std.specs.Prelude.{◌≡◌, ◌+◌, ◌-◌, ◌≤◌};
 ghost use Rattle.jskw_array.specs.Words.{[], Appends, Begins, CountsUpTo, HasUnits};
-ghost use Rattle.jskw_array.specs.Words.{IfOk, IfSome, IsFirst, IsTrue, boolean_schema};
+ghost use Rattle.jskw_array.specs.Words.{Finds, IfOk, IfSome, IsFirst, IsTrue, boolean_schema};
 ghost use Rattle.jskw_array.specs.Words.{each_hands_on, fail, false_schema, hands_on_required};
 ghost use Rattle.std.specs.Prelude.{if◌then◌else◌};
-ghost use Rattle.jskw_array.specs.Words.{holds, is_fused_schema, is_lawful, is_some};
+ghost use Rattle.jskw_array.specs.Words.{drop, holds, is_fused_schema, is_lawful, is_some};
+ghost use Rattle.jskw_array.specs.Words.{items, length, list_all, take};
 ghost use Rattle.jskw_array.specs.Words.{item_location, keywords_in, keywords_of, marked, min};
 ghost use Rattle.jskw_array.specs.Words.{needed, pairs, path_of, schema_location, schema_object};
 ghost use Rattle.jskw_array.specs.Words.{schemas_of, shape_keywords, tree, true};
 
 use crate::items::ArrayShapeValidator;
 use crate::unit::{
-    Unit, collect_units, evaluate_units, quick_set_of, some_unit_hands_on, units_are_valid,
-    validate_units,
+    Unit, collect_units, evaluate_units, find_error_of_units, quick_set_of, some_unit_hands_on,
+    units_are_valid,
 };
 pub use crate::validator::Validator;
 use jskw_number::QuickSet;
-use jskw_report::validator::{append_first, evaluate_first, fail_unless};
+use jskw_report::validator::{append_first, evaluate_first, fail_unless, first_error, store_first};
 use jskw_report::{
-    EvaluationNode, EvaluationResult, Fault, LazyLocation, Location, Validate, ValidationContext,
-    ValidationError, ValidationErrorKind,
+    EvaluationNode, EvaluationResult, Fault, LazyLocation, Location, Stop, Validate,
+    ValidationContext, ValidationError, ValidationErrorKind,
 };
 use jskw_value::Json;
 use std::alloc::{AllocError, Global};
@@ -175,6 +176,42 @@ impl<F: Json> SchemaNode<F> {
         self.units()
     }
 
+    // Returns whether the instance is known to be valid without a look at the keywords.
+    #[inline(always)]
+    pub(crate) fn takes(&self, instance: &F::Node) -> bool
+        requires { IsTrue (is_lawful (F.Node.tree instance.now)) }
+        ensures { result ≡ true → holds self.now (F.Node.tree instance.now) ≡ true }
+    {
+        self.accepted.contains(instance)
+    }
+
+    // Applies the schema to the items from `start` on that it takes, up to the first that it does not
+    // take. Returns the index of that one, or `count`, the number of items, if there is none.
+    #[inline(always)]
+    pub(crate) fn take_items(
+        &self,
+        start: usize,
+        count: usize,
+        instance: &F::Node,
+        ctx: &mut ValidationContext,
+    ) -> usize
+        requires lawful { IsTrue (is_lawful (F.Node.tree instance.now)) }
+        requires count { count ≡ length (items (F.Node.tree instance.now)) }
+        ensures from { start ≤ result }
+        ensures within { result - start ≤ length (drop start (items (F.Node.tree instance.now))) }
+        ensures valid { list_all (holds self.now) (take (result - start)
+            (drop start (items (F.Node.tree instance.now)))) ≡ true }
+        ensures applied { min (ctx.old + (result - start)) u64.MAX ≤ ctx.new }
+        ensures counted { CountsUpTo ctx.old ctx.new (result - start) }
+    {
+        if start >= count {
+            return start;
+        }
+        let index = self.accepted.first_outside(start, count, instance);
+        ctx.count_more(index - start);
+        index
+    }
+
     // Applies the schema to an instance that is known to be valid without a look at the keywords.
     // Returns whether it is; if not, nothing is applied.
     #[inline(always)]
@@ -184,7 +221,7 @@ impl<F: Json> SchemaNode<F> {
         ensures applied { result ≡ true → min (ctx.old + 1) u64.MAX ≤ ctx.new }
         ensures counted { CountsUpTo ctx.old ctx.new (if result then 1 else 0) }
     {
-        let accepted = self.accepted.contains(instance);
+        let accepted = self.takes(instance);
         if accepted {
             ctx.count_one();
         }
@@ -251,7 +288,6 @@ impl<F: Json> SchemaNode<F> {
 
     // `validate` by the keywords.
     #[inline(never)]
-    #[cycle(validate)]
     fn validate_keywords<'i>(
         &'i self,
         instance: &'i F::Node,
@@ -265,32 +301,56 @@ impl<F: Json> SchemaNode<F> {
         ensures applied { min (ctx.old + 1) u64.MAX ≤ ctx.new }
         ensures counted { CountsUpTo ctx.old ctx.new (needed self.now (F.Node.tree instance.now)) }
     {
-        let Some(units) = self.apply(ctx) else {
-            return refuse(self.location(), instance, location);
-        };
-        validate_units(units, instance, location, ctx)
+        let mut error = None;
+        let found = self.find_error(instance, location, ctx, &mut error);
+        first_error(found, error)
     }
 
-    // Returns `validate` by the keywords for the item at `index` of the instance at `location`.
+    // Stores the first error, by the keywords, or returns `Ok`.
+    #[inline(never)]
+    #[cycle(find_error)]
+    fn find_error<'i>(
+        &'i self,
+        instance: &'i F::Node,
+        location: &mut LazyLocation,
+        ctx: &mut ValidationContext,
+        error: &mut Option<ValidationError<'i, F>>,
+    ) -> Result<(), Stop>
+        requires { IsTrue (is_lawful (F.Node.tree instance.now)) }
+        ensures first { Finds F.Node.tree
+            (fail self.now (F.Node.tree instance.now) (path_of location.old)) error.new result }
+        ensures location { location.new ≡ location.old }
+        ensures applied { min (ctx.old + 1) u64.MAX ≤ ctx.new }
+        ensures counted { CountsUpTo ctx.old ctx.new (needed self.now (F.Node.tree instance.now)) }
+    {
+        let Some(units) = self.apply(ctx) else {
+            return store_refusal(self.location(), instance, location, error);
+        };
+        find_error_of_units(units, instance, location, ctx, error)
+    }
+
+    // Stores the first error, by the keywords, of the item at `index` of the instance at `location`,
+    // or returns `Ok`.
     #[inline(always)]
-    #[cycle(validate)]
-    pub(crate) fn validate_item<'i>(
+    #[cycle(find_error)]
+    pub(crate) fn find_error_of_item<'i>(
         &'i self,
         index: usize,
         item: &'i F::Node,
         location: &mut LazyLocation,
         ctx: &mut ValidationContext,
-    ) -> Result<(), Fault<'i, F>>
+        error: &mut Option<ValidationError<'i, F>>,
+    ) -> Result<(), Stop>
         requires { IsTrue (is_lawful (F.Node.tree item.now)) }
-        ensures first { IsFirst F.Node.tree (fail self.now (F.Node.tree item.now)
-            (item_location (path_of location.old) index)) result }
+        ensures first { Finds F.Node.tree (fail self.now (F.Node.tree item.now)
+            (item_location (path_of location.old) index)) error.new result }
         ensures location { location.new ≡ location.old }
         ensures counted { CountsUpTo ctx.old ctx.new (needed self.now (F.Node.tree item.now)) }
     {
         location.push(index)?;
-        let answer = self.validate_keywords(item, location, ctx);
+        let found = self.find_error(item, location, ctx, error);
         location.pop();
-        answer
+        found
     }
 
     /// Appends all errors of the instance, which must be lawful, to `errors`, in order. `location`
@@ -435,8 +495,21 @@ impl<F: Json> SchemaNode<F> {
     }
 }
 
-// Returns the error of the schema `false`.
+// Stores the error of the schema `false`.
 #[inline(never)]
+fn store_refusal<'i, F: Json>(
+    schema_path: &'i Location,
+    instance: &'i F::Node,
+    location: &LazyLocation,
+    error: &mut Option<ValidationError<'i, F>>,
+) -> Result<(), Stop>
+    ensures { Finds F.Node.tree (fail (false_schema schema_path.now) (F.Node.tree instance.now)
+        (path_of location.now)) error.new result }
+{
+    store_first(refuse(schema_path, instance, location), error)
+}
+
+// Returns the error of the schema `false`.
 fn refuse<'i, F: Json>(
     schema_path: &'i Location,
     instance: &'i F::Node,

@@ -11,7 +11,7 @@ use crate::validator::Validator;
 use jskw_leaf::items::item_type::items_unit;
 use jskw_report::validator::evaluate_errors;
 use jskw_report::{
-    CompilationResult, EvaluationResult, Fault, LazyLocation, Validate, ValidationContext,
+    CompilationResult, EvaluationResult, LazyLocation, Stop, Validate, ValidationContext,
     ValidationError,
 };
 use jskw_value::{Array, Json, Node};
@@ -45,7 +45,7 @@ impl<F: Json> Rest<F> {
         ensures counted { CountsUpTo ctx.old ctx.new
             (keyword_needed (rest_keyword self.now) (F.Node.tree instance.now)) }
     {
-        for index in self.start..count {
+        for index in self.node.take_items(self.start, count, instance, ctx)..count {
             if !self.node.is_valid(instance.item(index), ctx) {
                 return false;
             }
@@ -79,22 +79,26 @@ impl<F: Json> Validate<F> for Rest<F> {
 
     #[cycle(is_valid)]
     fn is_valid(&self, instance: &F::Node, ctx: &mut ValidationContext) -> bool {
-        self.holds_of(instance.item_count(), instance, ctx)
+        let count = instance.item_count();
+        count <= self.start || self.holds_of(count, instance, ctx)
     }
 
-    #[cycle(validate)]
-    fn validate<'i>(
+    #[cycle(find_error)]
+    fn find_error<'i>(
         &'i self,
         instance: &'i F::Node,
         location: &mut LazyLocation,
         ctx: &mut ValidationContext,
-    ) -> Result<(), Fault<'i, F>> {
-        for index in self.start..instance.item_count() {
+        error: &mut Option<ValidationError<'i, F>>,
+    ) -> Result<(), Stop> {
+        let count = instance.item_count();
+        for index in self.node.take_items(self.start, count, instance, ctx)..count {
             let item = instance.item(index);
             if self.node.accepts(item, ctx) {
                 continue;
             }
-            self.node.validate_item(index, item, location, ctx)?;
+            self.node
+                .find_error_of_item(index, item, location, ctx, error)?;
         }
         Ok(())
     }
@@ -107,7 +111,8 @@ impl<F: Json> Validate<F> for Rest<F> {
         ctx: &mut ValidationContext,
         errors: &mut Vec<ValidationError<'i, F>>,
     ) -> Result<(), AllocError> {
-        for index in self.start..instance.item_count() {
+        let count = instance.item_count();
+        for index in self.node.take_items(self.start, count, instance, ctx)..count {
             self.node
                 .collect_item(index, instance.item(index), location, ctx, errors)?;
         }

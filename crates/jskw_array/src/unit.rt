@@ -2,7 +2,7 @@
 //! walks over them.
 ghost use Rattle.std.specs.Prelude.{◌≡◌, ◌++◌};
 ghost use Rattle.jskw_array.specs.Words.{Appends, CountsUpTo, Extends, IfOk, IfSome};
-ghost use Rattle.jskw_array.specs.Words.{IsFirst, IsShape, IsTrue, Tree, absorbed_by, all_fail};
+ghost use Rattle.jskw_array.specs.Words.{Finds, IsShape, IsTrue, Tree, absorbed_by, all_fail};
 ghost use Rattle.jskw_array.specs.Words.{all_hand_on, all_hold, all_needed, all_pairs, is_in};
 ghost use Rattle.jskw_array.specs.Words.{is_lawful, is_shape, is_some, keywords_of, meaning_holds};
 ghost use Rattle.jskw_array.specs.Words.{path_of, true, unit_hands_on, unit_location, unit_meaning};
@@ -12,7 +12,7 @@ use crate::items::ArrayShapeValidator;
 use crate::validator::Validator;
 use jskw_number::QuickSet;
 use jskw_report::{
-    EvaluationNode, EvaluationResult, Fault, LazyLocation, Location, Validate, ValidationContext,
+    EvaluationNode, EvaluationResult, LazyLocation, Location, Stop, Validate, ValidationContext,
     ValidationError,
 };
 use jskw_value::Json;
@@ -47,16 +47,19 @@ impl<F: Json> Validate<F> for Unit<F> {
         }
     }
 
-    #[cycle(validate)]
-    fn validate<'i>(
+    #[cycle(find_error)]
+    fn find_error<'i>(
         &'i self,
         instance: &'i F::Node,
         location: &mut LazyLocation,
         ctx: &mut ValidationContext,
-    ) -> Result<(), Fault<'i, F>> {
+        error: &mut Option<ValidationError<'i, F>>,
+    ) -> Result<(), Stop> {
         match self {
-            Unit::Keyword(keyword) => keyword.validator.validate(instance, location, ctx),
-            Unit::Shape(shape) => shape.validate(instance, location, ctx),
+            Unit::Keyword(keyword) => {
+                keyword.validator.find_error(instance, location, ctx, error)
+            }
+            Unit::Shape(shape) => shape.find_error(instance, location, ctx, error),
         }
     }
 
@@ -178,23 +181,24 @@ pub(crate) fn units_are_valid<F: Json>(
     true
 }
 
-// Returns the first error of the keywords, or `Ok`.
-#[cycle(validate)]
-pub(crate) fn validate_units<'i, F: Json>(
+// Stores the first error of the keywords, or returns `Ok`.
+#[cycle(find_error)]
+pub(crate) fn find_error_of_units<'i, F: Json>(
     units: &'i [Unit<F>],
     instance: &'i F::Node,
     location: &mut LazyLocation,
     ctx: &mut ValidationContext,
-) -> Result<(), Fault<'i, F>>
+    error: &mut Option<ValidationError<'i, F>>,
+) -> Result<(), Stop>
     requires { IsTrue (is_lawful (F.Node.tree instance.now)) }
-    ensures first { IsFirst F.Node.tree (all_fail (keywords_of units.now)
-        (F.Node.tree instance.now) (path_of location.old)) result }
+    ensures first { Finds F.Node.tree (all_fail (keywords_of units.now)
+        (F.Node.tree instance.now) (path_of location.old)) error.new result }
     ensures location { location.new ≡ location.old }
     ensures counted { CountsUpTo ctx.old ctx.new
         (all_needed (keywords_of units.now) (F.Node.tree instance.now)) }
 {
     for unit in units {
-        unit.validate(instance, location, ctx)?;
+        unit.find_error(instance, location, ctx, error)?;
     }
     Ok(())
 }

@@ -15,7 +15,7 @@ use crate::rest::Rest;
 use jskw_leaf::LeafValidator;
 use jskw_number::QuickSet;
 use jskw_report::{
-    EvaluationResult, Fault, LazyLocation, Validate, ValidationContext, ValidationError,
+    EvaluationResult, LazyLocation, Stop, Validate, ValidationContext, ValidationError,
 };
 use jskw_value::Json;
 use std::alloc::{AllocError, Global};
@@ -69,14 +69,15 @@ impl<F: Json> Validate<F> for Validator<F> {
         dispatch!(self, v => Validate::<F>::is_valid(v, instance, ctx))
     }
 
-    #[cycle(validate)]
-    fn validate<'i>(
+    #[cycle(find_error)]
+    fn find_error<'i>(
         &'i self,
         instance: &'i F::Node,
         location: &mut LazyLocation,
         ctx: &mut ValidationContext,
-    ) -> Result<(), Fault<'i, F>> {
-        dispatch!(self, v => v.validate(instance, location, ctx))
+        error: &mut Option<ValidationError<'i, F>>,
+    ) -> Result<(), Stop> {
+        dispatch!(self, v => v.find_error(instance, location, ctx, error))
     }
 
     #[cycle(collect_errors)]

@@ -15,7 +15,8 @@ use Rattle.jskw_report.specs.declared.error.TypeKind.TheVariants.{Single}
 use Rattle.jskw_report.proofs.Appending.{collects_more, collects_nothing, collects_part}
 use Rattle.jskw_report.proofs.Gathering.{drop_here}
 use Rattle.jskw_report.proofs.Pointers.{path_of_push}
-use Rattle.jskw_leaf.specs.Items.{bare_schema, leading}
+use Rattle.jskw_number.specs.QuickSet.{leading}
+use Rattle.jskw_leaf.specs.Items.{bare_schema}
 use Rattle.jskw_leaf.specs.Meaning.{type_at}
 use Rattle.jskw_leaf.proofs.Bare.{bare_fail, type_fails_not}
 

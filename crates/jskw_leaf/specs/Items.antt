@@ -1,6 +1,6 @@
 -- What the validators of `items` that apply no subschema stand for: bare type checks, and the keywords that the fused shape of
 -- an array has beside `items`.
-use Rattle.std.specs.Prelude.{◌≡◌, ℕ, suc, List, [], ◌∷◌, ◌++◌, length, Bool, true, Option, Some, None, Result, Ok, Err, if◌then◌else◌}
+use Rattle.std.specs.Prelude.{◌≡◌, ℕ, List, ◌++◌, length, Bool, true, Option, Some, None, Result, Ok, Err, if◌then◌else◌}
 use Rattle.jskw_value.specs.Pointer.{Pointer}
 use Rattle.jskw_value.specs.Tree.{Tree, is_array, items}
 use Rattle.jskw_value.specs.declared.types.JsonType.{JsonType}
@@ -25,11 +25,6 @@ bare_items q a = items_from 0 (bare_schema q a) true
 -- T tests for the type j by the rule; F, N, O and P are the types of a representation
 abbrev pub items_type : {T F N O P : Type 0} → JsonType → Integers → ItemsTypeValidator T F N O P → Keyword
 items_type j rule v = bare_items v.location (single_type j rule v.validator)
-
--- the number of elements before the first that fails the check
-abbrev pub leading : {A : Type 0} → (A → Bool) → List A → ℕ
-leading check [] = 0
-leading check (x ∷ xs) = if check x then suc (leading check xs) else 0
 
 -- ---- the keywords beside `items`
 

@@ -14,7 +14,7 @@ use crate::type_::TypeValidator;
 use crate::unique_items::UniqueItemsValidator;
 use jskw_number::{NumberValidator, QuickSet};
 use jskw_report::{
-    EvaluationResult, Fault, LazyLocation, Validate, ValidationContext, ValidationError,
+    EvaluationResult, LazyLocation, Stop, Validate, ValidationContext, ValidationError,
 };
 use jskw_value::{Json, NotNullable, Nullable};
 use std::alloc::{AllocError, Global};
@@ -100,13 +100,14 @@ impl<F: Json> Validate<F> for LeafValidator<F> {
         whichever!(self, validator => Validate::<F>::is_valid(validator, instance, ctx))
     }
 
-    fn validate<'i>(
+    fn find_error<'i>(
         &'i self,
         instance: &'i F::Node,
         location: &mut LazyLocation,
         ctx: &mut ValidationContext,
-    ) -> Result<(), Fault<'i, F>> {
-        whichever!(self, validator => validator.validate(instance, location, ctx))
+        error: &mut Option<ValidationError<'i, F>>,
+    ) -> Result<(), Stop> {
+        whichever!(self, validator => validator.find_error(instance, location, ctx, error))
     }
 
     fn collect_errors<'i>(

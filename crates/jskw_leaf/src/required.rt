@@ -12,9 +12,9 @@ mod prepared;
 
 pub use beside::is_handed_on;
 use found::has_all;
-use jskw_report::validator::evaluate_errors;
+use jskw_report::validator::{evaluate_errors, store_first};
 use jskw_report::{
-    EvaluationResult, Fault, LazyLocation, Location, Validate, ValidationContext, ValidationError,
+    EvaluationResult, LazyLocation, Location, Stop, Validate, ValidationContext, ValidationError,
 };
 use jskw_value::{Json, Node};
 pub use make::{compile, compile_with_path};
@@ -66,22 +66,30 @@ impl<F: Json, L: Names<F>> Validate<F> for RequiredNames<F, L> {
         !instance.is_object() || has_all(&self.names, instance)
     }
 
-    fn validate<'i>(
+    fn find_error<'i>(
         &'i self,
         instance: &'i F::Node,
         location: &mut LazyLocation,
-        _ctx: &mut ValidationContext,
-    ) -> Result<(), Fault<'i, F>> {
-        fail_first(&self.names, &self.location, instance, location)
+        ctx: &mut ValidationContext,
+        error: &mut Option<ValidationError<'i, F>>,
+    ) -> Result<(), Stop> {
+        if Validate::<F>::is_valid(self, instance, ctx) {
+            return Ok(());
+        }
+        let answer = fail_first(&self.names, &self.location, instance, location);
+        store_first(answer, error)
     }
 
     fn collect_errors<'i>(
         &'i self,
         instance: &'i F::Node,
         location: &mut LazyLocation,
-        _ctx: &mut ValidationContext,
+        ctx: &mut ValidationContext,
         errors: &mut Vec<ValidationError<'i, F>>,
     ) -> Result<(), AllocError> {
+        if Validate::<F>::is_valid(self, instance, ctx) {
+            return Ok(());
+        }
         append_missing(&self.names, &self.location, instance, location, errors)
     }
 

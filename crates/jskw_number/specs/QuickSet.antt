@@ -1,7 +1,7 @@
 -- Sets of values that a few instructions test, and what they say of a keyword.
 use Rattle.std.specs.Int.NonZero.{non_zero_u64_get}
 use Rattle.std.specs.Option.{option_and_then, option_map_or}
-use Rattle.std.specs.Prelude.{◌≡◌, ℕ, ℤ, int_le, unsigned_abs, ◌%◌, ◌==◌, ◌&&◌, Bool, true, false, Option, Some, None}
+use Rattle.std.specs.Prelude.{◌≡◌, ℕ, suc, List, [], ◌∷◌, if◌then◌else◌, ℤ, int_le, unsigned_abs, ◌%◌, ◌==◌, ◌&&◌, Bool, true, false, Option, Some, None}
 use Rattle.std.specs.declared.num.NonZeroU64.{NonZeroU64}
 use Rattle.jskw_value.specs.Number.{Num, i64_of, whole}
 use Rattle.jskw_value.specs.Tree.{Tree, null, boolean, number, string, array, object}
@@ -31,6 +31,11 @@ is_in q (number n) = has_number q.integers n
 is_in q (string s) = q.strings
 is_in q (array ts) = q.arrays
 is_in q (object ms) = q.objects
+
+-- the number of elements before the first that fails the check
+abbrev pub leading : {A : Type 0} → (A → Bool) → List A → ℕ
+leading check [] = 0
+leading check (x ∷ xs) = if check x then suc (leading check xs) else 0
 
 -- the keyword holds of every tree of the set
 abbrev pub Accepts : QuickSet → Keyword → Type 0

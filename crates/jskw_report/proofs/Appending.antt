@@ -1,11 +1,11 @@
 -- Lists of failures that are appended, one part after another.
-use Rattle.std.proofs.Common.{◌≡◌, List, [], ◌++◌, Result, Ok, Err, IsErrAnd, refl, subst, sym, ap, ◌∙◌, append_assoc, append-nil}
+use Rattle.std.proofs.Common.{◌≡◌, List, [], ◌++◌, Option, Some, None, Result, Ok, Err, IsErrAnd, refl, subst, sym, ap, ◌∙◌, append_assoc, append-nil}
 use Rattle.jskw_value.specs.Tree.{Tree}
 use Rattle.jskw_report.specs.Fail.{Failure}
 use Rattle.jskw_report.specs.Errors.{failures_of}
-use Rattle.jskw_report.specs.Observe.{Appends, AppendsBeginning, Collects, IsFirst}
-use Rattle.jskw_report.specs.declared.error.Fault.{Fault}
-use Rattle.jskw_report.specs.declared.error.Fault.TheVariants.{Invalid, Memory}
+use Rattle.jskw_report.specs.Observe.{Appends, AppendsBeginning, Collects, Finds}
+use Rattle.jskw_report.specs.declared.error.Stop.{Stop}
+use Rattle.jskw_report.specs.declared.error.Stop.TheVariants.{Invalid, Memory}
 use Rattle.jskw_report.specs.declared.error.ValidationError.{ValidationError}
 
 -- at first all is still to come
@@ -43,14 +43,16 @@ collects_part {old} {now} {new} first rest c b = record {
   };
 }
 
--- the first of some failures is the first of them and others behind them, and what hands it on gives it too
-pub first_before : {F N O P : Type 0} (tree : N → Tree) (r : Result Unit (Fault F N O P)) (x : Fault F N O P) (fs rest all : List Failure) → IsErrAnd r (λ y. y ≡ x) → IsFirst tree fs (Err x) → fs ++ rest ≡ all → IsFirst tree all r
-first_before tree (Ok u) x fs rest all is first so = absurd is
-first_before {F} {N} {O} {P} tree (Err y) x fs rest all is first so = subst (λ z. IsFirst tree all (Err z)) (sym is) (behind x first)
+-- the first of some failures is the first of them and others behind them, and what hands it on finds it too
+pub finds_before : {F N O P : Type 0} (tree : N → Tree) (found : Option (ValidationError F N O P)) (r : Result Unit Stop) (x : Stop) (fs rest all : List Failure)
+    → IsErrAnd r (λ y. y ≡ x) → Finds tree fs found (Err x) → fs ++ rest ≡ all → Finds tree all found r
+finds_before tree found (Ok u) x fs rest all is first so = absurd is
+finds_before {F} {N} {O} {P} tree found (Err y) x fs rest all is first so = subst (λ z. Finds tree all found (Err z)) (sym is) (behind found x first)
   where
-    behind : (z : Fault F N O P) → IsFirst tree fs (Err z) → IsFirst tree all (Err z)
-    behind (Invalid e) (more, is) = (more ++ rest, sym so ∙ ap (λ xs. xs ++ rest) is)
-    behind (Memory m) first = tt
+    behind : (o : Option (ValidationError F N O P)) (z : Stop) → Finds tree fs o (Err z) → Finds tree all o (Err z)
+    behind (Some e) Invalid (more, is) = (more ++ rest, sym so ∙ ap (λ xs. xs ++ rest) is)
+    behind None Invalid first = absurd first
+    behind o (Memory m) first = tt
 
 -- a beginning of all is appended where want of memory is handed on
 pub appends_begun : {F N O P E : Type 0} (tree : N → Tree) (old new : List (ValidationError F N O P)) (all : List Failure) (r : Result Unit E) (x : E)

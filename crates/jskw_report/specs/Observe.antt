@@ -1,12 +1,14 @@
 -- What an observer owes to the failures of its keyword, and to the count of applications.
-use Rattle.std.specs.Prelude.{◌≡◌, ◌≤◌, ◌+◌, ℕ, List, [], ◌∷◌, ◌++◌, map, Bool, Result, Ok, Err, ⊤}
+use Rattle.std.specs.Prelude.{◌≡◌, ◌≤◌, ◌+◌, ℕ, List, [], ◌∷◌, ◌++◌, map, Bool, Option, Some, None, Result, Ok, Err, ⊤}
 use Rattle.jskw_value.specs.Pointer.{Pointer}
 use Rattle.jskw_value.specs.Tree.{Tree}
 use Rattle.jskw_report.specs.Kind.{ErrorKind}
 use Rattle.jskw_report.specs.Fail.{Failure, unless}
 use Rattle.jskw_report.specs.Errors.{failure_of, failures_of}
 use Rattle.jskw_report.specs.declared.error.Fault.{Fault}
-use Rattle.jskw_report.specs.declared.error.Fault.TheVariants.{Invalid, Memory}
+use Rattle.jskw_report.specs.declared.error.Fault.TheVariants as fault
+use Rattle.jskw_report.specs.declared.error.Stop.{Stop}
+use Rattle.jskw_report.specs.declared.error.Stop.TheVariants.{Invalid, Memory}
 use Rattle.jskw_report.specs.declared.error.ValidationError.{ValidationError}
 
 -- F, N, O and P are the types of a representation, whose nodes N stand for trees
@@ -14,8 +16,15 @@ use Rattle.jskw_report.specs.declared.error.ValidationError.{ValidationError}
 -- Ok where nothing fails, and else the first failure; want of memory says nothing
 abbrev pub IsFirst : {F N O P : Type 0} → (N → Tree) → List Failure → Result Unit (Fault F N O P) → Type 0
 IsFirst tree fs (Ok u) = fs ≡ []
-IsFirst tree fs (Err (Invalid e)) = (rest : List Failure) × (fs ≡ failure_of tree e ∷ rest)
-IsFirst tree fs (Err (Memory e)) = ⊤
+IsFirst tree fs (Err (fault.Invalid e)) = (rest : List Failure) × (fs ≡ failure_of tree e ∷ rest)
+IsFirst tree fs (Err (fault.Memory e)) = ⊤
+
+-- the same of a result that leaves the first failure in `found`
+abbrev pub Finds : {F N O P : Type 0} → (N → Tree) → List Failure → Option (ValidationError F N O P) → Result Unit Stop → Type 0
+Finds tree fs found (Ok u) = fs ≡ []
+Finds tree fs (Some e) (Err Invalid) = (rest : List Failure) × (fs ≡ failure_of tree e ∷ rest)
+Finds tree fs None (Err Invalid) = ⊥
+Finds tree fs found (Err (Memory e)) = ⊤
 
 -- from `old` the list came to `now`, and `rest` of `all` is still to come
 pub record Collects (old now rest all : List Failure) : Type 0 where

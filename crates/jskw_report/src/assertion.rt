@@ -8,13 +8,15 @@ ghost use Rattle.jskw_report.specs.Fail.{error_kinds, unless};
 ghost use Rattle.jskw_report.specs.Holds.{assertion_holds};
 ghost use Rattle.jskw_report.specs.Kind.{ErrorKind};
 ghost use Rattle.jskw_report.specs.Meaning.{Placed, placed, one};
-ghost use Rattle.jskw_report.specs.Observe.{Appends, IsFirst, failures_unless};
+ghost use Rattle.jskw_report.specs.Observe.{Appends, Finds, IsFirst, failures_unless};
 ghost use Rattle.jskw_report.specs.Paths.{path_of};
 
-use crate::error::{Fault, ValidationError, ValidationErrorKind};
+use crate::error::{Fault, Stop, ValidationError, ValidationErrorKind};
 use crate::evaluation::EvaluationResult;
 use crate::paths::{LazyLocation, Location};
-use crate::validator::{Validate, ValidationContext, append_first, evaluate_first, fail_unless};
+use crate::validator::{
+    Validate, ValidationContext, append_first, evaluate_first, fail_unless, store_first,
+};
 use jskw_value::Json;
 use std::alloc::{AllocError, Global};
 
@@ -55,16 +57,17 @@ impl<F: Json, A: Assertion> Validate<F> for A {
         self.holds::<F>(instance)
     }
 
-    fn validate<'i>(
+    fn find_error<'i>(
         &'i self,
         instance: &'i F::Node,
         location: &mut LazyLocation,
         _ctx: &mut ValidationContext,
-    ) -> Result<(), Fault<'i, F>> {
+        error: &mut Option<ValidationError<'i, F>>,
+    ) -> Result<(), Stop> {
         if self.holds::<F>(instance) {
             return Ok(());
         }
-        refuse(self, instance, location)
+        store_refusal(self, instance, location, error)
     }
 
     fn collect_errors<'i>(
@@ -94,9 +97,23 @@ impl<F: Json, A: Assertion> Validate<F> for A {
     }
 }
 
-// Returns the error of an assertion that does not hold of the instance. A function of its own, so
+// Stores the error of an assertion that does not hold of the instance. A function of its own, so
 // that the frame of an error is not cleared where the assertion holds.
 #[inline(never)]
+fn store_refusal<'i, F: Json, A: Assertion>(
+    assertion: &'i A,
+    instance: &'i F::Node,
+    location: &LazyLocation,
+    error: &mut Option<ValidationError<'i, F>>,
+) -> Result<(), Stop>
+    ensures { let a = A.asserts assertion.now in Finds F.Node.tree (failures_unless false
+        (A.error assertion.now) a.location (F.Node.tree instance.now) (path_of location.now))
+        error.new result }
+{
+    store_first(refuse(assertion, instance, location), error)
+}
+
+// Returns the error of an assertion that does not hold of the instance.
 fn refuse<'i, F: Json, A: Assertion>(
     assertion: &'i A,
     instance: &'i F::Node,

@@ -8,6 +8,7 @@ ghost use Rattle.jskw_report.specs.Compile.{Refuses, refusal_of};
 ghost use Rattle.jskw_report.specs.Errors.{kind_of, failure_of};
 ghost use Rattle.jskw_report.specs.declared.error.CompileFault.TheVariants as compile_fault;
 ghost use Rattle.jskw_report.specs.declared.error.Fault.TheVariants as fault;
+ghost use Rattle.jskw_report.specs.declared.error.Stop.TheVariants as stop;
 
 use crate::paths::Location;
 use jskw_value::types::{JsonType, JsonTypeSet};
@@ -260,6 +261,15 @@ pub enum Fault<'i, F: Json> {
     Memory(AllocError),
 }
 
+/// Why [`find_error`](crate::Validate::find_error) did not return `Ok`.
+#[derive(Debug, Drop)]
+pub enum Stop {
+    /// The instance is invalid, and its first error was stored.
+    Invalid,
+    /// Memory ran out. This says nothing about the instance.
+    Memory(AllocError),
+}
+
 /// Why a schema or a keyword was not compiled.
 #[derive(Drop)]
 pub enum CompileFault<'a> {
@@ -311,6 +321,14 @@ impl<T: Drop> From<AllocFailed<T>> for CompileFault<'_> {
 
     fn from(_e: AllocFailed<T>) -> Self {
         CompileFault::Memory(AllocError)
+    }
+}
+
+impl From<AllocError> for Stop {
+    ghost from_gives = { λ e s. s ≡ stop.Memory e };
+
+    fn from(e: AllocError) -> Self {
+        Stop::Memory(e)
     }
 }
 

@@ -15,7 +15,7 @@
 //! # Memory
 //!
 //! A call that returns a `Result` with `AllocError` fails only if memory runs out.
-//! [`Fault::Memory`] and [`CompileFault::Memory`] report the same.
+//! [`Fault::Memory`], [`Stop::Memory`] and [`CompileFault::Memory`] report the same.
 //!
 //! # Words and sections
 //!
@@ -40,7 +40,7 @@ pub mod validator;
 pub use assertion::Assertion;
 pub use compiler::Context;
 pub use error::{
-    CompilationResult, CompileFault, EnumOptions, Fault, TypeKind, ValidationError,
+    CompilationResult, CompileFault, EnumOptions, Fault, Stop, TypeKind, ValidationError,
     ValidationErrorKind,
 };
 pub use evaluation::{Annotations, ErrorDescription, EvaluationNode, EvaluationResult};

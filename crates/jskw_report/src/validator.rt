@@ -8,10 +8,11 @@ ghost use Rattle.jskw_report.specs.EvaluationView.{result_of};
 ghost use Rattle.jskw_report.specs.Fail.{Failure};
 ghost use Rattle.jskw_report.specs.Meaning.{Meaning, is_assertion, meaning_holds, meaning_fail};
 ghost use Rattle.jskw_report.specs.Meaning.{meaning_unit, meaning_pairs, meaning_needed};
-ghost use Rattle.jskw_report.specs.Observe.{Appends, CountsUpTo, IsFirst, failures_unless};
+ghost use Rattle.jskw_report.specs.Observe.{Appends, CountsUpTo, Finds, IsFirst};
+ghost use Rattle.jskw_report.specs.Observe.{failures_unless};
 ghost use Rattle.jskw_report.specs.Paths.{path_of};
 
-use crate::error::{Fault, ValidationError, ValidationErrorKind};
+use crate::error::{Fault, Stop, ValidationError, ValidationErrorKind};
 use crate::evaluation::{ErrorDescription, EvaluationResult};
 use crate::paths::{LazyLocation, Location};
 use jskw_value::Json;
@@ -48,6 +49,14 @@ impl ValidationContext {
         self.applications = self.applications.saturating_add(1);
     }
 
+    /// Counts so many applications more. The count stops at 2^64-1.
+    pub fn count_more(&mut self, number: usize)
+        ensures applied { min (self.old + number) u64.MAX ≤ self.new }
+        ensures counted { CountsUpTo self.old self.new number }
+    {
+        self.applications = self.applications.saturating_add(number as u64);
+    }
+
     /// Returns how many times a schema or a subschema was applied to the instance or to one of its
     /// items. The count stops at 2^64-1.
     pub fn applications(&self) -> u64
@@ -57,7 +66,8 @@ impl ValidationContext {
     }
 }
 
-/// A validator over the representation `F`, with four observers that agree with each other.
+/// A validator over the representation `F`, with four observers that agree with each other:
+/// `is_valid`, `validate`, `collect_errors` and `evaluate`.
 ///
 /// Each observer requires a lawful instance: one that contains no float, as
 /// [`is_lawful`](jskw_value::Node::is_lawful) checks. `location` is the instance location (JSON
@@ -74,6 +84,34 @@ pub trait Validate<F: Json> {
     fn is_valid(&self, instance: &F::Node, ctx: &mut ValidationContext) -> bool
         requires { IsTrue (is_lawful (F.Node.tree instance.now)) }
         ensures answer { result ≡ meaning_holds (meaning self.now) (F.Node.tree instance.now) }
+        ensures counted { CountsUpTo ctx.old ctx.new
+            (meaning_needed (meaning self.now) (F.Node.tree instance.now)) };
+
+    /// Returns `Ok` if the instance is valid, and otherwise stores the first error in `error`. Stops
+    /// at the first failure. A keyword without subschemas allocates nothing if the instance is valid.
+    ///
+    /// This is [`validate`](Validate::validate) for validators that hold others: at each level an
+    /// error of more than 100 bytes would be handed up, and room for one if there is none.
+    ///
+    /// # Errors
+    ///
+    /// - [`Stop::Invalid`] if the instance is invalid: `error` has the first error.
+    /// - [`Stop::Memory`] if memory runs out. This says nothing about the instance.
+    fn find_error<'i>(
+        &'i self,
+        instance: &'i F::Node,
+        location: &mut LazyLocation,
+        ctx: &mut ValidationContext,
+        error: &mut Option<ValidationError<'i, F>>,
+    ) -> Result<(), Stop>
+        requires { IsTrue (is_lawful (F.Node.tree instance.now)) }
+        ensures quiet { IsTrue (is_assertion (meaning self.now))
+            → IsTrue (meaning_holds (meaning self.now) (F.Node.tree instance.now))
+            → IsOk result }
+        ensures first { Finds F.Node.tree
+            (meaning_fail (meaning self.now) (F.Node.tree instance.now) (path_of location.old))
+            error.new result }
+        ensures location { location.new ≡ location.old }
         ensures counted { CountsUpTo ctx.old ctx.new
             (meaning_needed (meaning self.now) (F.Node.tree instance.now)) };
 
@@ -99,7 +137,12 @@ pub trait Validate<F: Json> {
             result }
         ensures location { location.new ≡ location.old }
         ensures counted { CountsUpTo ctx.old ctx.new
-            (meaning_needed (meaning self.now) (F.Node.tree instance.now)) };
+            (meaning_needed (meaning self.now) (F.Node.tree instance.now)) }
+    {
+        let mut error = None;
+        let found = self.find_error(instance, location, ctx, &mut error);
+        first_error(found, error)
+    }
 
     /// Appends all errors of the instance to `errors`, in order. If memory runs out, `errors` keeps
     /// what it held, and a beginning of the new errors, possibly none, follows. A keyword without
@@ -160,6 +203,43 @@ pub fn fail_unless<'i, F: Json>(
     }
     let instance_path = location.render()?;
     Err(Fault::Invalid(ValidationError::new(kind, instance_path, schema_path, instance)))
+}
+
+/// Returns the result of `validate` for that of `find_error`, which stored the error if there is
+/// one.
+pub fn first_error<'i, F: Json>(
+    found: Result<(), Stop>,
+    error: Option<ValidationError<'i, F>>,
+) -> Result<(), Fault<'i, F>>
+    ensures first { (fs : List Failure) → Finds F.Node.tree fs error.entry found
+        → IsFirst F.Node.tree fs result }
+    ensures ok { IsOk found → IsOk result }
+{
+    match (found, error) {
+        (Ok(()), _) => Ok(()),
+        (Err(Stop::Invalid), Some(error)) => Err(Fault::Invalid(error)),
+        (Err(Stop::Invalid), None) => Err(Fault::Memory(AllocError)),
+        (Err(Stop::Memory(error)), _) => Err(Fault::Memory(error)),
+    }
+}
+
+/// Stores the error in a result of `validate`, if it has one, and returns that of `find_error`.
+pub fn store_first<'i, F: Json>(
+    answer: Result<(), Fault<'i, F>>,
+    error: &mut Option<ValidationError<'i, F>>,
+) -> Result<(), Stop>
+    ensures first { (fs : List Failure) → IsFirst F.Node.tree fs answer.entry
+        → Finds F.Node.tree fs error.new result }
+    ensures ok { IsOk answer.entry → IsOk result }
+{
+    match answer {
+        Ok(()) => Ok(()),
+        Err(Fault::Invalid(first)) => {
+            *error = Some(first);
+            Err(Stop::Invalid)
+        }
+        Err(Fault::Memory(error)) => Err(Stop::Memory(error)),
+    }
 }
 
 /// Appends the error in the result of `validate`, if it has one. This is `collect_errors` for a

@@ -1,6 +1,6 @@
-use Rattle.std.proofs.Common.{rules, ◌≡◌, ◌∙◌, ◌++◌, ap, sym, subst, refl, append-nil, arith}
+use Rattle.std.proofs.Common.{rules, ◌≡◌, ◌∙◌, ◌+◌, ◌-◌, ◌≤◌, ◌++◌, ap, ap₂, drop, sum_by, sym, subst, refl, append-nil, arith}
 use Rattle.std.proofs.lemmas.Grind.{common_steps}
-use Rattle.jskw_array.specs.Words.{Appends, AppendsBeginning, Collects, absorbed_keywords, all_fail, all_height, each_keyword, fail, failures_of, item_location, items, keyword_fail, keywords_of, meaning_fail, pairs, path_of, rest_keyword, shape_keywords, unit_meaning, validator_keyword}
+use Rattle.jskw_array.specs.Words.{Appends, AppendsBeginning, Collects, absorbed_keywords, all_fail, all_height, each_item, each_keyword, fail, failures_of, item_location, items, keyword_fail, keywords_of, meaning_fail, pairs, path_of, rest_keyword, shape_keywords, unit_meaning, validator_keyword}
 use Rattle.jskw_report.proofs.Appended.{fail_appended}
 use Rattle.jskw_report.proofs.Appending.{appends_before, appends_begun, appends_behind, collects_all, collects_more, collects_nothing, collects_part, collects_stopped}
 use Rattle.jskw_array.specs.Heights.{each_is_as_high, rest_is_as_high}
@@ -9,6 +9,7 @@ use Rattle.jskw_array.proofs.Keywords.{fail_at, items_height, items_keywords, ke
 use Rattle.jskw_array.proofs.Meant.{absurd-of, each_fails_of, each_meets, each_no_assertion, rest_fails_of, rest_meets, rest_no_assertion}
 use Rattle.jskw_leaf.proofs.Walks.{entered, fails_at}
 use Rattle.jskw_array.proofs.Meetings.{each_fails_at, each_fails_end, each_pairs_at, height_at, sum_at}
+use Rattle.jskw_array.proofs.Taken.{drop_behind, each_taken_fails, each_taken_pairs, taken_fails, taken_pairs}
 use Rattle.jskw_array.proofs.+collect_errors.Goals as goal
 
 -- ---- an item
@@ -40,12 +41,19 @@ each::EachValidate::collect_errors-loop-index-init g t c =
     let v = c.args.self.now in
     let instance = g.F.Node.Rooted.tree c.args.instance.now in
     let errors = failures_of g.F.Node.Rooted.tree c.args.errors.now.items in
+    let ss = v.nodes.items in
+    let ts = items instance in
+    let p = path_of c.args.location.now in
+    let n = c.take_items-index.result in
+    let taken = c.take_items-index.ensures in
+    let passed = each_taken_fails n ss ts p (omega (arith, taken.within)) (omega (arith, taken.within)) taken.valid in
+    let cost = each_taken_pairs n ss ts (omega (arith, taken.within)) (omega (arith, taken.within)) in
     record {
       last = omega arith;
-      collects = subst (λ fs. Collects errors errors fs (keyword_fail (each_keyword v) instance (path_of c.args.location.now))) (each_fails_of v instance (path_of c.args.location.now)) (collects_nothing _ _);
+      collects = subst (λ fs. Collects errors errors fs (keyword_fail (each_keyword v) instance p)) (each_fails_of v instance p ∙ passed) (collects_nothing _ _);
       location = refl;
-      counted_from = omega arith;
-      counted_to = omega (arith, each_meets v instance);
+      counted_from = taken.counted.from;
+      counted_to = omega (arith, each_meets v instance, cost, taken.counted.to);
     }
 
 pub each::EachValidate::collect_errors-collect_item-requires : goal.each::EachValidate::collect_errors-collect_item-requires
@@ -110,12 +118,20 @@ rest::RestValidate::collect_errors-loop-index-init g t c =
     let v = c.args.self.now in
     let instance = g.F.Node.Rooted.tree c.args.instance.now in
     let errors = failures_of g.F.Node.Rooted.tree c.args.errors.now.items in
+    let ts = items instance in
+    let p = path_of c.args.location.now in
+    let i = c.take_items-index.result in
+    let taken = c.take_items-index.ensures in
+    let n = i - v.start in
+    let behind : drop n (drop v.start ts) ≡ drop i ts = drop_behind v.start i ts taken.from in
+    let passed = taken_fails v.node n (drop v.start ts) v.start p taken.within taken.valid ∙ ap₂ (λ j us. each_item (fail v.node) j us p) {x = v.start + n} {y = i} (omega (arith, taken.from)) behind in
+    let cost = subst (λ us. n + sum_by (pairs v.node) us ≤ sum_by (pairs v.node) (drop v.start ts)) behind (taken_pairs v.node n (drop v.start ts) taken.within) in
     record {
       last = omega arith;
-      collects = subst (λ fs. Collects errors errors fs (keyword_fail (rest_keyword v) instance (path_of c.args.location.now))) (rest_fails_of v instance (path_of c.args.location.now)) (collects_nothing _ _);
+      collects = subst (λ fs. Collects errors errors fs (keyword_fail (rest_keyword v) instance p)) (rest_fails_of v instance p ∙ passed) (collects_nothing _ _);
       location = refl;
-      counted_from = omega arith;
-      counted_to = omega (arith, rest_meets v instance);
+      counted_from = taken.counted.from;
+      counted_to = omega (arith, rest_meets v instance, cost, taken.counted.to);
     }
 
 pub rest::RestValidate::collect_errors-collect_item-requires : goal.rest::RestValidate::collect_errors-collect_item-requires

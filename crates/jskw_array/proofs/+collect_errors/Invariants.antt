@@ -34,12 +34,12 @@ invariant-each::EachValidate::collect_errors-loop-index g l =
     let p = path_of l.initial.location in
     let ss = l.self.nodes.items in
     record {
-      last : l.index-end ≡ min (length (items t)) (length ss);
+      last : l.count ≡ min (length (items t)) (length ss);
       collects : Collects (failures_of tree l.initial.errors.items) (failures_of tree l.errors.items)
           (each_fails (schemas_of (drop l.index ss)) l.index (drop l.index (items t)) p) (keyword_fail (each_keyword l.self) t p);
       location : l.location ≡ l.initial.location;
-      counted_from : l.initial.ctx ≤ l.ctx;
-      counted_to : l.ctx + each_pairs (schemas_of (drop l.index ss)) (drop l.index (items t)) ≤ l.initial.ctx + keyword_pairs (each_keyword l.self) t;
+      counted_from : l.fn.ctx ≤ l.ctx;
+      counted_to : l.ctx + each_pairs (schemas_of (drop l.index ss)) (drop l.index (items t)) ≤ l.fn.ctx + keyword_pairs (each_keyword l.self) t;
     }
 
 abbrev pub invariant-rest::RestValidate::collect_errors-loop-index : goal.invariant-rest::RestValidate::collect_errors-loop-index
@@ -49,12 +49,12 @@ invariant-rest::RestValidate::collect_errors-loop-index g l =
     let p = path_of l.initial.location in
     let s = l.self.node in
     record {
-      last : l.index-end ≡ length (items t);
+      last : l.count ≡ length (items t);
       collects : Collects (failures_of tree l.initial.errors.items) (failures_of tree l.errors.items)
           (each_item (fail s) l.index (drop l.index (items t)) p) (keyword_fail (rest_keyword l.self) t p);
       location : l.location ≡ l.initial.location;
-      counted_from : l.initial.ctx ≤ l.ctx;
-      counted_to : l.ctx + sum_by (pairs s) (drop l.index (items t)) ≤ l.initial.ctx + keyword_pairs (rest_keyword l.self) t;
+      counted_from : l.fn.ctx ≤ l.ctx;
+      counted_to : l.ctx + sum_by (pairs s) (drop l.index (items t)) ≤ l.fn.ctx + keyword_pairs (rest_keyword l.self) t;
     }
 
 abbrev pub invariant-unit::collect_units-loop-unit : goal.invariant-unit::collect_units-loop-unit

@@ -1,48 +1,90 @@
-use Rattle.std.proofs.Common.{rules, ◌≡◌, ◌∙◌, ◌+◌, true, false, ◌&&◌, if◌then◌else◌, drop, sym, ap, arith}
-use Rattle.jskw_array.specs.Words.{all_height, all_hold, all_needed, items, keywords_of, meaning_holds, meaning_needed, shape_keywords, unit_meaning}
+use Rattle.std.proofs.Common.{rules, ◌≡◌, ◌∙◌, ◌+◌, ◌-◌, ◌≤◌, true, false, ◌&&◌, if◌then◌else◌, drop, subst, sym, ap, arith}
+use Rattle.jskw_array.specs.Words.{all_height, all_hold, all_needed, holds, items, keywords_of, list_all, meaning_holds, meaning_needed, needed, shape_keywords, sum_to_failure, unit_meaning}
 use Rattle.jskw_array.specs.Heights.{each_is_as_high, rest_is_as_high}
 use Rattle.jskw_array.proofs.Accepted.{counted_within, one_needed}
 use Rattle.jskw_array.proofs.Keywords.{hold_at, items_height, needed_at, only_holds, only_lower, only_needs, schema_height, unit_height, unit_tall}
 use Rattle.jskw_array.proofs.Meant.{each_holds_of, each_needs, rest_holds_of, rest_needs}
-use Rattle.jskw_array.proofs.Meetings.{each_holds_end, height_at}
+use Rattle.jskw_array.proofs.Meetings.{each_holds_end, height_at, until_at}
+use Rattle.jskw_array.proofs.Taken.{drop_behind, each_taken_holds, each_taken_needed, taken_holds, taken_needed}
 use Rattle.jskw_array.proofs.+is_valid.Goals as goal
 
 -- ---- a schema for each item
 
-pub each::EachValidate::is_valid-loop-index-init : goal.each::EachValidate::is_valid-loop-index-init
-each::EachValidate::is_valid-loop-index-init g t c =
-    let v = c.args.self.now in
-    let instance = g.F.Node.Rooted.tree c.args.instance.now in
-    record {
-      last = omega arith;
-      answer = each_holds_of v instance;
-      counted_from = omega arith;
-      counted_to = omega (arith, each_needs v instance);
-    }
-
-pub each::EachValidate::is_valid-is_valid-requires : goal.each::EachValidate::is_valid-is_valid-requires
-each::EachValidate::is_valid-is_valid-requires g t c κs within =
+pub each::Each::are_valid-is_valid-requires : goal.each::Each::are_valid-is_valid-requires
+each::Each::are_valid-is_valid-requires g t c κs within =
     let v = c.args.self.now in
     let below = height_at v.nodes.items c.loop-index.index c.index.result.now (omega arith) c.index.ensures in
     (omega (arith, below, each_is_as_high v, c.decreases), search rules)
 
-pub each::EachValidate::is_valid-returns-clause-answer : goal.each::EachValidate::is_valid-returns-clause-answer
-each::EachValidate::is_valid-returns-clause-answer g t c =
+pub each::Each::are_valid-returns-clause-answer : goal.each::Each::are_valid-returns-clause-answer
+each::Each::are_valid-returns-clause-answer g t c =
     let l = c.loop-index in
     let none = each_holds_end c.args.self.now.nodes.items (items (g.F.Node.Rooted.tree c.args.instance.now)) l.index (omega arith) in
     let left = l.invariant.answer in
     cc
 
+pub each::EachValidate::is_valid-returns-then-first-count-clause-answer : goal.each::EachValidate::is_valid-returns-then-first-count-clause-answer
+each::EachValidate::is_valid-returns-then-first-count-clause-answer g t c =
+    let v = c.args.self.now in
+    let instance = g.F.Node.Rooted.tree c.args.instance.now in
+    let ss = v.nodes.items in
+    let n = c.take_items-first.result in
+    let taken = c.take_items-first.ensures in
+    sym (each_holds_of v instance ∙ each_taken_holds n ss (items instance) (omega (arith, taken.within)) (omega (arith, taken.within)) taken.valid ∙ each_holds_end ss (items instance) n (omega arith))
+
+pub each::EachValidate::is_valid-returns-then-first-count-clause-counted : goal.each::EachValidate::is_valid-returns-then-first-count-clause-counted
+each::EachValidate::is_valid-returns-then-first-count-clause-counted g t c =
+    let v = c.args.self.now in
+    let instance = g.F.Node.Rooted.tree c.args.instance.now in
+    let taken = c.take_items-first.ensures in
+    let cost = each_taken_needed c.take_items-first.result v.nodes.items (items instance) (omega (arith, taken.within)) (omega (arith, taken.within)) taken.valid in
+    record { from = taken.counted.from; to = omega (arith, each_needs v instance, cost, taken.counted.to) }
+
+pub each::EachValidate::is_valid-returns-clause-answer : goal.each::EachValidate::is_valid-returns-clause-answer
+each::EachValidate::is_valid-returns-clause-answer g t c =
+    let v = c.args.self.now in
+    let instance = g.F.Node.Rooted.tree c.args.instance.now in
+    let taken = c.take_items-first.ensures in
+    c.are_valid.ensures.answer
+    ∙ sym (each_holds_of v instance ∙ each_taken_holds c.take_items-first.result v.nodes.items (items instance) (omega (arith, taken.within)) (omega (arith, taken.within)) taken.valid)
+
+pub each::EachValidate::is_valid-returns-clause-counted : goal.each::EachValidate::is_valid-returns-clause-counted
+each::EachValidate::is_valid-returns-clause-counted g t c =
+    let v = c.args.self.now in
+    let instance = g.F.Node.Rooted.tree c.args.instance.now in
+    let taken = c.take_items-first.ensures in
+    let next = c.are_valid.ensures.counted in
+    let cost = each_taken_needed c.take_items-first.result v.nodes.items (items instance) (omega (arith, taken.within)) (omega (arith, taken.within)) taken.valid in
+    record { from = omega (arith, taken.counted.from, next.from); to = omega (arith, each_needs v instance, cost, taken.counted.to, next.to) }
+
 -- ---- one schema for the items from an index on
+
+pub rest::Rest::holds_of-returns-then-not-is_valid-clause-counted : goal.rest::Rest::holds_of-returns-then-not-is_valid-clause-counted
+rest::Rest::holds_of-returns-then-not-is_valid-clause-counted g t c =
+    let l = c.loop-index in
+    let s = c.args.self.now.node in
+    let tree = g.F.Node.Rooted.tree in
+    let next = c.is_valid.ensures.counted in
+    let cost = until_at (items (tree c.args.instance.now)) l.index (tree c.item.result.now) (omega arith) c.item.ensures.value (holds s) (needed s) in
+    record { from = omega (arith, l.invariant.counted_from, next.from); to = omega (arith, cost, l.invariant.counted_to, next.to) }
+
+pub rest::Rest::holds_of-returns-clause-counted : goal.rest::Rest::holds_of-returns-clause-counted
+rest::Rest::holds_of-returns-clause-counted g t c = record { from = c.loop-index.invariant.counted_from; to = omega (arith, c.loop-index.invariant.counted_to) }
 
 pub rest::Rest::holds_of-loop-index-init : goal.rest::Rest::holds_of-loop-index-init
 rest::Rest::holds_of-loop-index-init g t c =
     let v = c.args.self.now in
     let instance = g.F.Node.Rooted.tree c.args.instance.now in
+    let ts = items instance in
+    let i = c.take_items-index.result in
+    let taken = c.take_items-index.ensures in
+    let n = i - v.start in
+    let behind : drop n (drop v.start ts) ≡ drop i ts = drop_behind v.start i ts taken.from in
+    let cost = subst (λ us. n + sum_to_failure (holds v.node) (needed v.node) us ≤ sum_to_failure (holds v.node) (needed v.node) (drop v.start ts)) behind (taken_needed v.node n (drop v.start ts) taken.within taken.valid) in
     record {
-      answer = rest_holds_of v instance;
-      counted_from = omega arith;
-      counted_to = omega (arith, rest_needs v instance);
+      answer = rest_holds_of v instance ∙ taken_holds v.node n (drop v.start ts) taken.within taken.valid ∙ ap (list_all (holds v.node)) behind;
+      counted_from = taken.counted.from;
+      counted_to = omega (arith, rest_needs v instance, cost, taken.counted.to);
     }
 
 pub rest::Rest::holds_of-is_valid-requires : goal.rest::Rest::holds_of-is_valid-requires

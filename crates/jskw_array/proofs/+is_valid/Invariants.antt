@@ -25,7 +25,10 @@ abbrev pub decreases-validator::ValidatorValidate::is_valid : goal.decreases-val
 decreases-validator::ValidatorValidate::is_valid g l = 10 * keyword_height (validator_keyword l.self.now) + 4
 
 abbrev pub decreases-each::EachValidate::is_valid : goal.decreases-each::EachValidate::is_valid
-decreases-each::EachValidate::is_valid g l = 10 * keyword_height (each_keyword l.self.now) + 2
+decreases-each::EachValidate::is_valid g l = 10 * keyword_height (each_keyword l.self.now) + 3
+
+abbrev pub decreases-each::Each::are_valid : goal.decreases-each::Each::are_valid
+decreases-each::Each::are_valid g l = 10 * keyword_height (each_keyword l.self.now) + 2
 
 abbrev pub decreases-rest::RestValidate::is_valid : goal.decreases-rest::RestValidate::is_valid
 decreases-rest::RestValidate::is_valid g l = 10 * keyword_height (rest_keyword l.self.now) + 3
@@ -39,15 +42,14 @@ decreases-matching::MatchingValidate::is_valid g l = 10 * height l.self.now.node
 abbrev pub decreases-matching::Matching::failing_location : goal.decreases-matching::Matching::failing_location
 decreases-matching::Matching::failing_location g l = 10 * height l.self.now.node + 2
 
-abbrev pub invariant-each::EachValidate::is_valid-loop-index : goal.invariant-each::EachValidate::is_valid-loop-index
-invariant-each::EachValidate::is_valid-loop-index g l =
-    let t = g.F.Node.Rooted.tree l.instance in
+abbrev pub invariant-each::Each::are_valid-loop-index : goal.invariant-each::Each::are_valid-loop-index
+invariant-each::Each::are_valid-loop-index g l =
+    let ts = items (g.F.Node.Rooted.tree l.instance) in
     let ss = l.self.nodes.items in
     record {
-      last : l.index-end ≡ min (length (items t)) (length ss);
-      answer : keyword_holds (each_keyword l.self) t ≡ each_holds (schemas_of (drop l.index ss)) (drop l.index (items t));
+      answer : each_holds (schemas_of (drop l.first ss)) (drop l.first ts) ≡ each_holds (schemas_of (drop l.index ss)) (drop l.index ts);
       counted_from : l.initial.ctx ≤ l.ctx;
-      counted_to : l.ctx + each_needed (schemas_of (drop l.index ss)) (drop l.index (items t)) ≤ l.initial.ctx + keyword_needed (each_keyword l.self) t;
+      counted_to : l.ctx + each_needed (schemas_of (drop l.index ss)) (drop l.index ts) ≤ l.initial.ctx + each_needed (schemas_of (drop l.first ss)) (drop l.first ts);
     }
 
 abbrev pub invariant-rest::Rest::holds_of-loop-index : goal.invariant-rest::Rest::holds_of-loop-index
@@ -56,8 +58,8 @@ invariant-rest::Rest::holds_of-loop-index g l =
     let s = l.self.node in
     record {
       answer : keyword_holds (rest_keyword l.self) t ≡ list_all (holds s) (drop l.index (items t));
-      counted_from : l.initial.ctx ≤ l.ctx;
-      counted_to : l.ctx + sum_to_failure (holds s) (needed s) (drop l.index (items t)) ≤ l.initial.ctx + keyword_needed (rest_keyword l.self) t;
+      counted_from : l.fn.ctx ≤ l.ctx;
+      counted_to : l.ctx + sum_to_failure (holds s) (needed s) (drop l.index (items t)) ≤ l.fn.ctx + keyword_needed (rest_keyword l.self) t;
     }
 
 abbrev pub invariant-matching::Matching::failing_location-loop-index : goal.invariant-matching::Matching::failing_location-loop-index

@@ -12,7 +12,7 @@ use crate::items::{self, AbsorbedKeywords};
 use crate::unit::PlacedValidator;
 use crate::validator::Validator;
 use jskw_report::{
-    CompilationResult, Context, EvaluationResult, Fault, KeywordName, LazyLocation, Location,
+    CompilationResult, Context, EvaluationResult, KeywordName, LazyLocation, Location, Stop,
     Validate, ValidationContext, ValidationError,
 };
 use jskw_value::Json;
@@ -101,15 +101,18 @@ impl<F: Json> Validate<F> for ArrayShapeValidator<F> {
         }
     }
 
-    #[cycle(validate)]
-    fn validate<'i>(
+    #[cycle(find_error)]
+    fn find_error<'i>(
         &'i self,
         instance: &'i F::Node,
         location: &mut LazyLocation,
         ctx: &mut ValidationContext,
-    ) -> Result<(), Fault<'i, F>> {
-        self.absorbed.validate(instance, location)?;
-        self.items.validator.validate(instance, location, ctx)
+        error: &mut Option<ValidationError<'i, F>>,
+    ) -> Result<(), Stop> {
+        self.absorbed.find_error(instance, location, error)?;
+        self.items
+            .validator
+            .find_error(instance, location, ctx, error)
     }
 
     #[cycle(collect_errors)]

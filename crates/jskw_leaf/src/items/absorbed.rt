@@ -9,7 +9,7 @@ ghost use Rattle.jskw_report.specs.EvaluationView.{result_of};
 ghost use Rattle.jskw_report.specs.Fail.{all_fail, keyword_fail};
 ghost use Rattle.jskw_report.specs.Holds.{all_hold, assertion_holds};
 ghost use Rattle.jskw_report.specs.Meaning.{placed};
-ghost use Rattle.jskw_report.specs.Observe.{Appends, IsFirst, failures_unless};
+ghost use Rattle.jskw_report.specs.Observe.{Appends, Finds, IsFirst, failures_unless};
 ghost use Rattle.jskw_report.specs.Paths.{path_of};
 ghost use Rattle.jskw_report.specs.Read.{part_named, read_words};
 ghost use Rattle.jskw_report.specs.Sibling.{is_fused, takes_size};
@@ -23,10 +23,10 @@ use jskw_number::max_items::MaxItemsValidator;
 use jskw_number::min_items::MinItemsValidator;
 use jskw_number::sizes::SizeLimit;
 use jskw_report::compiler::member_of;
-use jskw_report::validator::{append_first, evaluate_first, fail_unless};
+use jskw_report::validator::{append_first, evaluate_first, fail_unless, store_first};
 use jskw_report::{
     Assertion, CompilationResult, Context, EvaluationNode, EvaluationResult, Fault, KeywordName,
-    LazyLocation, Location, ValidationError, ValidationErrorKind,
+    LazyLocation, Location, Stop, ValidationError, ValidationErrorKind,
 };
 use jskw_value::{Array, Json, Node};
 use serde_json::{Map, Value};
@@ -89,30 +89,45 @@ impl AbsorbedKeywords {
         }
     }
 
-    /// Returns the first error of the three, or `Ok` if the instance passes them. The instance must
-    /// be lawful.
+    /// Returns `Ok` if the instance, which must be lawful, passes the three, and otherwise stores the
+    /// first error in `error`.
     ///
     /// # Errors
     ///
-    /// - [`Fault::Invalid`] with the first error, if the instance is invalid.
-    /// - [`Fault::Memory`] if memory runs out.
-    pub fn validate<'i, F: Json>(
+    /// - [`Stop::Invalid`] if the instance is invalid: `error` has the first error.
+    /// - [`Stop::Memory`] if memory runs out.
+    pub fn find_error<'i, F: Json>(
         &'i self,
         instance: &'i F::Node,
         location: &LazyLocation,
-    ) -> Result<(), Fault<'i, F>>
+        error: &mut Option<ValidationError<'i, F>>,
+    ) -> Result<(), Stop>
         requires { IsTrue (is_lawful (F.Node.tree instance.now)) }
-        ensures { IsFirst F.Node.tree (all_fail (absorbed_keywords self.now)
-            (F.Node.tree instance.now) (path_of location.now)) result }
+        ensures { Finds F.Node.tree (all_fail (absorbed_keywords self.now)
+            (F.Node.tree instance.now) (path_of location.now)) error.new result }
     {
         if self.valid_count(instance).is_some() {
             return Ok(());
         }
-        self.first_error(instance, location)
+        self.store_error(instance, location, error)
     }
 
-    // `validate` keyword by keyword.
+    // Stores the first error of the three, if there is one.
     #[inline(never)]
+    fn store_error<'i, F: Json>(
+        &'i self,
+        instance: &'i F::Node,
+        location: &LazyLocation,
+        error: &mut Option<ValidationError<'i, F>>,
+    ) -> Result<(), Stop>
+        requires { IsTrue (is_lawful (F.Node.tree instance.now)) }
+        ensures { Finds F.Node.tree (all_fail (absorbed_keywords self.now)
+            (F.Node.tree instance.now) (path_of location.now)) error.new result }
+    {
+        store_first(self.first_error(instance, location), error)
+    }
+
+    // Returns the first error of the three, if there is one.
     fn first_error<'i, F: Json>(
         &'i self,
         instance: &'i F::Node,

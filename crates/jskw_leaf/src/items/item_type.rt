@@ -10,7 +10,8 @@ ghost use Rattle.jskw_report.specs.Keyword.{type_is};
 ghost use Rattle.jskw_report.specs.Meaning.{one, placed};
 ghost use Rattle.jskw_report.specs.Paths.{path_of};
 ghost use Rattle.jskw_report.specs.declared.error.TypeKind.TheVariants.{Single};
-ghost use Rattle.jskw_leaf.specs.Items.{bare_items, bare_schema, items_type, leading};
+ghost use Rattle.jskw_number.specs.QuickSet.{leading};
+ghost use Rattle.jskw_leaf.specs.Items.{bare_items, bare_schema, items_type};
 ghost use Rattle.jskw_leaf.specs.Meaning.{leaf_keyword, rule_of, single_type, type_at};
 
 use crate::leaf::LeafValidator;
@@ -20,7 +21,7 @@ use crate::type_::{
     TypeValidator,
 };
 use jskw_report::{
-    Annotations, Assertion, EvaluationNode, EvaluationResult, Fault, LazyLocation, Location,
+    Annotations, Assertion, EvaluationNode, EvaluationResult, LazyLocation, Location, Stop,
     TypeKind, Validate, ValidationContext, ValidationError,
 };
 use jskw_value::{Array, Json, JsonType, Node};
@@ -154,12 +155,13 @@ impl<T: ItemType, F: Json> Validate<F> for ItemsTypeValidator<T, F> {
         self.holds_of(instance.item_count(), instance)
     }
 
-    fn validate<'i>(
+    fn find_error<'i>(
         &'i self,
         instance: &'i F::Node,
         location: &mut LazyLocation,
         ctx: &mut ValidationContext,
-    ) -> Result<(), Fault<'i, F>> {
+        error: &mut Option<ValidationError<'i, F>>,
+    ) -> Result<(), Stop> {
         let count = instance.item_count();
         let index = first_other::<T, F>(0, count, instance);
         if index == count {
@@ -167,7 +169,7 @@ impl<T: ItemType, F: Json> Validate<F> for ItemsTypeValidator<T, F> {
         }
         location.push(index)?;
         let item = instance.item(index);
-        let answer = self.validator.validate(item, location, ctx);
+        let answer = self.validator.find_error(item, location, ctx, error);
         location.pop();
         answer
     }

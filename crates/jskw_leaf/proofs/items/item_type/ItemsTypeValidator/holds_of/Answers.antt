@@ -1,7 +1,7 @@
 use Rattle.std.proofs.Common.{◌≡◌, ◌∙◌, ap₂, nat_eq, sym, arith}
 use Rattle.jskw_value.specs.Tree.{items}
 use Rattle.jskw_report.specs.Holds.{assertion_holds}
-use Rattle.jskw_leaf.specs.Items.{leading}
+use Rattle.jskw_number.specs.QuickSet.{leading}
 use Rattle.jskw_leaf.specs.Meaning.{single_type}
 use Rattle.jskw_leaf.proofs.Bare.{bare_all_hold}
 use Rattle.jskw_leaf.proofs.Walks.{all_leading}

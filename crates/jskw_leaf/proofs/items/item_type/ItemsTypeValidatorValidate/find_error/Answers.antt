@@ -5,13 +5,14 @@ use Rattle.jskw_value.specs.Tree.{items}
 use Rattle.jskw_report.specs.Fail.{each_item, fail, keyword_fail}
 use Rattle.jskw_report.specs.Holds.{assertion_holds}
 use Rattle.jskw_report.specs.Meaning.{placed}
-use Rattle.jskw_report.specs.Observe.{IsFirst}
+use Rattle.jskw_report.specs.Observe.{Finds}
 use Rattle.jskw_report.specs.Paths.{path_of}
-use Rattle.jskw_leaf.specs.Items.{bare_schema, leading}
+use Rattle.jskw_number.specs.QuickSet.{leading}
+use Rattle.jskw_leaf.specs.Items.{bare_schema}
 use Rattle.jskw_leaf.specs.Meaning.{single_type}
 use Rattle.jskw_leaf.proofs.Bare.{type_fails_first}
 use Rattle.jskw_leaf.proofs.Walks.{entered, fails_at, leading_fails, of_type_passed}
-use Rattle.jskw_leaf.proofs.items.item_type.ItemsTypeValidatorValidate.validate.Goals as goal
+use Rattle.jskw_leaf.proofs.items.item_type.ItemsTypeValidatorValidate.find_error.Goals as goal
 
 pub returns-then-index-count-clause-first : goal.returns-then-index-count-clause-first
 returns-then-index-count-clause-first g c =
@@ -39,13 +40,14 @@ returns-clause-first g c =
     let p = path_of c.args.location.now in
     let i = c.first_other-index.result in
     let u = tree c.item-item.result.now in
-    let r = c.validate-answer.result in
+    let r = c.find_error-answer.result in
+    let found = c.find_error-answer.new.error in
     let within : i < length ts = omega arith in
     let first = c.first_other-index.ensures.first in
     let behind : i ≡ leading check ts = omega (arith, first) in
     let fails = leading_fails check ts i u behind within c.item-item.ensures.value in
-    let at_item = subst (λ q. IsFirst tree (keyword_fail (placed a) u q) r) (entered i c.in_ok-push.ensures.pushed refl) c.validate-answer.ensures.first in
+    let at_item = subst (λ q. Finds tree (keyword_fail (placed a) u q) found r) (entered i c.in_ok-push.ensures.pushed refl) c.find_error-answer.ensures.first in
     let rest = each_item (fail s) (i + 1) (drop (i + 1) ts) p in
     let whole = of_type_passed j rule v.location a.location ts p 0 i first
     ∙ fails_at ts i u within c.item-item.ensures.value (fail s) p in
-    subst (λ fs. IsFirst tree fs r) (sym whole) (type_fails_first tree j rule v.location a.location u (item_location p i) rest r fails at_item)
+    subst (λ fs. Finds tree fs found r) (sym whole) (type_fails_first tree j rule v.location a.location u (item_location p i) rest found r fails at_item)

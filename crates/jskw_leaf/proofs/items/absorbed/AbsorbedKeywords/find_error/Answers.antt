@@ -2,7 +2,7 @@ use Rattle.std.proofs.Common.{◌∙◌, sym}
 use Rattle.jskw_report.specs.Paths.{path_of}
 use Rattle.jskw_leaf.specs.Items.{absorbed_keywords}
 use Rattle.jskw_leaf.proofs.Fused.{none_fail}
-use Rattle.jskw_leaf.proofs.items.absorbed.AbsorbedKeywords.validate.Goals as goal
+use Rattle.jskw_leaf.proofs.items.absorbed.AbsorbedKeywords.find_error.Goals as goal
 
 pub returns-then-is_some : goal.returns-then-is_some
 returns-then-is_some g c =

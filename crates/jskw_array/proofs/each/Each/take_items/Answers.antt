@@ -1,0 +1,13 @@
+use Rattle.std.proofs.Common.{arith}
+use Rattle.jskw_array.specs.Words.{items}
+use Rattle.jskw_array.proofs.Taken.{each_taken_next}
+use Rattle.jskw_array.proofs.each.Each.take_items.Goals as goal
+
+pub loop-index-preserved : goal.loop-index-preserved
+loop-index-preserved g c =
+    let l = c.loop-index in
+    let taken = c.takes.ensures c.if-not-takes.false in
+    record {
+      valid = each_taken_next c.args.self.now.nodes.items (items (g.F.Node.Rooted.tree c.args.instance.now)) l.index _ _ (omega arith) (omega arith) c.index.ensures c.item.ensures.value l.invariant.valid taken;
+      uncounted = l.invariant.uncounted;
+    }
