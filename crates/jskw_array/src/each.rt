@@ -94,6 +94,7 @@ impl<F: Json> Validate<F> for Each<F> {
         self.are_valid(first, count, instance, ctx)
     }
 
+    #[inline(never)]
     #[cycle(find_error)]
     fn find_error<'i>(
         &'i self,
@@ -114,6 +115,7 @@ impl<F: Json> Validate<F> for Each<F> {
         Ok(())
     }
 
+    #[inline(never)]
     #[cycle(collect_errors)]
     fn collect_errors<'i>(
         &'i self,

@@ -83,6 +83,7 @@ impl<F: Json> Validate<F> for Rest<F> {
         count <= self.start || self.holds_of(count, instance, ctx)
     }
 
+    #[inline(never)]
     #[cycle(find_error)]
     fn find_error<'i>(
         &'i self,
@@ -103,6 +104,7 @@ impl<F: Json> Validate<F> for Rest<F> {
         Ok(())
     }
 
+    #[inline(never)]
     #[cycle(collect_errors)]
     fn collect_errors<'i>(
         &'i self,

@@ -39,6 +39,7 @@ pub(crate) struct PlacedValidator<F: Json> {
 impl<F: Json> Validate<F> for Unit<F> {
     ghost meaning = { unit_meaning };
 
+    #[inline(always)]
     #[cycle(is_valid)]
     fn is_valid(&self, instance: &F::Node, ctx: &mut ValidationContext) -> bool {
         match self {
@@ -47,6 +48,7 @@ impl<F: Json> Validate<F> for Unit<F> {
         }
     }
 
+    #[inline(always)]
     #[cycle(find_error)]
     fn find_error<'i>(
         &'i self,
@@ -63,6 +65,7 @@ impl<F: Json> Validate<F> for Unit<F> {
         }
     }
 
+    #[inline(always)]
     #[cycle(collect_errors)]
     fn collect_errors<'i>(
         &'i self,

@@ -64,11 +64,13 @@ macro_rules! dispatch {
 impl<F: Json> Validate<F> for Validator<F> {
     ghost meaning = { λ v. one (validator_keyword v) };
 
+    #[inline(always)]
     #[cycle(is_valid)]
     fn is_valid(&self, instance: &F::Node, ctx: &mut ValidationContext) -> bool {
         dispatch!(self, v => Validate::<F>::is_valid(v, instance, ctx))
     }
 
+    #[inline(always)]
     #[cycle(find_error)]
     fn find_error<'i>(
         &'i self,
@@ -80,6 +82,7 @@ impl<F: Json> Validate<F> for Validator<F> {
         dispatch!(self, v => v.find_error(instance, location, ctx, error))
     }
 
+    #[inline(always)]
     #[cycle(collect_errors)]
     fn collect_errors<'i>(
         &'i self,
