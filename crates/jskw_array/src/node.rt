@@ -185,8 +185,9 @@ impl<F: Json> SchemaNode<F> {
         self.accepted.contains(instance)
     }
 
-    // Applies the schema to the items from `start` on that it takes, up to the first that it does not
-    // take. Returns the index of that one, or `count`, the number of items, if there is none.
+    // Applies the schema to the items from `start` on, as far as it takes them. Returns the index of
+    // the first that it does not take; if there is none, `count`, the number of items, or `start` if
+    // that is past them.
     #[inline(always)]
     pub(crate) fn take_items(
         &self,
