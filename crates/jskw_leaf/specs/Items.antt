@@ -1,6 +1,6 @@
 -- What the validators of `items` that apply no subschema stand for: bare type checks, and the keywords that the fused shape of
 -- an array has beside `items`.
-use Rattle.std.specs.Prelude.{◌≡◌, ℕ, List, ◌++◌, length, Bool, true, Option, Some, None, Result, Ok, Err, if◌then◌else◌}
+use Rattle.std.specs.Prelude.{◌≡◌, ℕ, List, ◌++◌, length, true, Option, Some, None, Result, Ok, Err, if◌then◌else◌}
 use Rattle.jskw_value.specs.Pointer.{Pointer}
 use Rattle.jskw_value.specs.Tree.{Tree, is_array, items}
 use Rattle.jskw_value.specs.declared.types.JsonType.{JsonType}

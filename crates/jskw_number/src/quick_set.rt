@@ -1,11 +1,10 @@
 //! Sets of values that a keyword is known to accept, and that a few instructions test. A keyword
 //! may accept more: a value that is not in its set is tested by the keyword itself.
-ghost use Rattle.std.specs.Prelude.{◌≡◌, ◌≤◌, ◌+◌, ◌&&◌, ◌||◌, IsTrue, None, ℤ, int_le, true, false};
+ghost use Rattle.std.specs.Prelude.{◌≡◌, ◌≤◌, ◌+◌, ◌&&◌, ◌||◌, IsTrue, ℤ, int_le, true, false};
 ghost use Rattle.std.specs.Prelude.{drop, length};
 ghost use Rattle.std.specs.Int.NonZero.{non_zero_u64_get};
-ghost use Rattle.jskw_value.specs.Number.{Num, is_exact, is_multiple_of};
-ghost use Rattle.jskw_value.specs.Tree.{Tree, as_number, is_array, is_lawful, is_object, items};
-ghost use Rattle.jskw_value.specs.Tree.{number as number_tree};
+ghost use Rattle.jskw_value.specs.Number.{Num, is_multiple_of};
+ghost use Rattle.jskw_value.specs.Tree.{Tree, is_array, is_lawful, is_object, items, number};
 ghost use Rattle.jskw_value.specs.Types.{contains as has_type};
 ghost use Rattle.jskw_value.specs.declared.types.JsonType.TheVariants.{Integer, Number};
 ghost use Rattle.jskw_report.specs.Holds.{is_of};
@@ -167,7 +166,7 @@ pub struct QuickSet {
 impl QuickSet {
     /// Returns the set of all values that are no numbers, and of these integers.
     pub fn but_numbers(integers: IntegerRange) -> QuickSet
-        ensures { (n : Num) → is_in result (number_tree n) ≡ has_number integers n }
+        ensures { (n : Num) → is_in result (number n) ≡ has_number integers n }
     {
         QuickSet {
             arrays: true,
@@ -240,14 +239,25 @@ impl QuickSet {
         requires { IsTrue (is_lawful (N.tree instance.now)) }
         ensures { result ≡ is_in self.now (N.tree instance.now) }
     {
-        match instance.as_number() {
-            Some(number) => self.has_number(number),
-            None => self.has_type_of(instance),
+        if let Some(number) = instance.as_number() {
+            return match number.as_i64() {
+                Some(number) => self.integers.contains(number),
+                None => false,
+            };
+        }
+        match instance.json_type() {
+            JsonType::Array => self.arrays,
+            JsonType::Boolean => self.booleans,
+            JsonType::Null => self.nulls,
+            JsonType::Object => self.objects,
+            JsonType::String => self.strings,
+            JsonType::Integer | JsonType::Number => false,
         }
     }
 
-    /// Returns the index of the first item from `start` on that is not in the set, or `count`, the
-    /// number of items, if there is none. The instance must be lawful. Allocates nothing.
+    /// Returns the index of the first item from `start` on that is not in the set, or `count` if
+    /// there is none. `count` must be the number of items, which is 0 for a non-array, and `start` no
+    /// more than that. The instance must be lawful. Allocates nothing.
     #[inline(never)]
     pub fn first_outside<N: Node>(&self, start: usize, count: usize, instance: &N) -> usize
         requires lawful { IsTrue (is_lawful (N.tree instance.now)) }
@@ -263,34 +273,6 @@ impl QuickSet {
             }
         }
         count
-    }
-
-    // Returns whether the number is in the set.
-    #[inline(always)]
-    fn has_number<N: JsonNumber>(&self, number: &N) -> bool
-        requires { IsTrue (is_exact (N.number number.now)) }
-        ensures { result ≡ is_in self.now (number_tree (N.number number.now)) }
-    {
-        match number.as_i64() {
-            Some(number) => self.integers.contains(number),
-            None => false,
-        }
-    }
-
-    // Returns whether the instance, which must be no number, is in the set.
-    #[inline(always)]
-    fn has_type_of<N: Node>(&self, instance: &N) -> bool
-        requires { as_number (N.tree instance.now) ≡ None }
-        ensures { result ≡ is_in self.now (N.tree instance.now) }
-    {
-        match instance.json_type() {
-            JsonType::Array => self.arrays,
-            JsonType::Boolean => self.booleans,
-            JsonType::Null => self.nulls,
-            JsonType::Object => self.objects,
-            JsonType::String => self.strings,
-            JsonType::Integer | JsonType::Number => false,
-        }
     }
 
     /// Returns values that are in both sets.

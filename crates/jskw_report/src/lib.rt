@@ -7,7 +7,7 @@
 //! - [`Settings`] hold the draft, the vocabularies and the overridden keywords. A [`Context`] adds
 //!   the keyword location at which a schema or a keyword is compiled.
 //! - [`Validate`] has the four observers of a validator: `is_valid`, `validate`, `collect_errors`
-//!   and `evaluate`. Their contracts refer to the definitions in `specs/`. A validator that gives
+//!   and `evaluate`; a validator has `find_error` for `validate`. Their contracts refer to the definitions in `specs/`. A validator that gives
 //!   at most one error for an instance implements [`Assertion`], and gets the observers from it.
 //! - A [`ValidationError`] says what is wrong with an instance or with a schema, an
 //!   [`EvaluationNode`] what each schema and keyword reports of an instance.

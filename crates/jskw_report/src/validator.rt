@@ -206,7 +206,7 @@ pub fn fail_unless<'i, F: Json>(
 }
 
 /// Returns the result of `validate` for that of `find_error`, which stored the error if there is
-/// one.
+/// one. `Stop::Invalid` without an error, which no `find_error` returns, gives `Fault::Memory`.
 pub fn first_error<'i, F: Json>(
     found: Result<(), Stop>,
     error: Option<ValidationError<'i, F>>,
@@ -223,7 +223,8 @@ pub fn first_error<'i, F: Json>(
     }
 }
 
-/// Stores the error in a result of `validate`, if it has one, and returns that of `find_error`.
+/// Stores the error in a result of `validate`, if it has one, and returns the result of
+/// `find_error`: `error` is unchanged unless that is `Stop::Invalid`.
 pub fn store_first<'i, F: Json>(
     answer: Result<(), Fault<'i, F>>,
     error: &mut Option<ValidationError<'i, F>>,
