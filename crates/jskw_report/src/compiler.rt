@@ -113,6 +113,26 @@ impl<'s, F: Json> Context<'s, F> {
         })
     }
 
+    /// Returns the context of the value of `keyword`, with the same settings and object layer. The
+    /// keyword location has the name of the keyword added.
+    pub fn new_at_keyword(
+        &self,
+        alloc: Global,
+        keyword: KeywordName,
+    ) -> Result<Context<'s, F>, AllocError>
+        ensures { IfOk result (λ c. c ≡ record {
+          setting = self.now.setting;
+          location = keyword_location self.now.location keyword;
+        }) }
+    {
+        Ok(Context {
+            settings: self.settings,
+            object_layer: self.object_layer,
+            location: self.keyword_location(alloc, keyword)?,
+            representation: PhantomData,
+        })
+    }
+
     /// Returns the keyword location of `keyword` in the schema that is compiled here: the location
     /// of the schema and the name of the keyword (JSON Schema Core 12.3.1).
     pub fn keyword_location(
@@ -123,8 +143,7 @@ impl<'s, F: Json> Context<'s, F> {
         ensures { IfOk result (λ location. location
             ≡ keyword_location self.now.location keyword) }
     {
-        self.location
-            .join(alloc, LocationSegment::Name(keyword.as_str()))
+        self.location.join_name(alloc, keyword.as_str())
     }
 
     /// Returns whether the vocabulary is present: always in Drafts 4, 6 and 7, otherwise if the

@@ -1,6 +1,7 @@
 //! Locations in schemas and instances: JSON pointers (RFC 6901).
 ghost use Rattle.std.specs.Prelude.{◌≡◌, ◌-◌, List, ℕ, [], ◌∷◌, ◌++◌, IfOk, OnOk, OnErr, length};
 ghost use Rattle.std.specs.Prelude.{take, string_bytes};
+ghost use Rattle.jskw_value.specs.Pointer.{escape, member_location};
 ghost use Rattle.jskw_report.specs.Paths.{segment_location, path_of};
 
 use jskw_value::pointer::{push_index, push_name};
@@ -64,6 +65,20 @@ impl Location {
             LocationSegment::Name(name) => push_name(&mut text, name)?,
             LocationSegment::Index(index) => push_index(&mut text, index)?,
         }
+        Ok(Location { text })
+    }
+
+    // Returns the location of the member of this name, in which nothing is to be escaped. The text has
+    // just this size.
+    pub(crate) fn join_name(&self, alloc: Global, name: &str) -> Result<Location, AllocError>
+        requires { escape name.now ≡ name.now }
+        ensures { IfOk result (λ l. l ≡ member_location self.now name.now) }
+    {
+        let size = self.text.len().saturating_add(name.len());
+        let mut text = String::with_capacity(alloc, size.saturating_add(1))?;
+        text.push_str(self.text.as_str())?;
+        text.push_str("/")?;
+        text.push_str(name)?;
         Ok(Location { text })
     }
 
