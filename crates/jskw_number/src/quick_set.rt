@@ -3,7 +3,7 @@
 ghost use Rattle.std.specs.Prelude.{◌≡◌, ◌≤◌, ◌+◌, ◌&&◌, ◌||◌, IsTrue, ℤ, int_le, true, false};
 ghost use Rattle.std.specs.Prelude.{drop, length};
 ghost use Rattle.std.specs.Int.NonZero.{non_zero_u64_get};
-ghost use Rattle.jskw_value.specs.Number.{Num, is_multiple_of};
+ghost use Rattle.jskw_value.specs.Number.{Num, is_exact, is_multiple_of};
 ghost use Rattle.jskw_value.specs.Tree.{Tree, is_array, is_lawful, is_object, items, number};
 ghost use Rattle.jskw_value.specs.Types.{contains as has_type};
 ghost use Rattle.jskw_value.specs.declared.types.JsonType.TheVariants.{Integer, Number};
@@ -98,6 +98,19 @@ impl IntegerRange {
         match self.divisor {
             None => true,
             Some(divisor) => number.unsigned_abs() % divisor.get() == 0,
+        }
+    }
+
+    // Returns whether the number, which must be lawful, is an integer of the range that is written
+    // without a fraction.
+    #[inline(always)]
+    fn has<A: JsonNumber>(&self, number: &A) -> bool
+        requires { IsTrue (is_exact (A.number number.now)) }
+        ensures { result ≡ has_number self.now (A.number number.now) }
+    {
+        match number.as_i64() {
+            Some(number) => self.contains(number),
+            None => false,
         }
     }
 
@@ -240,10 +253,7 @@ impl QuickSet {
         ensures { result ≡ is_in self.now (N.tree instance.now) }
     {
         if let Some(number) = instance.as_number() {
-            return match number.as_i64() {
-                Some(number) => self.integers.contains(number),
-                None => false,
-            };
+            return self.integers.has(number);
         }
         match instance.json_type() {
             JsonType::Array => self.arrays,
@@ -253,6 +263,27 @@ impl QuickSet {
             JsonType::String => self.strings,
             JsonType::Integer | JsonType::Number => false,
         }
+    }
+
+    // Returns the index behind the first items from `start` on that are integers of the set. A loop of
+    // its own, in which the bounds are the only test, and stay in registers.
+    #[inline(always)]
+    fn behind_integers<N: Node>(&self, start: usize, count: usize, instance: &N) -> usize
+        requires lawful { IsTrue (is_lawful (N.tree instance.now)) }
+        requires count { count ≡ length (items (N.tree instance.now)) }
+        requires start { start ≤ count }
+        ensures passed { result + leading (is_in self.now) (drop result (items (N.tree instance.now)))
+            ≡ start + leading (is_in self.now) (drop start (items (N.tree instance.now))) }
+        ensures within { result ≤ count }
+    {
+        let integers = self.integers;
+        for index in start..count {
+            match instance.item(index).as_number() {
+                Some(number) if integers.has(number) => {}
+                _ => return index,
+            }
+        }
+        count
     }
 
     /// Returns the index of the first item from `start` on that is not in the set, or `count` if
@@ -267,7 +298,7 @@ impl QuickSet {
             (drop start (items (N.tree instance.now))) }
         ensures within { result ≤ count }
     {
-        for index in start..count {
+        for index in self.behind_integers(start, count, instance)..count {
             if !self.contains(instance.item(index)) {
                 return index;
             }
