@@ -1,6 +1,5 @@
 -- What a walk over a node's units has left at a unit, and at the end.
-use Rattle.std.proofs.Common.{◌≡◌, ℕ, zero, suc, ◌+◌, ◌<◌, ◌≤◌, List, [], ◌∷◌, ◌++◌, length, get_or, drop, max, Bool, true, false, ◌&&◌, ◌||◌, None, Some, refl, sym, if◌then◌else◌, ap, ◌∙◌, append_assoc, arith}
-use Rattle.std.proofs.Math.Bool.{and-true}
+use Rattle.std.proofs.Common.{◌≡◌, ℕ, zero, suc, ◌+◌, ◌<◌, ◌≤◌, List, [], ◌∷◌, ◌++◌, length, get_or, drop, max, false, ◌&&◌, ◌||◌, None, Some, refl, sym, if◌then◌else◌, ap, ◌∙◌, append_assoc, arith}
 use Rattle.std.proofs.lemmas.List.{drop_all}
 use Rattle.std.specs.Borrow.{Bor}
 use Rattle.jskw_array.specs.Words.{ArrayShapeValidator, Evaluation, HasUnits, Keywords, OfKeyword, Pointer, Schema, Shape, TheUnit, Tree, absorbed_by, absorbed_keywords, all_fail, all_hand_on, all_height, all_hold, all_needed, all_pairs, fail, false_schema, height, holds, is_empty, keyword, keyword_height, keywords_of, meaning_fail, meaning_holds, meaning_needed, meaning_pairs, meaning_unit, needed, no_keywords, node_at, of_children, of_errors, pairs, schema_location, schema_object, shape_keywords, tree, unit_hands_on, unit_location, unit_meaning, units, validator_keyword}
@@ -128,32 +127,6 @@ module _ {F N O P : Type 0} (s : Schema) (us : Bor (List (TheUnit F N O P))) (ha
 
   pub schema_height : height s ≡ 1 + all_height (keywords_of us.now)
   schema_height = ap height has.1
-
-  -- where it is one unit alone
-  module _ (u : TheUnit F N O P) (one : 1 ≤ length us.now) (few : length us.now < 2) (is : u ≡ get_or us.now 0 u) where
-    alone : keywords_of us.now ≡ keywords_of (u ∷ [])
-    alone = go us.now one few is
-      where
-        go : (vs : List (TheUnit F N O P)) → 1 ≤ length vs → length vs < 2 → u ≡ get_or vs 0 u → keywords_of vs ≡ keywords_of (u ∷ [])
-        go [] one few is = absurd (omega arith)
-        go (v ∷ []) one few is = ap (λ w. keywords_of (w ∷ [])) (sym is)
-        go (v ∷ w ∷ vs) one few is = absurd (omega arith)
-
-    pub only_holds : (t : Tree) → holds s t ≡ meaning_holds (unit_meaning u) t
-    only_holds t = schema_holds t ∙ ap (λ ks. all_hold ks t) alone ∙ first_holds u [] t ∙ and-true (meaning_holds (unit_meaning u) t)
-
-    pub only_needs : (t : Tree) → needed s t ≡ 1 + meaning_needed (unit_meaning u) t
-    only_needs t = schema_needs t ∙ ap (λ ks. 1 + all_needed ks t) alone ∙ ap (λ n. 1 + n) (first_needs u [] t ∙ nothing_behind (meaning_holds (unit_meaning u) t))
-      where
-        nothing_behind : (b : Bool) → meaning_needed (unit_meaning u) t + (if b then 0 else 0) ≡ meaning_needed (unit_meaning u) t
-        nothing_behind true = omega arith
-        nothing_behind false = omega arith
-
-    pub only_lower : unit_tall u < height s
-    only_lower =
-        let e : height s ≡ 1 + all_height (keywords_of (u ∷ [])) = schema_height ∙ ap (λ ks. 1 + all_height ks) alone in
-        let whole = first_height u [] in
-        omega (arith, e, whole)
 
 -- ---- `false`, and any schema
 

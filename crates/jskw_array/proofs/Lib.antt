@@ -6,6 +6,7 @@ pub mod Depths
 pub mod EachSchema
 pub mod FusedReading
 pub mod Keywords
+pub mod Lengths
 pub mod MatchedItems
 pub mod Meant
 pub mod Meetings

@@ -50,7 +50,7 @@ pub use Rattle.jskw_array.specs.Limits.{deciding_count, failing_locations, locat
 pub use Rattle.jskw_array.specs.Fused.{Begins, fused_words, shape_keywords, shape_meaning}
 pub use Rattle.jskw_array.specs.Units.{IsShape, absorbed_by, after, begin_fused, is_shape, keywords_of, unit_hands_on, unit_location, unit_meaning}
 pub use Rattle.jskw_array.specs.Node.{HasUnits, boolean_schema, marked, schema_of}
-pub use Rattle.jskw_array.specs.Siblings.{active_member, schema_count}
+pub use Rattle.jskw_array.specs.Siblings.{MarksLengths, active_member, schema_count}
 pub use Rattle.jskw_array.specs.Agreement.{Agree, RejectsNonArrays}
 pub use Rattle.jskw_array.specs.declared.each.Each.{Each}
 pub use Rattle.jskw_array.specs.declared.rest.Rest.{Rest}

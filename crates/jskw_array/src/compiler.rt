@@ -2,7 +2,8 @@
 ghost use Rattle.std.specs.Prelude.{◌≡◌, ◌++◌, ◌∷◌};
 ghost use Rattle.jskw_array.specs.Words.{[], Asserts, Boolean, Compiles, Err, IfOk};
 ghost use Rattle.jskw_array.specs.Words.{IsTrue, Keywords, Makes, Object, Ok, Reading, Refusal};
-ghost use Rattle.jskw_array.specs.Words.{Result, Schema, Some, active_member, after, before};
+ghost use Rattle.jskw_array.specs.Words.{MarksLengths, Result, Schema, Some, active_member, after};
+ghost use Rattle.jskw_array.specs.Words.{before};
 ghost use Rattle.jskw_array.specs.Words.{begin_fused, boolean_schema, fused_words, get_member};
 ghost use Rattle.jskw_array.specs.Words.{is_fused, is_leaf, items_view, keyword_location, keywords};
 ghost use Rattle.jskw_array.specs.Words.{keywords_of, map_ok, members_view, no_keywords, object, of_types};
@@ -208,8 +209,9 @@ fn push_keywords<'a, F: Json>(
     ensures fused { IfOk result (λ _. begin_fused units.new.items
         ≡ begin_fused units.old.items) }
 {
+    let lengths = name_lengths(parent);
     for &keyword in keywords {
-        let Some(schema) = active_member(ctx, parent, keyword) else {
+        let Some(schema) = active_member(ctx, parent, &lengths, keyword) else {
             continue;
         };
         let compiled = compile_keyword(alloc, ctx, parent, keyword, schema);
@@ -218,16 +220,34 @@ fn push_keywords<'a, F: Json>(
     Ok(())
 }
 
-// Returns the value of a keyword, if it is present and active.
+// Marks the lengths of the names of an object. The last mark is for 16 bytes and more.
+fn name_lengths(parent: &Map<String, Value>) -> [bool; 17]
+    ensures { MarksLengths result (members_view parent.now.entries) }
+{
+    let mut lengths = [false; 17];
+    for (name, _) in parent.iter() {
+        lengths[name.as_str().len().min(16)] = true;
+    }
+    lengths
+}
+
+// Returns the value of a keyword, if it is present and active. Most are absent: no name has the
+// length of theirs, by the marks of `name_lengths`, and then they are not looked up.
 fn active_member<'a, F: Json>(
     ctx: &Context<'_, F>,
     parent: &'a Map<String, Value>,
+    lengths: &[bool; 17],
     keyword: KeywordName,
 ) -> Option<&'a Value>
+    requires { MarksLengths lengths.now (members_view parent.now.entries) }
     ensures { option_map (λ value. view value.now) result
         ≡ active_member ctx.now.setting (members_view parent.now.entries) keyword }
 {
-    let value = member_of(parent, keyword.as_str())?;
+    let name = keyword.as_str();
+    if !lengths[name.len().min(16)] {
+        return None;
+    }
+    let value = member_of(parent, name)?;
     if keyword.stands(ctx) {
         Some(value)
     } else {
@@ -395,7 +415,7 @@ fn below<'s, F: Json>(
       location = keyword_location ctx.now.location keyword;
     }) }
 {
-    ctx.new_at_location(alloc, LocationSegment::Name(keyword.as_str()))
+    ctx.new_at_keyword(alloc, keyword)
 }
 
 // Returns the number of schemas in the array under a name, or `None` if there is no array.

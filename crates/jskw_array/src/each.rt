@@ -83,7 +83,7 @@ impl<F: Json> Each<F> {
 impl<F: Json> Validate<F> for Each<F> {
     ghost meaning = { λ v. one (each_keyword v) };
 
-    #[inline(never)]
+    #[inline(always)]
     #[cycle(is_valid)]
     fn is_valid(&self, instance: &F::Node, ctx: &mut ValidationContext) -> bool {
         let count = instance.item_count().min(self.nodes.len());
@@ -94,7 +94,7 @@ impl<F: Json> Validate<F> for Each<F> {
         self.are_valid(first, count, instance, ctx)
     }
 
-    #[inline(never)]
+    #[inline(always)]
     #[cycle(find_error)]
     fn find_error<'i>(
         &'i self,
@@ -115,7 +115,7 @@ impl<F: Json> Validate<F> for Each<F> {
         Ok(())
     }
 
-    #[inline(never)]
+    #[inline(always)]
     #[cycle(collect_errors)]
     fn collect_errors<'i>(
         &'i self,

@@ -12,8 +12,8 @@ ghost use Rattle.jskw_array.specs.Words.{schemas_of, shape_keywords, tree, true}
 
 use crate::items::ArrayShapeValidator;
 use crate::unit::{
-    Unit, collect_units, evaluate_units, find_error_of_units, quick_set_of, some_unit_hands_on,
-    units_are_valid,
+    Unit, collect_units, evaluate_units, find_error_of_units, only_shape, quick_set_of,
+    some_unit_hands_on, units_are_valid,
 };
 pub use crate::validator::Validator;
 use jskw_number::QuickSet;
@@ -254,9 +254,9 @@ impl<F: Json> SchemaNode<F> {
         let Some(units) = self.apply(ctx) else {
             return false;
         };
-        match units {
-            [unit] => unit.is_valid(instance, ctx),
-            _ => units_are_valid(units, instance, ctx),
+        match only_shape(units) {
+            Some(shape) => shape.is_valid(instance, ctx),
+            None => units_are_valid(units, instance, ctx),
         }
     }
 

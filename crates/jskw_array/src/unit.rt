@@ -5,7 +5,7 @@ ghost use Rattle.jskw_array.specs.Words.{Appends, CountsUpTo, Extends, IfOk, IfS
 ghost use Rattle.jskw_array.specs.Words.{Finds, IsShape, IsTrue, Tree, absorbed_by, all_fail};
 ghost use Rattle.jskw_array.specs.Words.{all_hand_on, all_hold, all_needed, all_pairs, is_in};
 ghost use Rattle.jskw_array.specs.Words.{is_lawful, is_shape, is_some, keywords_of, meaning_holds};
-ghost use Rattle.jskw_array.specs.Words.{path_of, true, unit_hands_on, unit_location, unit_meaning};
+ghost use Rattle.jskw_array.specs.Words.{path_of, shape_keywords, true, unit_hands_on, unit_location, unit_meaning};
 ghost use Rattle.jskw_array.specs.Words.{units as units_of};
 
 use crate::items::ArrayShapeValidator;
@@ -160,6 +160,17 @@ impl<F: Json> Unit<F> {
             Unit::Keyword(keyword) => keyword.validator.hands_on_required(),
             Unit::Shape(shape) => shape.items.validator.hands_on_required(),
         }
+    }
+}
+
+// Returns the fused shape, if it is the only unit.
+#[inline(always)]
+pub(crate) fn only_shape<F: Json>(units: &[Unit<F>]) -> Option<&ArrayShapeValidator<F>>
+    ensures { IfSome result (λ v. keywords_of units.now ≡ shape_keywords v.now) }
+{
+    match units {
+        [unit] => unit.shape(),
+        _ => None,
     }
 }
 

@@ -96,10 +96,12 @@ impl<F: Json> LeafValidator<F> {
 impl<F: Json> Validate<F> for LeafValidator<F> {
     ghost meaning = { λ v. one (leaf_keyword v) };
 
+    #[inline(always)]
     fn is_valid(&self, instance: &F::Node, ctx: &mut ValidationContext) -> bool {
         whichever!(self, validator => Validate::<F>::is_valid(validator, instance, ctx))
     }
 
+    #[inline(always)]
     fn find_error<'i>(
         &'i self,
         instance: &'i F::Node,
@@ -110,6 +112,7 @@ impl<F: Json> Validate<F> for LeafValidator<F> {
         whichever!(self, validator => validator.find_error(instance, location, ctx, error))
     }
 
+    #[inline(always)]
     fn collect_errors<'i>(
         &'i self,
         instance: &'i F::Node,
