@@ -1,8 +1,9 @@
 //! Errors as lines: the kind as a row has it, both locations and the value at fault.
+use crate::stop::Made;
 use jskw_report::{EnumOptions, TypeKind, ValidationError, ValidationErrorKind};
 use jskw_value::{Json, JsonType, JsonTypeSet, Node, SerdeJson};
 use serde_json::Value;
-use std::alloc::{AllocError, Global};
+use std::alloc::Global;
 
 /// The locations of a schema and of its instance, with which all locations in them begin. A row's
 /// own locations are without them.
@@ -48,7 +49,7 @@ pub(crate) fn push_error<F: Json>(
     has_message: bool,
     place: Place,
     error: &ValidationError<F>,
-) -> Result<(), AllocError> {
+) -> Made<()> {
     let mut value = String::new(alloc);
     error.instance().write_json(&mut value)?;
     push_line(alloc, text, has_message, place, error, value.as_str())
@@ -60,7 +61,7 @@ pub(crate) fn refusal(
     has_message: bool,
     place: Place,
     error: &ValidationError<SerdeJson>,
-) -> Result<String, AllocError> {
+) -> Made<String> {
     let mut text = String::from_str(alloc, "refused: ")?;
     let value = error.instance().to_string(alloc)?;
     let place = Place {
@@ -78,7 +79,7 @@ fn push_line<F: Json>(
     place: Place,
     error: &ValidationError<F>,
     value: &str,
-) -> Result<(), AllocError> {
+) -> Made<()> {
     push_kind(alloc, text, error.kind())?;
     let at = place.at(error.instance_path().as_str());
     let by = place.by(error.schema_path().as_str());
@@ -93,11 +94,7 @@ fn push_line<F: Json>(
 }
 
 // Appends the keyword of a kind and its payload as JSON, `true` for one without.
-fn push_kind(
-    alloc: Global,
-    text: &mut String,
-    kind: &ValidationErrorKind,
-) -> Result<(), AllocError> {
+fn push_kind(alloc: Global, text: &mut String, kind: &ValidationErrorKind) -> Made<()> {
     write!(text, "{} ", kind.keyword())?;
     match kind {
         ValidationErrorKind::AdditionalItems { limit } => write!(text, "{limit}"),
@@ -125,7 +122,7 @@ fn push_kind(
 }
 
 // Appends the type that an instance was to be of, or those of a set as an array.
-fn push_types(text: &mut String, kind: TypeKind) -> Result<(), AllocError> {
+fn push_types(text: &mut String, kind: TypeKind) -> Made<()> {
     match kind {
         TypeKind::Single(json_type) => push_names(text, JsonTypeSet::from(json_type)),
         TypeKind::Multiple(types) => {
@@ -137,7 +134,7 @@ fn push_types(text: &mut String, kind: TypeKind) -> Result<(), AllocError> {
 }
 
 // Appends the names of the types of a set, with a comma between each two.
-fn push_names(text: &mut String, types: JsonTypeSet) -> Result<(), AllocError> {
+fn push_names(text: &mut String, types: JsonTypeSet) -> Made<()> {
     let mut is_first = true;
     for (name, json_type) in TYPES {
         if types.contains(json_type) {
@@ -148,7 +145,7 @@ fn push_names(text: &mut String, types: JsonTypeSet) -> Result<(), AllocError> {
     Ok(())
 }
 
-fn push_name(text: &mut String, is_first: bool, name: &str) -> Result<(), AllocError> {
+fn push_name(text: &mut String, is_first: bool, name: &str) -> Made<()> {
     if !is_first {
         text.push(',')?;
     }

@@ -86,7 +86,9 @@ fn check_test<'v>(
         _ => return Err(Stop::Wrong("a test has one of", "data, each")),
     };
     for instance in instances {
-        let wanted = of_test(tally.alloc, test, instance)?;
+        let mut wanted = of_test(tally.alloc, test, instance)?;
+        let evaluation = lines(tally.alloc, test, "evaluation")?;
+        wanted.answer.push_str(evaluation.as_str())?;
         check_row(tally, group, test, instance, &wanted)?;
     }
     Ok(())
@@ -108,8 +110,7 @@ fn check_row<'v>(
     let question = format!(in alloc; "{request}, {object_layer}, decimals: {has_decimals}")?;
     tally.take_question(question.as_str())?;
     let name = name_of(alloc, group, test, instance)?;
-    let leaves = leaves_of(alloc, test, wanted)?;
-    let whole = whole_of(alloc, group.members, leaves.as_str())?;
+    let whole = whole_of(alloc, group.members, wanted.answer.as_str())?;
     let row = Row {
         name: name.as_str(),
         settings: group.settings,
@@ -118,7 +119,7 @@ fn check_row<'v>(
         claims: claims_of(test),
         most: most_of(test)?,
         whole: whole.as_str(),
-        leaves: leaves.as_str(),
+        leaves: wanted.answer.as_str(),
     };
     if has_decimals {
         return Ok(check_tree(tally, &row, &decimals_of(alloc, instance)?)?);
@@ -141,13 +142,7 @@ fn name_of<'v>(
     Ok(format!(in alloc; "{of_group}: {test}: {instance}, draft {draft}")?)
 }
 
-// The wanted lines of the keywords one by one: the answer, and the evaluation if it is claimed.
-fn leaves_of<'v>(alloc: Global, test: &'v Members, wanted: &Wanted) -> Result<String, Stop<'v>> {
-    let (answer, evaluation) = (wanted.answer.as_str(), lines(alloc, test, "evaluation")?);
-    Ok(format!(in alloc; "{answer}{evaluation}")?)
-}
-
-// The wanted lines of the whole schema: what it says of itself before those.
+// The wanted lines of the whole schema: what it says of itself before those of its keywords.
 fn whole_of<'v>(alloc: Global, group: &'v Members, leaves: &str) -> Result<String, Stop<'v>> {
     let (fused, hands_on) = (is_true(group, "fused")?, is_true(group, "handsOnRequired")?);
     let fused = if fused { "fused\n" } else { "" };

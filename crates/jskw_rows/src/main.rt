@@ -25,10 +25,9 @@ mod whole;
 
 use jskw_service::read_value;
 use serde_json::Value;
-use std::alloc::AllocError;
 use std::process::ExitCode;
 use std::{env, fs, io};
-use stop::Stop;
+use stop::{Made, Stop};
 use tally::Tally;
 
 // The names of the files of rows in a folder, sorted.
@@ -45,7 +44,7 @@ fn file_names(rt: &HostRuntime, folder: &str) -> io::Result<Vec<String>> {
 }
 
 // Asks the rows of a file's text, which is an array of groups.
-fn check_text(tally: &mut Tally, text: &str) -> Result<(), AllocError> {
+fn check_text(tally: &mut Tally, text: &str) -> Made<()> {
     let value = read_value(tally.alloc, text.as_bytes())?;
     let Some(Value::Array(groups)) = &value else {
         return tally.tell_wrong("the file", "no JSON array");
@@ -57,7 +56,7 @@ fn check_text(tally: &mut Tally, text: &str) -> Result<(), AllocError> {
 }
 
 // Asks the rows of a group, and tells of it if it is wrong.
-fn check_group(tally: &mut Tally, value: &Value) -> Result<(), AllocError> {
+fn check_group(tally: &mut Tally, value: &Value) -> Made<()> {
     match group::check(tally, value) {
         Ok(()) => Ok(()),
         Err(Stop::Memory(error)) => Err(error),

@@ -1,6 +1,6 @@
 //! Trees of decimals: from texts, and with two other ways to look for required names.
 use crate::members::wanted;
-use crate::stop::Stop;
+use crate::stop::{Made, Stop};
 use jskw_value::{Decimal, DecimalJson, DecimalTree, Json, Members};
 use serde_json::Value;
 use std::alloc::{AllocError, Global};
@@ -14,7 +14,7 @@ impl<const N: usize> Json for Keys<N> {
 
     const KEYS_PER_LOOKUP: usize = N;
 
-    fn prepare_key(alloc: Global, name: &str) -> Result<String, AllocError> {
+    fn prepare_key(alloc: Global, name: &str) -> Made<String> {
         DecimalJson::prepare_key(alloc, name)
     }
 }
@@ -36,10 +36,8 @@ pub(crate) fn decimals_of(alloc: Global, value: &Value) -> Result<DecimalTree, S
         Value::Object(members) => {
             let mut object = Members::new(alloc);
             for (name, value) in members.iter() {
-                if object
-                    .insert(name.clone()?, decimals_of(alloc, value)?)
-                    .is_err()
-                {
+                let tree = decimals_of(alloc, value)?;
+                if object.insert(name.clone()?, tree).is_err() {
                     return Err(Stop::Memory(AllocError));
                 }
             }

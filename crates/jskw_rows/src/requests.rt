@@ -1,14 +1,14 @@
 //! Requests, and what `run` writes for them.
 use crate::members::{Members, items, known, lines, text};
 use crate::row::check_run;
-use crate::stop::Stop;
+use crate::stop::{Made, Stop};
 use crate::tally::Tally;
 use jskw_service::{StdSink, StdSource, run, status};
 use serde_json::Value;
-use std::alloc::{AllocError, Global};
+use std::alloc::Global;
 
 /// What `run` writes for a request, and its status in a line behind it.
-pub(crate) fn output(alloc: Global, request: &str) -> Result<String, AllocError> {
+pub(crate) fn output(alloc: Global, request: &str) -> Made<String> {
     let mut reader = StdSource::new(request.as_bytes());
     let mut writer = StdSink::new(Vec::new(alloc));
     let status = status(&run(alloc, &mut reader, &mut writer));
@@ -24,7 +24,7 @@ pub(crate) fn request_of(
     draft: &str,
     schema: &Value,
     instance: &Value,
-) -> Result<String, AllocError> {
+) -> Made<String> {
     let mut request = format!(in alloc; "{{\"draft\":\"{draft}\"")?;
     for name in ["vocabularies", "overridden"] {
         if let Some(value) = group.get(name) {

@@ -1,12 +1,12 @@
 //! A row, and how it is asked.
 use crate::answer::{Claims, float_line};
 use crate::representations::Keys;
+use crate::stop::Made;
 use crate::tally::Tally;
 use crate::{leaves, requests, whole};
 use jskw_report::Settings;
 use jskw_value::{DecimalJson, DecimalTree, Json, SerdeJson};
 use serde_json::Value;
-use std::alloc::AllocError;
 
 /// How many subschemas the observers of a row may apply.
 #[derive(Clone, Copy)]
@@ -34,7 +34,7 @@ pub(crate) struct Row<'r> {
 }
 
 /// Asks a row over an instance without decimals.
-pub(crate) fn check(tally: &mut Tally, row: &Row<'_>, instance: &Value) -> Result<(), AllocError> {
+pub(crate) fn check(tally: &mut Tally, row: &Row<'_>, instance: &Value) -> Made<()> {
     check_over::<SerdeJson>(tally, row, instance, "over serde_json")?;
     match DecimalTree::from_value(tally.alloc, instance)? {
         Some(tree) => check_tree(tally, row, &tree),
@@ -45,22 +45,13 @@ pub(crate) fn check(tally: &mut Tally, row: &Row<'_>, instance: &Value) -> Resul
     }
 }
 
-pub(crate) fn check_run(
-    tally: &mut Tally,
-    name: &str,
-    request: &str,
-    wanted: &str,
-) -> Result<(), AllocError> {
+pub(crate) fn check_run(tally: &mut Tally, name: &str, request: &str, wanted: &str) -> Made<()> {
     let found = requests::output(tally.alloc, request)?;
     tally.compare(name, "by run", wanted, found.as_str())
 }
 
 /// Asks a row over each representation whose nodes are trees of decimals.
-pub(crate) fn check_tree(
-    tally: &mut Tally,
-    row: &Row<'_>,
-    tree: &DecimalTree,
-) -> Result<(), AllocError> {
+pub(crate) fn check_tree(tally: &mut Tally, row: &Row<'_>, tree: &DecimalTree) -> Made<()> {
     check_over::<DecimalJson>(tally, row, tree, "over decimals")?;
     check_over::<Keys<0>>(tally, row, tree, "over decimals, by lookups")?;
     check_over::<Keys<0xffff_ffff_ffff_ffff>>(tally, row, tree, "over decimals, by walks")
@@ -72,7 +63,7 @@ fn check_over<F: Json>(
     row: &Row<'_>,
     instance: &F::Node,
     way: &str,
-) -> Result<(), AllocError> {
+) -> Made<()> {
     let found = whole::answer::<F>(tally.alloc, row, instance)?;
     tally.compare(row.name, way, row.whole, found.as_str())?;
     if leaves::has_leaves_alone::<F>(tally.alloc, row) {

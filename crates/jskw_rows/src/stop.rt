@@ -2,6 +2,9 @@
 use std::alloc::{AllocError, AllocFailed};
 use std::io;
 
+/// What is made, unless memory runs out.
+pub(crate) type Made<T> = Result<T, AllocError>;
+
 /// Why a group of rows can't be asked.
 #[derive(Drop)]
 pub(crate) enum Stop<'v> {

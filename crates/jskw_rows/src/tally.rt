@@ -1,6 +1,6 @@
 //! What was asked so far, and what differed.
-use crate::stop::Stop;
-use std::alloc::{AllocError, Global};
+use crate::stop::{Made, Stop};
+use std::alloc::Global;
 use std::collections::BTreeSet;
 
 /// The rows that were asked, and what is to be printed of them.
@@ -50,19 +50,13 @@ impl Tally {
     }
 
     /// Records that a group is wrong, and how.
-    pub(crate) fn tell_wrong(&mut self, group: &str, what: &str) -> Result<(), AllocError> {
+    pub(crate) fn tell_wrong(&mut self, group: &str, what: &str) -> Made<()> {
         self.wrong = self.wrong.saturating_add(1);
         write!(self.told, "{}: {group}\n  wrong: {what}\n", self.file)
     }
 
     /// Records a row whose answer is not the wanted one. `way` is the call that gave it.
-    pub(crate) fn compare(
-        &mut self,
-        name: &str,
-        way: &str,
-        wanted: &str,
-        found: &str,
-    ) -> Result<(), AllocError> {
+    pub(crate) fn compare(&mut self, name: &str, way: &str, wanted: &str, found: &str) -> Made<()> {
         if wanted == found {
             return Ok(());
         }

@@ -1,7 +1,7 @@
 //! Evaluations as lines.
 use crate::error_lines::Place;
+use crate::stop::Made;
 use jskw_report::{Annotations, EvaluationNode};
-use std::alloc::AllocError;
 
 /// Appends the lines of a node and of those below it, and the lines of the errors that they describe.
 /// `depth` is how many nodes are above it.
@@ -11,7 +11,7 @@ pub(crate) fn push_tree(
     place: Place,
     depth: usize,
     node: &EvaluationNode,
-) -> Result<(), AllocError> {
+) -> Made<()> {
     push_node(lines, described, place, depth, node)?;
     for child in node.children() {
         push_tree(lines, described, place, depth.saturating_add(1), child)?;
@@ -26,7 +26,7 @@ fn push_node(
     place: Place,
     depth: usize,
     node: &EvaluationNode,
-) -> Result<(), AllocError> {
+) -> Made<()> {
     for _ in 0..depth {
         lines.push_str("  ")?;
     }
@@ -44,14 +44,14 @@ fn push_node(
     lines.push('\n')
 }
 
-fn push_part(lines: &mut String, word: &str, part: &str) -> Result<(), AllocError> {
+fn push_part(lines: &mut String, word: &str, part: &str) -> Made<()> {
     if part.is_empty() {
         return Ok(());
     }
     write!(lines, " {word}{part}")
 }
 
-fn push_annotation(lines: &mut String, annotation: Option<&Annotations>) -> Result<(), AllocError> {
+fn push_annotation(lines: &mut String, annotation: Option<&Annotations>) -> Made<()> {
     match annotation {
         None => Ok(()),
         Some(Annotations::Bool(value)) => write!(lines, " annotation {value}"),

@@ -2,15 +2,15 @@
 use crate::answer::Claims;
 use crate::members::{Members, is_one_of, items, member, text, wanted};
 use crate::representations::decimals_of;
-use crate::stop::Stop;
+use crate::stop::{Made, Stop};
 use jskw_value::Node;
 use serde_json::Value;
-use std::alloc::{AllocError, Global};
+use std::alloc::Global;
 
 /// What a row wants.
 #[derive(Drop)]
 pub(crate) struct Wanted {
-    /// The lines of the answers, without the evaluation.
+    /// The lines of the answers, and of the evaluation if that is claimed.
     pub(crate) answer: String,
     /// What is written for a request, and the status.
     pub(crate) output: String,
@@ -74,10 +74,7 @@ fn of_errors<'v>(alloc: Global, test: &'v Members, instance: &Value) -> Result<W
         if error.members.contains_key("value") {
             return Err(Stop::Wrong("the instance has the value of", "an error"));
         }
-        let value = wanted(
-            instance.pointer(error.at),
-            "a value at the instanceLocation",
-        )?;
+        let value = wanted(instance.pointer(error.at), "the value at fault")?;
         let mut text = String::new(alloc);
         if test.contains_key("decimals") {
             decimals_of(alloc, value)?.write_json(&mut text)?;
@@ -128,7 +125,7 @@ fn error_of(value: &Value) -> Result<Error<'_>, Stop<'_>> {
 
 impl Error<'_> {
     // Appends the line of the error, with its message if it has one.
-    fn push_line(&self, alloc: Global, answer: &mut String, value: &str) -> Result<(), AllocError> {
+    fn push_line(&self, alloc: Global, answer: &mut String, value: &str) -> Made<()> {
         let payload = self.payload.to_string(alloc)?;
         write!(answer, "{} {payload} at {} by", self.keyword, self.at)?;
         self.push_location(answer, " ")?;
@@ -140,14 +137,14 @@ impl Error<'_> {
     }
 
     // Appends the line that `run` writes.
-    fn push_output(&self, output: &mut String) -> Result<(), AllocError> {
+    fn push_output(&self, output: &mut String) -> Made<()> {
         write!(output, "{}\t{}", self.keyword, self.at)?;
         self.push_location(output, "\t")?;
         output.push('\n')
     }
 
     // Appends the keyword location: that of the keyword at the root, unless there is another one.
-    fn push_location(&self, text: &mut String, before: &str) -> Result<(), AllocError> {
+    fn push_location(&self, text: &mut String, before: &str) -> Made<()> {
         text.push_str(before)?;
         match self.members.get("keywordLocation") {
             Some(Value::String(location)) => text.push_str(location.as_str()),

@@ -2,51 +2,77 @@
 ghost use Rattle.std.specs.Prelude.{IsTrue};
 ghost use Rattle.jskw_value.specs.Tree.{is_lawful};
 
-use crate::answer::{Said, float_line};
-use crate::error_lines::{WHOLE, refusal};
+use crate::answer::{Compiled, Said, float_line, lines_of};
+use crate::error_lines::WHOLE;
 use crate::row::{Most, Row};
+use crate::stop::Made;
 use jskw_array::SchemaNode;
 use jskw_array::compiler::compile;
 use jskw_array::items::array_shape_fusion;
-use jskw_report::{CompileFault, Context, LazyLocation, ValidationContext};
+use jskw_report::{Context, LazyLocation, ValidationContext};
 use jskw_value::{Json, Node};
-use std::alloc::{AllocError, Global};
+use std::alloc::Global;
 
 /// The lines of what the schema of a row says of itself and of the instance, or of its refusal.
-pub(crate) fn answer<F: Json>(
-    alloc: Global,
-    row: &Row<'_>,
-    instance: &F::Node,
-) -> Result<String, AllocError> {
+pub(crate) fn answer<F: Json>(alloc: Global, row: &Row<'_>, instance: &F::Node) -> Made<String> {
     let ctx: Context<F> = Context::new(alloc, row.settings).with_object_layer(row.object_layer);
-    let is_fused = match row.schema.as_object() {
-        Some(parent) => array_shape_fusion(&ctx, parent),
-        None => false,
-    };
-    let mut lines = String::from_str(alloc, if is_fused { "fused\n" } else { "" })?;
-    let answer = match compile(alloc, &ctx, row.schema) {
-        Ok(node) => {
-            push_shape(&mut lines, is_fused, &node)?;
-            answer_of(alloc, row, &node, instance)?
+    let compiled = compile(alloc, &ctx, row.schema);
+    let lines = lines_of(alloc, row, WHOLE, compiled, instance)?;
+    format!(in alloc;
+        "{}{lines}",
+        if is_fused::<F>(alloc, row) {
+            "fused\n"
+        } else {
+            ""
         }
-        Err(CompileFault::Bad(error)) => refusal(alloc, row.claims.messages, WHOLE, &error)?,
-        Err(CompileFault::Memory(error)) => return Err(error),
-    };
-    lines.push_str(answer.as_str())?;
-    Ok(lines)
+    )
 }
 
-// Appends the lines of what a compiled schema says of itself.
-fn push_shape<F: Json>(
-    lines: &mut String,
-    is_fused: bool,
-    node: &SchemaNode<F>,
-) -> Result<(), AllocError> {
-    if node.array_shape().is_some() != is_fused {
-        lines.push_str("array_shape disagrees\n")?;
+// Whether the schema of a row is the fused shape of an array.
+fn is_fused<F: Json>(alloc: Global, row: &Row<'_>) -> bool {
+    let ctx: Context<F> = Context::new(alloc, row.settings);
+    match row.schema.as_object() {
+        Some(parent) => array_shape_fusion(&ctx, parent),
+        None => false,
     }
-    if node.hands_on_required() {
-        lines.push_str("hands on required\n")?;
+}
+
+impl<F: Json> Compiled<F> for SchemaNode<F> {
+    // An instance is asked twice if a row claims the counts.
+    fn lines(&self, alloc: Global, row: &Row<'_>, instance: &F::Node) -> Made<String> {
+        let mut lines = String::new(alloc);
+        if self.array_shape().is_some() != is_fused::<F>(alloc, row) {
+            lines.push_str("array_shape disagrees\n")?;
+        }
+        if self.hands_on_required() {
+            lines.push_str("hands on required\n")?;
+        }
+        if !instance.is_lawful() {
+            lines.push_str(float_line(alloc, instance)?.as_str())?;
+            return Ok(lines);
+        }
+        push_answers(alloc, &mut lines, row, self, instance)?;
+        Ok(lines)
+    }
+}
+
+// Appends the lines of what a schema says of an instance, and of counts that are out of their range.
+fn push_answers<F: Json>(
+    alloc: Global,
+    lines: &mut String,
+    row: &Row<'_>,
+    node: &SchemaNode<F>,
+    instance: &F::Node,
+) -> Made<()>
+    requires { IsTrue (is_lawful (F.Node.tree instance.now)) }
+{
+    let mut counts = Counts::new();
+    let said = observe(alloc, &mut counts, node, instance)?;
+    lines.push_str(said.lines(row.claims)?.as_str())?;
+    if let Some(most) = row.most {
+        counts.push_lines(lines, 1, most)?;
+        let _ = observe(alloc, &mut counts, node, instance)?;
+        counts.push_lines(lines, 2, most)?;
     }
     Ok(())
 }
@@ -60,46 +86,6 @@ struct Counts {
     evaluate: ValidationContext,
 }
 
-fn answer_of<F: Json>(
-    alloc: Global,
-    row: &Row<'_>,
-    node: &SchemaNode<F>,
-    instance: &F::Node,
-) -> Result<String, AllocError> {
-    if !instance.is_lawful() {
-        return float_line(alloc, instance);
-    }
-    let mut counts = Counts::new();
-    let mut lines = said(alloc, &mut counts, node, instance)?.lines(row.claims)?;
-    if let Some(most) = row.most {
-        counts.push_lines(&mut lines, 1, most)?;
-        let _ = said(alloc, &mut counts, node, instance)?;
-        counts.push_lines(&mut lines, 2, most)?;
-    }
-    Ok(lines)
-}
-
-fn said<F: Json>(
-    alloc: Global,
-    counts: &mut Counts,
-    node: &SchemaNode<F>,
-    instance: &F::Node,
-) -> Result<Said, AllocError>
-    requires { IsTrue (is_lawful (F.Node.tree instance.now)) }
-{
-    let mut said = Said::new(alloc, WHOLE);
-    let mut location = LazyLocation::new(alloc);
-    said.holds = node.is_valid(instance, &mut counts.is_valid);
-    let first = node.validate(instance, &mut location, &mut counts.validate);
-    said.push_first(first)?;
-    let mut errors = Vec::new(alloc);
-    node.collect_errors(instance, &mut location, &mut counts.collect, &mut errors)?;
-    said.push_errors(&errors)?;
-    let tree = node.evaluate_instance(alloc, instance, &mut counts.evaluate)?;
-    said.push_tree(0, &tree)?;
-    Ok(said)
-}
-
 impl Counts {
     fn new() -> Counts {
         Counts {
@@ -111,7 +97,7 @@ impl Counts {
     }
 
     // Appends a line for each count that is out of its range, so many times over.
-    fn push_lines(&self, lines: &mut String, times: u64, most: Most) -> Result<(), AllocError> {
+    fn push_lines(&self, lines: &mut String, times: u64, most: Most) -> Made<()> {
         let (first, all) = (most.until_first, most.of_all);
         for (observer, least, most, ctx) in [
             ("is_valid", 1, first, &self.is_valid),
@@ -127,4 +113,38 @@ impl Counts {
         }
         Ok(())
     }
+}
+
+fn observe<F: Json>(
+    alloc: Global,
+    counts: &mut Counts,
+    node: &SchemaNode<F>,
+    instance: &F::Node,
+) -> Made<Said>
+    requires { IsTrue (is_lawful (F.Node.tree instance.now)) }
+{
+    let mut said = Said::new(alloc, WHOLE);
+    let mut location = LazyLocation::new(alloc);
+    said.holds = node.is_valid(instance, &mut counts.is_valid);
+    said.push_first(&node.validate(instance, &mut location, &mut counts.validate))?;
+    push_errors(alloc, &mut said, &mut counts.collect, node, instance)?;
+    said.push_tree(
+        0,
+        &node.evaluate_instance(alloc, instance, &mut counts.evaluate)?,
+    )?;
+    Ok(said)
+}
+
+fn push_errors<F: Json>(
+    alloc: Global,
+    said: &mut Said,
+    ctx: &mut ValidationContext,
+    node: &SchemaNode<F>,
+    instance: &F::Node,
+) -> Made<()>
+    requires { IsTrue (is_lawful (F.Node.tree instance.now)) }
+{
+    let mut errors = Vec::new(alloc);
+    node.collect_errors(instance, &mut LazyLocation::new(alloc), ctx, &mut errors)?;
+    said.push_errors(&errors)
 }

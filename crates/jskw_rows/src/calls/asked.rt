@@ -1,12 +1,9 @@
 //! Calls over a representation of the rows: how often observers ask the nodes of an instance whether
 //! they are null, and walks over the members of an object.
-ghost use Rattle.std.specs.Prelude.{IsTrue};
-ghost use Rattle.jskw_value.specs.Tree.{is_lawful};
-ghost use Rattle.jskw_rows.specs.Asks.{asked_tree};
-
 use super::{Answer, Call};
+use crate::answer::of_compiled;
 use crate::asked::{Asked, AskedJson};
-use crate::stop::Stop;
+use crate::stop::Made;
 use jskw_array::SchemaNode;
 use jskw_array::compiler::compile;
 use jskw_report::{Context, Fault, LazyLocation, ValidationContext};
@@ -22,21 +19,24 @@ pub(super) fn counted<'v>(alloc: Global, call: Call<'v>) -> Answer<'v> {
     let tree = Asked::of(alloc, call.value(3)?)?;
     let ctx: Context<AskedJson> = Context::new(alloc, &settings);
     let compiled = compile(alloc, &ctx, call.value(2)?);
-    let Ok(node) = &compiled else {
-        return Err(Stop::Wrong("not compiled", call.name));
-    };
+    let most = [until_first, until_first, of_all, of_all];
+    let say = move |alloc, node: &SchemaNode<AskedJson>, tree: &Asked| counts_text(
+        alloc, node, tree, most,
+    );
+    Ok(of_compiled(alloc, Some(compiled), &tree, say)?)
+}
+
+fn counts_text(
+    alloc: Global,
+    node: &SchemaNode<AskedJson>,
+    tree: &Asked,
+    most: [u64; 4],
+) -> Made<String> {
     let mut text = String::new(alloc);
     for time in ["once", "once more"] {
-        if !tree.is_lawful() {
-            return Err(Stop::Wrong("a float", call.name));
-        }
-        let counts = counts(alloc, node, &tree)?;
-        let most = [until_first, until_first, of_all, of_all];
-        if counts
-            .iter()
-            .zip(most)
-            .any(|(count, most)| *count == 0 || *count > most)
-        {
+        let counts = counts(alloc, node, tree)?;
+        let mut pairs = counts.iter().zip(most);
+        if pairs.any(|(count, most)| *count == 0 || *count > most) {
             write!(text, "{time}: {counts:?}; ")?;
         }
     }
@@ -61,7 +61,7 @@ fn null() -> Asked {
 }
 
 // Returns the names of an object's members, each followed by its member's text.
-fn walked<N: Node>(alloc: Global, node: &N) -> Result<String, AllocError> {
+fn walked<N: Node>(alloc: Global, node: &N) -> Made<String> {
     let mut text = String::new(alloc);
     if node.is_object() {
         for (name, member) in node.walk() {
@@ -73,18 +73,22 @@ fn walked<N: Node>(alloc: Global, node: &N) -> Result<String, AllocError> {
 }
 
 // How often each observer asks whether a node of the instance is null.
-fn counts(alloc: Global, node: &SchemaNode<AskedJson>, tree: &Asked) -> Result<[u64; 4], AllocError>
-    requires { IsTrue (is_lawful (asked_tree tree.now)) }
-{
+fn counts(alloc: Global, node: &SchemaNode<AskedJson>, tree: &Asked) -> Made<[u64; 4]> {
+    if !tree.is_lawful() {
+        return Ok([0; 4]);
+    }
     let (mut location, mut ctx) = (LazyLocation::new(alloc), ValidationContext::new());
     let _ = node.is_valid(tree, &mut ctx);
     let is_valid = tree.take_count();
-    if let Err(Fault::Memory(error)) = node.validate(tree, &mut location, &mut ctx) {
-        return Err(error);
+    if matches!(
+        node.validate(tree, &mut location, &mut ctx),
+        Err(Fault::Memory(_))
+    ) {
+        return Err(AllocError);
     }
     let validate = tree.take_count();
-    let mut errors = Vec::new(alloc);
-    node.collect_errors(tree, &mut location, &mut ctx, &mut errors)?;
+    let collected = node.collect_errors(tree, &mut location, &mut ctx, &mut Vec::new(alloc));
+    collected?;
     let collect_errors = tree.take_count();
     let _ = node.evaluate_instance(alloc, tree, &mut ctx)?;
     Ok([is_valid, validate, collect_errors, tree.take_count()])

@@ -2,10 +2,8 @@
 ghost use Rattle.std.specs.Prelude.{◌≡◌, IfOk, IfSome, false};
 
 use super::{Answer, Call};
-use crate::stop::Stop;
-use jskw_service::{
-    DeviceFault, RunFault, Sink, Source, StdSink, StdSource, Verdict, reply_to, run, status,
-};
+use crate::stop::{Made, Stop};
+use jskw_service::{DeviceFault, Sink, Source, StdSink, StdSource, reply_to, run, status};
 use serde_json::Value;
 use std::alloc::Global;
 use std::io::{self, ErrorKind, Read, Write};
@@ -147,14 +145,16 @@ pub(super) fn reply<'v>(alloc: Global, call: Call<'v>) -> Answer<'v> {
 
 // Returns how a run over a device that fails ends, its status, and what it writes.
 pub(super) fn ended<'v>(alloc: Global, call: Call<'v>) -> Answer<'v> {
-    let (device, error, calls) = (call.text(0)?, error_of(call.value(1)?), call.number(2)?);
-    match device {
-        "source" => over(alloc, calls as usize, usize::MAX),
-        "sink" => over(alloc, usize::MAX, calls as usize),
-        "reader" => over_std(alloc, calls as usize, usize::MAX, error),
-        "writer" => over_std(alloc, usize::MAX, calls as usize, error),
-        _ => Err(Stop::Wrong("no device", call.name)),
-    }
+    let (error, calls) = (error_of(call.value(1)?), call.number(2)? as usize);
+    let ever = usize::MAX;
+    let calls = match call.text(0)? {
+        "source" => [calls, ever, ever, ever],
+        "sink" => [ever, calls, ever, ever],
+        "reader" => [ever, ever, calls, ever],
+        "writer" => [ever, ever, ever, calls],
+        _ => return Err(Stop::Wrong("no device", call.name)),
+    };
+    Ok(ended_after(alloc, calls, error)?)
 }
 
 fn error_of(name: &Value) -> Option<ErrorKind> {
@@ -163,30 +163,19 @@ fn error_of(name: &Value) -> Option<ErrorKind> {
     found.map(|error| error.1)
 }
 
-fn over(alloc: Global, reads: usize, writes: usize) -> Result<String, Stop<'static>> {
-    let mut source = FailsOnce::new(StdSource::new(REQUEST), reads, None);
-    let mut sink = FailsOnce::new(StdSink::new(Vec::new(alloc)), writes, None);
-    let outcome = run(alloc, &mut source, &mut sink);
-    text_of(alloc, outcome, sink.device.into_inner().as_slice())
-}
-
-fn over_std(
+// Runs over devices of std in devices of the service, of which each fails after so many calls: source,
+// sink, reader and writer.
+fn ended_after(
     alloc: Global,
-    reads: usize,
-    writes: usize,
+    [source, sink, reader, writer]: [usize; 4],
     error: Option<ErrorKind>,
-) -> Result<String, Stop<'static>> {
-    let mut source = StdSource::new(FailsOnce::new(REQUEST, reads, error));
-    let mut sink = StdSink::new(FailsOnce::new(Vec::new(alloc), writes, error));
+) -> Made<String> {
+    let reader = FailsOnce::new(REQUEST, reader, error);
+    let writer = FailsOnce::new(Vec::new(alloc), writer, error);
+    let mut source = FailsOnce::new(StdSource::new(reader), source, None);
+    let mut sink = FailsOnce::new(StdSink::new(writer), sink, None);
     let outcome = run(alloc, &mut source, &mut sink);
-    text_of(alloc, outcome, sink.into_inner().device.as_slice())
-}
-
-fn text_of(
-    alloc: Global,
-    outcome: Result<Verdict, RunFault>,
-    written: &[u8],
-) -> Result<String, Stop<'static>> {
-    let written = std::str::from_utf8(written).unwrap_or("?");
-    Ok(format!(in alloc; "{outcome:?} {} {written}", status(&outcome))?)
+    let written = sink.device.into_inner().device;
+    let written = std::str::from_utf8(written.as_slice()).unwrap_or("?");
+    format!(in alloc; "{outcome:?} {} {written}", status(&outcome))
 }

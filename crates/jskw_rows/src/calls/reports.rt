@@ -2,7 +2,7 @@
 use super::{Answer, Call};
 use crate::error_lines::{TYPES, WHOLE};
 use crate::members::wanted;
-use crate::stop::Stop;
+use crate::stop::{Made, Stop};
 use crate::tree_lines::push_tree;
 use jskw_report::compiler::member_of;
 use jskw_report::validator::{append_first, evaluate_first};
@@ -23,10 +23,11 @@ use std::alloc::{AllocError, Global};
 pub(super) fn settings<'v>(alloc: Global, call: Call<'v>) -> Answer<'v> {
     let settings = call.settings(alloc)?;
     let ctx = Context::<SerdeJson>::new(alloc, &settings);
-    let set = wanted(
-        vocabularies_of(call.object(1)?.get("vocabularies")),
-        "vocabularies",
-    )?;
+    let names = call.object(1)?.get("vocabularies");
+    let (set, name) = (
+        wanted(vocabularies_of(names), "vocabularies")?,
+        call.text(2)?,
+    );
     let is_one = settings.draft() == ctx.draft();
     let is_all = set == VocabularySet::all();
     let mut text = format!(in alloc; "{:?} {is_one} {is_all}", ctx.draft())?;
@@ -42,12 +43,8 @@ pub(super) fn settings<'v>(alloc: Global, call: Call<'v>) -> Answer<'v> {
             write!(text, " {vocabulary:?} {}", set.contains(vocabulary))?;
         }
     }
-    let of_settings = settings.is_keyword_overridden(call.text(2)?);
-    write!(
-        text,
-        ", {of_settings} {}",
-        ctx.is_keyword_overridden(call.text(2)?)
-    )?;
+    write!(text, ", {}", settings.is_keyword_overridden(name))?;
+    write!(text, " {}", ctx.is_keyword_overridden(name))?;
     Ok(text)
 }
 
@@ -59,20 +56,14 @@ pub(super) fn contexts<'v>(alloc: Global, call: Call<'v>) -> Answer<'v> {
     let whole = Context::<SerdeJson>::new(alloc, &settings);
     push_context(&mut text, &whole)?;
     push_contexts(alloc, &mut text, &whole.with_object_layer(false))?;
-    let (there, absent) = (
-        member_of(call.object(1)?, "x"),
-        member_of(call.object(1)?, "y"),
-    );
-    write!(text, "{} {}", there.is_some(), absent.is_some())?;
+    let object = call.object(1)?;
+    write!(text, "{} ", member_of(object, "x").is_some())?;
+    write!(text, "{}", member_of(object, "y").is_some())?;
     Ok(text)
 }
 
 // Appends a context, one below it, one below that, and the last with the object layer.
-fn push_contexts(
-    alloc: Global,
-    text: &mut String,
-    whole: &Context<'_, SerdeJson>,
-) -> Result<(), AllocError> {
+fn push_contexts(alloc: Global, text: &mut String, whole: &Context<'_, SerdeJson>) -> Made<()> {
     push_context(text, whole)?;
     let items = whole.new_at_location(alloc, LocationSegment::Name("items"))?;
     push_context(text, &items)?;
@@ -81,7 +72,7 @@ fn push_contexts(
     push_context(text, &second.with_object_layer(true))
 }
 
-fn push_context(text: &mut String, ctx: &Context<'_, SerdeJson>) -> Result<(), AllocError> {
+fn push_context(text: &mut String, ctx: &Context<'_, SerdeJson>) -> Made<()> {
     let (location, layer) = (ctx.location().as_str(), ctx.object_layer());
     write!(text, "{location} {:?} {layer};", ctx.draft())
 }
@@ -128,49 +119,51 @@ pub(super) fn messages<'v>(alloc: Global, call: Call<'v>) -> Answer<'v> {
     let options = EnumOptions::Listed(call.value(0)?);
     let one = TypeKind::Multiple(JsonTypeSet::from(JsonType::Array));
     let all = TypeKind::Multiple(all);
-    let (by, mut text) = (Location::new(alloc), String::new(alloc));
-    for kind in [
-        ValidationErrorKind::Minimum { limit: 2 },
-        ValidationErrorKind::Enum { options },
-        ValidationErrorKind::WrongType { kind: one },
-        ValidationErrorKind::WrongType { kind: all },
-    ] {
-        let at = Location::new(alloc);
-        let error: ValidationError<SerdeJson> = ValidationError::new(kind, at, &by, &Value::Null);
-        write!(text, "{};", error.message(alloc)?)?;
-    }
-    Ok(text)
+    let limit = message(alloc, ValidationErrorKind::Minimum { limit: 2 })?;
+    let options = message(alloc, ValidationErrorKind::Enum { options })?;
+    let one = message(alloc, ValidationErrorKind::WrongType { kind: one })?;
+    let all = message(alloc, ValidationErrorKind::WrongType { kind: all })?;
+    Ok(format!(in alloc; "{limit};{options};{one};{all};")?)
+}
+
+// Returns the message of an error about null.
+fn message(alloc: Global, kind: ValidationErrorKind<'_>) -> Made<String> {
+    let (at, by) = (Location::new(alloc), Location::new(alloc));
+    let error: ValidationError<SerdeJson> = ValidationError::new(kind, at, &by, &Value::Null);
+    error.message(alloc)
 }
 
 // Returns whether want of memory is a fault of its own, and an error where errors are appended and
 // where a unit is made; and two constants of each representation and of each nullability.
 pub(super) fn wanting<'v>(alloc: Global) -> Answer<'v> {
-    let fault: Fault<SerdeJson> = Fault::from(AllocError);
-    let is_fault = matches!(fault, Fault::Memory(_));
+    let is_fault = matches!(Fault::<SerdeJson>::from(AllocError), Fault::Memory(_));
     let is_compile_fault = matches!(CompileFault::from(AllocError), CompileFault::Memory(_));
-    let mut errors = Vec::new(alloc);
-    let is_appended = append_first(Err(fault), &mut errors).is_ok();
+    let (is_appended, errors) = appended(alloc);
     let is_unit = evaluate_first::<SerdeJson>(alloc, Err(Fault::Memory(AllocError))).is_ok();
     let mut text = format!(in alloc; "{is_fault} {is_compile_fault} {is_appended} {is_unit}")?;
     let (serde, decimals) = (SerdeJson::KEYS_PER_LOOKUP, DecimalJson::KEYS_PER_LOOKUP);
     let (with_null, without) = (Nullable::ACCEPTS_NULL, NotNullable::ACCEPTS_NULL);
-    write!(
-        text,
-        " {}, {serde} {decimals}, {with_null} {without}",
-        errors.len()
-    )?;
+    write!(text, " {errors}, {serde} {decimals}, {with_null} {without}")?;
     Ok(text)
+}
+
+// Returns whether errors are appended where memory is wanting, and how many there are then.
+fn appended(alloc: Global) -> (bool, usize) {
+    let mut errors: Vec<ValidationError<SerdeJson>> = Vec::new(alloc);
+    let is_appended = append_first(Err(Fault::Memory(AllocError)), &mut errors).is_ok();
+    (is_appended, errors.len())
 }
 
 // Returns the lines of a node of nodes that are made of names, those that begin with `x` invalid,
 // and of the errors that it describes; and the counts of a context before any application, after one
 // and after two.
 pub(super) fn unit<'v>(alloc: Global, call: Call<'v>) -> Answer<'v> {
-    let unit = unit_of(alloc, call.text(0)?, call.list(1)?)?;
+    let (way, names) = (call.text(0)?, call.list(1)?);
     let (by, at) = (location_of(alloc, "items")?, location_of(alloc, "7")?);
-    let node = EvaluationNode::new(alloc, unit, &by, &at)?;
     let (mut lines, mut described) = (String::new(alloc), String::new(alloc));
-    push_tree(&mut lines, &mut described, WHOLE, 0, &node)?;
+    let node = EvaluationNode::new(alloc, unit_of(alloc, way, names)?, &by, &at);
+    let pushed = push_tree(&mut lines, &mut described, WHOLE, 0, &node?);
+    pushed?;
     let mut ctx = ValidationContext::new();
     let none = ctx.applications();
     ctx.count_one();
@@ -181,15 +174,30 @@ pub(super) fn unit<'v>(alloc: Global, call: Call<'v>) -> Answer<'v> {
 
 // Returns a unit of nodes: as it is, annotated twice, with an error of its own, or with two and no
 // nodes.
-fn unit_of(alloc: Global, way: &str, names: &[Value]) -> Result<EvaluationResult, AllocError> {
-    let children = nodes_of(alloc, names)?;
+fn unit_of(alloc: Global, way: &str, names: &[Value]) -> Made<EvaluationResult> {
+    let indices = Vec::from_array(alloc, [0, 2])?;
+    let errors = match way {
+        "invalid" => errors_of(alloc, &["type"])?,
+        _ => errors_of(alloc, &["type", "enum"])?,
+    };
+    Ok(made_unit(alloc, way, indices, errors, nodes_of(alloc, names)?))
+}
+
+fn made_unit(
+    alloc: Global,
+    way: &str,
+    indices: Vec<usize>,
+    errors: Vec<ErrorDescription>,
+    children: Vec<EvaluationNode>,
+) -> EvaluationResult {
+    let annotations = None;
     let mut unit = match way {
         "invalid" => EvaluationResult::Invalid {
-            errors: errors_of(alloc, &["type"])?,
+            errors,
             children,
-            annotations: None,
+            annotations,
         },
-        "empty" => EvaluationResult::invalid_empty(alloc, errors_of(alloc, &["type", "enum"])?),
+        "empty" => EvaluationResult::invalid_empty(alloc, errors),
         _ => EvaluationResult::from_children(alloc, children),
     };
     match way {
@@ -198,21 +206,18 @@ fn unit_of(alloc: Global, way: &str, names: &[Value]) -> Result<EvaluationResult
             unit.annotate(Annotations::Bool(true));
             unit.annotate(Annotations::Index(7));
         }
-        _ => unit.annotate(Annotations::Indices(Vec::from_array(alloc, [0, 2])?)),
+        _ => unit.annotate(Annotations::Indices(indices)),
     }
-    Ok(unit)
+    unit
 }
 
 // Returns the location of the member of a name in the whole value.
-fn location_of(alloc: Global, name: &str) -> Result<Location, AllocError> {
+fn location_of(alloc: Global, name: &str) -> Made<Location> {
     Location::new(alloc).join(alloc, LocationSegment::Name(name))
 }
 
 // Returns descriptions of these keywords, of which `type` has a text.
-fn errors_of(
-    alloc: Global,
-    keywords: &[&'static str],
-) -> Result<Vec<ErrorDescription>, AllocError> {
+fn errors_of(alloc: Global, keywords: &[&'static str]) -> Made<Vec<ErrorDescription>> {
     let mut errors = Vec::new(alloc);
     for keyword in keywords {
         let message = if *keyword == "type" { "a text" } else { "" };
@@ -222,17 +227,19 @@ fn errors_of(
 }
 
 // Returns a node for each name, without nodes below.
-fn nodes_of(alloc: Global, names: &[Value]) -> Result<Vec<EvaluationNode>, AllocError> {
+fn nodes_of(alloc: Global, names: &[Value]) -> Made<Vec<EvaluationNode>> {
     let mut nodes = Vec::new(alloc);
     for name in names {
-        let name = name.as_str().unwrap_or("");
-        let unit = if name.starts_with('x') {
-            EvaluationResult::invalid_empty(alloc, errors_of(alloc, &["type"])?)
-        } else {
-            EvaluationResult::valid_empty(alloc)
-        };
-        let by = location_of(alloc, name)?;
-        nodes.push(EvaluationNode::new(alloc, unit, &by, &Location::new(alloc))?)?;
+        nodes.push(node_of(alloc, name.as_str().unwrap_or(""))?)?;
     }
     Ok(nodes)
+}
+
+fn node_of(alloc: Global, name: &str) -> Made<EvaluationNode> {
+    let (by, at) = (location_of(alloc, name)?, Location::new(alloc));
+    if !name.starts_with('x') {
+        return EvaluationNode::new(alloc, EvaluationResult::valid_empty(alloc), &by, &at);
+    }
+    let unit = EvaluationResult::invalid_empty(alloc, errors_of(alloc, &["type"])?);
+    EvaluationNode::new(alloc, unit, &by, &at)
 }

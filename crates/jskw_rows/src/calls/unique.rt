@@ -2,12 +2,13 @@
 use super::{Answer, Call};
 use crate::members::wanted;
 use crate::representations::decimal_of;
+use crate::stop::Made;
 use jskw_value::fingerprint::of_whole;
 use jskw_value::laws::equal_values_have_one_fingerprint;
 use jskw_value::seed::seed_of;
 use jskw_value::{Array, Decimal, DecimalTree, Node};
 use serde_json::Value;
-use std::alloc::{AllocError, Global};
+use std::alloc::Global;
 
 // Returns whether the integers below a count are unique with a decimal, or a text, behind them.
 pub(super) fn integers<'v>(alloc: Global, call: Call<'v>) -> Answer<'v> {
@@ -53,7 +54,7 @@ pub(super) fn crowding<'v>(alloc: Global) -> Answer<'v> {
 
 // Returns whether the items are unique as they are, and with one of a pair put in again in place of
 // the other: the pair is at the start, in the middle and at the end.
-fn answers(alloc: Global, items: &[String]) -> Result<String, AllocError> {
+fn answers(alloc: Global, items: &[String]) -> Made<String> {
     let (middle, last) = (items.len() / 2, items.len().saturating_sub(1));
     let mut answers = String::new(alloc);
     for (from, to) in [
@@ -69,22 +70,18 @@ fn answers(alloc: Global, items: &[String]) -> Result<String, AllocError> {
 }
 
 // Appends whether the items of a text's array are unique, over both representations.
-fn push_answer(alloc: Global, answers: &mut String, text: &str) -> Result<(), AllocError> {
+fn push_answer(alloc: Global, answers: &mut String, text: &str) -> Made<()> {
     let Ok(value) = Value::from_str(alloc, text) else {
         return answers.push_str("no value ");
     };
     let tree = DecimalTree::from_value(alloc, &value)?;
     let is_same = tree.as_ref().map(is_unique) == Some(is_unique(&value));
-    write!(
-        answers,
-        "{}{} ",
-        if is_same { "" } else { "not " },
-        is_unique(&value)
-    )
+    answers.push_str(if is_same { "" } else { "not " })?;
+    write!(answers, "{} ", is_unique(&value))
 }
 
 // Returns the text of an array of these items, of which one is put in again in place of another.
-fn text_of(alloc: Global, items: &[String], from: usize, to: usize) -> Result<String, AllocError> {
+fn text_of(alloc: Global, items: &[String], from: usize, to: usize) -> Made<String> {
     let mut text = String::from_str(alloc, "[")?;
     for index in 0..items.len() {
         text.push_str(if index == 0 { "" } else { "," })?;
@@ -119,7 +116,7 @@ pub(super) fn colliding<'v>(alloc: Global, call: Call<'v>) -> Answer<'v> {
 }
 
 // Returns one of the objects that take of each two pairs of members either.
-fn object_text(alloc: Global, sums: &[Value], number: u64) -> Result<String, AllocError> {
+fn object_text(alloc: Global, sums: &[Value], number: u64) -> Made<String> {
     let mut text = String::from_str(alloc, "{")?;
     let mut rest = number;
     for sum in sums {

@@ -5,7 +5,7 @@ ghost use Rattle.jskw_value.specs.Tree.{is_object};
 use super::{Answer, Call};
 use crate::members::wanted;
 use crate::representations::{decimal_of, decimals_of};
-use crate::stop::Stop;
+use crate::stop::{Made, Stop};
 use jskw_value::pointer::push_name;
 use jskw_value::{
     Array, Decimal, DecimalJson, DecimalTree, InsertFault, Json, JsonNumber, JsonType, KeyHead,
@@ -45,7 +45,7 @@ pub(super) fn decimal<'v>(alloc: Global, call: Call<'v>) -> Answer<'v> {
 }
 
 // Returns whether a number is an integer, and written as one; `u64`, `i64`, and its own decimal.
-fn number_text<A: JsonNumber>(alloc: Global, number: &A) -> Result<String, AllocError> {
+fn number_text<A: JsonNumber>(alloc: Global, number: &A) -> Made<String> {
     if !number.is_lawful() {
         return String::from_str(alloc, "a float");
     }
@@ -71,7 +71,7 @@ pub(super) fn node<'v>(alloc: Global, call: Call<'v>) -> Answer<'v> {
 }
 
 // Returns what a node is, and its strings with their lengths, or what it says of its members.
-fn node_text<F: Json>(alloc: Global, node: &F::Node) -> Result<String, AllocError> {
+fn node_text<F: Json>(alloc: Global, node: &F::Node) -> Made<String> {
     let mut text = String::new(alloc);
     for (kind, is_so) in [
         ("null", node.is_null()),
@@ -97,7 +97,7 @@ fn node_text<F: Json>(alloc: Global, node: &F::Node) -> Result<String, AllocErro
 }
 
 // Appends an item that is a string, and its length.
-fn push_string<N: Node>(text: &mut String, node: &N, index: usize) -> Result<(), AllocError> {
+fn push_string<N: Node>(text: &mut String, node: &N, index: usize) -> Made<()> {
     if !node.is_array() || index >= Array::len(node) {
         return Ok(());
     }
@@ -108,7 +108,7 @@ fn push_string<N: Node>(text: &mut String, node: &N, index: usize) -> Result<(),
 }
 
 // Appends members by place, whether a key and a text find three names, and whether it is empty.
-fn push_members<F: Json>(alloc: Global, text: &mut String, node: &F::Node) -> Result<(), AllocError>
+fn push_members<F: Json>(alloc: Global, text: &mut String, node: &F::Node) -> Made<()>
     requires { IsTrue (is_object (F.Node.tree node.now)) }
 {
     for place in 0..Object::len(node) {
@@ -134,10 +134,8 @@ pub(super) fn equal<'v>(alloc: Global, call: Call<'v>) -> Answer<'v> {
 // Returns the text of a value in which each text stands for a decimal, behind another text, and
 // whether it is equal to another value.
 pub(super) fn decimals<'v>(alloc: Global, call: Call<'v>) -> Answer<'v> {
-    let (tree, mut text) = (
-        decimals_of(alloc, call.value(0)?)?,
-        String::from_str(alloc, "old ")?,
-    );
+    let tree = decimals_of(alloc, call.value(0)?)?;
+    let mut text = String::from_str(alloc, "old ")?;
     tree.write_json(&mut text)?;
     write!(text, " {}", tree.equals_value(call.value(1)?))?;
     Ok(text)
@@ -183,7 +181,7 @@ pub(crate) fn insert_names(
     members: &mut Members,
     names: &[Value],
     text: &mut String,
-) -> Result<(), AllocError> {
+) -> Made<()> {
     for (place, name) in names.iter().enumerate() {
         let name = String::from_str(alloc, name.as_str().unwrap_or(""))?;
         match members.insert(name, DecimalTree::Number(Decimal::from(place as u64))) {
@@ -196,7 +194,7 @@ pub(crate) fn insert_names(
 }
 
 /// Appends a name and the text of its value.
-pub(crate) fn push_pair(to: &mut String, name: &str, tree: &DecimalTree) -> Result<(), AllocError> {
+pub(crate) fn push_pair(to: &mut String, name: &str, tree: &DecimalTree) -> Made<()> {
     write!(to, "{name} ")?;
     tree.write_json(to)?;
     to.push_str(", ")
@@ -210,10 +208,7 @@ pub(super) fn paired<'v>(alloc: Global, call: Call<'v>) -> Answer<'v> {
 }
 
 /// Returns pairs of a name and its text.
-pub(crate) fn pairs_of(
-    alloc: Global,
-    names: &[Value],
-) -> Result<Vec<Member<DecimalTree>>, AllocError> {
+pub(crate) fn pairs_of(alloc: Global, names: &[Value]) -> Made<Vec<Member<DecimalTree>>> {
     let mut pairs = Vec::new(alloc);
     for name in names {
         let name = name.as_str().unwrap_or("");
@@ -229,7 +224,7 @@ pub(crate) fn pairs_of(
 pub(crate) fn push_made(
     text: &mut String,
     made: Result<Members, RepeatedName<DecimalTree>>,
-) -> Result<(), AllocError> {
+) -> Made<()> {
     match made {
         Ok(members) => DecimalTree::Object(members).write_json(text),
         Err(RepeatedName { pairs, place }) => {

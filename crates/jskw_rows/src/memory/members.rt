@@ -1,9 +1,10 @@
 //! Members that are put into a list.
 use crate::calls::values::{insert_names, pairs_of, push_made, push_pair};
 use crate::memory::printed::{announce, print_lines, print_text, told};
+use crate::stop::Made;
 use jskw_value::{Decimal, DecimalTree, InsertFault, Members};
 use serde_json::Value;
-use std::alloc::{AllocError, Global};
+use std::alloc::Global;
 use std::io;
 
 /// Inserts one more member behind those of the names, each with its place in the line, and prints the
@@ -48,7 +49,7 @@ pub(super) fn from_pairs(rt: &HostRuntime, names: &[Value]) -> io::Result<()> {
     print_lines(rt, text.as_str())
 }
 
-fn members_of(alloc: Global, names: &[Value]) -> Result<Members, AllocError> {
+fn members_of(alloc: Global, names: &[Value]) -> Made<Members> {
     let mut members = Members::new(alloc);
     insert_names(alloc, &mut members, names, &mut String::new(alloc))?;
     Ok(members)

@@ -6,17 +6,24 @@ ghost use Rattle.jskw_value.specs.Tree.{is_lawful};
 use crate::calls::Call;
 use crate::error_lines::{WHOLE, refusal};
 use crate::leaves::{Leaf, compiled};
-use crate::memory::printed::{announce, print_error, print_lines, print_tree, told, told_at};
+use crate::memory::printed::{
+    announce, print_errors, print_first, print_lines, print_tree, told, told_at,
+};
+use crate::stop::Made;
 use jskw_array::SchemaNode;
 use jskw_array::compiler::compile;
 use jskw_report::{
-    CompileFault, Context, EvaluationResult, Fault, LazyLocation, Location, Settings, Validate,
-    ValidationContext, ValidationError, ValidationErrorKind,
+    CompilationResult, CompileFault, Context, EvaluationResult, LazyLocation, Location, Settings,
+    Validate, ValidationContext, ValidationError, ValidationErrorKind,
 };
 use jskw_value::{Json, Node};
-use serde_json::Value;
-use std::alloc::{AllocError, Global};
+use std::alloc::Global;
 use std::io;
+
+// What is compiled, and what calls of a kind ask of it. Its type is a parameter, as in `of_compiled`.
+trait Asked<F: Json> {
+    fn ask(&self, rt: &HostRuntime, kind: &str, instance: &F::Node) -> io::Result<()>;
+}
 
 /// Compiles a schema, and asks of an instance what the calls of a kind ask.
 pub(super) fn compile_and_ask<F: Json>(
@@ -28,89 +35,82 @@ pub(super) fn compile_and_ask<F: Json>(
     let ctx: Context<F> = Context::new(rt.alloc(), settings);
     let schema = call.value(2)?;
     if call.name.starts_with("leaves") {
-        each_leaf(rt, &ctx, schema, instance)?;
+        let parent = schema.as_object().ok_or(io::ErrorKind::InvalidInput)?;
+        ask_compiled(rt, call.name, compiled(rt.alloc(), &ctx, parent), instance)?;
     }
     announce(rt, "compile", true)?;
-    let made = compile(rt.alloc(), &ctx, schema);
-    told(rt, matches!(made, Err(CompileFault::Memory(_))))?;
-    match &made {
-        Ok(node) => ask_node(rt, call.name, node, instance),
-        Err(CompileFault::Bad(error)) => {
-            print_lines(rt, refusal(rt.alloc(), true, WHOLE, error)?.as_str())
-        }
-        Err(CompileFault::Memory(_)) => Ok(()),
-    }
+    ask_compiled(rt, call.name, compile(rt.alloc(), &ctx, schema), instance)
 }
 
-// Asks the observers of a compiled schema that the calls of a kind ask.
-fn ask_node<F: Json>(
+// Asks what was compiled, or says why it was not.
+fn ask_compiled<F: Json, C: Asked<F> + Drop>(
     rt: &HostRuntime,
     kind: &str,
-    node: &SchemaNode<F>,
+    made: CompilationResult<'_, C>,
     instance: &F::Node,
 ) -> io::Result<()> {
-    // One of the schemas of `below` is `false`, whose compile takes no memory.
-    if kind != "below" {
-        print_lines(rt, "compiled")?;
-    }
-    if !instance.is_lawful() {
-        return Err(io::ErrorKind::InvalidInput)?;
-    }
-    match kind {
-        "compile" => Ok(()),
-        "below" => evaluate_below(rt, node, instance),
-        "schema" | "schema of decimals" => observe(rt, true, node, instance),
-        "leaves" | "leaves of decimals" => observe(rt, false, node, instance),
-        _ => Err(io::ErrorKind::InvalidInput)?,
+    match &made {
+        Ok(compiled) => compiled.ask(rt, kind, instance),
+        Err(CompileFault::Memory(_)) => told(rt, true),
+        Err(CompileFault::Bad(error)) => {
+            told(rt, false)?;
+            print_lines(rt, refusal(rt.alloc(), true, WHOLE, error)?.as_str())
+        }
     }
 }
 
-// Asks the observers of each keyword of a schema, each of which holds.
-fn each_leaf<F: Json>(
-    rt: &HostRuntime,
-    ctx: &Context<'_, F>,
-    schema: &Value,
-    instance: &F::Node,
-) -> io::Result<()> {
-    let parent = schema.as_object().ok_or(io::ErrorKind::InvalidInput)?;
-    match &compiled(rt.alloc(), ctx, parent) {
-        Ok(leaves) => {
-            for leaf in leaves {
-                leaf_holds(rt, leaf, instance)?;
-            }
-            Ok(())
+impl<F: Json> Asked<F> for SchemaNode<F> {
+    fn ask(&self, rt: &HostRuntime, kind: &str, instance: &F::Node) -> io::Result<()> {
+        told(rt, false)?;
+        // One of the schemas of `below` is `false`, whose compile takes no memory.
+        if kind != "below" {
+            print_lines(rt, "compiled")?;
         }
-        Err(_) => Err(io::ErrorKind::InvalidInput)?,
+        if !instance.is_lawful() {
+            return Err(io::ErrorKind::InvalidInput)?;
+        }
+        match kind {
+            "compile" => Ok(()),
+            "below" => evaluate_below(rt, self, instance),
+            "schema" | "schema of decimals" => observe(rt, true, self, instance),
+            "leaves" | "leaves of decimals" => observe(rt, false, self, instance),
+            _ => Err(io::ErrorKind::InvalidInput)?,
+        }
+    }
+}
+
+impl<F: Json, V: Validate<F> + Drop> Asked<F> for Vec<Leaf<V>> {
+    fn ask(&self, rt: &HostRuntime, _kind: &str, instance: &F::Node) -> io::Result<()> {
+        for leaf in self {
+            print_leaf(rt, leaf, instance)?;
+        }
+        Ok(())
     }
 }
 
 // Asks the observers of a keyword that holds.
-fn leaf_holds<F: Json>(rt: &HostRuntime, leaf: &Leaf<F>, instance: &F::Node) -> io::Result<()> {
+fn print_leaf<F: Json, V: Validate<F> + Drop>(
+    rt: &HostRuntime,
+    leaf: &Leaf<V>,
+    instance: &F::Node,
+) -> io::Result<()> {
     if !instance.is_lawful() {
         return Err(io::ErrorKind::InvalidInput)?;
     }
-    let mut location = two_below(rt.alloc())?;
-    let mut ctx = ValidationContext::new();
-    let mut errors = Vec::new(rt.alloc());
-    let validator = &leaf.validator;
+    let (mut location, mut ctx) = (two_below(rt.alloc())?, ValidationContext::new());
     announce(rt, leaf.location.as_str(), false)?;
-    let is_valid = validator.is_valid(instance, &mut ctx);
-    let first = validator
-        .validate(instance, &mut location, &mut ctx)
-        .is_ok();
-    let all = validator
-        .collect_errors(instance, &mut location, &mut ctx, &mut errors)
-        .is_ok();
-    let unit = validator.evaluate(rt.alloc(), instance, &mut location, &mut ctx);
+    let (asked, mut errors) = (&leaf.validator, Vec::new(rt.alloc()));
+    let is_valid = asked.is_valid(instance, &mut ctx);
+    let first = asked.validate(instance, &mut location, &mut ctx).is_ok();
+    let all = asked.collect_errors(instance, &mut location, &mut ctx, &mut errors);
+    let unit = asked.evaluate(rt.alloc(), instance, &mut location, &mut ctx);
+    let (all, count) = (all.is_ok(), errors.len());
     let unit = matches!(unit, Ok(EvaluationResult::Valid { .. }));
-    println!(rt;
-        ", answered {is_valid} {first} {all} {} {unit}",
-        errors.len()
-    )
+    println!(rt; ", answered {is_valid} {first} {all} {count} {unit}")
 }
 
 // Returns the location of item 2 of item 7 of a whole instance.
-fn two_below(alloc: Global) -> Result<LazyLocation, AllocError> {
+fn two_below(alloc: Global) -> Made<LazyLocation> {
     let mut location = LazyLocation::new(alloc);
     location.push(7)?;
     location.push(2)?;
@@ -126,37 +126,24 @@ fn observe<F: Json>(
 ) -> io::Result<()>
     requires { IsTrue (is_lawful (F.Node.tree instance.now)) }
 {
+    let (mut location, mut ctx) = (two_below(rt.alloc())?, ValidationContext::new());
     announce(rt, "is_valid", false)?;
-    let is_valid = node.is_valid(instance, &mut ValidationContext::new());
+    let is_valid = node.is_valid(instance, &mut ctx);
     println!(rt; ", answered {is_valid}")?;
-    validate(rt, takes_memory, node, instance)?;
-    collect_errors(rt, takes_memory, node, instance)?;
-    announce(rt, "evaluate_instance", true)?;
-    let tree = node.evaluate_instance(rt.alloc(), instance, &mut ValidationContext::new());
-    told(rt, tree.is_err())?;
-    match &tree {
-        Ok(tree) => print_tree(rt, tree),
-        Err(_) => Ok(()),
-    }
-}
-
-fn validate<F: Json>(
-    rt: &HostRuntime,
-    takes_memory: bool,
-    node: &SchemaNode<F>,
-    instance: &F::Node,
-) -> io::Result<()>
-    requires { IsTrue (is_lawful (F.Node.tree instance.now)) }
-{
-    let mut location = two_below(rt.alloc())?;
-    let mut ctx = ValidationContext::new();
     announce(rt, "validate", takes_memory)?;
-    let answer = node.validate(instance, &mut location, &mut ctx);
-    told_at(rt, matches!(answer, Err(Fault::Memory(_))), &location)?;
-    match &answer {
-        Err(Fault::Invalid(error)) => print_error(rt, error),
-        _ => Ok(()),
-    }
+    let first = print_first(
+        rt,
+        &node.validate(instance, &mut location, &mut ctx),
+        &location,
+    );
+    first?;
+    collect_errors(rt, takes_memory, node, instance, &mut location)?;
+    announce(rt, "evaluate_instance", true)?;
+    print_tree(
+        rt,
+        &node.evaluate_instance(rt.alloc(), instance, &mut ctx),
+        None,
+    )
 }
 
 // Asks for all errors, behind an old one.
@@ -165,23 +152,28 @@ fn collect_errors<F: Json>(
     takes_memory: bool,
     node: &SchemaNode<F>,
     instance: &F::Node,
+    location: &mut LazyLocation,
 ) -> io::Result<()>
     requires { IsTrue (is_lawful (F.Node.tree instance.now)) }
 {
-    let mut location = two_below(rt.alloc())?;
-    let mut ctx = ValidationContext::new();
     let whole = Location::new(rt.alloc());
-    let kind = ValidationErrorKind::UniqueItems;
-    let old = ValidationError::new(kind, Location::new(rt.alloc()), &whole, instance);
-    let mut errors = Vec::new(rt.alloc());
-    errors.push(old)?;
+    let mut errors = old_error(rt.alloc(), &whole, instance)?;
     announce(rt, "collect_errors", takes_memory)?;
-    let collected = node.collect_errors(instance, &mut location, &mut ctx, &mut errors);
-    told_at(rt, collected.is_err(), &location)?;
-    for error in &errors {
-        print_error(rt, error)?;
-    }
-    Ok(())
+    let mut ctx = ValidationContext::new();
+    let collected = node.collect_errors(instance, location, &mut ctx, &mut errors);
+    told_at(rt, collected.is_err(), location)?;
+    print_errors(rt, &errors)
+}
+
+fn old_error<'i, F: Json>(
+    alloc: Global,
+    whole: &'i Location,
+    instance: &'i F::Node,
+) -> Made<Vec<ValidationError<'i, F>>> {
+    let kind = ValidationErrorKind::UniqueItems;
+    let mut errors = Vec::new(alloc);
+    errors.push(ValidationError::new(kind, Location::new(alloc), whole, instance))?;
+    Ok(errors)
 }
 
 // Asks for the tree of an instance that is part of another.
@@ -192,13 +184,8 @@ fn evaluate_below<F: Json>(
 ) -> io::Result<()>
     requires { IsTrue (is_lawful (F.Node.tree instance.now)) }
 {
-    let mut location = two_below(rt.alloc())?;
-    let mut ctx = ValidationContext::new();
+    let (mut location, mut ctx) = (two_below(rt.alloc())?, ValidationContext::new());
     announce(rt, "evaluate_instance_below", true)?;
     let tree = node.evaluate_instance_below(rt.alloc(), instance, &mut location, &mut ctx);
-    told_at(rt, tree.is_err(), &location)?;
-    match &tree {
-        Ok(tree) => print_tree(rt, tree),
-        Err(_) => Ok(()),
-    }
+    print_tree(rt, &tree, Some(&location))
 }

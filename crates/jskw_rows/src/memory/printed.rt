@@ -1,7 +1,8 @@
 //! The words around a call, and what it gave.
 use crate::error_lines::{WHOLE, push_error};
+use crate::stop::Made;
 use crate::tree_lines::push_tree;
-use jskw_report::{EvaluationNode, LazyLocation, ValidationError};
+use jskw_report::{EvaluationNode, Fault, LazyLocation, ValidationError};
 use jskw_value::{Json, Node};
 use std::io;
 
@@ -43,19 +44,46 @@ pub(super) fn print_text<N: Node>(rt: &HostRuntime, node: &N) -> io::Result<()> 
     print_lines(rt, text.as_str())
 }
 
-pub(super) fn print_error<F: Json>(
+/// Prints errors, each in a line.
+pub(super) fn print_errors<F: Json>(
     rt: &HostRuntime,
-    error: &ValidationError<'_, F>,
+    errors: &[ValidationError<'_, F>],
 ) -> io::Result<()> {
     let mut text = String::new(rt.alloc());
-    push_error(rt.alloc(), &mut text, true, WHOLE, error)?;
+    for error in errors {
+        push_error(rt.alloc(), &mut text, true, WHOLE, error)?;
+    }
     print_lines(rt, text.as_str())
 }
 
-/// Prints the lines of a tree and of the errors that it describes.
-pub(super) fn print_tree(rt: &HostRuntime, root: &EvaluationNode) -> io::Result<()> {
+/// Says what `validate` returned, and where the location is then.
+pub(super) fn print_first<F: Json>(
+    rt: &HostRuntime,
+    answer: &Result<(), Fault<'_, F>>,
+    at: &LazyLocation,
+) -> io::Result<()> {
+    told_at(rt, matches!(answer, Err(Fault::Memory(_))), at)?;
+    match answer {
+        Err(Fault::Invalid(error)) => print_errors(rt, std::slice::from_ref(error)),
+        _ => Ok(()),
+    }
+}
+
+/// Says what an evaluation returned, and where the location is then if it has one: the lines of the
+/// tree, and of the errors that it describes.
+pub(super) fn print_tree(
+    rt: &HostRuntime,
+    answer: &Made<EvaluationNode>,
+    at: Option<&LazyLocation>,
+) -> io::Result<()> {
+    match at {
+        Some(at) => told_at(rt, answer.is_err(), at)?,
+        None => told(rt, answer.is_err())?,
+    }
     let (mut lines, mut described) = (String::new(rt.alloc()), String::new(rt.alloc()));
-    push_tree(&mut lines, &mut described, WHOLE, 0, root)?;
+    if let Ok(root) = answer {
+        push_tree(&mut lines, &mut described, WHOLE, 0, root)?;
+    }
     print_lines(rt, lines.as_str())?;
     print_lines(rt, described.as_str())
 }
