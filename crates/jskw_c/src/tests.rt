@@ -4,7 +4,7 @@ use crate::{
     jskw_answer, jskw_compile, jskw_errors, jskw_evaluate, jskw_first_error, jskw_free,
     jskw_is_valid, jskw_version,
 };
-use std::alloc::Global;
+use std::alloc::{AllocError, Global};
 
 const SCHEMA: &[u8] = br#"{"required":["name","age"],"minProperties":2}"#;
 
@@ -18,152 +18,131 @@ const FIRST: &[u8] = b"minProperties\t\t/minProperties\t{\"age\":36} has less th
 const ERRORS: &[u8] =
     b"minProperties\t\t/minProperties\t{\"age\":36} has less than 2 properties\nrequired\t\t/required\t\"name\" is a required property\n";
 
+const FLOAT: &[u8] = br#"{"a\tb\\":[1.5]}"#;
+
+const REFUSED: &[u8] = br#"{"items":{"type":"foo"}}"#;
+
 const REFUSAL: &[u8] = b"compileError\t/items/type\tUnexpected type\n";
+
+const COUNTS: &[u8] = br#"{"contains":{"minimum":10},"minItems":3}"#;
 
 const TREE: &[u8] =
     br#"{"valid":false,"keywordLocation":"","instanceLocation":"","annotation":null,"errors":[],"details":[{"valid":false,"keywordLocation":"/minItems","instanceLocation":"","annotation":null,"errors":["minItems"],"details":[]},{"valid":true,"keywordLocation":"/contains","instanceLocation":"","annotation":[1],"errors":[],"details":[{"valid":true,"keywordLocation":"/contains","instanceLocation":"/1","annotation":null,"errors":[],"details":[{"valid":true,"keywordLocation":"/contains/minimum","instanceLocation":"/1","annotation":null,"errors":[],"details":[]}]}]}]}"#;
 
-// Whether the buffer begins with the text, which has this length.
-fn is_told(buffer: &[u8], length: usize, text: &[u8]) -> bool {
-    length == text.len() && buffer.starts_with(text)
+const VERSION: &[u8] = b"jskw 0.1.0\nrattle logic dac8208d650f15bf\n";
+
+const UNCHANGED: &[u8] = &[b'.'; 1024];
+
+// A call: an export, its input, the size of the buffer, and the wanted status and text.
+type Row = (&'static str, &'static [u8], usize, u32, &'static [u8]);
+
+// The calls over one handle, in order. At first it has no schema.
+const ROWS: [Row; 36] = [
+    ("version", b"", 64, 0, VERSION),
+    ("answer", REQUEST, 64, 1, ANSWER),
+    ("answer", REQUEST, 50, 1, ANSWER),
+    ("answer", REQUEST, 49, 9, ANSWER),
+    ("answer", b"", 64, 2, b"refused: request\n"),
+    ("is_valid", b"1", 0, 7, b""),
+    ("first_error", b"1", 64, 7, b""),
+    ("errors", b"1", 64, 7, b""),
+    ("evaluate", b"1", 64, 7, b""),
+    ("compile", SCHEMA, 0, 0, b""),
+    ("is_valid", br#"{"name":"Ada","age":36}"#, 0, 0, b""),
+    ("is_valid", br#"{"age":36}"#, 0, 1, b""),
+    ("is_valid", b"{", 0, 3, b""),
+    ("is_valid", b"\"\xff\"", 0, 3, b""),
+    ("is_valid", b"", 0, 3, b""),
+    ("is_valid", b"[1.5]", 0, 4, b""),
+    ("first_error", br#"{"age":36}"#, 256, 1, FIRST),
+    ("errors", br#"{"age":36}"#, 256, 1, ERRORS),
+    ("errors", br#"{"age":36}"#, 0, 9, ERRORS),
+    ("errors", FLOAT, 64, 4, b"/a\\tb\\\\/0\n"),
+    ("free", b"", 0, 0, b""),
+    ("is_valid", b"1", 0, 7, b""),
+    ("free", b"", 0, 0, b""),
+    ("compile", COUNTS, 0, 0, b""),
+    ("evaluate", b"[5,10]", 1024, 1, TREE),
+    ("compile", b"false", 0, 0, b""),
+    ("compile in Draft 7", REFUSED, 64, 5, REFUSAL),
+    ("compile in Draft 5", b"true", 64, 6, b""),
+    ("compile with vocabularies 8", b"true", 64, 6, b""),
+    ("compile with overridden {}", b"true", 64, 6, b""),
+    ("compile", b"{", 0, 3, b""),
+    ("is_valid", b"1", 0, 1, b""),
+    ("compile", b"true", 0, 0, b""),
+    ("is_valid", b"1", 0, 0, b""),
+    ("first_error", b"1", 0, 0, b""),
+    ("errors", b"1", 0, 0, b""),
+];
+
+// Makes a call, and returns its status.
+fn make(
+    alloc: Global,
+    handle: &mut SchemaHandle,
+    (call, input): (&str, &[u8]),
+    buffer: &mut [u8],
+    length: &mut usize,
+) -> u32 {
+    let (draft, set, names): (u32, u32, &[u8]) = match call {
+        "version" => return jskw_version(buffer, length),
+        "answer" => return jskw_answer(alloc, input, buffer, length),
+        "is_valid" => return jskw_is_valid(alloc, handle, input),
+        "first_error" => return jskw_first_error(alloc, handle, input, buffer, length),
+        "errors" => return jskw_errors(alloc, handle, input, buffer, length),
+        "evaluate" => return jskw_evaluate(alloc, handle, input, buffer, length),
+        "compile in Draft 7" => (7, 7, b""),
+        "compile in Draft 5" => (5, 7, b""),
+        "compile with vocabularies 8" => (7, 8, b""),
+        "compile with overridden {}" => (7, 7, b"{}"),
+        "compile" => (2020, 7, b""),
+        _ => {
+            jskw_free(alloc, handle);
+            return 0;
+        }
+    };
+    jskw_compile(alloc, draft, set, names, input, handle, buffer, length)
 }
 
-// Compiles a schema under a setting into a handle, and returns the status and the text's length.
-fn compile_as(
-    handle: &mut SchemaHandle,
+// Appends a call whose status or text is not the wanted one. A buffer that is too small has to be
+// unchanged.
+fn push_wrong(
     alloc: Global,
-    (draft, vocabularies, overridden): (u32, u32, &[u8]),
-    schema: &[u8],
-    buffer: &mut [u8],
-) -> (u32, usize) {
+    handle: &mut SchemaHandle,
+    wrong: &mut String,
+    &(call, input, size, status, text): &Row,
+) -> Result<(), AllocError> {
+    let mut buffer = [b'.'; 1024];
+    let size = buffer.len().min(size);
     let mut length = 0;
-    let status = jskw_compile(
+    let found = make(
         alloc,
-        draft,
-        vocabularies,
-        overridden,
-        schema,
         handle,
-        buffer,
+        (call, input),
+        &mut buffer[..size],
         &mut length,
     );
-    (status, length)
+    let kept = if status == 9 { UNCHANGED } else { text };
+    if found == status && length == text.len() && buffer.starts_with(kept) {
+        return Ok(());
+    }
+    write!(wrong, "{call}: status {found}, {length} bytes; ")
 }
 
-// Compiles a schema of Draft 2020-12 into a handle, and returns the status.
-fn compile_into(handle: &mut SchemaHandle, alloc: Global, schema: &[u8]) -> u32 {
-    compile_as(handle, alloc, (2020, 7, &[]), schema, &mut []).0
-}
-
-#[test]
-fn answers_a_request(rt: HostRuntime) {
-    let mut buffer = [b'.'; 64];
-    let mut length = 0;
-    let status = jskw_answer(rt.alloc(), REQUEST, &mut buffer, &mut length);
-    assert_eq!(rt; status, 1);
-    assert!(rt; is_told(&buffer, length, ANSWER));
-    let mut exact = [b'.'; 50];
-    let status = jskw_answer(rt.alloc(), REQUEST, &mut exact, &mut length);
-    assert_eq!(rt; status, 1);
-    let mut small = [b'.'; 49];
-    let status = jskw_answer(rt.alloc(), REQUEST, &mut small, &mut length);
-    assert_eq!(rt; status, 9);
-    assert_eq!(rt; length, 50);
-    assert_eq!(rt; small[0], b'.');
-    let status = jskw_answer(rt.alloc(), b"", &mut buffer, &mut length);
-    assert_eq!(rt; status, 2);
-    assert!(rt; is_told(&buffer, length, b"refused: request\n"));
+// Returns the calls whose answers are not the wanted ones.
+fn wrong_calls(alloc: Global, handle: &mut SchemaHandle) -> Result<String, AllocError> {
+    let mut wrong = String::new(alloc);
+    for row in &ROWS {
+        push_wrong(alloc, handle, &mut wrong, row)?;
+    }
+    Ok(wrong)
 }
 
 #[test]
-fn asks_whether_instances_are_valid(rt: HostRuntime) {
+fn exports_give_a_status_and_a_text(rt: HostRuntime) -> Result<(), AllocError> {
     let mut handle = SchemaHandle::of(None);
-    assert_eq!(rt; jskw_is_valid(rt.alloc(), &mut handle, b"1"), 7);
-    assert_eq!(rt; compile_into(&mut handle, rt.alloc(), SCHEMA), 0);
-    let valid = br#"{"name":"Ada","age":36}"#;
-    assert_eq!(rt; jskw_is_valid(rt.alloc(), &mut handle, valid), 0);
-    assert_eq!(rt; jskw_is_valid(rt.alloc(), &mut handle, br#"{"age":36}"#), 1);
-    assert_eq!(rt; jskw_is_valid(rt.alloc(), &mut handle, b"{"), 3);
-    assert_eq!(rt; jskw_is_valid(rt.alloc(), &mut handle, b"\"\xff\""), 3);
-    assert_eq!(rt; jskw_is_valid(rt.alloc(), &mut handle, b""), 3);
-    assert_eq!(rt; jskw_is_valid(rt.alloc(), &mut handle, b"[1.5]"), 4);
-    jskw_free(rt.alloc(), &mut handle);
-    assert_eq!(rt; jskw_is_valid(rt.alloc(), &mut handle, b"1"), 7);
-    jskw_free(rt.alloc(), &mut handle);
+    let wrong = wrong_calls(rt.alloc(), &mut handle);
     handle.discard(rt.alloc());
-}
-
-#[test]
-fn tells_errors(rt: HostRuntime) {
-    let mut buffer = [0; 256];
-    let mut length = 0;
-    let mut handle = SchemaHandle::of(None);
-    let status = jskw_errors(rt.alloc(), &mut handle, b"1", &mut buffer, &mut length);
-    assert_eq!(rt; status, 7);
-    assert_eq!(rt; compile_into(&mut handle, rt.alloc(), SCHEMA), 0);
-    let instance = br#"{"age":36}"#;
-    let status = jskw_first_error(rt.alloc(), &mut handle, instance, &mut buffer, &mut length);
-    assert_eq!(rt; status, 1);
-    assert!(rt; is_told(&buffer, length, FIRST));
-    let status = jskw_errors(rt.alloc(), &mut handle, instance, &mut buffer, &mut length);
-    assert_eq!(rt; status, 1);
-    assert!(rt; is_told(&buffer, length, ERRORS));
-    let status = jskw_errors(rt.alloc(), &mut handle, instance, &mut [], &mut length);
-    assert_eq!(rt; status, 9);
-    let float = b"{\"a\\tb\\\\\":[1.5]}";
-    let status = jskw_errors(rt.alloc(), &mut handle, float, &mut buffer, &mut length);
-    assert_eq!(rt; status, 4);
-    assert!(rt; is_told(&buffer, length, b"/a\\tb\\\\/0\n"));
-    handle.discard(rt.alloc());
-}
-
-#[test]
-fn tells_an_evaluation(rt: HostRuntime) {
-    let mut buffer = [0; 1024];
-    let mut length = 0;
-    let mut handle = SchemaHandle::of(None);
-    let status = jskw_evaluate(rt.alloc(), &mut handle, b"1", &mut buffer, &mut length);
-    assert_eq!(rt; status, 7);
-    let schema = br#"{"contains":{"minimum":10},"minItems":3}"#;
-    assert_eq!(rt; compile_into(&mut handle, rt.alloc(), schema), 0);
-    let status = jskw_evaluate(rt.alloc(), &mut handle, b"[5,10]", &mut buffer, &mut length);
-    assert_eq!(rt; status, 1);
-    assert!(rt; is_told(&buffer, length, TREE));
-    handle.discard(rt.alloc());
-}
-
-#[test]
-fn refuses_what_does_not_compile(rt: HostRuntime) {
-    let mut buffer = [0; 64];
-    let mut handle = SchemaHandle::of(None);
-    assert_eq!(rt; compile_into(&mut handle, rt.alloc(), b"false"), 0);
-    let bad = br#"{"items":{"type":"foo"}}"#;
-    let (status, length) = compile_as(&mut handle, rt.alloc(), (7, 7, &[]), bad, &mut buffer);
-    assert_eq!(rt; status, 5);
-    assert!(rt; is_told(&buffer, length, REFUSAL));
-    let (status, _) = compile_as(&mut handle, rt.alloc(), (5, 7, &[]), b"true", &mut buffer);
-    assert_eq!(rt; status, 6);
-    let (status, _) = compile_as(&mut handle, rt.alloc(), (7, 8, &[]), b"true", &mut buffer);
-    assert_eq!(rt; status, 6);
-    let (status, _) = compile_as(&mut handle, rt.alloc(), (7, 7, b"{}"), b"true", &mut buffer);
-    assert_eq!(rt; status, 6);
-    assert_eq!(rt; compile_into(&mut handle, rt.alloc(), b"{"), 3);
-    assert_eq!(rt; jskw_is_valid(rt.alloc(), &mut handle, b"1"), 1);
-    assert_eq!(rt; compile_into(&mut handle, rt.alloc(), b"true"), 0);
-    assert_eq!(rt; jskw_is_valid(rt.alloc(), &mut handle, b"1"), 0);
-    handle.discard(rt.alloc());
-}
-
-#[test]
-fn tells_its_version(rt: HostRuntime) {
-    let mut buffer = [0; 64];
-    let mut length = 0;
-    assert_eq!(rt; jskw_version(&mut buffer, &mut length), 0);
-    assert!(rt;
-        is_told(
-            &buffer,
-            length,
-            b"jskw 0.1.0\nrattle logic dac8208d650f15bf\n"
-        )
-    );
+    assert_eq!(rt; wrong?.as_str(), "");
+    Ok(())
 }
