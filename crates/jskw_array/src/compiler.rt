@@ -3,9 +3,9 @@ ghost use Rattle.std.specs.Prelude.{◌≡◌, ◌++◌, ◌∷◌};
 ghost use Rattle.jskw_array.specs.Words.{[], Asserts, Boolean, Compiles, Err, IfOk};
 ghost use Rattle.jskw_array.specs.Words.{IsTrue, Keywords, Makes, Object, Ok, Reading, Refusal};
 ghost use Rattle.jskw_array.specs.Words.{MarksLengths, Result, Schema, Some, active_member, after};
-ghost use Rattle.jskw_array.specs.Words.{before};
-ghost use Rattle.jskw_array.specs.Words.{begin_fused, boolean_schema, fused_words, get_member};
-ghost use Rattle.jskw_array.specs.Words.{is_fused, is_leaf, items_view, keyword_location, keywords};
+ghost use Rattle.jskw_array.specs.Words.{before, begin_fused, boolean_schema, fused_words};
+ghost use Rattle.jskw_array.specs.Words.{get_member, is_fused, is_leaf, items_view};
+ghost use Rattle.jskw_array.specs.Words.{keyword_location, keywords};
 ghost use Rattle.jskw_array.specs.Words.{keywords_of, map_ok, members_view, no_keywords, object, of_types};
 ghost use Rattle.jskw_array.specs.Words.{option_map, part_named, read, read_each, read_words};
 ghost use Rattle.jskw_array.specs.Words.{reading, schema_count, schemas_of, shape_keywords, true};
@@ -220,7 +220,8 @@ fn push_keywords<'a, F: Json>(
     Ok(())
 }
 
-// Marks the lengths of the names of an object. The last mark is for 16 bytes and more.
+// Returns marks of the lengths of an object's names. The mark at an index is for names of so many
+// bytes, the last one for 16 and more.
 fn name_lengths(parent: &Map<String, Value>) -> [bool; 17]
     ensures { MarksLengths result (members_view parent.now.entries) }
 {
@@ -231,8 +232,8 @@ fn name_lengths(parent: &Map<String, Value>) -> [bool; 17]
     lengths
 }
 
-// Returns the value of a keyword, if it is present and active. Most are absent: no name has the
-// length of theirs, by the marks of `name_lengths`, and then they are not looked up.
+// Returns the value of a keyword, if it is present and active. `lengths` are the marks of
+// `name_lengths`: most keywords are absent, and are not looked up if no name has their length.
 fn active_member<'a, F: Json>(
     ctx: &Context<'_, F>,
     parent: &'a Map<String, Value>,

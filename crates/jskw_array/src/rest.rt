@@ -83,7 +83,7 @@ impl<F: Json> Validate<F> for Rest<F> {
         count <= self.start || self.holds_of(count, instance, ctx)
     }
 
-    #[inline(never)]
+    #[inline(always)]
     #[cycle(find_error)]
     fn find_error<'i>(
         &'i self,
@@ -104,7 +104,7 @@ impl<F: Json> Validate<F> for Rest<F> {
         Ok(())
     }
 
-    #[inline(never)]
+    #[inline(always)]
     #[cycle(collect_errors)]
     fn collect_errors<'i>(
         &'i self,

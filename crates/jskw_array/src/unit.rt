@@ -5,8 +5,8 @@ ghost use Rattle.jskw_array.specs.Words.{Appends, CountsUpTo, Extends, IfOk, IfS
 ghost use Rattle.jskw_array.specs.Words.{Finds, IsShape, IsTrue, Tree, absorbed_by, all_fail};
 ghost use Rattle.jskw_array.specs.Words.{all_hand_on, all_hold, all_needed, all_pairs, is_in};
 ghost use Rattle.jskw_array.specs.Words.{is_lawful, is_shape, is_some, keywords_of, meaning_holds};
-ghost use Rattle.jskw_array.specs.Words.{path_of, shape_keywords, true, unit_hands_on, unit_location, unit_meaning};
-ghost use Rattle.jskw_array.specs.Words.{units as units_of};
+ghost use Rattle.jskw_array.specs.Words.{path_of, shape_keywords, true, unit_hands_on};
+ghost use Rattle.jskw_array.specs.Words.{unit_location, unit_meaning, units as units_of};
 
 use crate::items::ArrayShapeValidator;
 use crate::validator::Validator;
