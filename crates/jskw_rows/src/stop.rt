@@ -2,7 +2,7 @@
 use std::alloc::{AllocError, AllocFailed};
 use std::io;
 
-/// What is made, unless memory runs out.
+/// A result that is an error only if memory runs out.
 pub(crate) type Made<T> = Result<T, AllocError>;
 
 /// Why a group of rows can't be asked.

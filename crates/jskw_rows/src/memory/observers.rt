@@ -21,7 +21,7 @@ use std::alloc::Global;
 use std::io;
 
 // What is compiled, and what calls of a kind ask of it. Its type is a parameter, as in `of_compiled`.
-trait Asked<F: Json> {
+trait Observed<F: Json> {
     fn ask(&self, rt: &HostRuntime, kind: &str, instance: &F::Node) -> io::Result<()>;
 }
 
@@ -43,7 +43,7 @@ pub(super) fn compile_and_ask<F: Json>(
 }
 
 // Asks what was compiled, or says why it was not.
-fn ask_compiled<F: Json, C: Asked<F> + Drop>(
+fn ask_compiled<F: Json, C: Observed<F> + Drop>(
     rt: &HostRuntime,
     kind: &str,
     made: CompilationResult<'_, C>,
@@ -59,7 +59,7 @@ fn ask_compiled<F: Json, C: Asked<F> + Drop>(
     }
 }
 
-impl<F: Json> Asked<F> for SchemaNode<F> {
+impl<F: Json> Observed<F> for SchemaNode<F> {
     fn ask(&self, rt: &HostRuntime, kind: &str, instance: &F::Node) -> io::Result<()> {
         told(rt, false)?;
         // One of the schemas of `below` is `false`, whose compile takes no memory.
@@ -79,7 +79,7 @@ impl<F: Json> Asked<F> for SchemaNode<F> {
     }
 }
 
-impl<F: Json, V: Validate<F> + Drop> Asked<F> for Vec<Leaf<V>> {
+impl<F: Json, V: Validate<F> + Drop> Observed<F> for Vec<Leaf<V>> {
     fn ask(&self, rt: &HostRuntime, _kind: &str, instance: &F::Node) -> io::Result<()> {
         for leaf in self {
             print_leaf(rt, leaf, instance)?;
