@@ -69,14 +69,15 @@ fn shape_text(
 // Returns whether an item is of a type, by the test and by the validators of the type and of items.
 pub(super) fn item<'v>(alloc: Global, call: Call<'v>) -> Answer<'v> {
     let item = call.tree(alloc, 1)?;
-    Ok(match call.text(0)? {
-        "number" => item_text::<NumberItems>(alloc, item)?,
-        "string" => item_text::<StringItems>(alloc, item)?,
-        "boolean" => item_text::<BooleanItems>(alloc, item)?,
-        "integer" => item_text::<IntegerItems>(alloc, item)?,
-        "integer of Draft 4" => item_text::<IntegerItemsDraft4>(alloc, item)?,
+    let text = match call.text(0)? {
+        "number" => item_text::<NumberItems>(alloc, item),
+        "string" => item_text::<StringItems>(alloc, item),
+        "boolean" => item_text::<BooleanItems>(alloc, item),
+        "integer" => item_text::<IntegerItems>(alloc, item),
+        "integer of Draft 4" => item_text::<IntegerItemsDraft4>(alloc, item),
         _ => return Err(Stop::Wrong("no type", call.name)),
-    })
+    };
+    Ok(text?)
 }
 
 fn item_text<T: ItemType>(alloc: Global, item: DecimalTree) -> Made<String> {

@@ -90,18 +90,19 @@ pub(super) fn bound<'v>(alloc: Global, call: Call<'v>) -> Answer<'v> {
 pub(super) fn made<'v>(alloc: Global, call: Call<'v>) -> Answer<'v> {
     let item = call.tree(alloc, 1)?;
     let at = Location::new(alloc).join(alloc, LocationSegment::Name("a"))?;
-    Ok(match call.text(0)? {
-        "false" => said_by(alloc, FalseValidator::new(at), &item)?,
-        "array" => said_by(alloc, ArrayTypeValidator::new(at), &item)?,
-        "boolean" => said_by(alloc, BooleanTypeValidator::new(at), &item)?,
-        "integer" => said_by(alloc, IntegerTypeValidator::new(at), &item)?,
-        "integer of Draft 4" => said_by(alloc, type_draft_4::IntegerTypeValidator::new(at), &item)?,
-        "null" => said_by(alloc, NullTypeValidator::new(at), &item)?,
-        "number" => said_by(alloc, NumberTypeValidator::new(at), &item)?,
-        "object" => said_by(alloc, ObjectTypeValidator::new(at), &item)?,
-        "string" => said_by(alloc, StringTypeValidator::new(at), &item)?,
+    let said = match call.text(0)? {
+        "false" => said_by(alloc, FalseValidator::new(at), &item),
+        "array" => said_by(alloc, ArrayTypeValidator::new(at), &item),
+        "boolean" => said_by(alloc, BooleanTypeValidator::new(at), &item),
+        "integer" => said_by(alloc, IntegerTypeValidator::new(at), &item),
+        "integer of Draft 4" => said_by(alloc, type_draft_4::IntegerTypeValidator::new(at), &item),
+        "null" => said_by(alloc, NullTypeValidator::new(at), &item),
+        "number" => said_by(alloc, NumberTypeValidator::new(at), &item),
+        "object" => said_by(alloc, ObjectTypeValidator::new(at), &item),
+        "string" => said_by(alloc, StringTypeValidator::new(at), &item),
         _ => return Err(Stop::Wrong("no validator", call.name)),
-    })
+    };
+    Ok(said?)
 }
 
 fn said_by<V: Validate<DecimalJson> + Drop>(
