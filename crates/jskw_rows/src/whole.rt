@@ -67,14 +67,26 @@ fn push_answers<F: Json>(
     requires { IsTrue (is_lawful (F.Node.tree instance.now)) }
 {
     let mut counts = Counts::new();
-    let said = observe(alloc, &mut counts, node, instance)?;
-    lines.push_str(said.lines(row.claims)?.as_str())?;
+    lines.push_str(said(alloc, &mut counts, row, node, instance)?.as_str())?;
     if let Some(most) = row.most {
         counts.push_lines(lines, 1, most)?;
-        let _ = observe(alloc, &mut counts, node, instance)?;
+        let _ = said(alloc, &mut counts, row, node, instance)?;
         counts.push_lines(lines, 2, most)?;
     }
     Ok(())
+}
+
+// The lines of what a schema says of an instance.
+fn said<F: Json>(
+    alloc: Global,
+    counts: &mut Counts,
+    row: &Row<'_>,
+    node: &SchemaNode<F>,
+    instance: &F::Node,
+) -> Made<String>
+    requires { IsTrue (is_lawful (F.Node.tree instance.now)) }
+{
+    observe(alloc, counts, node, instance)?.lines(row.claims)
 }
 
 // What each observer counted: the subschemas that it applied.
