@@ -205,6 +205,7 @@ def growing():
     numbers = {"minimum": 0, "maximum": 10**6, "exclusiveMinimum": -1, "exclusiveMaximum": 10**6, "multipleOf": 1}
     number, item, match = {"items": numbers}, {"items": {"type": "integer"}}, {"contains": {"const": -1}}
     latest = [
+        ("members that are no keywords, so many", THOUSANDS, lambda n: (members(n), 1)),
         ("type, so many names", THOUSANDS, lambda n: ({"type": [TYPES[i % 7] for i in range(n)]}, 1)),
         ("const, an array of integers", THOUSANDS, constant(lambda n: list(range(n)))),
         ("const, an object", THOUSANDS, constant(members)),
