@@ -49,13 +49,13 @@ fn check_call<'v>(tally: &mut Tally, description: &'v str, call: Call<'v>) -> Re
     tally.take_question(question.as_str())?;
     let mut wanted = String::from_str(alloc, call.text(call.arguments.len().saturating_sub(1))?)?;
     wanted.push('\n')?;
-    let mut found = made(alloc, call)?;
+    let mut found = answer(alloc, call)?;
     found.push('\n')?;
     Ok(tally.compare(question.as_str(), "called", wanted.as_str(), found.as_str())?)
 }
 
-// Returns what a call gives.
-fn made<'v>(alloc: Global, call: Call<'v>) -> Answer<'v> {
+// Returns the answer of a call.
+fn answer<'v>(alloc: Global, call: Call<'v>) -> Answer<'v> {
     match call.name {
         "Decimal::new" => values::made(alloc, call),
         "Decimal" => values::decimal(alloc, call),
@@ -75,12 +75,12 @@ fn made<'v>(alloc: Global, call: Call<'v>) -> Answer<'v> {
         "ValidationError::message" => reports::messages(alloc, call),
         "AllocError" => reports::wanting(alloc),
         "EvaluationResult" => reports::unit(alloc, call),
-        _ => made_of_keywords(alloc, call),
+        _ => answer_of_a_keyword(alloc, call),
     }
 }
 
-// Returns what a call of keywords, or of a device, gives.
-fn made_of_keywords<'v>(alloc: Global, call: Call<'v>) -> Answer<'v> {
+// Returns the answer of a call of keywords, of uniqueness, or over a device.
+fn answer_of_a_keyword<'v>(alloc: Global, call: Call<'v>) -> Answer<'v> {
     match call.name {
         "Limit::limit_value" => keywords::limit(alloc, call),
         "Limit::from" => keywords::made_limit(alloc, call),

@@ -74,7 +74,7 @@ fn of_errors<'v>(alloc: Global, test: &'v Members, instance: &Value) -> Result<W
         if error.members.contains_key("value") {
             return Err(Stop::Wrong("the instance has the value of", "an error"));
         }
-        let value = wanted(instance.pointer(error.at), "the value at fault")?;
+        let value = wanted(instance.pointer(error.at), "instanceLocation")?;
         let mut text = String::new(alloc);
         if test.contains_key("decimals") {
             decimals_of(alloc, value)?.write_json(&mut text)?;

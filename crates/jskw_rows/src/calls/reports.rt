@@ -190,12 +190,11 @@ fn made_unit(
     errors: Vec<ErrorDescription>,
     children: Vec<EvaluationNode>,
 ) -> EvaluationResult {
-    let annotations = None;
     let mut unit = match way {
         "invalid" => EvaluationResult::Invalid {
             errors,
             children,
-            annotations,
+            annotations: None,
         },
         "empty" => EvaluationResult::invalid_empty(alloc, errors),
         _ => EvaluationResult::from_children(alloc, children),
