@@ -131,18 +131,6 @@ module _ {F N O P : Type 0} (s : Schema) (us : Bor (List (TheUnit F N O P))) (ha
 -- ---- `false`, and any schema
 
 module _ (s : Schema) (is : s ≡ false_schema (schema_location s)) where
-  pub false_holds : (t : Tree) → holds s t ≡ false
-  false_holds t = ap (λ r. holds r t) is
-
-  pub false_needs : (t : Tree) → needed s t ≡ 1
-  false_needs t = ap (λ r. needed r t) is
-
-  pub false_pairs : (t : Tree) → pairs s t ≡ 1
-  false_pairs t = ap (λ r. pairs r t) is
-
-  pub false_fails : (t : Tree) (p : Pointer) → fail s t p ≡ fail (false_schema (schema_location s)) t p
-  false_fails t p = ap (λ r. fail r t p) is
-
   pub false_tree : (t : Tree) (p : Pointer) → tree s t p ≡ tree (false_schema (schema_location s)) t p
   false_tree t p = ap (λ r. tree r t p) is
 

@@ -105,16 +105,11 @@ impl<'s, F: Json> Context<'s, F> {
           location = segment_location self.now.location segment.entry;
         }) }
     {
-        Ok(Context {
-            settings: self.settings,
-            object_layer: self.object_layer,
-            location: self.location.join(alloc, segment)?,
-            representation: PhantomData,
-        })
+        Ok(self.at(self.location.join(alloc, segment)?))
     }
 
-    /// Returns the context of the value of `keyword`, with the same settings and object layer. The
-    /// keyword location has the name of the keyword added.
+    /// Returns the context of the value of `keyword`, with the same settings and object layer, at its
+    /// [`keyword_location`](Context::keyword_location) (JSON Schema Core 12.3.1).
     pub fn new_at_keyword(
         &self,
         alloc: Global,
@@ -125,12 +120,19 @@ impl<'s, F: Json> Context<'s, F> {
           location = keyword_location self.now.location keyword;
         }) }
     {
-        Ok(Context {
+        Ok(self.at(self.keyword_location(alloc, keyword)?))
+    }
+
+    // Returns the context at a location, with the same settings and object layer.
+    fn at(&self, location: Location) -> Context<'s, F>
+        ensures { result ≡ record { setting = self.now.setting; location = location } }
+    {
+        Context {
             settings: self.settings,
             object_layer: self.object_layer,
-            location: self.keyword_location(alloc, keyword)?,
+            location,
             representation: PhantomData,
-        })
+        }
     }
 
     /// Returns the keyword location of `keyword` in the schema that is compiled here: the location
