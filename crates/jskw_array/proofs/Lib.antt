@@ -14,3 +14,4 @@ pub mod Readings
 pub mod Taken
 pub mod Turns
 pub mod Units
+pub mod Walk

@@ -11,8 +11,7 @@ use crate::node::SchemaNode;
 use crate::prefix_items::prefix_unit;
 use crate::validator::Validator;
 use jskw_report::{
-    CompilationResult, EvaluationResult, LazyLocation, Stop, Validate, ValidationContext,
-    ValidationError,
+    CompilationResult, EvaluationResult, LazyLocation, Report, Stop, Validate, ValidationContext,
 };
 use jskw_value::{Array, Json, Node};
 use std::alloc::{AllocError, Global};
@@ -95,38 +94,17 @@ impl<F: Json> Validate<F> for Each<F> {
     }
 
     #[inline(always)]
-    #[cycle(find_error)]
-    fn find_error<'i>(
+    #[cycle(report)]
+    fn report_errors<'i>(
         &'i self,
         instance: &'i F::Node,
         location: &mut LazyLocation,
         ctx: &mut ValidationContext,
-        error: &mut Option<ValidationError<'i, F>>,
+        report: &mut Report<'i, F>,
     ) -> Result<(), Stop> {
         let count = instance.item_count().min(self.nodes.len());
         for index in self.take_items(count, instance, ctx)..count {
-            let node = &self.nodes[index];
-            let item = instance.item(index);
-            if node.accepts(item, ctx) {
-                continue;
-            }
-            node.find_error_of_item(index, item, location, ctx, error)?;
-        }
-        Ok(())
-    }
-
-    #[inline(always)]
-    #[cycle(collect_errors)]
-    fn collect_errors<'i>(
-        &'i self,
-        instance: &'i F::Node,
-        location: &mut LazyLocation,
-        ctx: &mut ValidationContext,
-        errors: &mut Vec<ValidationError<'i, F>>,
-    ) -> Result<(), AllocError> {
-        let count = instance.item_count().min(self.nodes.len());
-        for index in self.take_items(count, instance, ctx)..count {
-            self.nodes[index].collect_item(index, instance.item(index), location, ctx, errors)?;
+            self.nodes[index].report_item(index, instance.item(index), location, ctx, report)?;
         }
         Ok(())
     }

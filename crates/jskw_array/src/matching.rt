@@ -7,10 +7,10 @@ ghost use Rattle.jskw_array.specs.Words.{is_lawful, items, length, locations_of,
 ghost use Rattle.jskw_array.specs.Words.{matching_result, needed, one, result_of, sum_by};
 
 use crate::node::SchemaNode;
-use jskw_report::validator::append_first;
+use jskw_report::validator::report_error;
 use jskw_report::{
-    Annotations, ErrorDescription, EvaluationNode, EvaluationResult, LazyLocation, Location, Stop,
-    Validate, ValidationContext, ValidationError, ValidationErrorKind,
+    Annotations, ErrorDescription, EvaluationNode, EvaluationResult, LazyLocation, Location,
+    Report, Stop, Validate, ValidationContext, ValidationError, ValidationErrorKind,
 };
 use jskw_value::{Array, Json, Node};
 use std::alloc::{AllocError, Global};
@@ -130,30 +130,20 @@ impl<F: Json> Validate<F> for Matching<F> {
         self.failing_location(instance, ctx).is_none()
     }
 
-    fn find_error<'i>(
+    fn report_errors<'i>(
         &'i self,
         instance: &'i F::Node,
         location: &mut LazyLocation,
         ctx: &mut ValidationContext,
-        error: &mut Option<ValidationError<'i, F>>,
+        report: &mut Report<'i, F>,
     ) -> Result<(), Stop> {
-        let Some(schema_path) = self.failing_location(instance, ctx) else {
-            return Ok(());
-        };
-        let kind = ValidationErrorKind::Contains;
-        let instance_path = location.render()?;
-        *error = Some(ValidationError::new(kind, instance_path, schema_path, instance));
-        Err(Stop::Invalid)
-    }
-
-    fn collect_errors<'i>(
-        &'i self,
-        instance: &'i F::Node,
-        location: &mut LazyLocation,
-        ctx: &mut ValidationContext,
-        errors: &mut Vec<ValidationError<'i, F>>,
-    ) -> Result<(), AllocError> {
-        append_first(self.validate(instance, location, ctx), errors)
+        match self.failing_location(instance, ctx) {
+            Some(schema_path) => {
+                let kind = ValidationErrorKind::Contains;
+                report_error(kind, schema_path, instance, location, report)
+            }
+            None => Ok(()),
+        }
     }
 
     #[cycle(evaluate)]

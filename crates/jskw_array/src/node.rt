@@ -1,8 +1,9 @@
 //! A compiled schema: the validators of its keywords, in the order in which a schema is read.
 ghost use Rattle.std.specs.Prelude.{◌≡◌, ◌+◌, ◌-◌, ◌≤◌};
-ghost use Rattle.jskw_array.specs.Words.{[], Appends, Begins, CountsUpTo, HasUnits};
-ghost use Rattle.jskw_array.specs.Words.{Finds, IfOk, IfSome, IsFirst, IsTrue, boolean_schema};
-ghost use Rattle.jskw_array.specs.Words.{each_hands_on, fail, false_schema, hands_on_required};
+ghost use Rattle.jskw_array.specs.Words.{[], Appends, Begins, CountsUpTo, HasUnits, IfOk};
+ghost use Rattle.jskw_array.specs.Words.{IfSome, IsFirst, IsTrue, Reports, applications};
+ghost use Rattle.jskw_array.specs.Words.{boolean_schema, each_hands_on, fail, false_schema};
+ghost use Rattle.jskw_array.specs.Words.{hands_on_required, wants_all};
 ghost use Rattle.std.specs.Prelude.{if◌then◌else◌};
 ghost use Rattle.jskw_array.specs.Words.{drop, holds, is_fused_schema, is_lawful, is_some};
 ghost use Rattle.jskw_array.specs.Words.{items, length, list_all, take};
@@ -12,14 +13,14 @@ ghost use Rattle.jskw_array.specs.Words.{schemas_of, shape_keywords, tree, true}
 
 use crate::items::ArrayShapeValidator;
 use crate::unit::{
-    Unit, collect_units, evaluate_units, find_error_of_units, only_shape, quick_set_of,
-    some_unit_hands_on, units_are_valid,
+    Unit, evaluate_units, only_shape, quick_set_of, report_units, some_unit_hands_on,
+    units_are_valid,
 };
 pub use crate::validator::Validator;
 use jskw_number::QuickSet;
-use jskw_report::validator::{append_first, evaluate_first, fail_unless, first_error, store_first};
+use jskw_report::validator::{evaluate_first, report_error};
 use jskw_report::{
-    EvaluationNode, EvaluationResult, Fault, LazyLocation, Location, Stop, Validate,
+    EvaluationNode, EvaluationResult, Fault, LazyLocation, Location, Report, Stop, Validate,
     ValidationContext, ValidationError, ValidationErrorKind,
 };
 use jskw_value::Json;
@@ -302,56 +303,9 @@ impl<F: Json> SchemaNode<F> {
         ensures applied { min (ctx.old + 1) u64.MAX ≤ ctx.new }
         ensures counted { CountsUpTo ctx.old ctx.new (needed self.now (F.Node.tree instance.now)) }
     {
-        let mut error = None;
-        let found = self.find_error(instance, location, ctx, &mut error);
-        first_error(found, error)
-    }
-
-    // Stores the first error, by the keywords, or returns `Ok`.
-    #[inline(never)]
-    #[cycle(find_error)]
-    fn find_error<'i>(
-        &'i self,
-        instance: &'i F::Node,
-        location: &mut LazyLocation,
-        ctx: &mut ValidationContext,
-        error: &mut Option<ValidationError<'i, F>>,
-    ) -> Result<(), Stop>
-        requires { IsTrue (is_lawful (F.Node.tree instance.now)) }
-        ensures first { Finds F.Node.tree
-            (fail self.now (F.Node.tree instance.now) (path_of location.old)) error.new result }
-        ensures location { location.new ≡ location.old }
-        ensures applied { min (ctx.old + 1) u64.MAX ≤ ctx.new }
-        ensures counted { CountsUpTo ctx.old ctx.new (needed self.now (F.Node.tree instance.now)) }
-    {
-        let Some(units) = self.apply(ctx) else {
-            return store_refusal(self.location(), instance, location, error);
-        };
-        find_error_of_units(units, instance, location, ctx, error)
-    }
-
-    // Stores the first error, by the keywords, of the item at `index` of the instance at `location`,
-    // or returns `Ok`.
-    #[inline(always)]
-    #[cycle(find_error)]
-    pub(crate) fn find_error_of_item<'i>(
-        &'i self,
-        index: usize,
-        item: &'i F::Node,
-        location: &mut LazyLocation,
-        ctx: &mut ValidationContext,
-        error: &mut Option<ValidationError<'i, F>>,
-    ) -> Result<(), Stop>
-        requires { IsTrue (is_lawful (F.Node.tree item.now)) }
-        ensures first { Finds F.Node.tree (fail self.now (F.Node.tree item.now)
-            (item_location (path_of location.old) index)) error.new result }
-        ensures location { location.new ≡ location.old }
-        ensures counted { CountsUpTo ctx.old ctx.new (needed self.now (F.Node.tree item.now)) }
-    {
-        location.push(index)?;
-        let found = self.find_error(item, location, ctx, error);
-        location.pop();
-        found
+        let mut report = Report::First(None);
+        let reported = self.report_errors(instance, location, ctx, &mut report);
+        report.into_first(reported)
     }
 
     /// Appends all errors of the instance, which must be lawful, to `errors`, in order. `location`
@@ -380,7 +334,6 @@ impl<F: Json> SchemaNode<F> {
 
     // `collect_errors` by the keywords.
     #[inline(never)]
-    #[cycle(collect_errors)]
     fn collect_of_keywords<'i>(
         &'i self,
         instance: &'i F::Node,
@@ -395,37 +348,62 @@ impl<F: Json> SchemaNode<F> {
         ensures applied { min (ctx.old + 1) u64.MAX ≤ ctx.new }
         ensures counted { CountsUpTo ctx.old ctx.new (pairs self.now (F.Node.tree instance.now)) }
     {
-        let Some(units) = self.apply(ctx) else {
-            return append_refusal(self.location(), instance, location, errors);
-        };
-        collect_units(units, instance, location, ctx, errors)
+        let mut report = Report::behind(errors);
+        let reported = self.report_errors(instance, location, ctx, &mut report);
+        report.into_all(reported, errors)
     }
 
-    // Appends all errors of the item at `index` of the instance at `location`.
+    // Adds the errors to `report`, by the keywords, until no other is wanted.
+    #[inline(never)]
+    #[cycle(report)]
+    fn report_errors<'i>(
+        &'i self,
+        instance: &'i F::Node,
+        location: &mut LazyLocation,
+        ctx: &mut ValidationContext,
+        report: &mut Report<'i, F>,
+    ) -> Result<(), Stop>
+        requires { IsTrue (is_lawful (F.Node.tree instance.now)) }
+        ensures reported { Reports F.Node.tree report.old report.new
+            (fail self.now (F.Node.tree instance.now) (path_of location.old)) result }
+        ensures location { location.new ≡ location.old }
+        ensures applied { min (ctx.old + 1) u64.MAX ≤ ctx.new }
+        ensures counted { CountsUpTo ctx.old ctx.new
+            (applications (wants_all report.old) self.now (F.Node.tree instance.now)) }
+    {
+        let Some(units) = self.apply(ctx) else {
+            let kind = ValidationErrorKind::FalseSchema;
+            return report_error(kind, self.location(), instance, location, report);
+        };
+        report_units(units, instance, location, ctx, report)
+    }
+
+    // Adds the errors of the item at `index` of the instance at `location` to `report`, until no
+    // other is wanted.
     #[inline(always)]
-    #[cycle(collect_errors)]
-    pub(crate) fn collect_item<'i>(
+    #[cycle(report)]
+    pub(crate) fn report_item<'i>(
         &'i self,
         index: usize,
         item: &'i F::Node,
         location: &mut LazyLocation,
         ctx: &mut ValidationContext,
-        errors: &mut Vec<ValidationError<'i, F>>,
-    ) -> Result<(), AllocError>
+        report: &mut Report<'i, F>,
+    ) -> Result<(), Stop>
         requires { IsTrue (is_lawful (F.Node.tree item.now)) }
-        ensures appended { Appends F.Node.tree errors.old.items errors.new.items
-            (fail self.now (F.Node.tree item.now) (item_location (path_of location.old) index))
-            result }
+        ensures reported { Reports F.Node.tree report.old report.new (fail self.now
+            (F.Node.tree item.now) (item_location (path_of location.old) index)) result }
         ensures location { location.new ≡ location.old }
-        ensures counted { CountsUpTo ctx.old ctx.new (pairs self.now (F.Node.tree item.now)) }
+        ensures counted { CountsUpTo ctx.old ctx.new
+            (applications (wants_all report.old) self.now (F.Node.tree item.now)) }
     {
         if self.accepts(item, ctx) {
             return Ok(());
         }
         location.push(index)?;
-        let answer = self.collect_of_keywords(item, location, ctx, errors);
+        let reported = self.report_errors(item, location, ctx, report);
         location.pop();
-        answer
+        reported
     }
 
     /// Returns the evaluation tree of a whole instance, which must be lawful (JSON Schema Core
@@ -496,60 +474,21 @@ impl<F: Json> SchemaNode<F> {
     }
 }
 
-// Stores the error of the schema `false`.
-#[inline(never)]
-fn store_refusal<'i, F: Json>(
-    schema_path: &'i Location,
-    instance: &'i F::Node,
-    location: &LazyLocation,
-    error: &mut Option<ValidationError<'i, F>>,
-) -> Result<(), Stop>
-    ensures { Finds F.Node.tree (fail (false_schema schema_path.now) (F.Node.tree instance.now)
-        (path_of location.now)) error.new result }
-{
-    store_first(refuse(schema_path, instance, location), error)
-}
-
-// Returns the error of the schema `false`.
-fn refuse<'i, F: Json>(
-    schema_path: &'i Location,
-    instance: &'i F::Node,
-    location: &LazyLocation,
-) -> Result<(), Fault<'i, F>>
-    ensures { IsFirst F.Node.tree (fail (false_schema schema_path.now) (F.Node.tree instance.now)
-        (path_of location.now)) result }
-{
-    let kind = ValidationErrorKind::FalseSchema;
-    fail_unless(false, kind, schema_path, instance, location)
-}
-
-// Appends the error of the schema `false`.
-#[inline(never)]
-fn append_refusal<'i, F: Json>(
-    schema_path: &'i Location,
-    instance: &'i F::Node,
-    location: &LazyLocation,
-    errors: &mut Vec<ValidationError<'i, F>>,
-) -> Result<(), AllocError>
-    ensures { Appends F.Node.tree errors.old.items errors.new.items
-        (fail (false_schema schema_path.now) (F.Node.tree instance.now) (path_of location.now))
-        result }
-{
-    append_first(refuse(schema_path, instance, location), errors)
-}
-
 // Returns the evaluation tree of the schema `false`.
-fn evaluate_refusal<F: Json>(
+fn evaluate_refusal<'i, F: Json>(
     alloc: Global,
-    schema_path: &Location,
-    instance: &F::Node,
+    schema_path: &'i Location,
+    instance: &'i F::Node,
     location: &LazyLocation,
 ) -> Result<EvaluationNode, AllocError>
     ensures { IfOk result (λ node. node ≡ tree (false_schema schema_path.now)
         (F.Node.tree instance.now) (path_of location.now)) }
 {
     let path = location.render()?;
-    let result = evaluate_first(alloc, refuse::<F>(schema_path, instance, location))?;
+    let kind = ValidationErrorKind::FalseSchema;
+    let mut report: Report<F> = Report::First(None);
+    let reported = report_error(kind, schema_path, instance, location, &mut report);
+    let result = evaluate_first(alloc, report.into_first(reported))?;
     EvaluationNode::new(alloc, result, schema_path, &path)
 }
 

@@ -11,7 +11,7 @@ use crate::validator::Validator;
 use jskw_leaf::items::item_type::items_unit;
 use jskw_report::validator::evaluate_errors;
 use jskw_report::{
-    CompilationResult, EvaluationResult, LazyLocation, Stop, Validate, ValidationContext,
+    CompilationResult, EvaluationResult, LazyLocation, Report, Stop, Validate, ValidationContext,
     ValidationError,
 };
 use jskw_value::{Array, Json, Node};
@@ -84,39 +84,18 @@ impl<F: Json> Validate<F> for Rest<F> {
     }
 
     #[inline(always)]
-    #[cycle(find_error)]
-    fn find_error<'i>(
+    #[cycle(report)]
+    fn report_errors<'i>(
         &'i self,
         instance: &'i F::Node,
         location: &mut LazyLocation,
         ctx: &mut ValidationContext,
-        error: &mut Option<ValidationError<'i, F>>,
+        report: &mut Report<'i, F>,
     ) -> Result<(), Stop> {
         let count = instance.item_count();
         for index in self.node.take_items(self.start, count, instance, ctx)..count {
-            let item = instance.item(index);
-            if self.node.accepts(item, ctx) {
-                continue;
-            }
             self.node
-                .find_error_of_item(index, item, location, ctx, error)?;
-        }
-        Ok(())
-    }
-
-    #[inline(always)]
-    #[cycle(collect_errors)]
-    fn collect_errors<'i>(
-        &'i self,
-        instance: &'i F::Node,
-        location: &mut LazyLocation,
-        ctx: &mut ValidationContext,
-        errors: &mut Vec<ValidationError<'i, F>>,
-    ) -> Result<(), AllocError> {
-        let count = instance.item_count();
-        for index in self.node.take_items(self.start, count, instance, ctx)..count {
-            self.node
-                .collect_item(index, instance.item(index), location, ctx, errors)?;
+                .report_item(index, instance.item(index), location, ctx, report)?;
         }
         Ok(())
     }

@@ -1,19 +1,19 @@
 //! The units of a schema: its keywords in order, where the first four may be one unit, and the
 //! walks over them.
 ghost use Rattle.std.specs.Prelude.{◌≡◌, ◌++◌};
-ghost use Rattle.jskw_array.specs.Words.{Appends, CountsUpTo, Extends, IfOk, IfSome};
-ghost use Rattle.jskw_array.specs.Words.{Finds, IsShape, IsTrue, Tree, absorbed_by, all_fail};
+ghost use Rattle.jskw_array.specs.Words.{CountsUpTo, Extends, IfOk, IfSome, IsShape, IsTrue};
+ghost use Rattle.jskw_array.specs.Words.{Reports, Tree, absorbed_by, all_applications, all_fail};
 ghost use Rattle.jskw_array.specs.Words.{all_hand_on, all_hold, all_needed, all_pairs, is_in};
 ghost use Rattle.jskw_array.specs.Words.{is_lawful, is_shape, is_some, keywords_of, meaning_holds};
 ghost use Rattle.jskw_array.specs.Words.{path_of, shape_keywords, true, unit_hands_on};
-ghost use Rattle.jskw_array.specs.Words.{unit_location, unit_meaning, units as units_of};
+ghost use Rattle.jskw_array.specs.Words.{unit_location, unit_meaning, units as units_of, wants_all};
 
 use crate::items::ArrayShapeValidator;
 use crate::validator::Validator;
 use jskw_number::QuickSet;
 use jskw_report::{
-    EvaluationNode, EvaluationResult, LazyLocation, Location, Stop, Validate, ValidationContext,
-    ValidationError,
+    EvaluationNode, EvaluationResult, LazyLocation, Location, Report, Stop, Validate,
+    ValidationContext,
 };
 use jskw_value::Json;
 use std::alloc::{AllocError, Global};
@@ -49,38 +49,21 @@ impl<F: Json> Validate<F> for Unit<F> {
     }
 
     #[inline(always)]
-    #[cycle(find_error)]
-    fn find_error<'i>(
+    #[cycle(report)]
+    fn report_errors<'i>(
         &'i self,
         instance: &'i F::Node,
         location: &mut LazyLocation,
         ctx: &mut ValidationContext,
-        error: &mut Option<ValidationError<'i, F>>,
+        report: &mut Report<'i, F>,
     ) -> Result<(), Stop> {
-        match self {
-            Unit::Keyword(keyword) => {
-                keyword.validator.find_error(instance, location, ctx, error)
-            }
-            Unit::Shape(shape) => shape.find_error(instance, location, ctx, error),
-        }
-    }
-
-    #[inline(always)]
-    #[cycle(collect_errors)]
-    fn collect_errors<'i>(
-        &'i self,
-        instance: &'i F::Node,
-        location: &mut LazyLocation,
-        ctx: &mut ValidationContext,
-        errors: &mut Vec<ValidationError<'i, F>>,
-    ) -> Result<(), AllocError> {
         match self {
             Unit::Keyword(keyword) => {
                 keyword
                     .validator
-                    .collect_errors(instance, location, ctx, errors)
+                    .report_errors(instance, location, ctx, report)
             }
-            Unit::Shape(shape) => shape.collect_errors(instance, location, ctx, errors),
+            Unit::Shape(shape) => shape.report_errors(instance, location, ctx, report),
         }
     }
 
@@ -195,46 +178,24 @@ pub(crate) fn units_are_valid<F: Json>(
     true
 }
 
-// Stores the first error of the keywords, or returns `Ok`.
-#[cycle(find_error)]
-pub(crate) fn find_error_of_units<'i, F: Json>(
+// Adds the errors of the keywords to `report`, in order, until no other is wanted.
+#[cycle(report)]
+pub(crate) fn report_units<'i, F: Json>(
     units: &'i [Unit<F>],
     instance: &'i F::Node,
     location: &mut LazyLocation,
     ctx: &mut ValidationContext,
-    error: &mut Option<ValidationError<'i, F>>,
+    report: &mut Report<'i, F>,
 ) -> Result<(), Stop>
     requires { IsTrue (is_lawful (F.Node.tree instance.now)) }
-    ensures first { Finds F.Node.tree (all_fail (keywords_of units.now)
-        (F.Node.tree instance.now) (path_of location.old)) error.new result }
-    ensures location { location.new ≡ location.old }
-    ensures counted { CountsUpTo ctx.old ctx.new
-        (all_needed (keywords_of units.now) (F.Node.tree instance.now)) }
-{
-    for unit in units {
-        unit.find_error(instance, location, ctx, error)?;
-    }
-    Ok(())
-}
-
-// Appends the errors of the keywords, in order.
-#[cycle(collect_errors)]
-pub(crate) fn collect_units<'i, F: Json>(
-    units: &'i [Unit<F>],
-    instance: &'i F::Node,
-    location: &mut LazyLocation,
-    ctx: &mut ValidationContext,
-    errors: &mut Vec<ValidationError<'i, F>>,
-) -> Result<(), AllocError>
-    requires { IsTrue (is_lawful (F.Node.tree instance.now)) }
-    ensures appended { Appends F.Node.tree errors.old.items errors.new.items (all_fail
+    ensures reported { Reports F.Node.tree report.old report.new (all_fail
         (keywords_of units.now) (F.Node.tree instance.now) (path_of location.old)) result }
     ensures location { location.new ≡ location.old }
-    ensures counted { CountsUpTo ctx.old ctx.new
-        (all_pairs (keywords_of units.now) (F.Node.tree instance.now)) }
+    ensures counted { CountsUpTo ctx.old ctx.new (all_applications (wants_all report.old)
+        (keywords_of units.now) (F.Node.tree instance.now)) }
 {
     for unit in units {
-        unit.collect_errors(instance, location, ctx, errors)?;
+        unit.report_errors(instance, location, ctx, report)?;
     }
     Ok(())
 }

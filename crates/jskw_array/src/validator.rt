@@ -14,9 +14,7 @@ use crate::node::some_hands_on;
 use crate::rest::Rest;
 use jskw_leaf::LeafValidator;
 use jskw_number::QuickSet;
-use jskw_report::{
-    EvaluationResult, LazyLocation, Stop, Validate, ValidationContext, ValidationError,
-};
+use jskw_report::{EvaluationResult, LazyLocation, Report, Stop, Validate, ValidationContext};
 use jskw_value::Json;
 use std::alloc::{AllocError, Global};
 
@@ -71,27 +69,15 @@ impl<F: Json> Validate<F> for Validator<F> {
     }
 
     #[inline(always)]
-    #[cycle(find_error)]
-    fn find_error<'i>(
+    #[cycle(report)]
+    fn report_errors<'i>(
         &'i self,
         instance: &'i F::Node,
         location: &mut LazyLocation,
         ctx: &mut ValidationContext,
-        error: &mut Option<ValidationError<'i, F>>,
+        report: &mut Report<'i, F>,
     ) -> Result<(), Stop> {
-        dispatch!(self, v => v.find_error(instance, location, ctx, error))
-    }
-
-    #[inline(always)]
-    #[cycle(collect_errors)]
-    fn collect_errors<'i>(
-        &'i self,
-        instance: &'i F::Node,
-        location: &mut LazyLocation,
-        ctx: &mut ValidationContext,
-        errors: &mut Vec<ValidationError<'i, F>>,
-    ) -> Result<(), AllocError> {
-        dispatch!(self, v => v.collect_errors(instance, location, ctx, errors))
+        dispatch!(self, v => v.report_errors(instance, location, ctx, report))
     }
 
     #[cycle(evaluate)]

@@ -1,9 +1,5 @@
 -- What the schema of a bare type check says: what its assertion says.
-use Rattle.std.proofs.Common.{◌≡◌, zero, List, [], ◌∷◌, ◌++◌, get_or, Option, Some, None, Result, Ok, Err, true, false, ◌&&◌, refl, sym, subst, ap, ◌∙◌, append-nil, map}
-use Rattle.jskw_report.specs.declared.error.Stop.{Stop}
-use Rattle.jskw_report.specs.declared.error.Stop.TheVariants.{Invalid, Memory}
-use Rattle.jskw_report.specs.declared.error.ValidationError.{ValidationError}
-use Rattle.jskw_report.specs.Observe.{Finds}
+use Rattle.std.proofs.Common.{◌≡◌, List, [], ◌∷◌, true, false, ◌&&◌, refl, ap, ◌∙◌, append-nil, map}
 use Rattle.jskw_report.specs.Keyword.{Integers, type_is}
 use Rattle.jskw_value.specs.declared.types.JsonType.{JsonType}
 use Rattle.jskw_report.specs.Meaning.{Placed, placed}
@@ -13,7 +9,7 @@ use Rattle.jskw_value.specs.Tree.{Tree}
 use Rattle.jskw_report.specs.Kind.{WrongType}
 use Rattle.jskw_report.specs.Holds.{assertion_holds, holds}
 use Rattle.jskw_leaf.specs.Items.{bare_schema}
-use Rattle.jskw_report.specs.Fail.{Failure, fail, keyword_fail, unless}
+use Rattle.jskw_report.specs.Fail.{fail, keyword_fail, unless}
 use Rattle.std.specs.List.{list_all}
 use Rattle.jskw_leaf.specs.Meaning.{type_at}
 
@@ -37,20 +33,3 @@ pub type_fails_not : (j : JsonType) (rule : Integers) (q r : Pointer) (t : Tree)
     → assertion_holds (type_is (Single j) rule) t ≡ true → fail (bare_schema q (type_at j rule r)) t p ≡ []
 type_fails_not j rule q r t p h = bare_fail q (type_at j rule r) t p
     ∙ ap (λ b. map (λ k. record { kind = k; instance_location = p; keyword_location = r; tree = t }) (unless b (WrongType (Single j)))) h
-
--- of what is not of the type it fails once, whatever fails behind it
-pub type_fails_first : {F N O P : Type 0} (tree : N → Tree) (j : JsonType) (rule : Integers) (q r : Pointer) (t : Tree) (p : Pointer) (rest : List Failure)
-    (found : Option (ValidationError F N O P)) (answer : Result Unit Stop)
-    → assertion_holds (type_is (Single j) rule) t ≡ false → Finds tree (keyword_fail (placed (type_at j rule r)) t p) found answer
-    → Finds tree (fail (bare_schema q (type_at j rule r)) t p ++ rest) found answer
-type_fails_first {F} {N} {O} {P} tree j rule q r t p rest found answer fails first =
-    let x : Failure = record { kind = WrongType (Single j); instance_location = p; keyword_location = r; tree = t } in
-    let one : keyword_fail (placed (type_at j rule r)) t p ≡ x ∷ [] = ap (λ b. map (λ k. record { kind = k; instance_location = p; keyword_location = r; tree = t }) (unless b (WrongType (Single j)))) fails in
-    let all : fail (bare_schema q (type_at j rule r)) t p ++ rest ≡ x ∷ rest = ap (λ fs. fs ++ rest) (bare_fail q (type_at j rule r) t p ∙ one) in
-    subst (λ fs. Finds tree fs found answer) (sym all) (go x found answer (subst (λ fs. Finds tree fs found answer) one first))
-  where
-    go : (x : Failure) (o : Option (ValidationError F N O P)) (a : Result Unit Stop) → Finds tree (x ∷ []) o a → Finds tree (x ∷ rest) o a
-    go x o (Ok u) is = cc
-    go x (Some e) (Err Invalid) (more, is) = (rest, ap (λ fs. get_or fs zero x ∷ rest) is)
-    go x None (Err Invalid) is = absurd is
-    go x o (Err (Memory m)) is = tt

@@ -1,5 +1,5 @@
 -- What a walk over items has left at an item, and what it may pass over.
-use Rattle.std.proofs.Common.{◌≡◌, ℕ, suc, ◌+◌, ◌<◌, List, [], ◌∷◌, ◌++◌, length, get_or, drop, nat_eq, Bool, true, false, ◌&&◌, if◌then◌else◌, refl, ap, subst, sym, ◌∙◌, arith}
+use Rattle.std.proofs.Common.{◌≡◌, ℕ, suc, ◌+◌, ◌<◌, List, [], ◌∷◌, ◌++◌, length, get_or, drop, nat_eq, Bool, true, false, Result, Ok, Err, IsErrAnd, ◌&&◌, if◌then◌else◌, refl, ap, subst, sym, ◌∙◌, arith}
 use Rattle.std.proofs.lemmas.List.{drop-drop}
 use Rattle.std.specs.List.{list_all}
 use Rattle.jskw_value.specs.Pointer.{Pointer, item_location}
@@ -9,12 +9,14 @@ use Rattle.jskw_report.specs.Fail.{Failure, each_item, fail, keyword_fail}
 use Rattle.jskw_report.specs.Holds.{assertion_holds}
 use Rattle.jskw_report.specs.Keyword.{Integers, type_is}
 use Rattle.jskw_report.specs.Meaning.{placed}
-use Rattle.jskw_report.specs.Observe.{AppendsBeginning, Collects}
+use Rattle.jskw_report.specs.Observe.{Reports}
 use Rattle.jskw_report.specs.Paths.{path_of}
+use Rattle.jskw_report.specs.declared.error.Stop.{Stop}
 use Rattle.jskw_report.specs.declared.error.TypeKind.TheVariants.{Single}
-use Rattle.jskw_report.proofs.Appending.{collects_more, collects_nothing, collects_part}
+use Rattle.jskw_report.specs.declared.report.Report.{Report}
 use Rattle.jskw_report.proofs.Gathering.{drop_here}
 use Rattle.jskw_report.proofs.Pointers.{path_of_push}
+use Rattle.jskw_report.proofs.Reporting.{Reported, reported_more, reported_nothing, reported_stopped}
 use Rattle.jskw_number.specs.QuickSet.{leading}
 use Rattle.jskw_leaf.specs.Items.{bare_schema}
 use Rattle.jskw_leaf.specs.Meaning.{type_at}
@@ -45,20 +47,6 @@ module _ {A : Type 0} (check : A → Bool) where
           → nat_eq (if b then suc (leading check xs) else 0) (suc (length xs)) ≡ (b && list_all check xs)
       go true rest = same_behind (leading check xs) (length xs) ∙ rest
       go false rest = grind arith
-
-  -- the element behind them fails
-  fails_behind : (xs : List A) (x : A) → leading check xs < length xs → x ≡ get_or xs (leading check xs) x → check x ≡ false
-  fails_behind [] x within is = absurd (omega arith)
-  fails_behind (y ∷ ys) x within is = go (check y) refl (fails_behind ys x) within is
-    where
-      go : (b : Bool) → check y ≡ b → (leading check ys < length ys → x ≡ get_or ys (leading check ys) x → check x ≡ false)
-          → (if b then suc (leading check ys) else 0) < suc (length ys)
-          → x ≡ get_or (y ∷ ys) (if b then suc (leading check ys) else 0) x → check x ≡ false
-      go true e rest within is = rest (omega arith) is
-      go false e rest within is = ap check is ∙ e
-
-  pub leading_fails : (xs : List A) (i : ℕ) (x : A) → i ≡ leading check xs → i < length xs → x ≡ get_or xs i x → check x ≡ false
-  leading_fails xs i x behind within is = fails_behind xs x (subst (λ k. k < length xs) behind within) (is ∙ ap (λ k. get_or xs k x) behind)
 
 -- a walk passes over them, where nothing that passes the check fails
 module _ (check : Tree → Bool) (f : Tree → Pointer → List Failure) (p : Pointer) (quiet : (t : Tree) (q : Pointer) → check t ≡ true → f t q ≡ []) where
@@ -97,20 +85,24 @@ module _ (j : JsonType) (rule : Integers) (q r : Pointer) (ts : List Tree) (p : 
   type_at_item i t place within is at = fails_at ts i t within is (fail (bare_schema q (type_at j rule r))) p
       ∙ ap (λ fs. fs ++ fails_from (i + 1)) (bare_fail q (type_at j rule r) t (item_location p i) ∙ ap (fails_of t) (sym at))
 
-  -- before the first item that is not of the type
-  pub type_begins : (old : List Failure) (n : ℕ) → n ≡ 0 + leading (assertion_holds (type_is (Single j) rule)) (drop 0 ts) → Collects old old (fails_from n) (fails_from 0)
-  type_begins old n is = subst (λ fs. Collects old old fs (fails_from 0)) (of_type_passed 0 n is) (collects_nothing old (fails_from 0))
+  module _ {F N O P : Type 0} (tree : N → Tree) where
+    -- before the first item that is not of the type
+    pub type_begins : (old : Report F N O P) (n : ℕ) → n ≡ 0 + leading (assertion_holds (type_is (Single j) rule)) (drop 0 ts) → Reported tree old old (fails_from n) (fails_from 0)
+    type_begins old n is = subst (λ fs. Reported tree old old fs (fails_from 0)) (of_type_passed 0 n is) (reported_nothing tree old (fails_from 0))
 
-  -- the errors of an item are appended, and it goes on to the next that is not of the type
-  pub type_appended : (old now new : List Failure) (i n : ℕ) (t : Tree) (place : Pointer) → i < length ts → t ≡ get_or ts i t → place ≡ item_location p i
-      → n ≡ i + 1 + leading (assertion_holds (type_is (Single j) rule)) (drop (i + 1) ts)
-      → Collects old now (fails_from i) (fails_from 0) → new ≡ now ++ fails_of t place → Collects old new (fails_from n) (fails_from 0)
-  type_appended old now new i n t place within is at next c e =
-      let left = subst (λ fs. Collects old now fs (fails_from 0)) (type_at_item i t place within is at) c in
-      subst (λ fs. Collects old new fs (fails_from 0)) (of_type_passed (i + 1) n next) (collects_more (fails_of t place) (fails_from (i + 1)) left e)
+    left_at_item : {old now : Report F N O P} (i : ℕ) (t : Tree) (place : Pointer) → i < length ts → t ≡ get_or ts i t → place ≡ item_location p i
+        → Reported tree old now (fails_from i) (fails_from 0) → Reported tree old now (fails_of t place ++ fails_from (i + 1)) (fails_from 0)
+    left_at_item {old} {now} i t place within is at left = subst (λ fs. Reported tree old now fs (fails_from 0)) (type_at_item i t place within is at) left
 
-  -- a beginning of them is appended
-  pub type_begun : (old now new : List Failure) (i : ℕ) (t : Tree) (place : Pointer) → i < length ts → t ≡ get_or ts i t → place ≡ item_location p i
-      → Collects old now (fails_from i) (fails_from 0) → AppendsBeginning now new (fails_of t place) → AppendsBeginning old new (fails_from 0)
-  type_begun old now new i t place within is at c b =
-      collects_part (fails_of t place) (fails_from (i + 1)) (subst (λ fs. Collects old now fs (fails_from 0)) (type_at_item i t place within is at) c) b
+    -- the errors of an item are reported, and it goes on to the next that is not of the type
+    pub type_reported : {old now new : Report F N O P} (i n : ℕ) (t : Tree) (place : Pointer) → i < length ts → t ≡ get_or ts i t → place ≡ item_location p i
+        → n ≡ i + 1 + leading (assertion_holds (type_is (Single j) rule)) (drop (i + 1) ts)
+        → Reported tree old now (fails_from i) (fails_from 0) → Reports tree now new (fails_of t place) (Ok tt) → Reported tree old new (fails_from n) (fails_from 0)
+    type_reported {old} {new = new} i n t place within is at next left item =
+        subst (λ fs. Reported tree old new fs (fails_from 0)) (of_type_passed (i + 1) n next) (reported_more tree (fails_of t place) (fails_from (i + 1)) (left_at_item i t place within is at left) item)
+
+    -- the walk is stopped at an item
+    pub type_stopped : {old now new : Report F N O P} (i : ℕ) (t : Tree) (place : Pointer) (r : Result Unit Stop) (x : Stop) → i < length ts → t ≡ get_or ts i t → place ≡ item_location p i
+        → Reported tree old now (fails_from i) (fails_from 0) → IsErrAnd r (λ y. y ≡ x) → Reports tree now new (fails_of t place) (Err x) → Reports tree old new (fails_from 0) r
+    type_stopped i t place r x within is at left gives item =
+        reported_stopped tree (fails_of t place) (fails_from (i + 1)) r x (left_at_item i t place within is at left) gives item

@@ -13,9 +13,7 @@ use crate::required::{Required3Validator, RequiredValidator};
 use crate::type_::TypeValidator;
 use crate::unique_items::UniqueItemsValidator;
 use jskw_number::{NumberValidator, QuickSet};
-use jskw_report::{
-    EvaluationResult, LazyLocation, Stop, Validate, ValidationContext, ValidationError,
-};
+use jskw_report::{EvaluationResult, LazyLocation, Report, Stop, Validate, ValidationContext};
 use jskw_value::{Json, NotNullable, Nullable};
 use std::alloc::{AllocError, Global};
 
@@ -102,25 +100,14 @@ impl<F: Json> Validate<F> for LeafValidator<F> {
     }
 
     #[inline(always)]
-    fn find_error<'i>(
+    fn report_errors<'i>(
         &'i self,
         instance: &'i F::Node,
         location: &mut LazyLocation,
         ctx: &mut ValidationContext,
-        error: &mut Option<ValidationError<'i, F>>,
+        report: &mut Report<'i, F>,
     ) -> Result<(), Stop> {
-        whichever!(self, validator => validator.find_error(instance, location, ctx, error))
-    }
-
-    #[inline(always)]
-    fn collect_errors<'i>(
-        &'i self,
-        instance: &'i F::Node,
-        location: &mut LazyLocation,
-        ctx: &mut ValidationContext,
-        errors: &mut Vec<ValidationError<'i, F>>,
-    ) -> Result<(), AllocError> {
-        whichever!(self, validator => validator.collect_errors(instance, location, ctx, errors))
+        whichever!(self, validator => validator.report_errors(instance, location, ctx, report))
     }
 
     fn evaluate(

@@ -12,13 +12,13 @@ mod prepared;
 
 pub use beside::is_handed_on;
 use found::has_all;
-use jskw_report::validator::{evaluate_errors, store_first};
+use jskw_report::validator::evaluate_errors;
 use jskw_report::{
-    EvaluationResult, LazyLocation, Location, Stop, Validate, ValidationContext, ValidationError,
+    EvaluationResult, LazyLocation, Location, Report, Stop, Validate, ValidationContext,
 };
 use jskw_value::{Json, Node};
 pub use make::{compile, compile_with_path};
-use missing::{append_missing, fail_first};
+use missing::report_missing;
 use names::{FewNames, NameList, Names};
 use std::alloc::{AllocError, Global};
 use std::marker::PhantomData;
@@ -66,31 +66,17 @@ impl<F: Json, L: Names<F>> Validate<F> for RequiredNames<F, L> {
         !instance.is_object() || has_all(&self.names, instance)
     }
 
-    fn find_error<'i>(
+    fn report_errors<'i>(
         &'i self,
         instance: &'i F::Node,
         location: &mut LazyLocation,
         ctx: &mut ValidationContext,
-        error: &mut Option<ValidationError<'i, F>>,
+        report: &mut Report<'i, F>,
     ) -> Result<(), Stop> {
         if Validate::<F>::is_valid(self, instance, ctx) {
             return Ok(());
         }
-        let answer = fail_first(&self.names, &self.location, instance, location);
-        store_first(answer, error)
-    }
-
-    fn collect_errors<'i>(
-        &'i self,
-        instance: &'i F::Node,
-        location: &mut LazyLocation,
-        ctx: &mut ValidationContext,
-        errors: &mut Vec<ValidationError<'i, F>>,
-    ) -> Result<(), AllocError> {
-        if Validate::<F>::is_valid(self, instance, ctx) {
-            return Ok(());
-        }
-        append_missing(&self.names, &self.location, instance, location, errors)
+        report_missing(&self.names, &self.location, instance, location, report)
     }
 
     fn evaluate(

@@ -1,5 +1,4 @@
 pub mod Appended
-pub mod Appending
 pub mod Asserted
 pub mod Below
 pub mod Counts
@@ -14,6 +13,7 @@ pub mod OneOption
 pub mod Pointers
 pub mod Quiet
 pub mod Reading
+pub mod Reporting
 pub mod Same
 pub mod SmallerNodes
 pub mod TypeReading

@@ -68,6 +68,23 @@ abbrev mutual
   each_needed (schema s ss) [] = 0
   each_needed (schema s ss) (t ∷ ts) = needed s t + (if holds s t then each_needed ss ts else 0)
 
+-- ---- either of them
+
+-- the pairs of the schema and the tree: all, or those up to the first failure
+abbrev pub applications : Bool → Schema → Tree → ℕ
+applications true s t = pairs s t
+applications false s t = needed s t
+
+-- the pairs that the keyword makes meet
+abbrev pub keyword_applications : Bool → Keyword → Tree → ℕ
+keyword_applications true k t = keyword_pairs k t
+keyword_applications false k t = keyword_needed k t
+
+-- the pairs that the keywords make meet
+abbrev pub all_applications : Bool → Keywords → Tree → ℕ
+all_applications true ks t = all_pairs ks t
+all_applications false ks t = all_needed ks t
+
 -- ---- depth
 
 abbrev mutual

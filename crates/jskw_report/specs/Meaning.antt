@@ -51,3 +51,8 @@ meaning_pairs (shape ks k) t = all_pairs ks t
 abbrev pub meaning_needed : Meaning → Tree → ℕ
 meaning_needed (one k) t = keyword_needed k t
 meaning_needed (shape ks k) t = all_needed ks t
+
+-- how many of them: all, or up to its first failure
+abbrev pub meaning_applications : Bool → Meaning → Tree → ℕ
+meaning_applications true m t = meaning_pairs m t
+meaning_applications false m t = meaning_needed m t

@@ -1,5 +1,5 @@
 -- What an observer owes to the failures of its keyword, and to the count of applications.
-use Rattle.std.specs.Prelude.{◌≡◌, ◌≤◌, ◌+◌, ℕ, List, [], ◌∷◌, ◌++◌, map, Bool, Option, Some, None, Result, Ok, Err, ⊤}
+use Rattle.std.specs.Prelude.{◌≡◌, ◌≤◌, ◌+◌, ℕ, List, [], ◌∷◌, ◌++◌, map, Bool, true, false, Option, Some, None, Result, Ok, Err, ⊤}
 use Rattle.jskw_value.specs.Pointer.{Pointer}
 use Rattle.jskw_value.specs.Tree.{Tree}
 use Rattle.jskw_report.specs.Kind.{ErrorKind}
@@ -10,6 +10,8 @@ use Rattle.jskw_report.specs.declared.error.Fault.TheVariants as fault
 use Rattle.jskw_report.specs.declared.error.Stop.{Stop}
 use Rattle.jskw_report.specs.declared.error.Stop.TheVariants.{Invalid, Memory}
 use Rattle.jskw_report.specs.declared.error.ValidationError.{ValidationError}
+use Rattle.jskw_report.specs.declared.report.Report.{Report}
+use Rattle.jskw_report.specs.declared.report.Report.TheVariants.{First, All}
 
 -- F, N, O and P are the types of a representation, whose nodes N stand for trees
 
@@ -18,13 +20,6 @@ abbrev pub IsFirst : {F N O P : Type 0} → (N → Tree) → List Failure → Re
 IsFirst tree fs (Ok u) = fs ≡ []
 IsFirst tree fs (Err (fault.Invalid e)) = (rest : List Failure) × (fs ≡ failure_of tree e ∷ rest)
 IsFirst tree fs (Err (fault.Memory e)) = ⊤
-
--- the same of a result that leaves the first failure in `found`
-abbrev pub Finds : {F N O P : Type 0} → (N → Tree) → List Failure → Option (ValidationError F N O P) → Result Unit Stop → Type 0
-Finds tree fs found (Ok u) = fs ≡ []
-Finds tree fs (Some e) (Err Invalid) = (rest : List Failure) × (fs ≡ failure_of tree e ∷ rest)
-Finds tree fs None (Err Invalid) = ⊥
-Finds tree fs found (Err (Memory e)) = ⊤
 
 -- from `old` the list came to `now`, and `rest` of `all` is still to come
 pub record Collects (old now rest all : List Failure) : Type 0 where
@@ -37,10 +32,46 @@ pub record AppendsBeginning (old new all : List Failure) : Type 0 where
   pub rest : List Failure
   pub collects : Collects old new rest all
 
+-- `new` is `old` followed by all, or, where memory was wanting, by a beginning of all
+abbrev pub AppendsFailures : {E : Type 0} → List Failure → List Failure → List Failure → Result Unit E → Type 0
+AppendsFailures old new all (Ok u) = new ≡ old ++ all
+AppendsFailures old new all (Err e) = AppendsBeginning old new all
+
 -- the errors are the old ones followed by all these failures, or, where memory was wanting, by a beginning of them
 abbrev pub Appends : {F N O P E : Type 0} → (N → Tree) → List (ValidationError F N O P) → List (ValidationError F N O P) → List Failure → Result Unit E → Type 0
-Appends tree old new fs (Ok u) = failures_of tree new ≡ failures_of tree old ++ fs
-Appends tree old new fs (Err e) = AppendsBeginning (failures_of tree old) (failures_of tree new) fs
+Appends tree old new fs r = AppendsFailures (failures_of tree old) (failures_of tree new) fs r
+
+-- whether a report takes all errors; otherwise it takes the first alone
+abbrev pub wants_all : {F N O P : Type 0} → Report F N O P → Bool
+wants_all (First e) = false
+wants_all (All es) = true
+
+-- what the errors of a report say
+abbrev pub found : {F N O P : Type 0} → (N → Tree) → Report F N O P → List Failure
+found tree (First None) = []
+found tree (First (Some e)) = failure_of tree e ∷ []
+found tree (All es) = failures_of tree es.items
+
+-- `new` is the first of all, alone
+pub record IsFirstOf (new all : List Failure) : Type 0 where
+  pub first : Failure
+  pub rest : List Failure
+  pub is_new : new ≡ first ∷ []
+  pub is_all : all ≡ first ∷ rest
+
+-- all failures are behind the old ones, or, where the first alone is wanted, that is there
+abbrev pub Leaves : Bool → List Failure → List Failure → List Failure → Result Unit Stop → Type 0
+Leaves true old new fs (Ok u) = new ≡ old ++ fs
+Leaves true old new fs (Err Invalid) = ⊥
+Leaves true old new fs (Err (Memory e)) = AppendsBeginning old new fs
+Leaves false old new fs (Ok u) = fs ≡ []
+Leaves false old new fs (Err Invalid) = IsFirstOf new fs
+Leaves false old new fs (Err (Memory e)) = ⊤
+
+-- the failures were reported, as far as they are wanted
+pub record Reports {F N O P : Type 0} (tree : N → Tree) (old new : Report F N O P) (fs : List Failure) (r : Result Unit Stop) : Type 0 where
+  pub same : wants_all new ≡ wants_all old
+  pub leaves : Leaves (wants_all old) (found tree old) (found tree new) fs r
 
 -- the count went from `old` to `new`, up by no more than the bound
 pub record CountsUpTo (old new bound : ℕ) : Type 0 where

@@ -1,22 +1,21 @@
 //! The trait of validators that give at most one error: those of the keywords without subschemas
 //! (JSON Schema Core 7.6) other than `required`, of the schema `false`, and of `additionalItems`
 //! with `false`.
-ghost use Rattle.std.specs.Prelude.{◌≡◌, IsTrue, false};
+ghost use Rattle.std.specs.Prelude.{◌≡◌, IsOk, IsTrue, false};
 ghost use Rattle.jskw_value.specs.Tree.{Tree, is_lawful};
 ghost use Rattle.jskw_report.specs.Errors.{kind_of};
-ghost use Rattle.jskw_report.specs.Fail.{error_kinds, unless};
-ghost use Rattle.jskw_report.specs.Holds.{assertion_holds};
+ghost use Rattle.jskw_report.specs.Fail.{error_kinds, keyword_fail, unless};
+ghost use Rattle.jskw_report.specs.Holds.{assertion_holds, keyword_holds};
 ghost use Rattle.jskw_report.specs.Kind.{ErrorKind};
 ghost use Rattle.jskw_report.specs.Meaning.{Placed, placed, one};
-ghost use Rattle.jskw_report.specs.Observe.{Appends, Finds, IsFirst, failures_unless};
+ghost use Rattle.jskw_report.specs.Observe.{Reports, failures_unless};
 ghost use Rattle.jskw_report.specs.Paths.{path_of};
 
-use crate::error::{Fault, Stop, ValidationError, ValidationErrorKind};
+use crate::error::{Stop, ValidationErrorKind};
 use crate::evaluation::EvaluationResult;
 use crate::paths::{LazyLocation, Location};
-use crate::validator::{
-    Validate, ValidationContext, append_first, evaluate_first, fail_unless, store_first,
-};
+use crate::report::Report;
+use crate::validator::{Validate, ValidationContext, evaluate_first, report_error};
 use jskw_value::Json;
 use std::alloc::{AllocError, Global};
 
@@ -57,30 +56,26 @@ impl<F: Json, A: Assertion> Validate<F> for A {
         self.holds::<F>(instance)
     }
 
-    fn find_error<'i>(
+    fn report_errors<'i>(
         &'i self,
         instance: &'i F::Node,
         location: &mut LazyLocation,
         _ctx: &mut ValidationContext,
-        error: &mut Option<ValidationError<'i, F>>,
+        report: &mut Report<'i, F>,
     ) -> Result<(), Stop> {
-        if self.holds::<F>(instance) {
-            return Ok(());
-        }
-        store_refusal(self, instance, location, error)
+        report_assertion(self, instance, location, report)
     }
 
     fn collect_errors<'i>(
         &'i self,
         instance: &'i F::Node,
         location: &mut LazyLocation,
-        _ctx: &mut ValidationContext,
-        errors: &mut Vec<ValidationError<'i, F>>,
+        ctx: &mut ValidationContext,
+        errors: &mut Vec<crate::error::ValidationError<'i, F>>,
     ) -> Result<(), AllocError> {
-        if self.holds::<F>(instance) {
-            return Ok(());
-        }
-        append_refusal(self, instance, location, errors)
+        let mut report = Report::behind(errors);
+        let reported = Validate::<F>::report_errors(self, instance, location, ctx, &mut report);
+        report.into_all(reported, errors)
     }
 
     fn evaluate(
@@ -97,47 +92,40 @@ impl<F: Json, A: Assertion> Validate<F> for A {
     }
 }
 
-// Stores the error of an assertion that does not hold of the instance. A function of its own, so
-// that the frame of an error is not cleared where the assertion holds.
-#[inline(never)]
-fn store_refusal<'i, F: Json, A: Assertion>(
+/// Adds the error of an assertion to `report`, unless it holds of the instance, which must be
+/// lawful. Allocates nothing if it holds.
+#[inline(always)]
+pub fn report_assertion<'i, F: Json, A: Assertion>(
     assertion: &'i A,
     instance: &'i F::Node,
     location: &LazyLocation,
-    error: &mut Option<ValidationError<'i, F>>,
+    report: &mut Report<'i, F>,
 ) -> Result<(), Stop>
-    ensures { let a = A.asserts assertion.now in Finds F.Node.tree (failures_unless false
-        (A.error assertion.now) a.location (F.Node.tree instance.now) (path_of location.now))
-        error.new result }
+    requires { IsTrue (is_lawful (F.Node.tree instance.now)) }
+    ensures quiet { IsTrue (keyword_holds (placed (A.asserts assertion.now))
+        (F.Node.tree instance.now)) → IsOk result }
+    ensures reported { Reports F.Node.tree report.old report.new (keyword_fail
+        (placed (A.asserts assertion.now)) (F.Node.tree instance.now) (path_of location.now)) result }
 {
-    store_first(refuse(assertion, instance, location), error)
+    if assertion.holds::<F>(instance) {
+        return Ok(());
+    }
+    report_failure(assertion, instance, location, report)
 }
 
-// Returns the error of an assertion that does not hold of the instance.
-fn refuse<'i, F: Json, A: Assertion>(
+// Adds the error of an assertion to `report`. A function of its own, so that the frame of an error
+// is not cleared where the assertion holds.
+#[inline(never)]
+fn report_failure<'i, F: Json, A: Assertion>(
     assertion: &'i A,
     instance: &'i F::Node,
     location: &LazyLocation,
-) -> Result<(), Fault<'i, F>>
-    ensures { let a = A.asserts assertion.now in IsFirst F.Node.tree (failures_unless false
-        (A.error assertion.now) a.location (F.Node.tree instance.now) (path_of location.now))
-        result }
+    report: &mut Report<'i, F>,
+) -> Result<(), Stop>
+    ensures { let a = A.asserts assertion.now in Reports F.Node.tree report.old report.new
+        (failures_unless false (A.error assertion.now) a.location (F.Node.tree instance.now)
+        (path_of location.now)) result }
 {
     let schema_path = assertion.location();
-    fail_unless(false, assertion.kind(), schema_path, instance, location)
-}
-
-// Appends the error of an assertion that does not hold of the instance.
-#[inline(never)]
-fn append_refusal<'i, F: Json, A: Assertion>(
-    assertion: &'i A,
-    instance: &'i F::Node,
-    location: &LazyLocation,
-    errors: &mut Vec<ValidationError<'i, F>>,
-) -> Result<(), AllocError>
-    ensures { let a = A.asserts assertion.now in Appends F.Node.tree errors.old.items
-        errors.new.items (failures_unless false (A.error assertion.now) a.location
-        (F.Node.tree instance.now) (path_of location.now)) result }
-{
-    append_first(refuse(assertion, instance, location), errors)
+    report_error(assertion.kind(), schema_path, instance, location, report)
 }

@@ -261,10 +261,10 @@ pub enum Fault<'i, F: Json> {
     Memory(AllocError),
 }
 
-/// Why [`find_error`](crate::Validate::find_error) did not return `Ok`.
+/// Why [`report`](crate::Validate::report) did not return `Ok`.
 #[derive(Debug, Drop)]
 pub enum Stop {
-    /// The instance is invalid, and its first error was stored.
+    /// The instance is invalid, and no other error is wanted.
     Invalid,
     /// Memory ran out. This says nothing about the instance.
     Memory(AllocError),
@@ -329,6 +329,14 @@ impl From<AllocError> for Stop {
 
     fn from(e: AllocError) -> Self {
         Stop::Memory(e)
+    }
+}
+
+impl<T: Drop> From<AllocFailed<T>> for Stop {
+    ghost from_gives = { λ _ s. s ≡ stop.Memory alloc_error };
+
+    fn from(_e: AllocFailed<T>) -> Self {
+        Stop::Memory(AllocError)
     }
 }
 

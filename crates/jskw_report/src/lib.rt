@@ -7,8 +7,10 @@
 //! - [`Settings`] hold the draft, the vocabularies and the overridden keywords. A [`Context`] adds
 //!   the keyword location at which a schema or a keyword is compiled.
 //! - [`Validate`] has the four observers of a validator: `is_valid`, `validate`, `collect_errors`
-//!   and `evaluate`; a validator has `find_error` for `validate`. Their contracts refer to the definitions in `specs/`. A validator that gives
-//!   at most one error for an instance implements [`Assertion`], and gets the observers from it.
+//!   and `evaluate`. A validator has one body for the two that give errors, `report`, which adds
+//!   them to a [`Report`]. The contracts refer to the definitions in `specs/`. A validator that
+//!   gives at most one error for an instance implements [`Assertion`], and gets the observers from
+//!   it.
 //! - A [`ValidationError`] says what is wrong with an instance or with a schema, an
 //!   [`EvaluationNode`] what each schema and keyword reports of an instance.
 //!
@@ -34,6 +36,7 @@ pub mod keyword;
 pub mod laws;
 mod message;
 pub mod paths;
+pub mod report;
 pub mod settings;
 pub mod validator;
 
@@ -46,5 +49,6 @@ pub use error::{
 pub use evaluation::{Annotations, ErrorDescription, EvaluationNode, EvaluationResult};
 pub use keyword::KeywordName;
 pub use paths::{LazyLocation, Location, LocationSegment};
+pub use report::Report;
 pub use settings::{Draft, Settings, Vocabulary, VocabularySet};
 pub use validator::{Validate, ValidationContext};

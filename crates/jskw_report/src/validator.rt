@@ -1,20 +1,23 @@
 //! The trait of validators, with its four observers, and the steps that their implementations
 //! share.
 ghost use Rattle.std.specs.Prelude.{◌≡◌, ◌≤◌, ◌+◌, [], min, length, IfOk, IsOk, List, IsTrue};
+ghost use Rattle.std.specs.Prelude.{false};
 ghost use Rattle.jskw_value.specs.Tree.{is_lawful};
 ghost use Rattle.jskw_report.specs.Errors.{kind_of, failures_of};
 ghost use Rattle.jskw_report.specs.Evaluation.{of_errors};
 ghost use Rattle.jskw_report.specs.EvaluationView.{result_of};
 ghost use Rattle.jskw_report.specs.Fail.{Failure};
 ghost use Rattle.jskw_report.specs.Meaning.{Meaning, is_assertion, meaning_holds, meaning_fail};
-ghost use Rattle.jskw_report.specs.Meaning.{meaning_unit, meaning_pairs, meaning_needed};
-ghost use Rattle.jskw_report.specs.Observe.{Appends, CountsUpTo, Finds, IsFirst};
-ghost use Rattle.jskw_report.specs.Observe.{failures_unless};
+ghost use Rattle.jskw_report.specs.Meaning.{meaning_applications, meaning_needed, meaning_pairs};
+ghost use Rattle.jskw_report.specs.Meaning.{meaning_unit};
+ghost use Rattle.jskw_report.specs.Observe.{Appends, CountsUpTo, IsFirst, Reports};
+ghost use Rattle.jskw_report.specs.Observe.{failures_unless, wants_all};
 ghost use Rattle.jskw_report.specs.Paths.{path_of};
 
 use crate::error::{Fault, Stop, ValidationError, ValidationErrorKind};
 use crate::evaluation::{ErrorDescription, EvaluationResult};
 use crate::paths::{LazyLocation, Location};
+use crate::report::Report;
 use jskw_value::Json;
 use std::alloc::{AllocError, Global};
 use std::marker::Model;
@@ -87,33 +90,33 @@ pub trait Validate<F: Json> {
         ensures counted { CountsUpTo ctx.old ctx.new
             (meaning_needed (meaning self.now) (F.Node.tree instance.now)) };
 
-    /// Returns `Ok` if the instance is valid, and otherwise stores the first error in `error`. Stops
-    /// at the first failure. A keyword without subschemas allocates nothing if the instance is valid.
+    /// Adds the errors of the instance to `report`, in order, until no other is wanted. A keyword
+    /// without subschemas allocates nothing if the instance is valid.
     ///
-    /// This is [`validate`](Validate::validate) for validators that hold others: at each level an
-    /// error of more than 100 bytes would be handed up, and room for one if there is none.
+    /// This is [`validate`](Validate::validate) and [`collect_errors`](Validate::collect_errors) in
+    /// one, for validators that hold others.
     ///
     /// # Errors
     ///
-    /// - [`Stop::Invalid`] if the instance is invalid: `error` has the first error.
+    /// - [`Stop::Invalid`] if the instance is invalid and no other error is wanted.
     /// - [`Stop::Memory`] if memory runs out. This says nothing about the instance.
-    fn find_error<'i>(
+    fn report_errors<'i>(
         &'i self,
         instance: &'i F::Node,
         location: &mut LazyLocation,
         ctx: &mut ValidationContext,
-        error: &mut Option<ValidationError<'i, F>>,
+        report: &mut Report<'i, F>,
     ) -> Result<(), Stop>
         requires { IsTrue (is_lawful (F.Node.tree instance.now)) }
         ensures quiet { IsTrue (is_assertion (meaning self.now))
             → IsTrue (meaning_holds (meaning self.now) (F.Node.tree instance.now))
             → IsOk result }
-        ensures first { Finds F.Node.tree
+        ensures reported { Reports F.Node.tree report.old report.new
             (meaning_fail (meaning self.now) (F.Node.tree instance.now) (path_of location.old))
-            error.new result }
+            result }
         ensures location { location.new ≡ location.old }
-        ensures counted { CountsUpTo ctx.old ctx.new
-            (meaning_needed (meaning self.now) (F.Node.tree instance.now)) };
+        ensures counted { CountsUpTo ctx.old ctx.new (meaning_applications (wants_all report.old)
+            (meaning self.now) (F.Node.tree instance.now)) };
 
     /// Returns `Ok` if the instance is valid. Stops at the first failure. A keyword without
     /// subschemas allocates nothing if the instance is valid.
@@ -139,9 +142,9 @@ pub trait Validate<F: Json> {
         ensures counted { CountsUpTo ctx.old ctx.new
             (meaning_needed (meaning self.now) (F.Node.tree instance.now)) }
     {
-        let mut error = None;
-        let found = self.find_error(instance, location, ctx, &mut error);
-        first_error(found, error)
+        let mut report = Report::First(None);
+        let reported = self.report_errors(instance, location, ctx, &mut report);
+        report.into_first(reported)
     }
 
     /// Appends all errors of the instance to `errors`, in order. If memory runs out, `errors` keeps
@@ -163,7 +166,12 @@ pub trait Validate<F: Json> {
             result }
         ensures location { location.new ≡ location.old }
         ensures counted { CountsUpTo ctx.old ctx.new
-            (meaning_pairs (meaning self.now) (F.Node.tree instance.now)) };
+            (meaning_pairs (meaning self.now) (F.Node.tree instance.now)) }
+    {
+        let mut report = Report::behind(errors);
+        let reported = self.report_errors(instance, location, ctx, &mut report);
+        report.into_all(reported, errors)
+    }
 
     /// Returns what the keyword reports of the instance: its unit of the evaluation tree (JSON
     /// Schema Core 12.3). A keyword without subschemas allocates nothing if the instance is valid.
@@ -185,84 +193,19 @@ pub trait Validate<F: Json> {
             (meaning_pairs (meaning self.now) (F.Node.tree instance.now)) };
 }
 
-/// Returns `Ok` if `holds`, and otherwise the error made of the other arguments. This is `validate`
-/// for a validator that gives at most one error. Allocates nothing if `holds`.
-pub fn fail_unless<'i, F: Json>(
-    holds: bool,
+/// Adds the error that is made of the other arguments to `report`.
+pub fn report_error<'i, F: Json>(
     kind: ValidationErrorKind<'i>,
     schema_path: &'i Location,
     instance: &'i F::Node,
     location: &LazyLocation,
-) -> Result<(), Fault<'i, F>>
-    ensures first { IsFirst F.Node.tree (failures_unless holds (kind_of kind.entry) schema_path.now
-        (F.Node.tree instance.now) (path_of location.now)) result }
-    ensures ok { IsTrue holds → IsOk result }
-{
-    if holds {
-        return Ok(());
-    }
-    let instance_path = location.render()?;
-    Err(Fault::Invalid(ValidationError::new(kind, instance_path, schema_path, instance)))
-}
-
-/// Returns the result of `validate` for that of `find_error`, which stored the error if there is
-/// one. `Stop::Invalid` without an error, which no `find_error` returns, gives `Fault::Memory`.
-pub fn first_error<'i, F: Json>(
-    found: Result<(), Stop>,
-    error: Option<ValidationError<'i, F>>,
-) -> Result<(), Fault<'i, F>>
-    ensures first { (fs : List Failure) → Finds F.Node.tree fs error.entry found
-        → IsFirst F.Node.tree fs result }
-    ensures ok { IsOk found → IsOk result }
-{
-    match (found, error) {
-        (Ok(()), _) => Ok(()),
-        (Err(Stop::Invalid), Some(error)) => Err(Fault::Invalid(error)),
-        (Err(Stop::Invalid), None) => Err(Fault::Memory(AllocError)),
-        (Err(Stop::Memory(error)), _) => Err(Fault::Memory(error)),
-    }
-}
-
-/// Stores the error in a result of `validate`, if it has one, and returns the result of
-/// `find_error`: `error` is unchanged unless that is `Stop::Invalid`.
-pub fn store_first<'i, F: Json>(
-    answer: Result<(), Fault<'i, F>>,
-    error: &mut Option<ValidationError<'i, F>>,
+    report: &mut Report<'i, F>,
 ) -> Result<(), Stop>
-    ensures first { (fs : List Failure) → IsFirst F.Node.tree fs answer.entry
-        → Finds F.Node.tree fs error.new result }
-    ensures ok { IsOk answer.entry → IsOk result }
+    ensures { Reports F.Node.tree report.old report.new (failures_unless false (kind_of kind.entry)
+        schema_path.now (F.Node.tree instance.now) (path_of location.now)) result }
 {
-    match answer {
-        Ok(()) => Ok(()),
-        Err(Fault::Invalid(first)) => {
-            *error = Some(first);
-            Err(Stop::Invalid)
-        }
-        Err(Fault::Memory(error)) => Err(Stop::Memory(error)),
-    }
-}
-
-/// Appends the error in the result of `validate`, if it has one. This is `collect_errors` for a
-/// validator that gives at most one error. Fails if memory ran out in `validate` or runs out here;
-/// never if `answer` is `Ok`.
-#[tactic(auto, using(crate::proofs::Appending::appends_nothing))]
-pub fn append_first<'i, F: Json>(
-    answer: Result<(), Fault<'i, F>>,
-    errors: &mut Vec<ValidationError<'i, F>>,
-) -> Result<(), AllocError>
-    ensures appended { (fs : List Failure) → length fs ≤ 1 → IsFirst F.Node.tree fs answer.entry
-        → Appends F.Node.tree errors.old.items errors.new.items fs result }
-    ensures ok { IsOk answer.entry → IsOk result }
-{
-    match answer {
-        Ok(()) => Ok(()),
-        Err(Fault::Invalid(error)) => {
-            errors.push(error)?;
-            Ok(())
-        }
-        Err(Fault::Memory(error)) => Err(error),
-    }
+    let instance_path = location.render()?;
+    report.add(ValidationError::new(kind, instance_path, schema_path, instance))
 }
 
 /// Returns the unit for the result of `validate`. This is `evaluate` for a validator that gives at

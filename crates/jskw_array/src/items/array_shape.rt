@@ -12,8 +12,8 @@ use crate::items::{self, AbsorbedKeywords};
 use crate::unit::PlacedValidator;
 use crate::validator::Validator;
 use jskw_report::{
-    CompilationResult, Context, EvaluationResult, KeywordName, LazyLocation, Location, Stop,
-    Validate, ValidationContext, ValidationError,
+    CompilationResult, Context, EvaluationResult, KeywordName, LazyLocation, Location, Report,
+    Stop, Validate, ValidationContext,
 };
 use jskw_value::Json;
 use serde_json::{Map, Value};
@@ -101,32 +101,18 @@ impl<F: Json> Validate<F> for ArrayShapeValidator<F> {
         }
     }
 
-    #[cycle(find_error)]
-    fn find_error<'i>(
+    #[cycle(report)]
+    fn report_errors<'i>(
         &'i self,
         instance: &'i F::Node,
         location: &mut LazyLocation,
         ctx: &mut ValidationContext,
-        error: &mut Option<ValidationError<'i, F>>,
+        report: &mut Report<'i, F>,
     ) -> Result<(), Stop> {
-        self.absorbed.find_error(instance, location, error)?;
+        self.absorbed.report_errors(instance, location, report)?;
         self.items
             .validator
-            .find_error(instance, location, ctx, error)
-    }
-
-    #[cycle(collect_errors)]
-    fn collect_errors<'i>(
-        &'i self,
-        instance: &'i F::Node,
-        location: &mut LazyLocation,
-        ctx: &mut ValidationContext,
-        errors: &mut Vec<ValidationError<'i, F>>,
-    ) -> Result<(), AllocError> {
-        self.absorbed.collect_errors(instance, location, errors)?;
-        self.items
-            .validator
-            .collect_errors(instance, location, ctx, errors)
+            .report_errors(instance, location, ctx, report)
     }
 
     #[cycle(evaluate)]

@@ -6,10 +6,10 @@ ghost use Rattle.jskw_report.specs.Compile.{Makes};
 ghost use Rattle.jskw_report.specs.Errors.{kind_of};
 ghost use Rattle.jskw_report.specs.Evaluation.{node_at, of_errors, unit, units};
 ghost use Rattle.jskw_report.specs.EvaluationView.{result_of};
-ghost use Rattle.jskw_report.specs.Fail.{all_fail, keyword_fail};
+ghost use Rattle.jskw_report.specs.Fail.{all_fail};
 ghost use Rattle.jskw_report.specs.Holds.{all_hold, assertion_holds};
 ghost use Rattle.jskw_report.specs.Meaning.{placed};
-ghost use Rattle.jskw_report.specs.Observe.{Appends, Finds, IsFirst, failures_unless};
+ghost use Rattle.jskw_report.specs.Observe.{Reports, failures_unless};
 ghost use Rattle.jskw_report.specs.Paths.{path_of};
 ghost use Rattle.jskw_report.specs.Read.{part_named, read_words};
 ghost use Rattle.jskw_report.specs.Sibling.{is_fused, takes_size};
@@ -22,11 +22,12 @@ use crate::type_::ArrayTypeValidator;
 use jskw_number::max_items::MaxItemsValidator;
 use jskw_number::min_items::MinItemsValidator;
 use jskw_number::sizes::SizeLimit;
+use jskw_report::assertion::report_assertion;
 use jskw_report::compiler::member_of;
-use jskw_report::validator::{append_first, evaluate_first, fail_unless, store_first};
+use jskw_report::validator::evaluate_first;
 use jskw_report::{
     Assertion, CompilationResult, Context, EvaluationNode, EvaluationResult, Fault, KeywordName,
-    LazyLocation, Location, Stop, ValidationError, ValidationErrorKind,
+    LazyLocation, Location, Report, Stop, ValidationError, ValidationErrorKind,
 };
 use jskw_value::{Array, Json, Node};
 use serde_json::{Map, Value};
@@ -89,98 +90,26 @@ impl AbsorbedKeywords {
         }
     }
 
-    /// Returns `Ok` if the instance, which must be lawful, passes the three, and otherwise stores the
-    /// first error in `error`.
+    /// Adds the errors of the three to `report`, in order, until no other is wanted. The instance
+    /// must be lawful.
     ///
     /// # Errors
     ///
-    /// - [`Stop::Invalid`] if the instance is invalid: `error` has the first error.
+    /// - [`Stop::Invalid`] if the instance is invalid and no other error is wanted.
     /// - [`Stop::Memory`] if memory runs out.
-    pub fn find_error<'i, F: Json>(
+    pub fn report_errors<'i, F: Json>(
         &'i self,
         instance: &'i F::Node,
         location: &LazyLocation,
-        error: &mut Option<ValidationError<'i, F>>,
+        report: &mut Report<'i, F>,
     ) -> Result<(), Stop>
         requires { IsTrue (is_lawful (F.Node.tree instance.now)) }
-        ensures { Finds F.Node.tree (all_fail (absorbed_keywords self.now)
-            (F.Node.tree instance.now) (path_of location.now)) error.new result }
-    {
-        if self.valid_count(instance).is_some() {
-            return Ok(());
-        }
-        self.store_error(instance, location, error)
-    }
-
-    // Stores the first error of the three, if there is one.
-    #[inline(never)]
-    fn store_error<'i, F: Json>(
-        &'i self,
-        instance: &'i F::Node,
-        location: &LazyLocation,
-        error: &mut Option<ValidationError<'i, F>>,
-    ) -> Result<(), Stop>
-        requires { IsTrue (is_lawful (F.Node.tree instance.now)) }
-        ensures { Finds F.Node.tree (all_fail (absorbed_keywords self.now)
-            (F.Node.tree instance.now) (path_of location.now)) error.new result }
-    {
-        store_first(self.first_error(instance, location), error)
-    }
-
-    // Returns the first error of the three, if there is one.
-    fn first_error<'i, F: Json>(
-        &'i self,
-        instance: &'i F::Node,
-        location: &LazyLocation,
-    ) -> Result<(), Fault<'i, F>>
-        requires { IsTrue (is_lawful (F.Node.tree instance.now)) }
-        ensures { IsFirst F.Node.tree (all_fail (absorbed_keywords self.now)
-            (F.Node.tree instance.now) (path_of location.now)) result }
-    {
-        let answer = validate_assertion(&self.type_, instance, location);
-        if answer.is_err() {
-            return answer;
-        }
-        let answer = validate_bound(&self.min_items, instance, location);
-        if answer.is_err() {
-            return answer;
-        }
-        validate_bound(&self.max_items, instance, location)
-    }
-
-    /// Appends the errors of the three, in order. The instance must be lawful. If memory runs out,
-    /// `errors` keeps what it held, and a beginning of the new errors follows.
-    pub fn collect_errors<'i, F: Json>(
-        &'i self,
-        instance: &'i F::Node,
-        location: &LazyLocation,
-        errors: &mut Vec<ValidationError<'i, F>>,
-    ) -> Result<(), AllocError>
-        requires { IsTrue (is_lawful (F.Node.tree instance.now)) }
-        ensures { Appends F.Node.tree errors.old.items errors.new.items (all_fail
+        ensures { Reports F.Node.tree report.old report.new (all_fail
             (absorbed_keywords self.now) (F.Node.tree instance.now) (path_of location.now)) result }
     {
-        if self.valid_count(instance).is_some() {
-            return Ok(());
-        }
-        self.append_errors(instance, location, errors)
-    }
-
-    // `collect_errors` keyword by keyword.
-    #[inline(never)]
-    fn append_errors<'i, F: Json>(
-        &'i self,
-        instance: &'i F::Node,
-        location: &LazyLocation,
-        errors: &mut Vec<ValidationError<'i, F>>,
-    ) -> Result<(), AllocError>
-        requires { IsTrue (is_lawful (F.Node.tree instance.now)) }
-        ensures { Appends F.Node.tree errors.old.items errors.new.items (all_fail
-            (absorbed_keywords self.now) (F.Node.tree instance.now) (path_of location.now)) result }
-    {
-        append_first(validate_assertion(&self.type_, instance, location), errors)?;
-        append_first(validate_bound(&self.min_items, instance, location), errors)?;
-        append_first(validate_bound(&self.max_items, instance, location), errors)
+        report_assertion(&self.type_, instance, location, report)?;
+        report_bound(&self.min_items, instance, location, report)?;
+        report_bound(&self.max_items, instance, location, report)
     }
 
     /// Appends the evaluation nodes of the three for the instance at `path`. If memory runs out, a
@@ -287,40 +216,19 @@ fn bound_holds<const IS_LEAST: bool>(
     }
 }
 
-// Returns the error of the assertion, or `Ok` if it holds.
-fn validate_assertion<'i, F: Json, A: Assertion>(
-    assertion: &'i A,
-    instance: &'i F::Node,
-    location: &LazyLocation,
-) -> Result<(), Fault<'i, F>>
-    requires { IsTrue (is_lawful (F.Node.tree instance.now)) }
-    ensures { IsFirst F.Node.tree (keyword_fail (placed (A.asserts assertion.now))
-        (F.Node.tree instance.now) (path_of location.now)) result }
-{
-    if assertion.holds::<F>(instance) {
-        return Ok(());
-    }
-    fail_unless(
-        false,
-        assertion.kind(),
-        assertion.location(),
-        instance,
-        location,
-    )
-}
-
-// Returns the error of the bound, or `Ok` if it holds or there is none.
-fn validate_bound<'i, F: Json, A: Assertion>(
+// Adds the error of the bound to `report`, unless it holds or there is none.
+fn report_bound<'i, F: Json, A: Assertion>(
     bound: &'i Option<A>,
     instance: &'i F::Node,
     location: &LazyLocation,
-) -> Result<(), Fault<'i, F>>
+    report: &mut Report<'i, F>,
+) -> Result<(), Stop>
     requires { IsTrue (is_lawful (F.Node.tree instance.now)) }
-    ensures { IsFirst F.Node.tree (all_fail (optional A.asserts bound.now)
-        (F.Node.tree instance.now) (path_of location.now)) result }
+    ensures { Reports F.Node.tree report.old report.new (all_fail
+        (optional A.asserts bound.now) (F.Node.tree instance.now) (path_of location.now)) result }
 {
     match bound {
-        Some(bound) => validate_assertion(bound, instance, location),
+        Some(bound) => report_assertion(bound, instance, location, report),
         None => Ok(()),
     }
 }

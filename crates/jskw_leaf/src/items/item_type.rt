@@ -21,8 +21,8 @@ use crate::type_::{
     TypeValidator,
 };
 use jskw_report::{
-    Annotations, Assertion, EvaluationNode, EvaluationResult, LazyLocation, Location, Stop,
-    TypeKind, Validate, ValidationContext, ValidationError,
+    Annotations, Assertion, EvaluationNode, EvaluationResult, LazyLocation, Location, Report, Stop,
+    TypeKind, Validate, ValidationContext,
 };
 use jskw_value::{Array, Json, JsonType, Node};
 use std::alloc::{AllocError, Global};
@@ -155,38 +155,19 @@ impl<T: ItemType, F: Json> Validate<F> for ItemsTypeValidator<T, F> {
         self.holds_of(instance.item_count(), instance)
     }
 
-    fn find_error<'i>(
+    fn report_errors<'i>(
         &'i self,
         instance: &'i F::Node,
         location: &mut LazyLocation,
         ctx: &mut ValidationContext,
-        error: &mut Option<ValidationError<'i, F>>,
+        report: &mut Report<'i, F>,
     ) -> Result<(), Stop> {
-        let count = instance.item_count();
-        let index = first_other::<T, F>(0, count, instance);
-        if index == count {
-            return Ok(());
-        }
-        location.push(index)?;
-        let item = instance.item(index);
-        let answer = self.validator.find_error(item, location, ctx, error);
-        location.pop();
-        answer
-    }
-
-    fn collect_errors<'i>(
-        &'i self,
-        instance: &'i F::Node,
-        location: &mut LazyLocation,
-        ctx: &mut ValidationContext,
-        errors: &mut Vec<ValidationError<'i, F>>,
-    ) -> Result<(), AllocError> {
         let count = instance.item_count();
         let mut index = first_other::<T, F>(0, count, instance);
         while index < count {
             location.push(index)?;
             let item = instance.item(index);
-            let answer = self.validator.collect_errors(item, location, ctx, errors);
+            let answer = self.validator.report_errors(item, location, ctx, report);
             location.pop();
             answer?;
             index = first_other::<T, F>(index + 1, count, instance);

@@ -5,11 +5,11 @@ use crate::members::wanted;
 use crate::stop::{Made, Stop};
 use crate::tree_lines::push_tree;
 use jskw_report::compiler::member_of;
-use jskw_report::validator::{append_first, evaluate_first};
+use jskw_report::validator::evaluate_first;
 use jskw_report::{
     Annotations, CompileFault, Context, EnumOptions, ErrorDescription, EvaluationNode,
-    EvaluationResult, Fault, LazyLocation, Location, LocationSegment, TypeKind, ValidationContext,
-    ValidationError, ValidationErrorKind, Vocabulary, VocabularySet,
+    EvaluationResult, Fault, LazyLocation, Location, LocationSegment, Report, Stop as ErrorStop,
+    TypeKind, ValidationContext, ValidationError, ValidationErrorKind, Vocabulary, VocabularySet,
 };
 use jskw_service::vocabularies_of;
 use jskw_value::{
@@ -150,7 +150,10 @@ pub(super) fn wanting<'v>(alloc: Global) -> Answer<'v> {
 // Returns whether errors are appended where memory is wanting, and how many there are then.
 fn appended(alloc: Global) -> (bool, usize) {
     let mut errors: Vec<ValidationError<SerdeJson>> = Vec::new(alloc);
-    let is_appended = append_first(Err(Fault::Memory(AllocError)), &mut errors).is_ok();
+    let report = Report::behind(&mut errors);
+    let is_appended = report
+        .into_all(Err(ErrorStop::Memory(AllocError)), &mut errors)
+        .is_ok();
     (is_appended, errors.len())
 }
 

@@ -8,5 +8,5 @@ returns g c =
     let q = c.args.schema_path.now in
     let instance = g.F.Node.Rooted.tree c.args.instance.now in
     let p = path_of c.args.location.now in
-    let result = c.in_ok-result.ensures.unit (fail (false_schema q) instance p) (omega arith) c.refuse.ensures in
+    let result = c.in_ok-result.ensures.unit (fail (false_schema q) instance p) (omega arith) (c.into_first.ensures.first _ c.report_error-reported.ensures) in
     subst (λ x. IfOk c.new.result (λ node. node ≡ x)) (ap₂ (node_at q) c.in_ok-path.ensures result ∙ refused_tree q instance p) c.new.ensures
