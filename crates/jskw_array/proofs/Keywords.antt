@@ -24,20 +24,20 @@ unit_tall (OfKeyword k) = keyword_height (validator_keyword k.validator)
 unit_tall (Shape v) = all_height (shape_keywords v.value)
 
 module _ {F N O P : Type 0} where
-  first_holds : (u : TheUnit F N O P) (us : List (TheUnit F N O P)) (t : Tree) → all_hold (keywords_of (u ∷ us)) t ≡ (meaning_holds (unit_meaning u) t && all_hold (keywords_of us) t)
+  pub first_holds : (u : TheUnit F N O P) (us : List (TheUnit F N O P)) (t : Tree) → all_hold (keywords_of (u ∷ us)) t ≡ (meaning_holds (unit_meaning u) t && all_hold (keywords_of us) t)
   first_holds (OfKeyword k) us t = refl
   first_holds (Shape v) us t = hold_appended t (shape_keywords v.value) (keywords_of us)
 
-  first_needs : (u : TheUnit F N O P) (us : List (TheUnit F N O P)) (t : Tree)
+  pub first_needs : (u : TheUnit F N O P) (us : List (TheUnit F N O P)) (t : Tree)
       → all_needed (keywords_of (u ∷ us)) t ≡ meaning_needed (unit_meaning u) t + (if meaning_holds (unit_meaning u) t then all_needed (keywords_of us) t else 0)
   first_needs (OfKeyword k) us t = refl
   first_needs (Shape v) us t = needed_appended t (shape_keywords v.value) (keywords_of us)
 
-  first_meets : (u : TheUnit F N O P) (us : List (TheUnit F N O P)) (t : Tree) → all_pairs (keywords_of (u ∷ us)) t ≡ meaning_pairs (unit_meaning u) t + all_pairs (keywords_of us) t
+  pub first_meets : (u : TheUnit F N O P) (us : List (TheUnit F N O P)) (t : Tree) → all_pairs (keywords_of (u ∷ us)) t ≡ meaning_pairs (unit_meaning u) t + all_pairs (keywords_of us) t
   first_meets (OfKeyword k) us t = refl
   first_meets (Shape v) us t = pairs_appended t (shape_keywords v.value) (keywords_of us)
 
-  first_fails : (u : TheUnit F N O P) (us : List (TheUnit F N O P)) (t : Tree) (p : Pointer) → all_fail (keywords_of (u ∷ us)) t p ≡ meaning_fail (unit_meaning u) t p ++ all_fail (keywords_of us) t p
+  pub first_fails : (u : TheUnit F N O P) (us : List (TheUnit F N O P)) (t : Tree) (p : Pointer) → all_fail (keywords_of (u ∷ us)) t p ≡ meaning_fail (unit_meaning u) t p ++ all_fail (keywords_of us) t p
   first_fails (OfKeyword k) us t p = refl
   first_fails (Shape v) us t p = fail_appended t p (shape_keywords v.value) (keywords_of us)
 
@@ -60,7 +60,7 @@ module _ {F N O P : Type 0} where
   first_hands_on (OfKeyword k) us = refl
   first_hands_on (Shape v) us = hand_on_appended (shape_keywords v.value) (keywords_of us)
 
-  first_height : (u : TheUnit F N O P) (us : List (TheUnit F N O P)) → all_height (keywords_of (u ∷ us)) ≡ max (unit_tall u) (all_height (keywords_of us))
+  pub first_height : (u : TheUnit F N O P) (us : List (TheUnit F N O P)) → all_height (keywords_of (u ∷ us)) ≡ max (unit_tall u) (all_height (keywords_of us))
   first_height (OfKeyword k) us = refl
   first_height (Shape v) us = height_appended (shape_keywords v.value) (keywords_of us)
 

@@ -2,6 +2,7 @@ pub mod Accepted
 pub mod Agreed
 pub mod BareReading
 pub mod BareTypes
+pub mod Begun
 pub mod Depths
 pub mod EachSchema
 pub mod FusedReading

@@ -1,14 +1,13 @@
 -- A walk that reports the errors of items or keywords one after another, and the applications that it takes.
-use Rattle.std.proofs.Common.{◌≡◌, ℕ, ◌+◌, ◌≤◌, List, [], ◌++◌, length, get_or, take, drop, sum_by, Bool, true, false, Some, Result, Ok, Err, IsErrAnd, if◌then◌else◌, refl, sym, subst, ap, ◌∙◌, arith, ◌<◌}
+use Rattle.std.proofs.Common.{◌≡◌, ℕ, ◌+◌, ◌≤◌, List, [], ◌++◌, length, get_or, take, drop, sum_by, Bool, true, false, Result, Ok, Err, IsErrAnd, if◌then◌else◌, refl, sym, subst, ap, ◌∙◌, arith, ◌<◌}
 use Rattle.std.proofs.lemmas.Bool.{true≢false}
-use Rattle.std.specs.Borrow.{Bor}
-use Rattle.jskw_array.specs.Words.{CountsUpTo, Each, Failure, HasUnits, Pointer, Reports, Rest, Schema, Schemas, TheUnit, Tree, all_applications, all_needed, applications, each_holds, each_keyword, each_needed, each_pairs, fail, holds, is_empty, items, keywords_of, list_all, meaning_applications, meaning_fail, meaning_holds, meaning_needed, needed, one, pairs, rest_keyword, schemas_of, sum_to_failure, unit_meaning, wants_all}
+use Rattle.jskw_array.specs.Words.{CountsUpTo, Each, Failure, Pointer, Reports, Rest, Schema, Schemas, TheUnit, Tree, all_applications, all_needed, applications, each_holds, each_keyword, each_needed, each_pairs, fail, holds, is_empty, items, keywords_of, list_all, meaning_applications, meaning_fail, meaning_holds, meaning_needed, needed, one, pairs, rest_keyword, schemas_of, sum_to_failure, unit_meaning, wants_all}
 use Rattle.jskw_report.specs.declared.error.Stop.{Stop}
 use Rattle.jskw_report.specs.declared.report.Report.{Report}
 use Rattle.jskw_report.proofs.Fails.{holds_empty}
 use Rattle.jskw_report.proofs.Reporting.{Reported, none_found, reported_more, reported_stopped}
 use Rattle.jskw_array.proofs.Accepted.{one_needed}
-use Rattle.jskw_array.proofs.Keywords.{needed_at, one_pair, pairs_at, schema_needs, schema_pairs, unit_empty}
+use Rattle.jskw_array.proofs.Keywords.{needed_at, one_pair, pairs_at, unit_empty}
 use Rattle.jskw_array.proofs.Meant.{each_meets, each_needs, rest_meets, rest_needs}
 use Rattle.jskw_array.proofs.Meetings.{each_needed_at, each_pairs_at, sum_at, until_at}
 use Rattle.jskw_array.proofs.Taken.{each_taken_needed, each_taken_pairs, taken_needed, taken_pairs}
@@ -129,8 +128,3 @@ module _ {F N O P : Type 0} (us : List (TheUnit F N O P)) (i : ℕ) (u : TheUnit
       → meaning_applications wanted (unit_meaning u) t + all_applications wanted (keywords_of (drop (i + 1) us)) t ≤ all_applications wanted (keywords_of (drop i us)) t
   unit_passed true p none = let e = pairs_at us i u within is t in omega (arith, e)
   unit_passed false p none = branch (meaning_holds (unit_meaning u) t) _ _ _ (needed_at us i u within is t) (passed (meaning_holds (unit_meaning u) t) (meaning_fail (unit_meaning u) t p) (unit_empty u t p) none)
-
--- a schema by its units
-pub schema_applied : {F N O P : Type 0} (s : Schema) (us : Bor (List (TheUnit F N O P))) → HasUnits s (Some us) → (t : Tree) (wanted : Bool) → applications wanted s t ≡ 1 + all_applications wanted (keywords_of us.now) t
-schema_applied s us has t true = schema_pairs s us has t
-schema_applied s us has t false = schema_needs s us has t

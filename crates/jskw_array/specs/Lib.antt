@@ -3,6 +3,7 @@ pub mod Meaning
 pub mod Units
 pub mod Fused
 pub mod Node
+pub mod Outline
 pub mod Heights
 pub mod Siblings
 pub mod Agreement

@@ -1,15 +1,19 @@
 -- The schema that a node stands for.
-use Rattle.std.specs.Prelude.{◌≡◌, List, Option, Some, None, Bool, true, false}
+use Rattle.std.specs.Prelude.{◌≡◌, ◌≤◌, ◌+◌, List, Option, Some, None, Bool, true, false, ⊤, length, take}
 use Rattle.std.specs.Borrow.{Bor}
 use Rattle.jskw_value.specs.Pointer.{Pointer}
 use Rattle.jskw_value.specs.Tree.{Tree}
-use Rattle.jskw_report.specs.Holds.{holds}
+use Rattle.jskw_report.specs.Applications.{all_applications, all_height, applications, height}
+use Rattle.jskw_report.specs.Fail.{all_fail, fail}
+use Rattle.jskw_report.specs.Holds.{all_hold, holds}
 use Rattle.jskw_report.specs.Keyword.{Schema, false_schema, schema_location, schema_object, Marks, no_marks, no_keywords}
 use Rattle.jskw_number.specs.QuickSet.{is_in}
 use Rattle.jskw_number.specs.declared.quick_set.QuickSet.{QuickSet}
+use Rattle.jskw_array.specs.Outline.{in_outline}
 use Rattle.jskw_array.specs.Units.{begin_fused, keywords_of}
 use Rattle.jskw_array.specs.declared.node.Assertions.{Assertions}
 use Rattle.jskw_array.specs.declared.node.Assertions.TheVariants.{Never, Keywords}
+use Rattle.jskw_array.specs.declared.unit.BegunUnits.{BegunUnits}
 use Rattle.jskw_array.specs.declared.unit.Unit.{Unit as TheUnit}
 
 -- F, N, O and P are the types of a representation
@@ -36,3 +40,27 @@ boolean_schema q false = false_schema q
 -- every tree of the set is valid against the schema
 abbrev pub AllValid : QuickSet → Schema → Type 0
 AllValid q s = (t : Tree) → is_in q t ≡ true → holds s t ≡ true
+
+-- ---- units that are known to hold; F, N, O and P are the types of a representation
+
+module _ {F N O P : Type 0} where
+  -- the first of these units hold of every tree of the outline
+  abbrev pub BeginsWith : BegunUnits → List (TheUnit F N O P) → Type 0
+  BeginsWith b us = (b.count ≤ length us) × ((t : Tree) → in_outline b.outline t ≡ true → all_hold (keywords_of (take b.count us)) t ≡ true)
+
+  -- the first units of a schema do
+  abbrev pub SchemaBegins : BegunUnits → Assertions F N O P → Type 0
+  SchemaBegins b Never = ⊤
+  SchemaBegins b (Keywords us) = BeginsWith b us.items
+
+  -- for this tree these units are as good as the schema: they say the same of it, take no more applications, and are lower
+  pub record IsLeft (s : Schema) (t : Tree) (us : List (TheUnit F N O P)) : Type 0 where
+    pub answer : holds s t ≡ all_hold (keywords_of us) t
+    pub errors : (p : Pointer) → fail s t p ≡ all_fail (keywords_of us) t p
+    pub applied : (wanted : Bool) → 1 + all_applications wanted (keywords_of us) t ≤ applications wanted s t
+    pub lower : 1 + all_height (keywords_of us) ≤ height s
+
+  -- these units are left of the schema for this tree, or it is `false`
+  abbrev pub LeftUnits : Schema → Tree → Option (Bor (List (TheUnit F N O P))) → Type 0
+  LeftUnits s t None = s ≡ false_schema (schema_location s)
+  LeftUnits s t (Some us) = IsLeft s t us.now

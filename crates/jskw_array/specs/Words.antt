@@ -49,7 +49,8 @@ pub use Rattle.jskw_array.specs.Meaning.{bounds_of, each_keyword, each_of, match
 pub use Rattle.jskw_array.specs.Limits.{deciding_count, failing_locations, locations_of, matching_result}
 pub use Rattle.jskw_array.specs.Fused.{Begins, fused_words, shape_keywords, shape_meaning}
 pub use Rattle.jskw_array.specs.Units.{IsShape, absorbed_by, after, begin_fused, is_shape, keywords_of, unit_hands_on, unit_location, unit_meaning}
-pub use Rattle.jskw_array.specs.Node.{HasUnits, boolean_schema, marked, schema_of}
+pub use Rattle.jskw_array.specs.Node.{BeginsWith, HasUnits, IsLeft, LeftUnits, boolean_schema, marked, schema_of}
+pub use Rattle.jskw_array.specs.Outline.{in_outline}
 pub use Rattle.jskw_array.specs.Siblings.{MarksLengths, active_member, schema_count}
 pub use Rattle.jskw_array.specs.Agreement.{Agree, RejectsNonArrays}
 pub use Rattle.jskw_array.specs.declared.each.Each.{Each}

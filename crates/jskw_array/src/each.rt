@@ -82,7 +82,7 @@ impl<F: Json> Each<F> {
 impl<F: Json> Validate<F> for Each<F> {
     ghost meaning = { λ v. one (each_keyword v) };
 
-    #[inline(always)]
+    #[inline(never)]
     #[cycle(is_valid)]
     fn is_valid(&self, instance: &F::Node, ctx: &mut ValidationContext) -> bool {
         let count = instance.item_count().min(self.nodes.len());

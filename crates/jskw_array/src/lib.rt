@@ -18,6 +18,7 @@ pub mod items;
 pub mod laws;
 pub mod matching;
 pub mod node;
+mod outline;
 pub mod prefix_items;
 pub mod rest;
 mod unit;

@@ -1,7 +1,8 @@
 //! A compiled schema: the validators of its keywords, in the order in which a schema is read.
 ghost use Rattle.std.specs.Prelude.{◌≡◌, ◌+◌, ◌-◌, ◌≤◌};
 ghost use Rattle.jskw_array.specs.Words.{[], Appends, Begins, CountsUpTo, HasUnits, IfOk};
-ghost use Rattle.jskw_array.specs.Words.{IfSome, IsFirst, IsTrue, Reports, applications};
+ghost use Rattle.jskw_array.specs.Words.{IfSome, IsFirst, IsTrue, LeftUnits, Reports};
+ghost use Rattle.jskw_array.specs.Words.{applications};
 ghost use Rattle.jskw_array.specs.Words.{boolean_schema, each_hands_on, fail, false_schema};
 ghost use Rattle.jskw_array.specs.Words.{hands_on_required, wants_all};
 ghost use Rattle.std.specs.Prelude.{if◌then◌else◌};
@@ -13,7 +14,7 @@ ghost use Rattle.jskw_array.specs.Words.{schemas_of, shape_keywords, tree, true}
 
 use crate::items::ArrayShapeValidator;
 use crate::unit::{
-    Unit, evaluate_units, only_shape, quick_set_of, report_units, some_unit_hands_on,
+    BegunUnits, Unit, begun_units, evaluate_units, quick_set_of, report_units, some_unit_hands_on,
     units_are_valid,
 };
 pub use crate::validator::Validator;
@@ -44,6 +45,8 @@ pub struct SchemaNode<F: Json> {
     hands_on_any: bool,
     // values that are valid against the schema, tested before its keywords
     accepted: QuickSet,
+    // the units that hold of arrays and objects whose items and members are not looked at
+    begun: BegunUnits,
     assertions: Assertions<F>,
 }
 
@@ -67,13 +70,14 @@ impl<F: Json> Model for SchemaNode<F> {
 
     ghost use Rattle.std.specs.Prelude.{◌≡◌};
     ghost use Rattle.jskw_report.specs.Applications.{height};
-    ghost use Rattle.jskw_array.specs.Node.{AllValid, schema_of};
+    ghost use Rattle.jskw_array.specs.Node.{AllValid, SchemaBegins, schema_of};
 
     ghost view = { λ n. schema_of n.location n.hands_on n.assertions };
 
     ghost invariant = { λ n.
         (n.hands_on_any ≡ hands_on_required (schema_of n.location n.hands_on n.assertions))
-        × AllValid n.accepted (schema_of n.location n.hands_on n.assertions) };
+        × AllValid n.accepted (schema_of n.location n.hands_on n.assertions)
+        × SchemaBegins n.begun n.assertions };
 
     ghost size = { height };
 
@@ -102,6 +106,7 @@ impl<F: Json> SchemaNode<F> {
             hands_on: false,
             hands_on_any: false,
             accepted,
+            begun: BegunUnits::none(),
             assertions,
         }
     }
@@ -118,11 +123,13 @@ impl<F: Json> SchemaNode<F> {
     {
         let hands_on_any = hands_on || some_unit_hands_on(units.as_slice());
         let accepted = quick_set_of(units.as_slice());
+        let begun = begun_units(units.as_slice());
         SchemaNode {
             location,
             hands_on,
             hands_on_any,
             accepted,
+            begun,
             assertions: Assertions::Keywords(units),
         }
     }
@@ -167,14 +174,23 @@ impl<F: Json> SchemaNode<F> {
         }
     }
 
-    // Counts one application of the schema, and returns its units, or `None` for `false`.
-    fn apply(&self, ctx: &mut ValidationContext) -> Option<&[Unit<F>]>
-        ensures units { HasUnits self.now result }
+    // Counts one application of the schema, and returns the units that are not known to hold of the
+    // instance, or `None` for `false`.
+    fn apply(&self, instance: &F::Node, ctx: &mut ValidationContext) -> Option<&[Unit<F>]>
+        ensures units { LeftUnits self.now (F.Node.tree instance.now) result }
         ensures applied { min (ctx.old + 1) u64.MAX ≤ ctx.new }
         ensures counted { CountsUpTo ctx.old ctx.new 1 }
     {
         ctx.count_one();
-        self.units()
+        let units = match &self.assertions {
+            Assertions::Never => return None,
+            Assertions::Keywords(units) => units.as_slice(),
+        };
+        if self.begun.count > 0 && self.begun.outline.contains(instance) {
+            Some(&units[self.begun.count..])
+        } else {
+            Some(units)
+        }
     }
 
     // Returns whether the instance is known to be valid without a look at the keywords.
@@ -252,12 +268,12 @@ impl<F: Json> SchemaNode<F> {
         ensures applied { min (ctx.old + 1) u64.MAX ≤ ctx.new }
         ensures counted { CountsUpTo ctx.old ctx.new (needed self.now (F.Node.tree instance.now)) }
     {
-        let Some(units) = self.apply(ctx) else {
+        let Some(units) = self.apply(instance, ctx) else {
             return false;
         };
-        match only_shape(units) {
-            Some(shape) => shape.is_valid(instance, ctx),
-            None => units_are_valid(units, instance, ctx),
+        match units {
+            [unit] => unit.is_valid(instance, ctx),
+            _ => units_are_valid(units, instance, ctx),
         }
     }
 
@@ -371,7 +387,7 @@ impl<F: Json> SchemaNode<F> {
         ensures counted { CountsUpTo ctx.old ctx.new
             (applications (wants_all report.old) self.now (F.Node.tree instance.now)) }
     {
-        let Some(units) = self.apply(ctx) else {
+        let Some(units) = self.apply(instance, ctx) else {
             let kind = ValidationErrorKind::FalseSchema;
             return report_error(kind, self.location(), instance, location, report);
         };
@@ -441,7 +457,8 @@ impl<F: Json> SchemaNode<F> {
         ensures applied { min (ctx.old + 1) u64.MAX ≤ ctx.new }
         ensures counted { CountsUpTo ctx.old ctx.new (pairs self.now (F.Node.tree instance.now)) }
     {
-        let Some(units) = self.apply(ctx) else {
+        ctx.count_one();
+        let Some(units) = self.units() else {
             return evaluate_refusal::<F>(alloc, self.location(), instance, location);
         };
         let path = location.render()?;

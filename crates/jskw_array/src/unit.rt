@@ -1,14 +1,16 @@
 //! The units of a schema: its keywords in order, where the first four may be one unit, and the
 //! walks over them.
 ghost use Rattle.std.specs.Prelude.{◌≡◌, ◌++◌};
-ghost use Rattle.jskw_array.specs.Words.{CountsUpTo, Extends, IfOk, IfSome, IsShape, IsTrue};
-ghost use Rattle.jskw_array.specs.Words.{Reports, Tree, absorbed_by, all_applications, all_fail};
-ghost use Rattle.jskw_array.specs.Words.{all_hand_on, all_hold, all_needed, all_pairs, is_in};
+ghost use Rattle.jskw_array.specs.Words.{BeginsWith, CountsUpTo, Extends, IfOk, IfSome, IsShape};
+ghost use Rattle.jskw_array.specs.Words.{IsTrue, Reports, Tree, absorbed_by, all_applications};
+ghost use Rattle.jskw_array.specs.Words.{all_fail, all_hand_on, all_hold, all_needed, all_pairs};
+ghost use Rattle.jskw_array.specs.Words.{in_outline, is_in};
 ghost use Rattle.jskw_array.specs.Words.{is_lawful, is_shape, is_some, keywords_of, meaning_holds};
 ghost use Rattle.jskw_array.specs.Words.{path_of, shape_keywords, true, unit_hands_on};
 ghost use Rattle.jskw_array.specs.Words.{unit_location, unit_meaning, units as units_of, wants_all};
 
 use crate::items::ArrayShapeValidator;
+use crate::outline::Outline;
 use crate::validator::Validator;
 use jskw_number::QuickSet;
 use jskw_report::{
@@ -135,6 +137,17 @@ impl<F: Json> Unit<F> {
         }
     }
 
+    // Returns arrays and objects of which the unit holds, whatever their items and members are.
+    fn outline(&self) -> Outline
+        ensures { (t : Tree) → in_outline result t ≡ true
+            → meaning_holds (unit_meaning self.now) t ≡ true }
+    {
+        match self {
+            Unit::Keyword(keyword) => keyword.validator.outline(),
+            Unit::Shape(_) => Outline::none(),
+        }
+    }
+
     // Returns whether the `required` of a subschema is handed on.
     fn hands_on_required(&self) -> bool
         ensures { result ≡ unit_hands_on self.now }
@@ -143,17 +156,6 @@ impl<F: Json> Unit<F> {
             Unit::Keyword(keyword) => keyword.validator.hands_on_required(),
             Unit::Shape(shape) => shape.items.validator.hands_on_required(),
         }
-    }
-}
-
-// Returns the fused shape, if it is the only unit.
-#[inline(always)]
-pub(crate) fn only_shape<F: Json>(units: &[Unit<F>]) -> Option<&ArrayShapeValidator<F>>
-    ensures { IfSome result (λ v. keywords_of units.now ≡ shape_keywords v.now) }
-{
-    match units {
-        [unit] => unit.shape(),
-        _ => None,
     }
 }
 
@@ -250,4 +252,46 @@ pub(crate) fn quick_set_of<F: Json>(units: &[Unit<F>]) -> QuickSet
         accepted = accepted.and(unit.quick_set());
     }
     accepted
+}
+
+// The first units of a schema, and arrays and objects of which they hold, whatever the items and
+// members are.
+#[derive(Clone, Copy)]
+pub(crate) struct BegunUnits {
+    pub(crate) count: usize,
+    pub(crate) outline: Outline,
+}
+
+impl BegunUnits {
+    // No units.
+    pub(crate) fn none() -> BegunUnits
+        ensures { result.count ≡ 0 }
+    {
+        BegunUnits {
+            count: 0,
+            outline: Outline::all(),
+        }
+    }
+}
+
+// Returns the first units that hold of some arrays with items, or of all objects, whatever the items
+// and members are; none if there is one unit at most.
+pub(crate) fn begun_units<F: Json>(units: &[Unit<F>]) -> BegunUnits
+    ensures { BeginsWith result units.now }
+{
+    let mut begun = BegunUnits::none();
+    if units.len() < 2 {
+        return begun;
+    }
+    for unit in units {
+        let outline = begun.outline.and(unit.outline());
+        if outline.is_trivial() {
+            return begun;
+        }
+        begun = BegunUnits {
+            count: begun.count + 1,
+            outline,
+        };
+    }
+    begun
 }

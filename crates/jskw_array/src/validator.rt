@@ -1,8 +1,8 @@
 //! The validators of all keywords as one type.
 ghost use Rattle.std.specs.Prelude.{◌≡◌};
-ghost use Rattle.jskw_array.specs.Words.{Accepts, CountsUpTo, IsTrue, is_lawful, items};
-ghost use Rattle.jskw_array.specs.Words.{keyword_hands_on, keyword_holds, keyword_needed, length};
-ghost use Rattle.jskw_array.specs.Words.{one, validator_keyword};
+ghost use Rattle.jskw_array.specs.Words.{Accepts, CountsUpTo, IsTrue, Tree, in_outline, is_lawful};
+ghost use Rattle.jskw_array.specs.Words.{items, keyword_hands_on, keyword_holds, keyword_needed};
+ghost use Rattle.jskw_array.specs.Words.{length, one, true, validator_keyword};
 
 use crate::additional_items::AdditionalItemsBooleanValidator;
 use crate::each::Each;
@@ -11,9 +11,10 @@ use crate::items::{
 };
 use crate::matching::Matching;
 use crate::node::some_hands_on;
+use crate::outline::Outline;
 use crate::rest::Rest;
 use jskw_leaf::LeafValidator;
-use jskw_number::QuickSet;
+use jskw_number::{NumberValidator, QuickSet};
 use jskw_report::{EvaluationResult, LazyLocation, Report, Stop, Validate, ValidationContext};
 use jskw_value::Json;
 use std::alloc::{AllocError, Global};
@@ -126,6 +127,24 @@ impl<F: Json> Validator<F> {
         match self {
             Validator::Leaf(v) => v.quick_set(),
             _ => QuickSet::but_arrays(),
+        }
+    }
+
+    // Returns arrays and objects that the keyword accepts, whatever their items and members are.
+    pub(crate) fn outline(&self) -> Outline
+        ensures { (t : Tree) → in_outline result t ≡ true
+            → keyword_holds (validator_keyword self.now) t ≡ true }
+    {
+        match self {
+            Validator::Leaf(LeafValidator::Number(NumberValidator::MinItems(v))) => {
+                Outline::between(v.limit(), u64::MAX)
+            }
+            Validator::Leaf(LeafValidator::Number(NumberValidator::MaxItems(v))) => {
+                Outline::between(0, v.limit())
+            }
+            Validator::Rest(v) => Outline::between(0, v.start as u64),
+            Validator::AdditionalItemsBoolean(v) => Outline::between(0, v.items_count as u64),
+            _ => Outline::of(self.quick_set()),
         }
     }
 

@@ -1,9 +1,9 @@
 //! Times a compile, the observers of a schema, and the loop written by hand that goes with it.
 use crate::by_hand;
-use crate::timing::{Instance, Row, Timing, fastest, time_test};
+use crate::timing::{COPIES, Instance, Row, Timing, fastest, time_test};
 use jskw_array::SchemaNode;
 use jskw_array::compiler::compile;
-use jskw_report::{Context, LazyLocation, Settings, ValidationContext};
+use jskw_report::{Context, LazyLocation, Settings, ValidationContext, ValidationError};
 use jskw_value::{Node, SerdeJson};
 use serde_json::Value;
 use std::alloc::Global;
@@ -64,29 +64,69 @@ pub(crate) fn time_others(
     row: &mut Row,
 ) -> io::Result<()> {
     let alloc = rt.alloc();
-    let validate = time_test(rt, span, instances, |i| has_no_first(alloc, node, i))?;
-    row.add_answer(validate)?;
-    let collect = time_test(rt, span, instances, |i| has_no_errors(alloc, node, i))?;
-    row.add_answer(collect)?;
+    let validate = |rounds: usize| accepted::<false>(alloc, rounds, instances, node);
+    row.add_answer(fastest(rt, span, COPIES, validate)?)?;
+    let collect = |rounds: usize| accepted::<true>(alloc, rounds, instances, node);
+    row.add_answer(fastest(rt, span, COPIES, collect)?)?;
     let evaluate = time_test(rt, span, instances, |i| is_evaluated(alloc, node, i))?;
     row.add_answer(evaluate)?;
     row.add(time_test(rt, span, instances, |i| i.value.is_lawful())?)?;
     Ok(())
 }
 
-fn has_no_first(alloc: Global, node: &SchemaNode<SerdeJson>, instance: &Instance) -> bool {
+// Returns how many calls accept their instance, in so many rounds over the instances: of
+// `collect_errors` if `ALL`, else of `validate`. The location and the list of errors are made once,
+// as by a caller that makes many calls.
+fn accepted<'i, const ALL: bool>(
+    alloc: Global,
+    rounds: usize,
+    instances: &'i [Instance],
+    node: &'i SchemaNode<SerdeJson>,
+) -> usize {
     let mut location = LazyLocation::new(alloc);
-    let mut ctx = ValidationContext::new();
-    node.validate(&instance.value, &mut location, &mut ctx)
-        .is_ok()
+    let mut errors = Vec::new(alloc);
+    let mut count = 0usize;
+    for _ in 0..rounds {
+        let first = count;
+        for step in 0..COPIES {
+            let Some(instance) = instances.get(first.wrapping_add(step) % COPIES) else {
+                continue;
+            };
+            let accepts = if ALL {
+                has_no_errors(node, instance, &mut location, &mut errors)
+            } else {
+                has_no_first(node, instance, &mut location)
+            };
+            if accepts {
+                count = count.wrapping_add(1);
+            }
+        }
+    }
+    count
 }
 
-fn has_no_errors(alloc: Global, node: &SchemaNode<SerdeJson>, instance: &Instance) -> bool {
-    let mut location = LazyLocation::new(alloc);
+#[inline(always)]
+fn has_no_first(
+    node: &SchemaNode<SerdeJson>,
+    instance: &Instance,
+    location: &mut LazyLocation,
+) -> bool {
     let mut ctx = ValidationContext::new();
-    let mut errors = Vec::new(alloc);
-    let collected = node.collect_errors(&instance.value, &mut location, &mut ctx, &mut errors);
-    collected.is_ok() && errors.is_empty()
+    node.validate(&instance.value, location, &mut ctx).is_ok()
+}
+
+#[inline(always)]
+fn has_no_errors<'i>(
+    node: &'i SchemaNode<SerdeJson>,
+    instance: &'i Instance,
+    location: &mut LazyLocation,
+    errors: &mut Vec<ValidationError<'i, SerdeJson>>,
+) -> bool {
+    let mut ctx = ValidationContext::new();
+    let collected = node.collect_errors(&instance.value, location, &mut ctx, errors);
+    let accepts = collected.is_ok() && errors.is_empty();
+    errors.clear();
+    accepts
 }
 
 fn is_evaluated(alloc: Global, node: &SchemaNode<SerdeJson>, instance: &Instance) -> bool {

@@ -10,7 +10,7 @@ use std::io;
 use std::time::Instant;
 
 // The number of equal instances. There are several, so that no two calls in a row are the same.
-const COPIES: usize = 4;
+pub(crate) const COPIES: usize = 4;
 
 // The largest number of batches that are timed.
 const BATCHES: usize = 30;

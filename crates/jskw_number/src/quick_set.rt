@@ -4,7 +4,8 @@ ghost use Rattle.std.specs.Prelude.{◌≡◌, ◌≤◌, ◌+◌, ◌&&◌, ◌
 ghost use Rattle.std.specs.Prelude.{drop, length};
 ghost use Rattle.std.specs.Int.NonZero.{non_zero_u64_get};
 ghost use Rattle.jskw_value.specs.Number.{Num, is_exact, is_multiple_of};
-ghost use Rattle.jskw_value.specs.Tree.{Tree, is_array, is_lawful, is_object, items, number};
+ghost use Rattle.jskw_value.specs.Tree.{Items, Members, Tree, array, is_array, is_lawful};
+ghost use Rattle.jskw_value.specs.Tree.{is_object, items, number, object};
 ghost use Rattle.jskw_value.specs.Types.{contains as has_type};
 ghost use Rattle.jskw_value.specs.declared.types.JsonType.TheVariants.{Integer, Number};
 ghost use Rattle.jskw_report.specs.Holds.{is_of};
@@ -263,6 +264,20 @@ impl QuickSet {
             JsonType::String => self.strings,
             JsonType::Integer | JsonType::Number => false,
         }
+    }
+
+    /// Returns whether all arrays are in the set; if not, none is.
+    pub fn has_arrays(&self) -> bool
+        ensures { (ts : Items) → is_in self.now (array ts) ≡ result }
+    {
+        self.arrays
+    }
+
+    /// Returns whether all objects are in the set; if not, none is.
+    pub fn has_objects(&self) -> bool
+        ensures { (ms : Members) → is_in self.now (object ms) ≡ result }
+    {
+        self.objects
     }
 
     // Returns the index behind the first items from `start` on that are integers of the set. A loop of

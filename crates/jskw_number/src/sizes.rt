@@ -77,6 +77,13 @@ impl<const OF_ARRAYS: bool, const IS_LEAST: bool> SizeLimit<OF_ARRAYS, IS_LEAST>
         Ok(SizeLimit { limit, location })
     }
 
+    /// Returns the bound.
+    pub fn limit(&self) -> u64
+        ensures { result ≡ self.now.limit }
+    {
+        self.limit
+    }
+
     // Returns whether `count` is within the bound.
     fn allows(&self, count: u64) -> bool
         ensures { result ≡ is_within IS_LEAST self.now.limit count }

@@ -206,32 +206,32 @@ unit::UnitValidate::evaluate-evaluate-requires-in-Shape g t c κs within =
 
 pub node::SchemaNode::evaluate_instance_below-evaluate_units-requires : goal.node::SchemaNode::evaluate_instance_below-evaluate_units-requires
 node::SchemaNode::evaluate_instance_below-evaluate_units-requires g t c κs within =
-    let below = schema_height c.args.self.now c.in-Some.units c.in-Some.ensures.units in
+    let below = schema_height c.args.self.now c.in-Some.units c.in-Some.ensures in
     (omega (arith, below, c.decreases), search (rules, c.in_ok-path.ensures))
 
 pub node::SchemaNode::evaluate_instance_below-returns-in_err-path-clause-counted : goal.node::SchemaNode::evaluate_instance_below-returns-in_err-path-clause-counted
 node::SchemaNode::evaluate_instance_below-returns-in_err-path-clause-counted g t c =
     let one = one_pair c.args.self.now (g.F.Node.Rooted.tree c.args.instance.now) in
-    let counted = c.apply.ensures.counted in
+    let counted = c.count_one.ensures.counted in
     record { from = counted.from; to = omega (arith, one, counted.to) }
 
 pub node::SchemaNode::evaluate_instance_below-returns-in_err-evaluate_units-clause-applied : goal.node::SchemaNode::evaluate_instance_below-returns-in_err-evaluate_units-clause-applied
-node::SchemaNode::evaluate_instance_below-returns-in_err-evaluate_units-clause-applied g t c = le_trans c.apply.ensures.applied c.in_err-evaluate_units.ensures.counted.from
+node::SchemaNode::evaluate_instance_below-returns-in_err-evaluate_units-clause-applied g t c = le_trans c.count_one.ensures.applied c.in_err-evaluate_units.ensures.counted.from
 
 pub node::SchemaNode::evaluate_instance_below-returns-in_err-evaluate_units-clause-counted : goal.node::SchemaNode::evaluate_instance_below-returns-in_err-evaluate_units-clause-counted
 node::SchemaNode::evaluate_instance_below-returns-in_err-evaluate_units-clause-counted g t c =
-    let whole = schema_pairs c.args.self.now c.in-Some.units c.in-Some.ensures.units (g.F.Node.Rooted.tree c.args.instance.now) in
-    let first = c.apply.ensures.counted in
+    let whole = schema_pairs c.args.self.now c.in-Some.units c.in-Some.ensures (g.F.Node.Rooted.tree c.args.instance.now) in
+    let first = c.count_one.ensures.counted in
     let rest = c.in_err-evaluate_units.ensures.counted in
     record { from = omega (arith, first.from, rest.from); to = omega (arith, whole, first.to, rest.to) }
 
 pub node::SchemaNode::evaluate_instance_below-returns-clause-applied : goal.node::SchemaNode::evaluate_instance_below-returns-clause-applied
-node::SchemaNode::evaluate_instance_below-returns-clause-applied g t c = le_trans c.apply.ensures.applied c.in_ok-evaluate_units.ensures.counted.from
+node::SchemaNode::evaluate_instance_below-returns-clause-applied g t c = le_trans c.count_one.ensures.applied c.in_ok-evaluate_units.ensures.counted.from
 
 pub node::SchemaNode::evaluate_instance_below-returns-clause-counted : goal.node::SchemaNode::evaluate_instance_below-returns-clause-counted
 node::SchemaNode::evaluate_instance_below-returns-clause-counted g t c =
-    let whole = schema_pairs c.args.self.now c.in-Some.units c.in-Some.ensures.units (g.F.Node.Rooted.tree c.args.instance.now) in
-    let first = c.apply.ensures.counted in
+    let whole = schema_pairs c.args.self.now c.in-Some.units c.in-Some.ensures (g.F.Node.Rooted.tree c.args.instance.now) in
+    let first = c.count_one.ensures.counted in
     let rest = c.in_ok-evaluate_units.ensures.counted in
     record { from = omega (arith, first.from, rest.from); to = omega (arith, whole, first.to, rest.to) }
 
@@ -240,7 +240,7 @@ node::SchemaNode::evaluate_instance_below-returns-clause-gives g t c =
     let instance = g.F.Node.Rooted.tree c.args.instance.now in
     let p = path_of c.args.location.now in
     let s = c.args.self.now in
-    let whole = schema_tree s c.in-Some.units c.in-Some.ensures.units instance p in
+    let whole = schema_tree s c.in-Some.units c.in-Some.ensures instance p in
     let children = c.in_ok-evaluate_units.ensures.gives ∙ ap (λ es. es ++ units (keywords_of c.in-Some.units.now) instance p) c.new-children.ensures.items in
     let result = c.from_children-result.ensures ∙ ap (of_children None) children in
     let is = ap (λ q. node_at q c.in_ok-path.path (result_of c.from_children-result.result)) c.location-2.ensures ∙ ap₂ (node_at (schema_location s)) c.in_ok-path.ensures result ∙ sym whole in
@@ -250,5 +250,5 @@ pub node::SchemaNode::evaluate_instance_below-returns-in_default-clause-gives : 
 node::SchemaNode::evaluate_instance_below-returns-in_default-clause-gives g t c =
     let instance = g.F.Node.Rooted.tree c.args.instance.now in
     let p = path_of c.args.location.now in
-    let is = ap (λ q. tree (false_schema q) instance p) c.location.ensures ∙ sym (false_tree c.args.self.now c.in_default.ensures.units instance p) in
+    let is = ap (λ q. tree (false_schema q) instance p) c.location.ensures ∙ sym (false_tree c.args.self.now c.in_default.ensures instance p) in
     subst (λ x. IfOk c.evaluate_refusal.result (λ node. node ≡ x)) is c.evaluate_refusal.ensures

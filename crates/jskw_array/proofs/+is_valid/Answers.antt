@@ -2,7 +2,8 @@ use Rattle.std.proofs.Common.{rules, ◌≡◌, ◌∙◌, ◌+◌, ◌-◌, ◌
 use Rattle.jskw_array.specs.Words.{all_height, all_hold, all_needed, holds, items, keywords_of, list_all, meaning_holds, meaning_needed, needed, shape_keywords, sum_to_failure, unit_meaning}
 use Rattle.jskw_array.specs.Heights.{each_is_as_high, rest_is_as_high}
 use Rattle.jskw_array.proofs.Accepted.{counted_within, one_needed}
-use Rattle.jskw_array.proofs.Keywords.{hold_at, items_height, needed_at, schema_height, schema_holds, schema_needs, unit_height, unit_tall}
+use Rattle.jskw_array.proofs.Begun.{only_holds, only_lower, only_needs}
+use Rattle.jskw_array.proofs.Keywords.{hold_at, items_height, needed_at, unit_height, unit_tall}
 use Rattle.jskw_array.proofs.Meant.{each_holds_of, each_needs, rest_holds_of, rest_needs}
 use Rattle.jskw_array.proofs.Meetings.{each_holds_end, height_at, until_at}
 use Rattle.jskw_array.proofs.Taken.{drop_behind, each_taken_holds, each_taken_needed, taken_holds, taken_needed}
@@ -159,25 +160,34 @@ node::SchemaNode::is_valid-returns-then-accepts-clause-counted g t c =
 
 pub node::SchemaNode::keywords_are_valid-units_are_valid-requires : goal.node::SchemaNode::keywords_are_valid-units_are_valid-requires
 node::SchemaNode::keywords_are_valid-units_are_valid-requires g t c κs within =
-    let below = schema_height c.args.self.now c.in-Some.units c.in-Some.ensures.units in
-    (omega (arith, below, c.decreases), search rules)
+    let left = c.in-Some.ensures.units in
+    (omega (arith, left.lower, c.decreases), search rules)
 
 pub node::SchemaNode::keywords_are_valid-is_valid-requires : goal.node::SchemaNode::keywords_are_valid-is_valid-requires
 node::SchemaNode::keywords_are_valid-is_valid-requires g t c κs within =
-    let below = schema_height c.args.self.now c.in-Some.units c.in-Some.ensures.units in
-    let whole = ap all_height c.in-Some-only_shape.ensures in
-    (omega (arith, below, whole, items_height c.in-Some-only_shape.shape.now, c.decreases), search rules)
+    let left = c.in-Some.ensures.units in
+    let below = only_lower c.in-Some.units.now _ _ c.in-len1.len_at_least c.in-len1.len_below c.unit-item.is in
+    (omega (arith, left.lower, below, c.decreases), search rules)
 
-pub node::SchemaNode::keywords_are_valid-returns-in-Some-only_shape-clause-answer : goal.node::SchemaNode::keywords_are_valid-returns-in-Some-only_shape-clause-answer
-node::SchemaNode::keywords_are_valid-returns-in-Some-only_shape-clause-answer g t c =
-    let u = g.F.Node.Rooted.tree c.args.instance.now in
-    let whole = schema_holds c.args.self.now c.in-Some.units c.in-Some.ensures.units u ∙ ap (λ ks. all_hold ks u) c.in-Some-only_shape.ensures in
-    c.is_valid.ensures.answer ∙ sym whole
+pub node::SchemaNode::keywords_are_valid-returns-in-len1-clause-answer : goal.node::SchemaNode::keywords_are_valid-returns-in-len1-clause-answer
+node::SchemaNode::keywords_are_valid-returns-in-len1-clause-answer g t c =
+    let only = only_holds c.in-Some.units.now _ _ c.in-len1.len_at_least c.in-len1.len_below c.unit-item.is (g.F.Node.Rooted.tree c.args.instance.now) in
+    c.is_valid.ensures.answer ∙ sym (c.in-Some.ensures.units.answer ∙ only)
 
-pub node::SchemaNode::keywords_are_valid-returns-in-Some-only_shape-clause-counted : goal.node::SchemaNode::keywords_are_valid-returns-in-Some-only_shape-clause-counted
-node::SchemaNode::keywords_are_valid-returns-in-Some-only_shape-clause-counted g t c =
-    let u = g.F.Node.Rooted.tree c.args.instance.now in
-    let whole = schema_needs c.args.self.now c.in-Some.units c.in-Some.ensures.units u ∙ ap (λ ks. 1 + all_needed ks u) c.in-Some-only_shape.ensures in
+pub node::SchemaNode::keywords_are_valid-returns-in-len1-clause-counted : goal.node::SchemaNode::keywords_are_valid-returns-in-len1-clause-counted
+node::SchemaNode::keywords_are_valid-returns-in-len1-clause-counted g t c =
+    let only = only_needs c.in-Some.units.now _ _ c.in-len1.len_at_least c.in-len1.len_below c.unit-item.is (g.F.Node.Rooted.tree c.args.instance.now) in
+    let whole = c.in-Some.ensures.units.applied false in
     let first = c.apply.ensures.counted in
     let rest = c.is_valid.ensures.counted in
+    record { from = omega (arith, first.from, rest.from); to = omega (arith, whole, only, first.to, rest.to) }
+
+pub node::SchemaNode::keywords_are_valid-returns-in_default-units-clause-answer : goal.node::SchemaNode::keywords_are_valid-returns-in_default-units-clause-answer
+node::SchemaNode::keywords_are_valid-returns-in_default-units-clause-answer g t c = c.units_are_valid.ensures.answer ∙ sym c.in-Some.ensures.units.answer
+
+pub node::SchemaNode::keywords_are_valid-returns-in_default-units-clause-counted : goal.node::SchemaNode::keywords_are_valid-returns-in_default-units-clause-counted
+node::SchemaNode::keywords_are_valid-returns-in_default-units-clause-counted g t c =
+    let whole = c.in-Some.ensures.units.applied false in
+    let first = c.apply.ensures.counted in
+    let rest = c.units_are_valid.ensures.counted in
     record { from = omega (arith, first.from, rest.from); to = omega (arith, whole, first.to, rest.to) }

@@ -4,12 +4,12 @@ use Rattle.jskw_report.proofs.Appended.{fail_appended}
 use Rattle.jskw_report.proofs.Reporting.{Reported, reported_all, reported_nothing, reports_begun, reports_behind, reports_memory, reports_none}
 use Rattle.jskw_array.specs.Heights.{each_is_as_high, rest_is_as_high}
 use Rattle.jskw_array.proofs.Accepted.{counted_within, no_errors}
-use Rattle.jskw_array.proofs.Keywords.{fail_at, items_height, items_keywords, keywords_end, schema_fails, schema_height, unit_height, unit_tall}
+use Rattle.jskw_array.proofs.Keywords.{fail_at, items_height, items_keywords, keywords_end, unit_height, unit_tall}
 use Rattle.jskw_array.proofs.Meant.{absurd-of, each_fails_of, each_no_assertion, rest_fails_of, rest_no_assertion}
 use Rattle.jskw_leaf.proofs.Walks.{entered, fails_at}
 use Rattle.jskw_array.proofs.Meetings.{each_fails_at, each_fails_end, height_at}
 use Rattle.jskw_array.proofs.Taken.{drop_behind, each_taken_fails, taken_fails}
-use Rattle.jskw_array.proofs.Walk.{each_applied, each_item_applied, each_item_passed, each_taken_applied, item_applied, item_passed, items_applications, one_applied, rest_applied, schema_applied, taken_applied, unit_applied, unit_passed, walk_counted, walk_on, walk_stopped}
+use Rattle.jskw_array.proofs.Walk.{each_applied, each_item_applied, each_item_passed, each_taken_applied, item_applied, item_passed, items_applications, one_applied, rest_applied, taken_applied, unit_applied, unit_passed, walk_counted, walk_on, walk_stopped}
 use Rattle.jskw_array.proofs.+report.Goals as goal
 
 -- ---- an item
@@ -284,18 +284,17 @@ items::array_shape::ArrayShapeValidatorValidate::report_errors-returns-clause-re
 
 pub node::SchemaNode::report_errors-report_units-requires : goal.node::SchemaNode::report_errors-report_units-requires
 node::SchemaNode::report_errors-report_units-requires g t c κs within =
-    let below = schema_height c.args.self.now c.in-Some.units c.in-Some.ensures.units in
-    (omega (arith, below, c.decreases), search rules)
+    let left = c.in-Some.ensures.units in
+    (omega (arith, left.lower, c.decreases), search rules)
 
 pub node::SchemaNode::report_errors-returns-clause-reported : goal.node::SchemaNode::report_errors-returns-clause-reported
 node::SchemaNode::report_errors-returns-clause-reported g t c =
-    let tree = g.F.Node.Rooted.tree in
-    let whole = schema_fails c.args.self.now c.in-Some.units c.in-Some.ensures.units (tree c.args.instance.now) (path_of c.args.location.now) in
-    subst (λ fs. Reports tree c.args.report.now c.report_units.new.report fs c.report_units.result) (sym whole) c.report_units.ensures.reported
+    let whole = c.in-Some.ensures.units.errors (path_of c.args.location.now) in
+    subst (λ fs. Reports g.F.Node.Rooted.tree c.args.report.now c.report_units.new.report fs c.report_units.result) (sym whole) c.report_units.ensures.reported
 
 pub node::SchemaNode::report_errors-returns-clause-counted : goal.node::SchemaNode::report_errors-returns-clause-counted
 node::SchemaNode::report_errors-returns-clause-counted g t c =
-    let whole = schema_applied c.args.self.now c.in-Some.units c.in-Some.ensures.units (g.F.Node.Rooted.tree c.args.instance.now) (wants_all c.args.report.now) in
+    let whole = c.in-Some.ensures.units.applied (wants_all c.args.report.now) in
     let first = c.apply.ensures.counted in
     let rest = c.report_units.ensures.counted in
     record { from = omega (arith, first.from, rest.from); to = omega (arith, whole, first.to, rest.to) }

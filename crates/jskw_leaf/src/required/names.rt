@@ -148,7 +148,7 @@ impl<F: Json> Names<F> for FewNames<F> {
 
     fn contains(&self, text: &str) -> bool {
         for name in &self.names {
-            if text == name.as_str() {
+            if name.is(text) {
                 return true;
             }
         }

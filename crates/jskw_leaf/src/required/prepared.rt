@@ -43,6 +43,16 @@ impl<F: Json> PreparedName<F> {
         self.name.as_str()
     }
 
+    // Returns whether the name is this text. Most names differ in length; the bytes of the others are
+    // compared by a call, so that what it prepares is not done for every member.
+    #[inline(always)]
+    pub(crate) fn is(&self, text: &str) -> bool
+        ensures { result ≡ bytes_eq text.now self.now }
+    {
+        let name = self.as_str();
+        text.len() == name.len() && is_same(text, name)
+    }
+
     // Returns whether the name is this text. `head` must be the head of the text: a caller that
     // compares it with many names computes the head once.
     pub(crate) fn matches(&self, head: KeyHead, text: &str) -> bool
@@ -59,4 +69,12 @@ impl<F: Json> PreparedName<F> {
     {
         object.get(&self.key).is_some()
     }
+}
+
+// Returns whether the texts are equal.
+#[inline(never)]
+fn is_same(text: &str, other: &str) -> bool
+    ensures { result ≡ bytes_eq text.now other.now }
+{
+    text == other
 }

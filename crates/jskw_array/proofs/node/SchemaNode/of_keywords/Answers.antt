@@ -1,5 +1,5 @@
 use Rattle.std.proofs.Common.{◌≡◌, ◌∙◌, ◌||◌, true, ap, sym, subst}
-use Rattle.jskw_array.specs.Words.{Tree, all_hand_on, all_hold, is_in, keywords_of}
+use Rattle.jskw_array.specs.Words.{BeginsWith, Tree, all_hand_on, all_hold, is_in, keywords_of}
 use Rattle.jskw_array.proofs.node.SchemaNode.of_keywords.Goals as goal
 use Rattle.jskw_array.proofs.node.SchemaNode.of_keywords.Goals.{then-hands_on, else-hands_on}
 
@@ -14,4 +14,5 @@ invariant_of-result g c =
             ∙ sym (ap (λ b. b || others) w.if-hands_on.false)
       ],
       subst (λ us. (t : Tree) → is_in accepted t ≡ true → all_hold (keywords_of us) t ≡ true) c.as_slice-2.ensures.value c.quick_set_of-accepted.ensures,
+      subst (λ us. BeginsWith c.begun_units-begun.result us) c.as_slice-3.ensures.value c.begun_units-begun.ensures,
     )
