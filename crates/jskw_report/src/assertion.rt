@@ -11,7 +11,7 @@ ghost use Rattle.jskw_report.specs.Meaning.{Placed, placed, one};
 ghost use Rattle.jskw_report.specs.Observe.{Reports, failures_unless};
 ghost use Rattle.jskw_report.specs.Paths.{path_of};
 
-use crate::error::{Stop, ValidationErrorKind};
+use crate::error::{Stop, ValidationError, ValidationErrorKind};
 use crate::evaluation::EvaluationResult;
 use crate::paths::{LazyLocation, Location};
 use crate::report::Report;
@@ -66,12 +66,13 @@ impl<F: Json, A: Assertion> Validate<F> for A {
         report_assertion(self, instance, location, report)
     }
 
+    // The body that the trait has: the checker does not take that over for every type at once.
     fn collect_errors<'i>(
         &'i self,
         instance: &'i F::Node,
         location: &mut LazyLocation,
         ctx: &mut ValidationContext,
-        errors: &mut Vec<crate::error::ValidationError<'i, F>>,
+        errors: &mut Vec<ValidationError<'i, F>>,
     ) -> Result<(), AllocError> {
         let mut report = Report::behind(errors);
         let reported = Validate::<F>::report_errors(self, instance, location, ctx, &mut report);

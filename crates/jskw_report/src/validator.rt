@@ -194,6 +194,11 @@ pub trait Validate<F: Json> {
 }
 
 /// Adds the error that is made of the other arguments to `report`.
+///
+/// # Errors
+///
+/// - [`Stop::Invalid`] if no other error is wanted.
+/// - [`Stop::Memory`] if memory runs out. The report is unchanged then.
 pub fn report_error<'i, F: Json>(
     kind: ValidationErrorKind<'i>,
     schema_path: &'i Location,

@@ -1,8 +1,15 @@
 //! A representation of the rows: its nodes count how often they are asked whether they are null, and
-//! its objects have their members by place.
+//! its objects have their members by place. Calls over it.
 ghost use Rattle.std.specs.Prelude.{string_bytes};
 ghost use Rattle.jskw_rows.specs.Asks.{asked_tree};
 
+use crate::answer::push_compiled;
+use crate::calls::{Given, UNKNOWN};
+use crate::error_lines::Lines;
+use crate::stop::Made;
+use jskw_array::SchemaNode;
+use jskw_array::compiler::compile;
+use jskw_report::{Context, Fault, LazyLocation, ValidationContext};
 use jskw_value::{Array, Decimal, Json, JsonType, Node, Object, Rooted, Walk};
 use serde_json::Value;
 use std::alloc::{AllocError, Global};
@@ -24,7 +31,7 @@ pub(crate) struct AskedJson;
 
 impl Asked {
     /// Returns the array of a value that is one, with its arrays below; or else null.
-    pub(crate) fn of(alloc: Global, value: &Value) -> Result<Asked, AllocError> {
+    pub(crate) fn of(alloc: Global, value: &Value) -> Made<Asked> {
         let Value::Array(items) = value else {
             return Ok(Asked::Null(Cell::new(0)));
         };
@@ -169,7 +176,80 @@ impl Json for AskedJson {
 
     const KEYS_PER_LOOKUP: usize = 1;
 
-    fn prepare_key(alloc: Global, name: &str) -> Result<String, AllocError> {
+    fn prepare_key(alloc: Global, name: &str) -> Made<String> {
         String::from_str(alloc, name)
     }
+}
+
+// How often each observer of a schema asks, if one asks more often than it may: `is_valid` and
+// `validate` up to the first failure, the others in all; asked once, and once more.
+pub(crate) fn counted(lines: &mut Lines, given: Given<'_>, arguments: &[Value]) -> Made<()> {
+    let [schema, tree, until_first, of_all] = arguments else {
+        return lines.text.push_str(UNKNOWN);
+    };
+    let (Some(until_first), Some(of_all)) = (until_first.as_u64(), of_all.as_u64()) else {
+        return lines.text.push_str(UNKNOWN);
+    };
+    let ctx: Context<AskedJson> = Context::new(lines.alloc, given.settings);
+    let compiled = compile(lines.alloc, &ctx, schema);
+    let tree = Asked::of(lines.alloc, tree)?;
+    let asked = (tree, [until_first, until_first, of_all, of_all]);
+    push_compiled(lines, Some(compiled), &asked, push_counts)
+}
+
+fn push_counts(
+    lines: &mut Lines,
+    node: &SchemaNode<AskedJson>,
+    (tree, most): &(Asked, [u64; 4]),
+) -> Made<()> {
+    for time in &["once", "once more"] {
+        let counts = counts(lines.alloc, node, tree)?;
+        let mut pairs = counts.iter().zip(most);
+        if pairs.any(|(count, most)| *count == 0 || *count > *most) {
+            write!(lines.text, "{time}: {counts:?}; ")?;
+        }
+    }
+    Ok(())
+}
+
+// How often each observer asks whether a node of the instance is null.
+#[tactic(auto, using(crate::proofs::Asks::lawful_tree))]
+fn counts(alloc: Global, node: &SchemaNode<AskedJson>, tree: &Asked) -> Made<[u64; 4]> {
+    let (mut location, mut ctx) = (LazyLocation::new(alloc), ValidationContext::new());
+    let _ = node.is_valid(tree, &mut ctx);
+    let is_valid = tree.take_count();
+    let first = node.validate(tree, &mut location, &mut ctx);
+    if matches!(first, Err(Fault::Memory(_))) {
+        return Err(AllocError);
+    }
+    let validate = tree.take_count();
+    let collected = node.collect_errors(tree, &mut location, &mut ctx, &mut Vec::new(alloc));
+    collected?;
+    let collect_errors = tree.take_count();
+    let _ = node.evaluate_instance(alloc, tree, &mut ctx)?;
+    Ok([is_valid, validate, collect_errors, tree.take_count()])
+}
+
+// The names and the texts of the members of a value, and of an object that is walked over by place;
+// whether that object and an array of a null are equal to the value, and to one another.
+pub(crate) fn walks(lines: &mut Lines, value: &Value) -> Made<()> {
+    push_members(&mut lines.text, value)?;
+    lines.text.push(' ')?;
+    let (null, item) = (Asked::Null(Cell::new(0)), Asked::Null(Cell::new(0)));
+    let pair = Asked::Pair(Box::new(lines.alloc, null)?);
+    push_members(&mut lines.text, &pair)?;
+    let nulls = Asked::Array(Cell::new(0), Vec::from_array(lines.alloc, [item])?);
+    let (is_pair, is_array) = (pair.equals_value(value), nulls.equals_value(value));
+    write!(lines.text, " {is_pair} {is_array} {}", nulls.equals(&pair))
+}
+
+// Appends the names of an object's members, each followed by its member's text.
+fn push_members<N: Node>(text: &mut String, node: &N) -> Made<()> {
+    if node.is_object() {
+        for (name, member) in node.walk() {
+            text.push_str(name)?;
+            member.write_json(text)?;
+        }
+    }
+    Ok(())
 }

@@ -1,34 +1,19 @@
 //! Errors as lines: the kind as a row has it, both locations and the value at fault.
 use crate::stop::Made;
-use jskw_report::{EnumOptions, TypeKind, ValidationError, ValidationErrorKind};
+use jskw_report::{EnumOptions, Fault, Location, TypeKind, ValidationError, ValidationErrorKind};
 use jskw_value::{Json, JsonType, JsonTypeSet, Node, SerdeJson};
 use serde_json::Value;
-use std::alloc::Global;
+use std::alloc::{AllocError, Global};
 
-/// The locations of a schema and of its instance, with which all locations in them begin. A row's
-/// own locations are without them.
-#[derive(Clone, Copy)]
-pub(crate) struct Place {
-    pub(crate) schema: &'static str,
-    pub(crate) instance: &'static str,
-}
-
-/// A whole schema and a whole instance.
-pub(crate) const WHOLE: Place = Place {
-    schema: "",
-    instance: "",
-};
-
-impl Place {
-    /// The keyword location without its beginning, or a question mark if it has another one.
-    pub(crate) fn by<'t>(self, location: &'t str) -> &'t str {
-        location.strip_prefix(self.schema).unwrap_or("?")
-    }
-
-    /// The same of an instance's location.
-    pub(crate) fn at<'t>(self, location: &'t str) -> &'t str {
-        location.strip_prefix(self.instance).unwrap_or("?")
-    }
+/// A text of lines, and how errors and nodes are written in it.
+#[derive(Drop)]
+pub(crate) struct Lines {
+    pub(crate) alloc: Global,
+    /// Whether they are of a schema of `items` and of the item of the index 7. The beginning that all
+    /// their locations have is left out.
+    pub(crate) are_of_item: bool,
+    pub(crate) has_messages: bool,
+    pub(crate) text: String,
 }
 
 /// The types in the order of their names.
@@ -42,55 +27,81 @@ pub(crate) const TYPES: [(&str, JsonType); 7] = [
     ("string", JsonType::String),
 ];
 
-/// Appends the line of an error of an instance, with its message if that is claimed.
-pub(crate) fn push_error<F: Json>(
-    alloc: Global,
-    text: &mut String,
-    has_message: bool,
-    place: Place,
-    error: &ValidationError<F>,
-) -> Made<()> {
-    let mut value = String::new(alloc);
-    error.instance().write_json(&mut value)?;
-    push_line(alloc, text, has_message, place, error, value.as_str())
+impl Lines {
+    /// No lines, of a whole schema and a whole instance.
+    pub(crate) fn new(alloc: Global, has_messages: bool) -> Lines {
+        Lines {
+            alloc,
+            are_of_item: false,
+            has_messages,
+            text: String::new(alloc),
+        }
+    }
+
+    /// No lines, of the same schema and instance.
+    pub(crate) fn others(&self, has_messages: bool) -> Lines {
+        Lines {
+            are_of_item: self.are_of_item,
+            ..Lines::new(self.alloc, has_messages)
+        }
+    }
+
+    /// The location of a schema or an instance without this beginning, if it is of an item, or a
+    /// question mark if it has another one.
+    pub(crate) fn behind<'t>(&self, start: &str, location: &'t Location) -> &'t str {
+        let start = if self.are_of_item { start } else { "" };
+        location.as_str().strip_prefix(start).unwrap_or("?")
+    }
+
+    /// Appends the line of the error that `validate` returned, if any.
+    pub(crate) fn push_first<F: Json>(&mut self, answer: Result<(), Fault<F>>) -> Made<()> {
+        match &answer {
+            Ok(()) => Ok(()),
+            Err(Fault::Invalid(error)) => self.push_error(error),
+            Err(Fault::Memory(_)) => Err(AllocError),
+        }
+    }
+
+    /// Appends the line of an error of an instance.
+    pub(crate) fn push_error<F: Json>(&mut self, error: &ValidationError<F>) -> Made<()> {
+        let at = self.behind("/7", error.instance_path());
+        self.push_start(at, error)?;
+        error.instance().write_json(&mut self.text)?;
+        self.push_end(error)
+    }
+
+    /// Appends the line of why a schema does not compile. The value at fault is written with its
+    /// floats.
+    pub(crate) fn push_refusal(&mut self, error: &ValidationError<SerdeJson>) -> Made<()> {
+        self.text.push_str("refused: ")?;
+        self.push_start(error.instance_path().as_str(), error)?;
+        push_value(self.alloc, &mut self.text, error.instance())?;
+        self.push_end(error)
+    }
+
+    // Appends what stands in front of the value at fault.
+    fn push_start<F: Json>(&mut self, at: &str, error: &ValidationError<F>) -> Made<()> {
+        push_kind(self.alloc, &mut self.text, error.kind())?;
+        let is_same = error.evaluation_path() == error.schema_path();
+        let path = if is_same { "" } else { " of another path" };
+        let by = self.behind("/items", error.schema_path());
+        write!(self.text, " at {at} by {by}{path} of ")
+    }
+
+    // Appends the message, if it is to be written, and ends the line.
+    fn push_end<F: Json>(&mut self, error: &ValidationError<F>) -> Made<()> {
+        if !self.has_messages {
+            return self.text.push('\n');
+        }
+        let message = error.message(self.alloc)?;
+        write!(self.text, ", {message}\n")
+    }
 }
 
-/// The line of why a schema does not compile. The value at fault is written with its floats.
-pub(crate) fn refusal(
-    alloc: Global,
-    has_message: bool,
-    place: Place,
-    error: &ValidationError<SerdeJson>,
-) -> Made<String> {
-    let mut text = String::from_str(alloc, "refused: ")?;
-    let value = error.instance().to_string(alloc)?;
-    let place = Place {
-        schema: place.schema,
-        instance: "",
-    };
-    push_line(alloc, &mut text, has_message, place, error, value.as_str())?;
-    Ok(text)
-}
-
-fn push_line<F: Json>(
-    alloc: Global,
-    text: &mut String,
-    has_message: bool,
-    place: Place,
-    error: &ValidationError<F>,
-    value: &str,
-) -> Made<()> {
-    push_kind(alloc, text, error.kind())?;
-    let at = place.at(error.instance_path().as_str());
-    let by = place.by(error.schema_path().as_str());
-    write!(text, " at {at} by {by} of {value}")?;
-    if error.evaluation_path() != error.schema_path() {
-        text.push_str(", of another path")?;
-    }
-    if has_message {
-        write!(text, ", {}", error.message(alloc)?)?;
-    }
-    text.push('\n')
+/// Appends the text of a value, which may have floats.
+pub(crate) fn push_value(alloc: Global, text: &mut String, value: &Value) -> Made<()> {
+    let value = value.to_string(alloc)?;
+    text.push_str(value.as_str())
 }
 
 // Appends the keyword of a kind and its payload as JSON, `true` for one without.
@@ -113,41 +124,29 @@ fn push_kind(alloc: Global, text: &mut String, kind: &ValidationErrorKind) -> Ma
         | ValidationErrorKind::ExclusiveMinimum { limit }
         | ValidationErrorKind::ExclusiveMaximum { limit } => write!(text, "{limit}"),
         ValidationErrorKind::MultipleOf { multiple_of } => write!(text, "{multiple_of}"),
-        ValidationErrorKind::Required { property } => {
-            Value::String(String::from_str(alloc, property)?).write_json(text)
-        }
+        ValidationErrorKind::Required { property } => push_name(alloc, text, property),
         ValidationErrorKind::WrongType { kind } => push_types(text, *kind),
         _ => text.push_str("true"),
     }
 }
 
-// Appends the type that an instance was to be of, or those of a set as an array.
-fn push_types(text: &mut String, kind: TypeKind) -> Made<()> {
-    match kind {
-        TypeKind::Single(json_type) => push_names(text, JsonTypeSet::from(json_type)),
-        TypeKind::Multiple(types) => {
-            text.push('[')?;
-            push_names(text, types)?;
-            text.push(']')
-        }
-    }
+fn push_name(alloc: Global, text: &mut String, name: &str) -> Made<()> {
+    Value::String(String::from_str(alloc, name)?).write_json(text)
 }
 
-// Appends the names of the types of a set, with a comma between each two.
-fn push_names(text: &mut String, types: JsonTypeSet) -> Made<()> {
+// Appends the type that an instance was to be of, or those of a set as an array.
+fn push_types(text: &mut String, kind: TypeKind) -> Made<()> {
+    let (types, open, close) = match kind {
+        TypeKind::Single(json_type) => (JsonTypeSet::from(json_type), "", ""),
+        TypeKind::Multiple(types) => (types, "[", "]"),
+    };
+    text.push_str(open)?;
     let mut is_first = true;
-    for (name, json_type) in TYPES {
-        if types.contains(json_type) {
-            push_name(text, is_first, name)?;
+    for (name, json_type) in &TYPES {
+        if types.contains(*json_type) {
+            write!(text, "{}\"{name}\"", if is_first { "" } else { "," })?;
             is_first = false;
         }
     }
-    Ok(())
-}
-
-fn push_name(text: &mut String, is_first: bool, name: &str) -> Made<()> {
-    if !is_first {
-        text.push(',')?;
-    }
-    write!(text, "\"{name}\"")
+    text.push_str(close)
 }

@@ -1,13 +1,15 @@
 //! Groups of rows: a schema under a setting, and tests of it.
 use crate::calls;
-use crate::members::{Members, is_true, items, known, lines, member, number, settings_of, text};
+use crate::members::{Members, is_true, items, known, member, number, settings_of, text, wanted};
 use crate::representations::decimals_of;
 use crate::requests::{self, request_of};
 use crate::row::{self, Most, Row, check_run, check_tree};
-use crate::stop::Stop;
+use crate::stop::{Checked, Stop};
 use crate::tally::Tally;
-use crate::wanted::{Wanted, claims_of, of_refusal, of_test};
-use jskw_report::Settings;
+use crate::wanted::Wanted;
+use jskw_leaf::is_leaf;
+use jskw_report::{Context, KeywordName, Settings};
+use jskw_value::SerdeJson;
 use serde_json::Value;
 use std::alloc::Global;
 
@@ -24,7 +26,7 @@ struct Group<'g, 's> {
 }
 
 /// Asks the rows of a group.
-pub(crate) fn check<'v>(tally: &mut Tally, group: &'v Value) -> Result<(), Stop<'v>> {
+pub(crate) fn check<'v>(tally: &mut Tally, group: &'v Value) -> Checked<'v> {
     if group.get("requests").is_some() {
         return requests::check(tally, group);
     }
@@ -43,7 +45,7 @@ pub(crate) fn check<'v>(tally: &mut Tally, group: &'v Value) -> Result<(), Stop<
 }
 
 // Takes the name of a group that is refused, or of each of its tests.
-fn take_names<'v>(tally: &mut Tally, members: &'v Members) -> Result<(), Stop<'v>> {
+fn take_names<'v>(tally: &mut Tally, members: &'v Members) -> Checked<'v> {
     let group = text(members, "description")?;
     match (members.get("refused"), members.get("tests")) {
         (Some(_), None) => tally.take_name(group, "refused"),
@@ -58,15 +60,16 @@ fn take_names<'v>(tally: &mut Tally, members: &'v Members) -> Result<(), Stop<'v
 }
 
 // Asks the rows of a group in one draft.
-fn check_draft<'v>(tally: &mut Tally, group: &'v Members, draft: &'v str) -> Result<(), Stop<'v>> {
+fn check_draft<'v>(tally: &mut Tally, group: &'v Members, draft: &'v str) -> Checked<'v> {
     let settings = settings_of(tally.alloc, group, draft)?;
+    let settings = wanted(settings, "drafts, vocabularies or overridden")?;
     let asked = Group {
         members: group,
         draft,
         settings: &settings,
     };
     if let Some(refused) = group.get("refused") {
-        let wanted = of_refusal(tally.alloc, refused)?;
+        let wanted = Wanted::of_refusal(tally.alloc, refused)?;
         return check_row(tally, asked, group, &Value::Null, &wanted);
     }
     for test in items(group, "tests")? {
@@ -75,20 +78,14 @@ fn check_draft<'v>(tally: &mut Tally, group: &'v Members, draft: &'v str) -> Res
     Ok(())
 }
 
-fn check_test<'v>(
-    tally: &mut Tally,
-    group: Group<'v, '_>,
-    test: &'v Members,
-) -> Result<(), Stop<'v>> {
+fn check_test<'v>(tally: &mut Tally, group: Group<'v, '_>, test: &'v Members) -> Checked<'v> {
     let instances = match (test.get("data"), test.get("each")) {
         (Some(instance), None) => std::slice::from_ref(instance),
         (None, Some(_)) => items(test, "each")?,
         _ => return Err(Stop::Wrong("a test has one of", "data, each")),
     };
     for instance in instances {
-        let mut wanted = of_test(tally.alloc, test, instance)?;
-        let evaluation = lines(tally.alloc, test, "evaluation")?;
-        wanted.answer.push_str(evaluation.as_str())?;
+        let wanted = Wanted::of_test(tally.alloc, test, instance)?;
         check_row(tally, group, test, instance, &wanted)?;
     }
     Ok(())
@@ -100,46 +97,48 @@ fn check_row<'v>(
     group: Group<'v, '_>,
     test: &'v Members,
     instance: &Value,
-    wanted: &Wanted,
-) -> Result<(), Stop<'v>> {
-    let alloc = tally.alloc;
-    let schema = member(group.members, "schema")?;
+    wants: &Wanted,
+) -> Checked<'v> {
+    let (alloc, schema) = (tally.alloc, member(group.members, "schema")?);
     let (object_layer, by_run) = layer_of(group.members)?;
     let has_decimals = is_true(test, "decimals")?;
     let request = request_of(alloc, group.members, group.draft, schema, instance)?;
     let question = format!(in alloc; "{request}, {object_layer}, decimals: {has_decimals}")?;
     tally.take_question(question.as_str())?;
-    let name = name_of(alloc, group, test, instance)?;
-    let whole = whole_of(alloc, group.members, wanted.answer.as_str())?;
+    let of_group = text(group.members, "description")?;
+    let name = format!(in alloc; "{of_group}: {}: {request}", text(test, "description")?)?;
+    let whole = whole_of(alloc, group.members, wants.answer.as_str())?;
     let row = Row {
         name: name.as_str(),
         settings: group.settings,
         object_layer,
         schema,
-        claims: claims_of(test),
+        keywords: keywords_of(alloc, group.settings, schema),
+        has_messages: wants.has_messages,
+        has_evaluation: test.contains_key("evaluation"),
         most: most_of(test)?,
         whole: whole.as_str(),
-        leaves: wanted.answer.as_str(),
+        leaves: wants.answer.as_str(),
     };
     if has_decimals {
-        return Ok(check_tree(tally, &row, &decimals_of(alloc, instance)?)?);
+        let tree = wanted(decimals_of(alloc, instance)?, "a number of 64 bits")?;
+        return Ok(check_tree(tally, &row, &tree)?);
     }
     row::check(tally, &row, instance)?;
     if by_run {
-        check_run(tally, row.name, request.as_str(), wanted.output.as_str())?;
+        check_run(tally, row.name, request.as_str(), wants.output.as_str())?;
     }
     Ok(())
 }
 
-fn name_of<'v>(
-    alloc: Global,
-    group: Group<'v, '_>,
-    test: &'v Members,
-    instance: &Value,
-) -> Result<String, Stop<'v>> {
-    let (draft, of_group) = (group.draft, text(group.members, "description")?);
-    let (test, instance) = (text(test, "description")?, instance.to_string(alloc)?);
-    Ok(format!(in alloc; "{of_group}: {test}: {instance}, draft {draft}")?)
+// Returns a schema that is an object in which no keyword that is read has subschemas.
+fn keywords_of<'s>(alloc: Global, settings: &Settings, schema: &'s Value) -> Option<&'s Members> {
+    let parent = schema.as_object()?;
+    let ctx: Context<SerdeJson> = Context::new(alloc, settings);
+    let is_alone = KeywordName::ALL.iter().all(|k| is_leaf(*k)
+        || !parent.contains_key(k.as_str())
+        || !k.stands(&ctx));
+    if is_alone { Some(parent) } else { None }
 }
 
 // The wanted lines of the whole schema: what it says of itself before those of its keywords.

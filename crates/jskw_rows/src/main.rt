@@ -1,9 +1,6 @@
 //! Asks each row of the files of a folder in every way that there is to ask it, and prints the rows
-//! whose answers differ from the wanted ones. `README.md` beside `src/` says what a row is.
-//!
-//! The one argument is the folder; its files whose names end in `.json` are read. The status is 0 if
-//! no row differs and no group is wrong, else 1. Without an argument the folder is the current one,
-//! and behind its rows the calls of each line of standard input are made, which `memory` lists.
+//! whose answers differ from the wanted ones. `README.md` beside `src/` says what a row is, and what
+//! standard input has.
 #![tactic(auto)]
 
 mod answer;
@@ -47,7 +44,7 @@ fn file_names(rt: &HostRuntime, folder: &str) -> io::Result<Vec<String>> {
 fn check_text(tally: &mut Tally, text: &str) -> Made<()> {
     let value = read_value(tally.alloc, text.as_bytes())?;
     let Some(Value::Array(groups)) = &value else {
-        return tally.tell_wrong("the file", "no JSON array");
+        return tally.tell_wrong("the file", "it has to be", "a JSON array");
     };
     for group in groups {
         check_group(tally, group)?;
@@ -61,9 +58,8 @@ fn check_group(tally: &mut Tally, value: &Value) -> Made<()> {
         Ok(()) => Ok(()),
         Err(Stop::Memory(error)) => Err(error),
         Err(Stop::Wrong(what, with)) => {
-            let what = format!(in tally.alloc; "{what}: {with}")?;
             let group = value.get("description").and_then(Value::as_str);
-            tally.tell_wrong(group.unwrap_or("no description"), what.as_str())
+            tally.tell_wrong(group.unwrap_or("no description"), what, with)
         }
     }
 }

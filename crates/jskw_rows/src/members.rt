@@ -1,5 +1,5 @@
 //! The members of the objects that rows are made of, and the settings that they say.
-use crate::stop::Stop;
+use crate::stop::{Checked, Made, Stop};
 use jskw_report::Settings;
 use jskw_service::{draft_named, overridden_of, vocabularies_of};
 use serde_json::{Map, Value};
@@ -49,20 +49,18 @@ pub(crate) fn items<'v>(members: &'v Members, name: &'static str) -> Result<&'v 
     }
 }
 
-/// The texts of the member of a name, each in a line; nothing if it is not there.
-pub(crate) fn lines<'v>(
-    alloc: Global,
+/// Appends the texts of the member of a name, each in a line; nothing if it is not there.
+pub(crate) fn push_lines<'v>(
+    text: &mut String,
     members: &'v Members,
     name: &'static str,
-) -> Result<String, Stop<'v>> {
-    let mut lines = String::new(alloc);
-    if !members.contains_key(name) {
-        return Ok(lines);
+) -> Checked<'v> {
+    if members.contains_key(name) {
+        for line in items(members, name)? {
+            write!(text, "{}\n", wanted(line.as_str(), name)?)?;
+        }
     }
-    for line in items(members, name)? {
-        write!(lines, "{}\n", wanted(line.as_str(), name)?)?;
-    }
-    Ok(lines)
+    Ok(())
 }
 
 /// Whether the member of a name is there, in which case it has to be `true`.
@@ -74,17 +72,14 @@ pub(crate) fn is_true<'v>(members: &'v Members, name: &'static str) -> Result<bo
     }
 }
 
-/// The settings of a group in the draft of this name.
-pub(crate) fn settings_of<'v>(
-    alloc: Global,
-    group: &'v Members,
-    draft: &'v str,
-) -> Result<Settings, Stop<'v>> {
+/// The settings of a group in the draft of this name, if it and what the group says of them is right.
+pub(crate) fn settings_of(alloc: Global, group: &Members, draft: &str) -> Made<Option<Settings>> {
     let vocabularies = vocabularies_of(group.get("vocabularies"));
     let overridden = overridden_of(alloc, group.get("overridden"))?;
-    Ok(Settings::new(
-        draft_named(draft).ok_or(Stop::Wrong("no draft", draft))?,
-        vocabularies.ok_or(Stop::Wrong("unknown names", "vocabularies"))?,
-        overridden.ok_or(Stop::Wrong("no names", "overridden"))?,
-    ))
+    match (draft_named(draft), vocabularies, overridden) {
+        (Some(draft), Some(vocabularies), Some(overridden)) => {
+            Ok(Some(Settings::new(draft, vocabularies, overridden)))
+        }
+        _ => Ok(None),
+    }
 }

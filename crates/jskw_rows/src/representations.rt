@@ -1,7 +1,6 @@
 //! Trees of decimals: from texts, and with two other ways to look for required names.
-use crate::members::wanted;
-use crate::stop::{Made, Stop};
-use jskw_value::{Decimal, DecimalJson, DecimalTree, Json, Members};
+use crate::stop::Made;
+use jskw_value::{Decimal, DecimalJson, DecimalTree, Json, Members, Node};
 use serde_json::Value;
 use std::alloc::{AllocError, Global};
 
@@ -19,43 +18,50 @@ impl<const N: usize> Json for Keys<N> {
     }
 }
 
-/// Returns the tree of a value in which each decimal is written as a text.
-pub(crate) fn decimals_of(alloc: Global, value: &Value) -> Result<DecimalTree, Stop<'static>> {
+/// Returns the tree of a value in which each decimal is written as a text, or `None` if the value
+/// has a float.
+pub(crate) fn decimals_of(alloc: Global, value: &Value) -> Made<Option<DecimalTree>> {
+    if !value.is_lawful() {
+        return Ok(None);
+    }
+    Ok(Some(tree_of(alloc, value)?))
+}
+
+fn tree_of(alloc: Global, value: &Value) -> Made<DecimalTree> {
     match value {
-        Value::String(text) => match decimal_of(alloc, text.as_str()) {
-            Ok(decimal) => Ok(DecimalTree::Number(decimal)),
-            Err(_) => Ok(DecimalTree::Text(text.clone()?)),
+        Value::String(text) => match decimal_of(alloc, text.as_str())? {
+            Some(decimal) => Ok(DecimalTree::Number(decimal)),
+            None => Ok(DecimalTree::Text(text.clone()?)),
         },
         Value::Array(items) => {
             let mut trees = Vec::new(alloc);
             for item in items {
-                trees.push(decimals_of(alloc, item)?)?;
+                trees.push(tree_of(alloc, item)?)?;
             }
             Ok(DecimalTree::Array(trees))
         }
         Value::Object(members) => {
             let mut object = Members::new(alloc);
             for (name, value) in members.iter() {
-                let tree = decimals_of(alloc, value)?;
-                if object.insert(name.clone()?, tree).is_err() {
-                    return Err(Stop::Memory(AllocError));
+                if object
+                    .insert(name.clone()?, tree_of(alloc, value)?)
+                    .is_err()
+                {
+                    return Err(AllocError);
                 }
             }
             Ok(DecimalTree::Object(object))
         }
-        _ => wanted(
-            DecimalTree::from_value(alloc, value)?,
-            "a number of 64 bits",
-        ),
+        _ => Ok(DecimalTree::from_value(alloc, value)?.unwrap_or(DecimalTree::Null)),
     }
 }
 
-/// Returns the decimal that is written as a text: `-0.50` is -50 with the scale 2.
-pub(crate) fn decimal_of<'t>(alloc: Global, text: &'t str) -> Result<Decimal, Stop<'t>> {
+/// Returns the decimal that is written as a text, if one is: `-0.50` is -50 with the scale 2.
+pub(crate) fn decimal_of(alloc: Global, text: &str) -> Made<Option<Decimal>> {
     let (whole, fraction) = text.split_once('.').unwrap_or((text, ""));
     let digits = format!(in alloc; "{whole}{fraction}")?;
-    let (Ok(coefficient), Ok(scale)) = (digits.as_str().parse(), fraction.len().try_into()) else {
-        return Err(Stop::Wrong("a text is no decimal", text));
-    };
-    Decimal::new(coefficient, scale).ok_or(Stop::Wrong("a text is no decimal", text))
+    match (digits.as_str().parse(), fraction.len().try_into()) {
+        (Ok(coefficient), Ok(scale)) => Ok(Decimal::new(coefficient, scale)),
+        _ => Ok(None),
+    }
 }

@@ -1,7 +1,7 @@
 //! Requests, and what `run` writes for them.
-use crate::members::{Members, items, known, lines, text};
+use crate::members::{Members, items, known, push_lines, text};
 use crate::row::check_run;
-use crate::stop::{Made, Stop};
+use crate::stop::{Checked, Made};
 use crate::tally::Tally;
 use jskw_service::{StdSink, StdSource, run, status};
 use serde_json::Value;
@@ -26,8 +26,8 @@ pub(crate) fn request_of(
     instance: &Value,
 ) -> Made<String> {
     let mut request = format!(in alloc; "{{\"draft\":\"{draft}\"")?;
-    for name in ["vocabularies", "overridden"] {
-        if let Some(value) = group.get(name) {
+    for name in &["vocabularies", "overridden"] {
+        if let Some(value) = group.get(*name) {
             write!(request, ",\"{name}\":{}", value.to_string(alloc)?)?;
         }
     }
@@ -37,22 +37,21 @@ pub(crate) fn request_of(
 }
 
 /// Asks the requests of a group of them.
-pub(crate) fn check<'v>(tally: &mut Tally, group: &'v Value) -> Result<(), Stop<'v>> {
+pub(crate) fn check<'v>(tally: &mut Tally, group: &'v Value) -> Checked<'v> {
     let group = known(group, "description requests")?;
     let name = text(group, "description")?;
     for request in items(group, "requests")? {
-        let request = known(request, "description request output")?;
-        check_one(tally, name, request)?;
+        check_one(tally, name, known(request, "description request output")?)?;
     }
     Ok(())
 }
 
-fn check_one<'v>(tally: &mut Tally, group: &str, members: &'v Members) -> Result<(), Stop<'v>> {
-    let description = text(members, "description")?;
+fn check_one<'v>(tally: &mut Tally, group: &str, members: &'v Members) -> Checked<'v> {
+    let (description, request) = (text(members, "description")?, text(members, "request")?);
     tally.take_name(group, description)?;
-    let request = text(members, "request")?;
     tally.take_question(request)?;
-    let wanted = lines(tally.alloc, members, "output")?;
+    let mut wanted = String::new(tally.alloc);
+    push_lines(&mut wanted, members, "output")?;
     let name = format!(in tally.alloc; "{group}: {description}")?;
     Ok(check_run(tally, name.as_str(), request, wanted.as_str())?)
 }

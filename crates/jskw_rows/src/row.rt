@@ -1,5 +1,7 @@
 //! A row, and how it is asked.
-use crate::answer::{Claims, float_line};
+use crate::answer::push_float;
+use crate::error_lines::Lines;
+use crate::members::Members;
 use crate::representations::Keys;
 use crate::stop::Made;
 use crate::tally::Tally;
@@ -26,7 +28,11 @@ pub(crate) struct Row<'r> {
     pub(crate) settings: &'r Settings,
     pub(crate) object_layer: bool,
     pub(crate) schema: &'r Value,
-    pub(crate) claims: Claims,
+    /// The schema, if it is an object in which no keyword that is read has subschemas.
+    pub(crate) keywords: Option<&'r Members>,
+    /// Whether the row claims messages and the evaluation.
+    pub(crate) has_messages: bool,
+    pub(crate) has_evaluation: bool,
     pub(crate) most: Option<Most>,
     /// The wanted lines of the whole schema, and of its keywords one by one.
     pub(crate) whole: &'r str,
@@ -39,8 +45,9 @@ pub(crate) fn check(tally: &mut Tally, row: &Row<'_>, instance: &Value) -> Made<
     match DecimalTree::from_value(tally.alloc, instance)? {
         Some(tree) => check_tree(tally, row, &tree),
         None => {
-            let found = float_line(tally.alloc, instance)?;
-            tally.compare(row.name, "as decimals", row.whole, found.as_str())
+            let mut found = Lines::new(tally.alloc, row.has_messages);
+            push_float(&mut found, instance)?;
+            tally.compare(row.name, "as decimals", row.whole, found.text.as_str())
         }
     }
 }
@@ -58,18 +65,18 @@ pub(crate) fn check_tree(tally: &mut Tally, row: &Row<'_>, tree: &DecimalTree) -
 }
 
 // Asks a row over one representation: the whole schema, and its keywords one by one.
-fn check_over<F: Json>(
-    tally: &mut Tally,
-    row: &Row<'_>,
-    instance: &F::Node,
-    way: &str,
-) -> Made<()> {
-    let found = whole::answer::<F>(tally.alloc, row, instance)?;
-    tally.compare(row.name, way, row.whole, found.as_str())?;
-    if leaves::has_leaves_alone::<F>(tally.alloc, row) {
-        let found = leaves::answer::<F>(tally.alloc, row, instance)?;
-        let way = format!(in tally.alloc; "{way}, each keyword by itself")?;
-        tally.compare(row.name, way.as_str(), row.leaves, found.as_str())?;
-    }
-    Ok(())
+fn check_over<F: Json>(tally: &mut Tally, row: &Row<'_>, node: &F::Node, way: &str) -> Made<()> {
+    let mut found = Lines::new(tally.alloc, row.has_messages);
+    whole::push_answer::<F>(&mut found, row, node)?;
+    tally.compare(row.name, way, row.whole, found.text.as_str())?;
+    let Some(parent) = row.keywords else {
+        return Ok(());
+    };
+    let mut found = Lines {
+        are_of_item: true,
+        ..Lines::new(tally.alloc, row.has_messages)
+    };
+    leaves::push_answer::<F>(&mut found, row, parent, node)?;
+    let way = format!(in tally.alloc; "{way}, each keyword by itself")?;
+    tally.compare(row.name, way.as_str(), row.leaves, found.text.as_str())
 }

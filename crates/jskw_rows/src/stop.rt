@@ -1,9 +1,11 @@
 //! Why a group of rows can't be asked.
 use std::alloc::{AllocError, AllocFailed};
-use std::io;
 
 /// A result that is an error only if memory runs out.
 pub(crate) type Made<T> = Result<T, AllocError>;
+
+/// A result that is an error also if a group of rows can't be asked.
+pub(crate) type Checked<'v> = Result<(), Stop<'v>>;
 
 /// Why a group of rows can't be asked.
 #[derive(Drop)]
@@ -22,14 +24,5 @@ impl From<AllocError> for Stop<'_> {
 impl<T: Drop> From<AllocFailed<T>> for Stop<'_> {
     fn from(_error: AllocFailed<T>) -> Self {
         Stop::Memory(AllocError)
-    }
-}
-
-impl From<Stop<'_>> for io::Error {
-    fn from(stop: Stop<'_>) -> Self {
-        match stop {
-            Stop::Wrong(_, _) => io::Error::from(io::ErrorKind::InvalidInput),
-            Stop::Memory(error) => io::Error::from(error),
-        }
     }
 }

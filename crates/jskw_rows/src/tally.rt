@@ -1,5 +1,5 @@
 //! What was asked so far, and what differed.
-use crate::stop::{Made, Stop};
+use crate::stop::{Checked, Made, Stop};
 use std::alloc::Global;
 use std::collections::BTreeSet;
 
@@ -31,7 +31,7 @@ impl Tally {
     }
 
     /// Takes the name of a test of a group, which no other of the file may have.
-    pub(crate) fn take_name<'v>(&mut self, group: &str, test: &'v str) -> Result<(), Stop<'v>> {
+    pub(crate) fn take_name<'v>(&mut self, group: &str, test: &'v str) -> Checked<'v> {
         let name = format!(in self.alloc; "{}: {group}: {test}", self.file)?;
         if self.taken.insert(name)? {
             return Ok(());
@@ -49,10 +49,11 @@ impl Tally {
         Err(Stop::Wrong("a row that stands elsewhere too", ""))
     }
 
-    /// Records that a group is wrong, and how.
-    pub(crate) fn tell_wrong(&mut self, group: &str, what: &str) -> Made<()> {
+    /// Records that a group is wrong, how, and with which of its members or texts.
+    pub(crate) fn tell_wrong(&mut self, group: &str, what: &str, with: &str) -> Made<()> {
         self.wrong = self.wrong.saturating_add(1);
-        write!(self.told, "{}: {group}\n  wrong: {what}\n", self.file)
+        write!(self.told, "{}: {group}\n", self.file)?;
+        write!(self.told, "  wrong: {what}: {with}\n")
     }
 
     /// Records a row whose answer is not the wanted one. `way` is the call that gave it.
@@ -62,6 +63,6 @@ impl Tally {
         }
         self.differing = self.differing.saturating_add(1);
         write!(self.told, "{}: {name}, {way}\n", self.file)?;
-        write!(self.told, "  wanted:\n{wanted}  found:\n{found}")
+        write!(self.told, "  wanted:\n{wanted}\n  found:\n{found}\n")
     }
 }

@@ -1,11 +1,11 @@
 //! Calls of the service over bytes that are no text, and over readers and writers that fail.
 ghost use Rattle.std.specs.Prelude.{◌≡◌, IfOk, IfSome, false};
 
-use super::{Answer, Call};
-use crate::stop::{Made, Stop};
+use super::UNKNOWN;
+use crate::error_lines::Lines;
+use crate::stop::Made;
 use jskw_service::{DeviceFault, Sink, Source, StdSink, StdSource, reply_to, run, status};
 use serde_json::Value;
-use std::alloc::Global;
 use std::io::{self, ErrorKind, Read, Write};
 
 // A request, which is read in 8 pieces of 4 bytes and the end. Its reply is written in 5 pieces of 3.
@@ -128,33 +128,32 @@ impl<S: Sink> Sink for FailsOnce<S> {
     }
 }
 
-// Returns the verdict and the text of the reply to a request of texts and bytes.
-pub(super) fn reply<'v>(alloc: Global, call: Call<'v>) -> Answer<'v> {
-    let mut bytes = Vec::new(alloc);
-    for part in call.list(0)? {
+// The verdict and the text of the reply to a request of texts and bytes.
+pub(super) fn reply(lines: &mut Lines, parts: &[Value]) -> Made<()> {
+    let mut bytes = Vec::new(lines.alloc);
+    for part in parts {
         match (part.as_str(), part.as_u64()) {
             (Some(text), _) => bytes.extend_from_slice(text.as_bytes())?,
             (None, Some(byte)) if byte < 256 => bytes.push(byte as u8)?,
-            _ => return Err(Stop::Wrong("no byte", call.name)),
+            _ => return lines.text.push_str(UNKNOWN),
         }
     }
-    let reply = reply_to(alloc, bytes.as_slice())?;
-    let text = std::str::from_utf8(reply.text()).unwrap_or("no text");
-    Ok(format!(in alloc; "{:?} {text}", reply.verdict())?)
+    let reply = reply_to(lines.alloc, bytes.as_slice())?;
+    let written = std::str::from_utf8(reply.text()).unwrap_or("no text");
+    write!(lines.text, "{:?} {written}", reply.verdict())
 }
 
-// Returns how a run over a device that fails ends, its status, and what it writes.
-pub(super) fn ended<'v>(alloc: Global, call: Call<'v>) -> Answer<'v> {
-    let (error, calls) = (error_of(call.value(1)?), call.number(2)? as usize);
-    let ever = usize::MAX;
-    let calls = match call.text(0)? {
+// How a run over a device that fails ends, its status, and what it writes.
+pub(super) fn ended(lines: &mut Lines, device: &str, error: &Value, calls: &Value) -> Made<()> {
+    let (calls, ever) = (calls.as_u64().unwrap_or(0) as usize, usize::MAX);
+    let calls = match device {
         "source" => [calls, ever, ever, ever],
         "sink" => [ever, calls, ever, ever],
         "reader" => [ever, ever, calls, ever],
         "writer" => [ever, ever, ever, calls],
-        _ => return Err(Stop::Wrong("no device", call.name)),
+        _ => return lines.text.push_str(UNKNOWN),
     };
-    Ok(ended_after(alloc, calls, error)?)
+    push_end(lines, calls, error_of(error))
 }
 
 fn error_of(name: &Value) -> Option<ErrorKind> {
@@ -165,17 +164,17 @@ fn error_of(name: &Value) -> Option<ErrorKind> {
 
 // Runs over devices of std in devices of the service, of which each fails after so many calls: source,
 // sink, reader and writer.
-fn ended_after(
-    alloc: Global,
+fn push_end(
+    lines: &mut Lines,
     [source, sink, reader, writer]: [usize; 4],
     error: Option<ErrorKind>,
-) -> Made<String> {
+) -> Made<()> {
     let reader = FailsOnce::new(REQUEST, reader, error);
-    let writer = FailsOnce::new(Vec::new(alloc), writer, error);
+    let writer = FailsOnce::new(Vec::new(lines.alloc), writer, error);
     let mut source = FailsOnce::new(StdSource::new(reader), source, None);
     let mut sink = FailsOnce::new(StdSink::new(writer), sink, None);
-    let outcome = run(alloc, &mut source, &mut sink);
+    let outcome = run(lines.alloc, &mut source, &mut sink);
     let written = sink.device.into_inner().device;
     let written = std::str::from_utf8(written.as_slice()).unwrap_or("?");
-    format!(in alloc; "{outcome:?} {} {written}", status(&outcome))
+    write!(lines.text, "{outcome:?} {} {written}", status(&outcome))
 }

@@ -1,6 +1,6 @@
 //! Whether items are unique, among more of them than are compared pair by pair.
-use super::{Answer, Call};
-use crate::members::wanted;
+use super::UNKNOWN;
+use crate::error_lines::Lines;
 use crate::representations::decimal_of;
 use crate::stop::Made;
 use jskw_value::fingerprint::of_whole;
@@ -8,65 +8,74 @@ use jskw_value::laws::equal_values_have_one_fingerprint;
 use jskw_value::seed::seed_of;
 use jskw_value::{Array, Decimal, DecimalTree, Node};
 use serde_json::Value;
+use serde_json::Value::String as Text;
 use std::alloc::Global;
 
-// Returns whether the integers below a count are unique with a decimal, or a text, behind them.
-pub(super) fn integers<'v>(alloc: Global, call: Call<'v>) -> Answer<'v> {
-    let mut items = Vec::new(alloc);
-    for number in 0..call.number(0)? {
+// Whether the integers below a count are unique with a decimal, or a text, behind them.
+pub(super) fn integers(lines: &mut Lines, count: &Value, last: &str) -> Made<()> {
+    let mut items = Vec::new(lines.alloc);
+    for number in 0..count.as_u64().unwrap_or(0) {
         items.push(DecimalTree::Number(Decimal::from(number)))?;
     }
-    let last = call.text(1)?;
-    items.push(match last.strip_prefix('"') {
-        Some(text) => DecimalTree::Text(String::from_str(alloc, text)?),
-        None => DecimalTree::Number(decimal_of(alloc, last)?),
-    })?;
-    Ok(format!(in alloc; "{}", is_unique(&DecimalTree::Array(items)))?)
+    let last = match (last.strip_prefix('"'), decimal_of(lines.alloc, last)?) {
+        (Some(text), _) => DecimalTree::Text(String::from_str(lines.alloc, text)?),
+        (None, Some(decimal)) => DecimalTree::Number(decimal),
+        (None, None) => return lines.text.push_str(UNKNOWN),
+    };
+    items.push(last)?;
+    write!(lines.text, "{}", is_unique(&DecimalTree::Array(items)))
 }
 
 fn is_unique<N: Node>(node: &N) -> bool {
     node.is_array() && node.is_unique()
 }
 
-// Returns the answers for so many items that begin with a text, with another so many times and with
-// a third; have a number of their own there, and a fourth text behind it.
-pub(super) fn alike<'v>(alloc: Global, call: Call<'v>) -> Answer<'v> {
-    let (first, back) = (call.text(1)?, call.text(5)?);
-    let part = call.text(2)?.repeat(alloc, call.number(3)? as usize)?;
-    let mut items = Vec::new(alloc);
-    for number in 0..call.number(0)? {
-        items.push(format!(in alloc; "{first}{part}{}{number}{back}", call.text(4)?)?)?;
+// The answers for so many items that begin with a text, with another so many times and with a third;
+// have a number of their own there, and a fourth text behind it.
+pub(super) fn alike(lines: &mut Lines, arguments: &[Value]) -> Made<()> {
+    let [
+        count,
+        Text(first),
+        Text(part),
+        times,
+        Text(third),
+        Text(back),
+    ] = arguments
+    else {
+        return lines.text.push_str(UNKNOWN);
+    };
+    let (Some(count), Some(times)) = (count.as_u64(), times.as_u64()) else {
+        return lines.text.push_str(UNKNOWN);
+    };
+    let part = part.as_str().repeat(lines.alloc, times as usize)?;
+    let mut items = Vec::new(lines.alloc);
+    for number in 0..count {
+        items.push(format!(in lines.alloc; "{first}{part}{third}{number}{back}")?)?;
     }
-    Ok(answers(alloc, &items)?)
+    push_answers(lines.alloc, &mut lines.text, &items)
 }
 
-// Returns the answers for integers whose fingerprints crowd a sixteenth of the words of a sketch.
-pub(super) fn crowding<'v>(alloc: Global) -> Answer<'v> {
-    let mut items = Vec::new(alloc);
+// The answers for integers whose fingerprints crowd a sixteenth of the words of a sketch.
+pub(super) fn crowding(lines: &mut Lines) -> Made<()> {
+    let mut items = Vec::new(lines.alloc);
     for number in 0..2_000_000u64 {
         let print = of_whole(&DecimalTree::Number(Decimal::from(number)), 0);
         if print >> 60 == 0 && (print >> 28) % 16 == 0 {
-            items.push(format!(in alloc; "{number}")?)?;
+            items.push(format!(in lines.alloc; "{number}")?)?;
         }
     }
-    Ok(answers(alloc, &items)?)
+    push_answers(lines.alloc, &mut lines.text, &items)
 }
 
-// Returns whether the items are unique as they are, and with one of a pair put in again in place of
+// Appends whether the items are unique as they are, and with one of a pair put in again in place of
 // the other: the pair is at the start, in the middle and at the end.
-fn answers(alloc: Global, items: &[String]) -> Made<String> {
+fn push_answers(alloc: Global, text: &mut String, items: &[String]) -> Made<()> {
     let (middle, last) = (items.len() / 2, items.len().saturating_sub(1));
-    let mut answers = String::new(alloc);
-    for (from, to) in [
-        (0, 0),
-        (0, 1),
-        (middle, middle.saturating_add(1)),
-        (last.saturating_sub(1), last),
-    ] {
-        let text = text_of(alloc, items, from, to)?;
-        push_answer(alloc, &mut answers, text.as_str())?;
+    let (after, before) = (middle.saturating_add(1), last.saturating_sub(1));
+    for (from, to) in &[(0, 0), (0, 1), (middle, after), (before, last)] {
+        push_answer(alloc, text, text_of(alloc, items, *from, *to)?.as_str())?;
     }
-    Ok(answers)
+    Ok(())
 }
 
 // Appends whether the items of a text's array are unique, over both representations.
@@ -93,26 +102,32 @@ fn text_of(alloc: Global, items: &[String], from: usize, to: usize) -> Made<Stri
     Ok(text)
 }
 
-// Returns the answers for objects of one fingerprint under the seed 0, and how many of them have
-// that of the first under the seeds 0 and 1 and under the seed of their array; whether that seed is
-// another one with another item. The names end with a text, of which either two values have one sum
-// of prints.
-pub(super) fn colliding<'v>(alloc: Global, call: Call<'v>) -> Answer<'v> {
+// The answers for objects of one fingerprint under the seed 0, and how many of them have that of the
+// first under the seeds 0 and 1 and under the seed of their array; whether that seed is another one
+// with another item. The names end with a text, of which either two values have one sum of prints.
+pub(super) fn colliding(lines: &mut Lines, sums: &[Value], count: &Value) -> Made<()> {
     equal_values_have_one_fingerprint();
-    let mut items = Vec::new(alloc);
-    for number in 0..call.number(1)? {
-        items.push(object_text(alloc, call.list(0)?, number)?)?;
+    let (alloc, mut items) = (lines.alloc, Vec::new(lines.alloc));
+    for number in 0..count.as_u64().unwrap_or(0) {
+        items.push(object_text(alloc, sums, number)?)?;
     }
-    let (array, other) = (text_of(alloc, &items, 0, 0)?, text_of(alloc, &items, 0, 1)?);
-    let array = wanted(Value::from_str(alloc, array.as_str()).ok(), call.name)?;
-    let other = wanted(Value::from_str(alloc, other.as_str()).ok(), call.name)?;
-    let mut text = answers(alloc, &items)?;
-    let seed = seed_of(&array);
-    for seed in [0, 1, seed] {
-        write!(text, "{} ", count_like_first(&array, seed))?;
+    push_answers(alloc, &mut lines.text, &items)?;
+    let array = Value::from_str(alloc, text_of(alloc, &items, 0, 0)?.as_str());
+    let other = Value::from_str(alloc, text_of(alloc, &items, 0, 1)?.as_str());
+    match (&array, &other) {
+        (Ok(array), Ok(other)) => push_prints(&mut lines.text, array, seed_of(other)),
+        _ => lines.text.push_str(UNKNOWN),
     }
-    write!(text, "{}", seed != seed_of(&other))?;
-    Ok(text)
+}
+
+// Appends how many items have the fingerprint of the first under the seeds 0 and 1 and under the seed
+// of their array, and whether that is not another seed.
+fn push_prints(text: &mut String, array: &Value, other: u64) -> Made<()> {
+    let seed = seed_of(array);
+    for seed in &[0, 1, seed] {
+        write!(text, "{} ", count_like_first(array, *seed))?;
+    }
+    write!(text, "{}", seed != other)
 }
 
 // Returns one of the objects that take of each two pairs of members either.
@@ -121,25 +136,27 @@ fn object_text(alloc: Global, sums: &[Value], number: u64) -> Made<String> {
     let mut rest = number;
     for sum in sums {
         let either = if rest % 2 == 0 { 1 } else { 3 };
-        for (letter, index) in [("a", either), ("b", either + 1)] {
-            let (name, value) = (sum.get(0).and_then(Value::as_str), sum.get(index));
-            let value = value.and_then(Value::as_u64).unwrap_or(0);
-            write!(text, "\"{letter}{}\":{value},", name.unwrap_or(""))?;
-        }
+        let name = sum.get(0).and_then(Value::as_str).unwrap_or("");
+        let (a, b) = (number_at(sum, either), number_at(sum, either + 1));
+        write!(text, "\"a{name}\":{a},\"b{name}\":{b},")?;
         rest /= 2;
     }
     text.push_str("\"z\":0}")?;
     Ok(text)
 }
 
+fn number_at(sum: &Value, index: usize) -> u64 {
+    sum.get(index).and_then(Value::as_u64).unwrap_or(0)
+}
+
 // Returns how many items have the fingerprint of the first under a seed.
 fn count_like_first(array: &Value, seed: u64) -> usize {
-    let Some([first, items @ ..]) = array.as_array().map(|items| items.as_slice()) else {
+    let Some(items) = array.as_array() else {
         return 0;
     };
-    let print = of_whole(first, seed);
-    1 + items
+    let first = items.first().map(|item| of_whole(item, seed));
+    let alike = items
         .iter()
-        .filter(|item| of_whole(*item, seed) == print)
-        .count()
+        .filter(|item| Some(of_whole(*item, seed)) == first);
+    alike.count()
 }

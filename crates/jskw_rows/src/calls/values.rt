@@ -2,10 +2,10 @@
 ghost use Rattle.std.specs.Prelude.{IsTrue};
 ghost use Rattle.jskw_value.specs.Tree.{is_object};
 
-use super::{Answer, Call};
-use crate::members::wanted;
+use super::UNKNOWN;
+use crate::error_lines::Lines;
 use crate::representations::{decimal_of, decimals_of};
-use crate::stop::{Made, Stop};
+use crate::stop::Made;
 use jskw_value::pointer::push_name;
 use jskw_value::{
     Array, Decimal, DecimalJson, DecimalTree, InsertFault, Json, JsonNumber, JsonType, KeyHead,
@@ -14,66 +14,69 @@ use jskw_value::{
 use serde_json::Value;
 use std::alloc::{AllocError, Global};
 
-// Returns the coefficient and the scale of the decimal that is made of them, if there is one.
-pub(super) fn made<'v>(alloc: Global, call: Call<'v>) -> Answer<'v> {
-    let (Ok(coefficient), Ok(scale)) = (call.text(0)?.parse(), call.number(1)?.try_into()) else {
-        return Err(Stop::Wrong("no coefficient or no scale", call.name));
+// The coefficient and the scale of the decimal that is made of them, if there is one.
+pub(super) fn made(lines: &mut Lines, digits: &str, scale: &Value) -> Made<()> {
+    let (Ok(coefficient), Some(Ok(scale))) = (digits.parse(), scale.as_u64().map(u8::try_from))
+    else {
+        return lines.text.push_str(UNKNOWN);
     };
-    Ok(match Decimal::new(coefficient, scale) {
-        Some(number) => format!(in alloc; "{} {}", number.coefficient(), number.scale())?,
-        None => String::from_str(alloc, "none")?,
-    })
+    match Decimal::new(coefficient, scale) {
+        Some(number) => write!(lines.text, "{} {}", number.coefficient(), number.scale()),
+        None => lines.text.push_str("none"),
+    }
 }
 
-// Returns what a decimal says of itself, how it compares with a whole number, whether it is a
-// multiple of it if that can be, and whether it is equal to another one, in both orders.
-pub(super) fn decimal<'v>(alloc: Global, call: Call<'v>) -> Answer<'v> {
-    let number = decimal_of(alloc, call.text(0)?)?;
-    let other = decimal_of(alloc, call.text(2)?)?;
-    let mut text = number_text(alloc, &number)?;
-    let order = number.cmp_whole(match call.value(1)?.as_i64() {
-        Some(whole) => i128::from(whole),
-        None => i128::from(call.number(1)?),
-    });
-    let is_multiple = match call.value(1)?.as_u64() {
+// What a decimal says of itself, how it compares with a whole number, whether it is a multiple of it
+// if that can be, and whether it is equal to another one, in both orders.
+pub(super) fn decimal(lines: &mut Lines, number: &str, whole: &Value, other: &str) -> Made<()> {
+    let number = decimal_of(lines.alloc, number)?;
+    let (Some(number), Some(other)) = (number, decimal_of(lines.alloc, other)?) else {
+        return lines.text.push_str(UNKNOWN);
+    };
+    push_number(&mut lines.text, &number)?;
+    let order = match (whole.as_i64(), whole.as_u64()) {
+        (Some(whole), _) => number.cmp_whole(i128::from(whole)),
+        (None, Some(whole)) => number.cmp_whole(i128::from(whole)),
+        (None, None) => return lines.text.push_str(UNKNOWN),
+    };
+    let multiple = match whole.as_u64() {
         None | Some(0) => None,
         Some(divisor) => Some(number.is_multiple_of(divisor)),
     };
     let (equal, is_equal) = (number.equals(&other), other.equals(&number));
-    write!(text, ", {order:?} {is_multiple:?}, {equal} {is_equal}")?;
-    Ok(text)
+    write!(lines.text, ", {order:?} {multiple:?}, {equal} {is_equal}")
 }
 
-// Returns whether a number is an integer, and written as one; `u64`, `i64`, and its own decimal.
-fn number_text<A: JsonNumber>(alloc: Global, number: &A) -> Made<String> {
+// Appends whether a number is an integer, and written as one; `u64`, `i64`, and its own decimal.
+fn push_number<A: JsonNumber>(text: &mut String, number: &A) -> Made<()> {
     if !number.is_lawful() {
-        return String::from_str(alloc, "a float");
+        return text.push_str("a float");
     }
-    let (is_integer, is_written) = (number.is_integer(), number.is_written_as_integer());
-    let mut text = format!(in alloc; "{is_integer} {is_written}")?;
-    write!(text, " {:?} {:?}", number.as_u64(), number.as_i64())?;
-    write!(text, " {}", number.decimal().equals(&number.decimal()))?;
-    Ok(text)
+    let (is_integer, written) = (number.is_integer(), number.is_written_as_integer());
+    let (u64, i64) = (number.as_u64(), number.as_i64());
+    let is_equal = number.decimal().equals(&number.decimal());
+    write!(text, "{is_integer} {written} {u64:?} {i64:?} {is_equal}")
 }
 
-// Returns the type of a value, and what it is, over each representation that has it.
-pub(super) fn node<'v>(alloc: Global, call: Call<'v>) -> Answer<'v> {
-    let value = call.value(0)?;
-    let found = node_text::<SerdeJson>(alloc, value)?;
-    let mut text = format!(in alloc; "{:?} {found}", JsonType::from(value))?;
-    if let Some(tree) = DecimalTree::from_value(alloc, value)? {
-        let other = node_text::<DecimalJson>(alloc, &tree)?;
-        if found != other {
-            write!(text, ", over decimals {other}")?;
-        }
+// The type of a value, and what it is, over each representation that has it.
+pub(super) fn node(lines: &mut Lines, value: &Value) -> Made<()> {
+    let (alloc, text) = (lines.alloc, &mut lines.text);
+    write!(text, "{:?} ", JsonType::from(value))?;
+    push_node::<SerdeJson>(alloc, text, value)?;
+    let Some(tree) = DecimalTree::from_value(alloc, value)? else {
+        return Ok(());
+    };
+    let mut other = format!(in alloc; "{:?} ", JsonType::from(value))?;
+    push_node::<DecimalJson>(alloc, &mut other, &tree)?;
+    if *text == other {
+        return Ok(());
     }
-    Ok(text)
+    write!(text, ", over decimals {other}")
 }
 
-// Returns what a node is, and its strings with their lengths, or what it says of its members.
-fn node_text<F: Json>(alloc: Global, node: &F::Node) -> Made<String> {
-    let mut text = String::new(alloc);
-    for (kind, is_so) in [
+// Appends what a node is, and its strings with their lengths, or what it says of its members.
+fn push_node<F: Json>(alloc: Global, text: &mut String, node: &F::Node) -> Made<()> {
+    for (kind, is_so) in &[
         ("null", node.is_null()),
         ("number", node.is_number()),
         ("string", node.is_string()),
@@ -83,17 +86,17 @@ fn node_text<F: Json>(alloc: Global, node: &F::Node) -> Made<String> {
         ("false", node.as_boolean() == Some(false)),
         ("with a float", !node.is_lawful()),
     ] {
-        if is_so {
+        if *is_so {
             write!(text, "{kind} ")?;
         }
     }
     for index in 0..node.item_count() {
-        push_string(&mut text, node, index)?;
+        push_string(text, node, index)?;
     }
     if node.is_object() {
-        push_members::<F>(alloc, &mut text, node)?;
+        push_members::<F>(alloc, text, node)?;
     }
-    Ok(text)
+    Ok(())
 }
 
 // Appends an item that is a string, and its length.
@@ -115,50 +118,50 @@ fn push_members<F: Json>(alloc: Global, text: &mut String, node: &F::Node) -> Ma
         text.push_str(node.name_at(place))?;
         node.member_at(place).write_json(text)?;
     }
-    for name in ["", "b", "c"] {
+    for name in &["", "b", "c"] {
         let key = F::prepare_key(alloc, name)?;
-        let (by_key, by_name) = (node.get(&key), node.find(name));
-        write!(text, " {} {}", by_key.is_some(), by_name.is_some())?;
+        let (by_key, by_name) = (node.get(&key).is_some(), node.find(name).is_some());
+        write!(text, " {by_key} {by_name}")?;
     }
     write!(text, " {}", node.is_empty())
 }
 
-// Returns whether two values are equal, in both orders, and across representations.
-pub(super) fn equal<'v>(alloc: Global, call: Call<'v>) -> Answer<'v> {
-    let (left, right) = (call.value(0)?, call.value(1)?);
-    let across = DecimalTree::from_value(alloc, left)?.map(|tree| tree.equals_value(right));
+// Whether two values are equal, in both orders, and across representations.
+pub(super) fn equal(lines: &mut Lines, left: &Value, right: &Value) -> Made<()> {
+    let across = DecimalTree::from_value(lines.alloc, left)?.map(|tree| tree.equals_value(right));
     let (equal, across_same) = (left.equals(right), right.equals_value(left));
-    Ok(format!(in alloc; "{equal} {across_same} {across:?}")?)
+    write!(lines.text, "{equal} {across_same} {across:?}")
 }
 
-// Returns the text of a value in which each text stands for a decimal, behind another text, and
-// whether it is equal to another value.
-pub(super) fn decimals<'v>(alloc: Global, call: Call<'v>) -> Answer<'v> {
-    let tree = decimals_of(alloc, call.value(0)?)?;
-    let mut text = String::from_str(alloc, "old ")?;
-    tree.write_json(&mut text)?;
-    write!(text, " {}", tree.equals_value(call.value(1)?))?;
-    Ok(text)
+// The text of a value in which each text stands for a decimal, behind another text, and whether it is
+// equal to another value.
+pub(super) fn decimals(lines: &mut Lines, value: &Value, other: &Value) -> Made<()> {
+    let Some(tree) = decimals_of(lines.alloc, value)? else {
+        return lines.text.push_str(UNKNOWN);
+    };
+    lines.text.push_str("old ")?;
+    tree.write_json(&mut lines.text)?;
+    write!(lines.text, " {}", tree.equals_value(other))
 }
 
-// Returns whether there is no member, how many there are, and the values of four names by two calls.
-pub(super) fn members<'v>(alloc: Global, call: Call<'v>) -> Answer<'v> {
-    let mut members = Members::new(alloc);
-    for number in 0..call.number(0)? {
-        let (name, value) = (format!(in alloc; "{number}")?, Decimal::from(number));
+// Whether there is no member, how many there are, and the values of four names by two calls.
+pub(super) fn members(lines: &mut Lines, count: &Value) -> Made<()> {
+    let mut members = Members::new(lines.alloc);
+    for number in 0..count.as_u64().unwrap_or(0) {
+        let (name, value) = (format!(in lines.alloc; "{number}")?, Decimal::from(number));
         if members.insert(name, DecimalTree::Number(value)).is_err() {
-            return Err(Stop::Wrong("not inserted", call.name));
+            return Err(AllocError);
         }
     }
-    let mut text = format!(in alloc; "{} {}", members.is_empty(), members.len())?;
+    write!(lines.text, "{} {}", members.is_empty(), members.len())?;
     let names = ["", "0", "999", "1000"];
     let values = names.map(|name| coefficient(members.get(name)));
     let object = DecimalTree::Object(members);
     for (name, value) in names.into_iter().zip(values) {
         let is_found = object.is_object() && object.find(name).is_some();
-        write!(text, " {value:?} {is_found}")?;
+        write!(lines.text, " {value:?} {is_found}")?;
     }
-    Ok(text)
+    Ok(())
 }
 
 fn coefficient(tree: Option<&DecimalTree>) -> Option<i128> {
@@ -166,12 +169,11 @@ fn coefficient(tree: Option<&DecimalTree>) -> Option<i128> {
         .map(|number| number.coefficient())
 }
 
-// Returns what `insert_names` appends, and then the members.
-pub(super) fn inserted<'v>(alloc: Global, call: Call<'v>) -> Answer<'v> {
-    let (mut members, mut text) = (Members::new(alloc), String::new(alloc));
-    insert_names(alloc, &mut members, call.list(0)?, &mut text)?;
-    DecimalTree::Object(members).write_json(&mut text)?;
-    Ok(text)
+// What `insert_names` appends, and then the members.
+pub(super) fn inserted(lines: &mut Lines, names: &[Value]) -> Made<()> {
+    let mut members = Members::new(lines.alloc);
+    insert_names(lines.alloc, &mut members, names, &mut lines.text)?;
+    DecimalTree::Object(members).write_json(&mut lines.text)
 }
 
 /// Inserts names with the values 0, 1 and so on, and appends each name that is there already, with
@@ -200,11 +202,10 @@ pub(crate) fn push_pair(to: &mut String, name: &str, tree: &DecimalTree) -> Made
     to.push_str(", ")
 }
 
-// Returns the members that are made of names, each of which is its own value.
-pub(super) fn paired<'v>(alloc: Global, call: Call<'v>) -> Answer<'v> {
-    let (mut text, pairs) = (String::new(alloc), pairs_of(alloc, call.list(0)?)?);
-    push_made(&mut text, Members::from_pairs(pairs))?;
-    Ok(text)
+// The members that are made of names, each of which is its own value.
+pub(super) fn paired(lines: &mut Lines, names: &[Value]) -> Made<()> {
+    let pairs = pairs_of(lines.alloc, names)?;
+    push_made(&mut lines.text, Members::from_pairs(pairs))
 }
 
 /// Returns pairs of a name and its text.
@@ -236,39 +237,44 @@ pub(crate) fn push_made(
     }
 }
 
-// Returns, of a float below a name of so many times a text, the lengths of its pointer and of the
-// value's text, whether the pointer is that of the name, and whether the name is found.
-pub(super) fn long_name<'v>(alloc: Global, call: Call<'v>) -> Answer<'v> {
-    let name = call.text(0)?.repeat(alloc, call.number(1)? as usize)?;
-    let mut pointer = String::new(alloc);
-    push_name(&mut pointer, name.as_str())?;
-    let text = format!(in alloc; "{{\"{name}\":1.5}}")?;
-    let value = wanted(Value::from_str(alloc, text.as_str()).ok(), call.name)?;
-    let is_pointer = value.first_unlawful(alloc)?.as_ref() == Some(&pointer);
-    let is_found = Node::is_object(&value) && value.find(name.as_str()).is_some();
-    let mut written = String::new(alloc);
-    value.write_json(&mut written)?;
-    let (pointer, written) = (pointer.len(), written.len());
-    Ok(format!(in alloc; "{pointer} {written} {is_pointer} {is_found}")?)
-}
-
-// Returns whether two names have one head.
-pub(super) fn heads<'v>(alloc: Global, call: Call<'v>) -> Answer<'v> {
-    let is_same = KeyHead::of(call.text(0)?) == KeyHead::of(call.text(1)?);
-    Ok(format!(in alloc; "{is_same}")?)
-}
-
-// Returns whether each name matches its own text and no other.
-pub(super) fn matching_names<'v>(alloc: Global, call: Call<'v>) -> Answer<'v> {
-    let mut all = true;
-    for name in call.list(0)? {
-        let name = name.as_str().unwrap_or("");
-        let made = PropertyName::new(alloc, name)?;
-        all = all && made.as_str() == name;
-        for other in call.list(0)? {
-            let other = other.as_str().unwrap_or("");
-            all = all && made.matches(KeyHead::of(other), other) == (name == other);
-        }
+// Of a float below a name of so many times a text: the lengths of its pointer and of the value's
+// text, whether the pointer is that of the name, and whether the name is found.
+pub(super) fn long_name(lines: &mut Lines, part: &str, times: &Value) -> Made<()> {
+    let name = part.repeat(lines.alloc, times.as_u64().unwrap_or(0) as usize)?;
+    let text = format!(in lines.alloc; "{{\"{name}\":1.5}}")?;
+    match Value::from_str(lines.alloc, text.as_str()) {
+        Ok(value) => push_float_below(lines.alloc, &mut lines.text, name.as_str(), &value),
+        Err(_) => lines.text.push_str(UNKNOWN),
     }
-    Ok(format!(in alloc; "{all}")?)
+}
+
+fn push_float_below(alloc: Global, text: &mut String, name: &str, value: &Value) -> Made<()> {
+    let (mut pointer, mut written) = (String::new(alloc), String::new(alloc));
+    push_name(&mut pointer, name)?;
+    value.write_json(&mut written)?;
+    let is_pointer = value.first_unlawful(alloc)?.as_ref() == Some(&pointer);
+    let is_found = Node::is_object(value) && value.find(name).is_some();
+    let (pointer, written) = (pointer.len(), written.len());
+    write!(text, "{pointer} {written} {is_pointer} {is_found}")
+}
+
+// Whether two names have one head.
+pub(super) fn heads(lines: &mut Lines, left: &str, right: &str) -> Made<()> {
+    write!(lines.text, "{}", KeyHead::of(left) == KeyHead::of(right))
+}
+
+// Whether each name matches its own text and no other.
+pub(super) fn matching(lines: &mut Lines, names: &[Value]) -> Made<()> {
+    let mut all = true;
+    for name in names {
+        all = all && matches_alone(lines.alloc, name.as_str().unwrap_or(""), names)?;
+    }
+    write!(lines.text, "{all}")
+}
+
+fn matches_alone(alloc: Global, name: &str, others: &[Value]) -> Made<bool> {
+    let made = PropertyName::new(alloc, name)?;
+    let mut others = others.iter().map(|other| other.as_str().unwrap_or(""));
+    let is_alone = others.all(|other| made.matches(KeyHead::of(other), other) == (name == other));
+    Ok(is_alone && made.as_str() == name)
 }

@@ -3,12 +3,9 @@
 ghost use Rattle.std.specs.Prelude.{IsTrue};
 ghost use Rattle.jskw_value.specs.Tree.{is_lawful};
 
-use crate::calls::Call;
-use crate::error_lines::{WHOLE, refusal};
+use crate::error_lines::Lines;
 use crate::leaves::{Leaf, compiled};
-use crate::memory::printed::{
-    announce, print_errors, print_first, print_lines, print_tree, told, told_at,
-};
+use crate::memory::printed::{announce, print_errors, print_first, print_lines, print_tree, told};
 use crate::stop::Made;
 use jskw_array::SchemaNode;
 use jskw_array::compiler::compile;
@@ -17,10 +14,11 @@ use jskw_report::{
     Validate, ValidationContext, ValidationError, ValidationErrorKind,
 };
 use jskw_value::{Json, Node};
+use serde_json::Value;
 use std::alloc::Global;
 use std::io;
 
-// What is compiled, and what calls of a kind ask of it. Its type is a parameter, as in `of_compiled`.
+// What is compiled, and what calls of a kind ask of it. Its type is a parameter, as in `push_compiled`.
 trait Observed<F: Json> {
     fn ask(&self, rt: &HostRuntime, kind: &str, instance: &F::Node) -> io::Result<()>;
 }
@@ -28,18 +26,18 @@ trait Observed<F: Json> {
 /// Compiles a schema, and asks of an instance what the calls of a kind ask.
 pub(super) fn compile_and_ask<F: Json>(
     rt: &HostRuntime,
-    call: Call<'_>,
+    kind: &str,
     settings: &Settings,
+    schema: &Value,
     instance: &F::Node,
 ) -> io::Result<()> {
     let ctx: Context<F> = Context::new(rt.alloc(), settings);
-    let schema = call.value(2)?;
-    if call.name.starts_with("leaves") {
+    if kind.starts_with("leaves") {
         let parent = schema.as_object().ok_or(io::ErrorKind::InvalidInput)?;
-        ask_compiled(rt, call.name, compiled(rt.alloc(), &ctx, parent), instance)?;
+        ask_compiled(rt, kind, compiled(rt.alloc(), &ctx, parent), instance)?;
     }
     announce(rt, "compile", true)?;
-    ask_compiled(rt, call.name, compile(rt.alloc(), &ctx, schema), instance)
+    ask_compiled(rt, kind, compile(rt.alloc(), &ctx, schema), instance)
 }
 
 // Asks what was compiled, or says why it was not.
@@ -51,17 +49,19 @@ fn ask_compiled<F: Json, C: Observed<F> + Drop>(
 ) -> io::Result<()> {
     match &made {
         Ok(compiled) => compiled.ask(rt, kind, instance),
-        Err(CompileFault::Memory(_)) => told(rt, true),
+        Err(CompileFault::Memory(_)) => told(rt, true, None),
         Err(CompileFault::Bad(error)) => {
-            told(rt, false)?;
-            print_lines(rt, refusal(rt.alloc(), true, WHOLE, error)?.as_str())
+            told(rt, false, None)?;
+            let mut lines = Lines::new(rt.alloc(), true);
+            lines.push_refusal(error)?;
+            print_lines(rt, lines.text.as_str())
         }
     }
 }
 
 impl<F: Json> Observed<F> for SchemaNode<F> {
     fn ask(&self, rt: &HostRuntime, kind: &str, instance: &F::Node) -> io::Result<()> {
-        told(rt, false)?;
+        told(rt, false, None)?;
         // One of the schemas of `below` is `false`, whose compile takes no memory.
         if kind != "below" {
             print_lines(rt, "compiled")?;
@@ -71,7 +71,7 @@ impl<F: Json> Observed<F> for SchemaNode<F> {
         }
         match kind {
             "compile" => Ok(()),
-            "below" => evaluate_below(rt, self, instance),
+            "below" => ask_below(rt, self, instance),
             "schema" | "schema of decimals" => observe(rt, true, self, instance),
             "leaves" | "leaves of decimals" => observe(rt, false, self, instance),
             _ => Err(io::ErrorKind::InvalidInput)?,
@@ -131,61 +131,42 @@ fn observe<F: Json>(
     let is_valid = node.is_valid(instance, &mut ctx);
     println!(rt; ", answered {is_valid}")?;
     announce(rt, "validate", takes_memory)?;
-    let first = print_first(
-        rt,
-        &node.validate(instance, &mut location, &mut ctx),
-        &location,
-    );
-    first?;
-    collect_errors(rt, takes_memory, node, instance, &mut location)?;
+    let first = node.validate(instance, &mut location, &mut ctx);
+    print_first(rt, first, &location)?;
+    let whole = Location::new(rt.alloc());
+    collect_errors(rt, takes_memory, node, &whole, instance, &mut location)?;
     announce(rt, "evaluate_instance", true)?;
-    print_tree(
-        rt,
-        &node.evaluate_instance(rt.alloc(), instance, &mut ctx),
-        None,
-    )
+    let tree = node.evaluate_instance(rt.alloc(), instance, &mut ctx);
+    print_tree(rt, tree, None)
 }
 
 // Asks for all errors, behind an old one.
-fn collect_errors<F: Json>(
+fn collect_errors<'i, F: Json>(
     rt: &HostRuntime,
     takes_memory: bool,
-    node: &SchemaNode<F>,
-    instance: &F::Node,
+    node: &'i SchemaNode<F>,
+    whole: &'i Location,
+    instance: &'i F::Node,
     location: &mut LazyLocation,
 ) -> io::Result<()>
     requires { IsTrue (is_lawful (F.Node.tree instance.now)) }
 {
-    let whole = Location::new(rt.alloc());
-    let mut errors = old_error(rt.alloc(), &whole, instance)?;
+    let mut errors = Vec::new(rt.alloc());
+    let (kind, at) = (ValidationErrorKind::UniqueItems, Location::new(rt.alloc()));
+    errors.push(ValidationError::new(kind, at, whole, instance))?;
     announce(rt, "collect_errors", takes_memory)?;
     let mut ctx = ValidationContext::new();
     let collected = node.collect_errors(instance, location, &mut ctx, &mut errors);
-    told_at(rt, collected.is_err(), location)?;
+    told(rt, collected.is_err(), Some(location))?;
     print_errors(rt, &errors)
 }
 
-fn old_error<'i, F: Json>(
-    alloc: Global,
-    whole: &'i Location,
-    instance: &'i F::Node,
-) -> Made<Vec<ValidationError<'i, F>>> {
-    let kind = ValidationErrorKind::UniqueItems;
-    let mut errors = Vec::new(alloc);
-    errors.push(ValidationError::new(kind, Location::new(alloc), whole, instance))?;
-    Ok(errors)
-}
-
 // Asks for the tree of an instance that is part of another.
-fn evaluate_below<F: Json>(
-    rt: &HostRuntime,
-    node: &SchemaNode<F>,
-    instance: &F::Node,
-) -> io::Result<()>
+fn ask_below<F: Json>(rt: &HostRuntime, node: &SchemaNode<F>, instance: &F::Node) -> io::Result<()>
     requires { IsTrue (is_lawful (F.Node.tree instance.now)) }
 {
     let (mut location, mut ctx) = (two_below(rt.alloc())?, ValidationContext::new());
     announce(rt, "evaluate_instance_below", true)?;
     let tree = node.evaluate_instance_below(rt.alloc(), instance, &mut location, &mut ctx);
-    print_tree(rt, &tree, Some(&location))
+    print_tree(rt, tree, Some(&location))
 }

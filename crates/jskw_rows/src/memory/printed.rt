@@ -1,7 +1,7 @@
 //! The words around a call, and what it gave.
-use crate::error_lines::{WHOLE, push_error};
+use crate::error_lines::Lines;
 use crate::stop::Made;
-use crate::tree_lines::push_tree;
+use crate::tree_lines::TreeLines;
 use jskw_report::{EvaluationNode, Fault, LazyLocation, ValidationError};
 use jskw_value::{Json, Node};
 use std::io;
@@ -15,19 +15,14 @@ pub(super) fn announce(rt: &HostRuntime, call: &str, takes_memory: bool) -> io::
     }
 }
 
-/// Says that the call has returned, and whether it ran out of memory.
-pub(super) fn told(rt: &HostRuntime, is_memory: bool) -> io::Result<()> {
-    println!(rt; ", {}", word(is_memory))
-}
-
-/// The same, with what the location is then.
-pub(super) fn told_at(rt: &HostRuntime, is_memory: bool, at: &LazyLocation) -> io::Result<()> {
-    print!(rt; ", {}", word(is_memory))?;
-    println!(rt; " at {}", at.render()?.as_str())
-}
-
-fn word(is_memory: bool) -> &'static str {
-    if is_memory { "memory" } else { "answered" }
+/// Says that the call has returned and whether it ran out of memory, and then what the location is, if
+/// it has one.
+pub(super) fn told(rt: &HostRuntime, is_memory: bool, at: Option<&LazyLocation>) -> io::Result<()> {
+    print!(rt; ", {}", if is_memory { "memory" } else { "answered" })?;
+    match at {
+        None => println!(rt; ""),
+        Some(at) => println!(rt; " at {}", at.render()?.as_str()),
+    }
 }
 
 /// Prints each line of a text behind a tab.
@@ -47,23 +42,23 @@ pub(super) fn print_text<N: Node>(rt: &HostRuntime, node: &N) -> io::Result<()> 
 /// Prints errors, each in a line.
 pub(super) fn print_errors<F: Json>(
     rt: &HostRuntime,
-    errors: &[ValidationError<'_, F>],
+    errors: &[ValidationError<F>],
 ) -> io::Result<()> {
-    let mut text = String::new(rt.alloc());
+    let mut lines = Lines::new(rt.alloc(), true);
     for error in errors {
-        push_error(rt.alloc(), &mut text, true, WHOLE, error)?;
+        lines.push_error(error)?;
     }
-    print_lines(rt, text.as_str())
+    print_lines(rt, lines.text.as_str())
 }
 
 /// Says what `validate` returned, and where the location is then.
 pub(super) fn print_first<F: Json>(
     rt: &HostRuntime,
-    answer: &Result<(), Fault<'_, F>>,
+    answer: Result<(), Fault<'_, F>>,
     at: &LazyLocation,
 ) -> io::Result<()> {
-    told_at(rt, matches!(answer, Err(Fault::Memory(_))), at)?;
-    match answer {
+    told(rt, matches!(&answer, Err(Fault::Memory(_))), Some(at))?;
+    match &answer {
         Err(Fault::Invalid(error)) => print_errors(rt, std::slice::from_ref(error)),
         _ => Ok(()),
     }
@@ -73,17 +68,14 @@ pub(super) fn print_first<F: Json>(
 /// tree, and of the errors that it describes.
 pub(super) fn print_tree(
     rt: &HostRuntime,
-    answer: &Made<EvaluationNode>,
+    answer: Made<EvaluationNode>,
     at: Option<&LazyLocation>,
 ) -> io::Result<()> {
-    match at {
-        Some(at) => told_at(rt, answer.is_err(), at)?,
-        None => told(rt, answer.is_err())?,
+    told(rt, answer.is_err(), at)?;
+    let mut tree = TreeLines::new(&Lines::new(rt.alloc(), true));
+    if let Ok(root) = &answer {
+        tree.push(0, root)?;
     }
-    let (mut lines, mut described) = (String::new(rt.alloc()), String::new(rt.alloc()));
-    if let Ok(root) = answer {
-        push_tree(&mut lines, &mut described, WHOLE, 0, root)?;
-    }
-    print_lines(rt, lines.as_str())?;
-    print_lines(rt, described.as_str())
+    print_lines(rt, tree.lines.text.as_str())?;
+    print_lines(rt, tree.described.as_str())
 }
