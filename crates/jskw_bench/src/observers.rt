@@ -124,9 +124,11 @@ fn has_no_errors<'i>(
 ) -> bool {
     let mut ctx = ValidationContext::new();
     let collected = node.collect_errors(&instance.value, location, &mut ctx, errors);
-    let accepts = collected.is_ok() && errors.is_empty();
+    if collected.is_ok() && errors.is_empty() {
+        return true;
+    }
     errors.clear();
-    accepts
+    false
 }
 
 fn is_evaluated(alloc: Global, node: &SchemaNode<SerdeJson>, instance: &Instance) -> bool {
