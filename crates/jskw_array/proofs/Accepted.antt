@@ -63,8 +63,3 @@ no_errors s t p h = no_element (fail s t p) (sym (holds_empty s t p) ∙ h)
 pub counted_within : (old new n : ℕ) (b : Bool) → b ≡ true → 1 ≤ n → CountsUpTo old new (if b then 1 else 0) → CountsUpTo old new n
 counted_within old new n true is least counted = record { from = counted.from; to = omega (arith, least, counted.to) }
 counted_within old new n false is least counted = absurd (true≢false (sym is))
-
--- one that is not made is not counted
-pub counted_not : (old new : ℕ) (b : Bool) → b ≡ false → CountsUpTo old new (if b then 1 else 0) → new ≡ old
-counted_not old new true is counted = absurd (true≢false is)
-counted_not old new false is counted = omega (arith, counted.from, counted.to)

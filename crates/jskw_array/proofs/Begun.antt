@@ -3,7 +3,7 @@ use Rattle.std.proofs.Common.{◌≡◌, ℕ, zero, suc, ◌+◌, ◌<◌, ◌�
 use Rattle.std.proofs.lemmas.Bool.{and_parts, true≢false}
 use Rattle.jskw_value.specs.Tree.{Items, Members, array, object}
 use Rattle.jskw_number.specs.declared.quick_set.QuickSet.{QuickSet}
-use Rattle.jskw_array.specs.Words.{BeginsWith, IsLeft, Pointer, Schema, TheUnit, Tree, all_applications, all_fail, all_height, all_hold, all_needed, all_pairs, applications, fail, height, holds, in_outline, is_in, keywords_of, marked, meaning_holds, meaning_needed, schema_object, unit_meaning}
+use Rattle.jskw_array.specs.Words.{IsLeft, Pointer, Schema, TheUnit, Tree, all_applications, all_fail, all_height, all_hold, all_needed, all_pairs, applications, fail, height, holds, in_outline, is_in, keywords_of, marked, meaning_holds, meaning_needed, schema_object, unit_meaning}
 use Rattle.jskw_array.specs.declared.outline.Outline.{Outline}
 use Rattle.jskw_report.proofs.Fails.{no_element}
 use Rattle.jskw_array.proofs.Keywords.{first_fails, first_height, first_holds, first_meets, first_needs, unit_empty, unit_tall}

@@ -1,8 +1,8 @@
 -- What a walk over a node's units has left at a unit, and at the end.
-use Rattle.std.proofs.Common.{◌≡◌, ℕ, zero, suc, ◌+◌, ◌<◌, ◌≤◌, List, [], ◌∷◌, ◌++◌, length, get_or, drop, max, false, ◌&&◌, ◌||◌, None, Some, refl, sym, if◌then◌else◌, ap, ◌∙◌, append_assoc, arith}
+use Rattle.std.proofs.Common.{◌≡◌, ℕ, zero, suc, ◌+◌, ◌<◌, ◌≤◌, List, [], ◌∷◌, ◌++◌, length, get_or, drop, max, ◌&&◌, ◌||◌, None, Some, refl, sym, if◌then◌else◌, ap, ◌∙◌, append_assoc, arith}
 use Rattle.std.proofs.lemmas.List.{drop_all}
 use Rattle.std.specs.Borrow.{Bor}
-use Rattle.jskw_array.specs.Words.{ArrayShapeValidator, Evaluation, HasUnits, Keywords, OfKeyword, Pointer, Schema, Shape, TheUnit, Tree, absorbed_by, absorbed_keywords, all_fail, all_hand_on, all_height, all_hold, all_needed, all_pairs, fail, false_schema, height, holds, is_empty, keyword, keyword_height, keywords_of, meaning_fail, meaning_holds, meaning_needed, meaning_pairs, meaning_unit, needed, no_keywords, node_at, of_children, of_errors, pairs, schema_location, schema_object, shape_keywords, tree, unit_hands_on, unit_location, unit_meaning, units, validator_keyword}
+use Rattle.jskw_array.specs.Words.{ArrayShapeValidator, Evaluation, HasUnits, Keywords, OfKeyword, Pointer, Schema, Shape, TheUnit, Tree, absorbed_by, absorbed_keywords, all_fail, all_hand_on, all_height, all_hold, all_needed, all_pairs, fail, false_schema, height, is_empty, keyword, keyword_height, keywords_of, meaning_fail, meaning_holds, meaning_needed, meaning_pairs, meaning_unit, no_keywords, node_at, of_children, of_errors, pairs, schema_location, schema_object, shape_keywords, tree, unit_hands_on, unit_location, unit_meaning, units, validator_keyword}
 use Rattle.jskw_report.proofs.Appended.{fail_appended, hand_on_appended, height_appended, hold_appended, needed_appended, pairs_appended, units_appended}
 use Rattle.jskw_report.proofs.Fails.{all_empty, keyword_empty}
 use Rattle.jskw_report.proofs.Gathering.{drop_here}
@@ -110,17 +110,8 @@ unit_height (r ∷ us) (suc i) u within is = let below = unit_height us i u (ome
 -- ---- a schema by its units
 
 module _ {F N O P : Type 0} (s : Schema) (us : Bor (List (TheUnit F N O P))) (has : HasUnits s (Some us)) where
-  pub schema_holds : (t : Tree) → holds s t ≡ all_hold (keywords_of us.now) t
-  schema_holds t = ap (λ r. holds r t) has.1
-
-  pub schema_needs : (t : Tree) → needed s t ≡ 1 + all_needed (keywords_of us.now) t
-  schema_needs t = ap (λ r. needed r t) has.1
-
   pub schema_pairs : (t : Tree) → pairs s t ≡ 1 + all_pairs (keywords_of us.now) t
   schema_pairs t = ap (λ r. pairs r t) has.1
-
-  pub schema_fails : (t : Tree) (p : Pointer) → fail s t p ≡ all_fail (keywords_of us.now) t p
-  schema_fails t p = ap (λ r. fail r t p) has.1
 
   pub schema_tree : (t : Tree) (p : Pointer) → tree s t p ≡ node_at (schema_location s) p (of_children None (units (keywords_of us.now) t p))
   schema_tree t p = ap (λ r. tree r t p) has.1

@@ -4,7 +4,7 @@ use Rattle.std.specs.Borrow.{Bor}
 use Rattle.jskw_array.specs.Words.{ArrayShapeValidator, Begins, IfSome, IsShape, Keywords, OfKeyword, Schema, Shape, Some, TheUnit, all_hand_on, append_keywords, begin_fused, each_hands_on, hands_on_required, is_shape, keyword, keywords_of, no_keywords, schemas_of, shape_keywords, validator_keyword}
 use Rattle.std.specs.Prelude.{Option, None}
 use Rattle.std.proofs.lemmas.List.{drop_all}
-use Rattle.jskw_report.proofs.Appended.{append_append, append_none}
+use Rattle.jskw_report.proofs.Appended.{append_append}
 use Rattle.jskw_report.proofs.Gathering.{drop_here}
 use Rattle.jskw_array.specs.declared.unit.PlacedValidator.{PlacedValidator}
 
@@ -39,14 +39,6 @@ pub shapes_begin : {F N O P : Type 0} (r : Option (Bor (ArrayShapeValidator F N 
     → u ≡ get_or us 0 d → ks ≡ keywords_of us → IfSome r (λ v. IsShape u v.now) → IfSome r (λ v. Begins (shape_keywords v.now) ks)
 shapes_begin None us u d ks one is all shape = shape
 shapes_begin (Some v) us u d ks one is all shape = let begins = shape_first us u d v.now one is shape in (begins.0, all ∙ begins.1)
-
--- a fused shape that is the only unit: its keywords are all
-pub only_one : {F N O P : Type 0} (r : Option (Bor (ArrayShapeValidator F N O P))) (us : List (TheUnit F N O P)) (u d : TheUnit F N O P) → 1 ≤ length us → length us < 2
-    → u ≡ get_or us 0 d → IfSome r (λ v. IsShape u v.now) → IfSome r (λ v. keywords_of us ≡ shape_keywords v.now)
-only_one None us u d one few is shape = shape
-only_one (Some v) [] u d one few is shape = absurd (omega arith)
-only_one (Some v) (w ∷ []) u d one few is shape = ap (λ x. keywords_of (x ∷ [])) (sym is) ∙ shape [] ∙ append_none (shape_keywords v.now)
-only_one (Some v) (w ∷ x ∷ us) u d one few is shape = absurd (omega arith)
 
 -- of a whole vector
 abbrev pub keywords_in : {F N O P : Type 0} → Vec (TheUnit F N O P) Global → Keywords

@@ -1,7 +1,7 @@
 -- A walk that reports the errors of items or keywords one after another, and the applications that it takes.
 use Rattle.std.proofs.Common.{◌≡◌, ℕ, ◌+◌, ◌≤◌, List, [], ◌++◌, length, get_or, take, drop, sum_by, Bool, true, false, Result, Ok, Err, IsErrAnd, if◌then◌else◌, refl, sym, subst, ap, ◌∙◌, arith, ◌<◌}
 use Rattle.std.proofs.lemmas.Bool.{true≢false}
-use Rattle.jskw_array.specs.Words.{CountsUpTo, Each, Failure, Pointer, Reports, Rest, Schema, Schemas, TheUnit, Tree, all_applications, all_needed, applications, each_holds, each_keyword, each_needed, each_pairs, fail, holds, is_empty, items, keywords_of, list_all, meaning_applications, meaning_fail, meaning_holds, meaning_needed, needed, one, pairs, rest_keyword, schemas_of, sum_to_failure, unit_meaning, wants_all}
+use Rattle.jskw_array.specs.Words.{CountsUpTo, Each, Failure, Pointer, Reports, Rest, Schema, Schemas, TheUnit, Tree, all_applications, applications, each_holds, each_keyword, each_needed, each_pairs, fail, holds, is_empty, items, keywords_of, list_all, meaning_applications, meaning_fail, meaning_holds, needed, one, pairs, rest_keyword, schemas_of, sum_to_failure, unit_meaning, wants_all}
 use Rattle.jskw_report.specs.declared.error.Stop.{Stop}
 use Rattle.jskw_report.specs.declared.report.Report.{Report}
 use Rattle.jskw_report.proofs.Fails.{holds_empty}

@@ -1,5 +1,5 @@
-use Rattle.std.proofs.Common.{rules, ◌≡◌, ◌∙◌, ◌+◌, ◌-◌, ◌≤◌, [], Err, Ok, refl, drop, ap, ap₂, sym, subst, append-nil, arith}
-use Rattle.jskw_array.specs.Words.{Reports, absorbed_keywords, all_fail, all_height, applications, each_fails, each_item, each_keyword, fail, item_location, items, keyword_fail, keywords_of, meaning_applications, meaning_fail, path_of, rest_keyword, schemas_of, shape_keywords, unit_meaning, validator_keyword, wants_all}
+use Rattle.std.proofs.Common.{rules, ◌≡◌, ◌∙◌, ◌+◌, ◌-◌, ◌≤◌, Err, Ok, refl, drop, ap, ap₂, sym, subst, append-nil, arith}
+use Rattle.jskw_array.specs.Words.{Reports, absorbed_keywords, all_fail, all_height, applications, each_item, each_keyword, fail, item_location, items, keyword_fail, meaning_applications, meaning_fail, path_of, rest_keyword, shape_keywords, unit_meaning, validator_keyword, wants_all}
 use Rattle.jskw_report.proofs.Appended.{fail_appended}
 use Rattle.jskw_report.proofs.Reporting.{Reported, reported_all, reported_nothing, reports_begun, reports_behind, reports_memory, reports_none}
 use Rattle.jskw_array.specs.Heights.{each_is_as_high, rest_is_as_high}
