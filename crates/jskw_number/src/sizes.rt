@@ -77,7 +77,7 @@ impl<const OF_ARRAYS: bool, const IS_LEAST: bool> SizeLimit<OF_ARRAYS, IS_LEAST>
         Ok(SizeLimit { limit, location })
     }
 
-    /// Returns the bound.
+    /// Returns the bound: an integer from 0 to 2^64-1.
     pub fn limit(&self) -> u64
         ensures { result ≡ self.now.limit }
     {

@@ -75,11 +75,6 @@ abbrev pub applications : Bool → Schema → Tree → ℕ
 applications true s t = pairs s t
 applications false s t = needed s t
 
--- the pairs that the keyword makes meet
-abbrev pub keyword_applications : Bool → Keyword → Tree → ℕ
-keyword_applications true k t = keyword_pairs k t
-keyword_applications false k t = keyword_needed k t
-
 -- the pairs that the keywords make meet
 abbrev pub all_applications : Bool → Keywords → Tree → ℕ
 all_applications true ks t = all_pairs ks t

@@ -261,7 +261,7 @@ pub enum Fault<'i, F: Json> {
     Memory(AllocError),
 }
 
-/// Why [`report`](crate::Validate::report) did not return `Ok`.
+/// Why [`report_errors`](crate::Validate::report_errors) did not return `Ok`.
 #[derive(Debug, Drop)]
 pub enum Stop {
     /// The instance is invalid, and no other error is wanted.

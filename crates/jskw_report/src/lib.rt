@@ -7,8 +7,8 @@
 //! - [`Settings`] hold the draft, the vocabularies and the overridden keywords. A [`Context`] adds
 //!   the keyword location at which a schema or a keyword is compiled.
 //! - [`Validate`] has the four observers of a validator: `is_valid`, `validate`, `collect_errors`
-//!   and `evaluate`. A validator has one body for the two that give errors, `report`, which adds
-//!   them to a [`Report`]. The contracts refer to the definitions in `specs/`. A validator that
+//!   and `evaluate`. A validator has one body for the two that give errors, `report_errors`, which
+//!   adds them to a [`Report`]. The contracts refer to the definitions in `specs/`. A validator that
 //!   gives at most one error for an instance implements [`Assertion`], and gets the observers from
 //!   it.
 //! - A [`ValidationError`] says what is wrong with an instance or with a schema, an

@@ -52,8 +52,8 @@ impl<'i, F: Json> Report<'i, F> {
         Report::All(mem::replace(errors, Vec::new(alloc)))
     }
 
-    /// Returns the result of `validate` for that of `report`, if the first error was wanted.
-    /// `Stop::Invalid` without an error, which no `report` returns, gives `Fault::Memory`.
+    /// Returns the result of `validate` for that of `report_errors`, if the first error was wanted.
+    /// `Stop::Invalid` without an error, which no validator returns, gives `Fault::Memory`.
     pub fn into_first(self, reported: Result<(), Stop>) -> Result<(), Fault<'i, F>>
         ensures first { (fs : List Failure) → Reports F.Node.tree (First None) self.entry fs reported
             → IsFirst F.Node.tree fs result }
@@ -66,6 +66,7 @@ impl<'i, F: Json> Report<'i, F> {
             (Err(Stop::Memory(error)), _) => Err(Fault::Memory(error)),
         }
     }
+
     /// Puts the errors into the list from which [`behind`](Report::behind) took them, and returns the
     /// result of `collect_errors` for that of `report_errors`. `Stop::Invalid`, which no validator
     /// returns if all errors are wanted, gives `AllocError`.
