@@ -1,6 +1,7 @@
 -- Ranges of integers within limits and among multiples, and sets of values that keywords accept.
-use Rattle.std.proofs.Common.{◌≡◌, ℕ, zero, suc, ◌^◌, ◌*◌, ◌%◌, ◌==◌, ◌&&◌, ◌||◌, ℤ, pos, negsuc, ◌*ℤ◌, ◌+ℤ◌, Bool, true, false, if◌then◌else◌, Some, None, refl, sym, subst, ◌∙◌, arith}
-use Rattle.std.proofs.lemmas.Bool.{and_parts, true≢false}
+use Rattle.std.proofs.Common.{◌≡◌, ℕ, zero, suc, List, [], ◌∷◌, ap, get_or, ◌^◌, ◌*◌, ◌%◌, ◌==◌, ◌&&◌, ◌||◌, ℤ, pos, negsuc, ◌*ℤ◌, ◌+ℤ◌, Bool, true, false, not, if◌then◌else◌, Some, None, refl, sym, ap₂, subst, ◌∙◌, arith}
+use Rattle.std.proofs.lemmas.Bool.{and_parts, or_left, true≢false}
+use Rattle.std.proofs.Math.Bool.{and-true}
 use Rattle.std.proofs.Math.IntN.{*ℤ-one, one}
 use Rattle.std.proofs.lemmas.Int.{ints}
 use Rattle.std.specs.Option.{option_map_or}
@@ -14,7 +15,9 @@ use Rattle.jskw_report.specs.Holds.{is_integer, is_of, limit_holds, multiple_hol
 use Rattle.jskw_report.specs.Keyword.{Keyword, Integers, by_value, as_written, Relation, Minimum, Maximum, ExclusiveMinimum, ExclusiveMaximum}
 use Rattle.jskw_number.specs.declared.quick_set.IntegerRange.{IntegerRange}
 use Rattle.jskw_number.specs.declared.quick_set.QuickSet.{QuickSet}
-use Rattle.jskw_number.specs.QuickSet.{Accepts, divides, has_number, in_range, is_in}
+use Rattle.std.specs.Int.NonZero.{non_zero_u64_get}
+use Rattle.std.specs.declared.num.NonZeroU64.{NonZeroU64}
+use Rattle.jskw_number.specs.QuickSet.{Accepts, divides, has_number, in_range, has_type, is_in}
 use Rattle.jskw_report.proofs.Elsewhere.{IsOther, holds_of_other, subject}
 use Rattle.jskw_number.proofs.Divisors.{divides_other}
 use Rattle.jskw_number.proofs.Limits.{limit_other}
@@ -46,6 +49,16 @@ pub below : (z n : ℤ) → int_le z (n +ℤ negsuc 0) ≡ true → stands_in Ex
 below z n h = rw (times_one n) (next_below z n (int_lt z n) refl h)
 
 pub ruleset whole_limits = (at_least, at_most, above, below)
+
+-- ---- divisors
+
+-- each integer is a multiple of 1
+pub one_divides : (d : NonZeroU64) (z : ℤ) → non_zero_u64_get d ≡ 1 → divides d z ≡ true
+one_divides d z e = let none : unsigned_abs z % 1 ≡ 0 = omega arith in rw e (rw none refl)
+
+-- the integers between the bounds are the range where the divisor is 1
+pub all_between : (r : IntegerRange) (z : ℤ) → non_zero_u64_get r.divisor ≡ 1 → in_range r z ≡ (int_le r.low z && int_le z r.high)
+all_between r z e = rw (one_divides r.divisor z e) (and-true _)
 
 -- ---- two ranges
 
@@ -102,21 +115,51 @@ whole_is_integer : (rule : Integers) (c : ℤ) → is_integer rule (number (exac
 whole_is_integer by_value c = let none : unsigned_abs c % 1 ≡ 0 = omega arith in rw none refl
 whole_is_integer as_written c = refl
 
-number_of : (rule : Integers) (c : ℤ) (n i : Bool) → (n || i) ≡ true → (n || (i && is_integer rule (number (exact c zero)))) ≡ true
-number_of rule c true i h = refl
-number_of rule c false i h = rw (whole_is_integer rule c) (rw h refl)
+-- and so is a number of a range
+in_range_is_integer : (rule : Integers) (g : IntegerRange) (n : Num) → has_number g n ≡ true → is_integer rule (number n) ≡ true
+in_range_is_integer rule g (exact c zero) h = whole_is_integer rule c
+in_range_is_integer rule g (exact c (suc k)) h = absurd (true≢false (sym h))
+in_range_is_integer rule g float h = absurd (true≢false (sym h))
 
-pub accepted_types : (q : QuickSet) (s : JsonTypeSet) → q.arrays ≡ types.contains s Array → q.booleans ≡ types.contains s Boolean → q.nulls ≡ types.contains s Null → q.objects ≡ types.contains s Object → q.strings ≡ types.contains s String
-    → ((z : ℤ) → in_range q.integers z ≡ true → (types.contains s Number || types.contains s Integer) ≡ true)
+-- marks of the types of the set
+abbrev pub types_in : JsonTypeSet → List Bool
+types_in s = types.contains s Null ∷ types.contains s Boolean ∷ types.contains s Number ∷ types.contains s String ∷ types.contains s Array ∷ types.contains s Object ∷ []
+
+-- what is no number is in a set by its type
+by_type : (q : QuickSet) (t : Tree) → as_number t ≡ None → is_in q t ≡ has_type q t
+by_type q t e = go q.is_limited
+  where
+    go : (l : Bool) → (if l then option_map_or (has_number q.integers) (as_number t) (has_type q t) else has_type q t) ≡ has_type q t
+    go true = ap (λ o. option_map_or (has_number q.integers) o (has_type q t)) e
+    go false = refl
+
+pub accepted_types : (q : QuickSet) (s : JsonTypeSet) → q.types ≡ types_in s → q.is_limited ≡ (types.contains s Integer && not (types.contains s Number))
     → (rule : Integers) (t : Tree) → is_in q t ≡ true → is_of rule s t ≡ true
-accepted_types q s a b n o st i rule null h = rw (sym n ∙ h) refl
-accepted_types q s a b n o st i rule (boolean x) h = rw (sym b ∙ h) refl
-accepted_types q s a b n o st i rule (string x) h = rw (sym st ∙ h) refl
-accepted_types q s a b n o st i rule (array ts) h = rw (sym a ∙ h) refl
-accepted_types q s a b n o st i rule (object ms) h = rw (sym o ∙ h) refl
-accepted_types q s a b n o st i rule (number (exact c zero)) h = number_of rule c (types.contains s Number) (types.contains s Integer) (i c (whole_in q.integers c h))
-accepted_types q s a b n o st i rule (number (exact c (suc k))) h = absurd (true≢false (sym h))
-accepted_types q s a b n o st i rule (number float) h = absurd (true≢false (sym h))
+accepted_types q s e l rule = go
+  where
+    marked : (t : Tree) → has_type q t ≡ types.contains s (types.json_type t)
+    marked null = ap (λ ts. get_or ts 0 false) e
+    marked (boolean b) = ap (λ ts. get_or ts 1 false) e
+    marked (number n) = ap (λ ts. get_or ts 2 false) e
+    marked (string x) = ap (λ ts. get_or ts 3 false) e
+    marked (array ts) = ap (λ ts. get_or ts 4 false) e
+    marked (object ms) = ap (λ ts. get_or ts 5 false) e
+
+    other : (t : Tree) → as_number t ≡ None → is_in q t ≡ true → is_of rule s t ≡ true
+    other t none h = or_left _ _ (sym (marked t) ∙ sym (by_type q t none) ∙ h)
+
+    numbers : (n : Num) (a i : Bool) → (if i && not a then has_number q.integers n else a) ≡ true → (a || (i && is_integer rule (number n))) ≡ true
+    numbers n true i h = refl
+    numbers n false true h = in_range_is_integer rule q.integers n h
+    numbers n false false h = h
+
+    go : (t : Tree) → is_in q t ≡ true → is_of rule s t ≡ true
+    go (number n) h = numbers n (types.contains s Number) (types.contains s Integer) (ap₂ (λ b m. if b then has_number q.integers n else m) (sym l) (sym (marked (number n))) ∙ h)
+    go null h = other null refl h
+    go (boolean b) h = other (boolean b) refl h
+    go (string x) h = other (string x) refl h
+    go (array ts) h = other (array ts) refl h
+    go (object ms) h = other (object ms) refl h
 
 -- ---- what a keyword is not about
 

@@ -1,19 +1,21 @@
 -- Sets of values that a few instructions test, and what they say of a keyword.
 use Rattle.std.specs.Int.NonZero.{non_zero_u64_get}
 use Rattle.std.specs.Option.{option_and_then, option_map_or}
-use Rattle.std.specs.Prelude.{◌≡◌, ℕ, suc, List, [], ◌∷◌, if◌then◌else◌, ℤ, int_le, unsigned_abs, ◌%◌, ◌==◌, ◌&&◌, Bool, true, false, Option, Some, None}
+use Rattle.std.specs.Prelude.{◌≡◌, ℕ, suc, List, [], ◌∷◌, get_or, if◌then◌else◌, ℤ, int_le, unsigned_abs, ◌%◌, ◌==◌, ◌&&◌, Bool, true, false}
 use Rattle.std.specs.declared.num.NonZeroU64.{NonZeroU64}
 use Rattle.jskw_value.specs.Number.{Num, i64_of, whole}
-use Rattle.jskw_value.specs.Tree.{Tree, null, boolean, number, string, array, object}
+use Rattle.jskw_value.specs.Tree.{Tree, as_number}
+use Rattle.jskw_value.specs.Types.{json_type}
+use Rattle.jskw_value.specs.declared.types.JsonType.{JsonType}
+use Rattle.jskw_value.specs.declared.types.JsonType.TheVariants.{Array, Boolean, Integer, Null, Number, Object, String}
 use Rattle.jskw_report.specs.Holds.{keyword_holds}
 use Rattle.jskw_report.specs.Keyword.{Keyword}
 use Rattle.jskw_number.specs.declared.quick_set.IntegerRange.{IntegerRange}
 use Rattle.jskw_number.specs.declared.quick_set.QuickSet.{QuickSet}
 
--- z divided by the divisor is an integer, where there is a divisor
-abbrev pub divides : Option NonZeroU64 → ℤ → Bool
-divides None z = true
-divides (Some d) z = unsigned_abs z % non_zero_u64_get d == 0
+-- z divided by the divisor is an integer
+abbrev pub divides : NonZeroU64 → ℤ → Bool
+divides d z = unsigned_abs z % non_zero_u64_get d == 0
 
 -- z is between the bounds, and a multiple of the divisor
 abbrev pub in_range : IntegerRange → ℤ → Bool
@@ -23,14 +25,23 @@ in_range r z = int_le r.low z && int_le z r.high && divides r.divisor z
 abbrev pub has_number : IntegerRange → Num → Bool
 has_number r n = option_map_or (in_range r) (option_and_then i64_of (whole n)) false
 
--- the tree is in the set: it is a number of the range, or of another type that is in the set
+-- the place of a type in a set
+abbrev pub place : JsonType → ℕ
+place Null = 0
+place Boolean = 1
+place Integer = 2
+place Number = 2
+place String = 3
+place Array = 4
+place Object = 5
+
+-- values of the tree's type are in the set
+abbrev pub has_type : QuickSet → Tree → Bool
+has_type q t = get_or q.types (place (json_type t)) false
+
+-- the tree is in the set: a number of a limited set by the range, and all else by its type
 abbrev pub is_in : QuickSet → Tree → Bool
-is_in q null = q.nulls
-is_in q (boolean b) = q.booleans
-is_in q (number n) = has_number q.integers n
-is_in q (string s) = q.strings
-is_in q (array ts) = q.arrays
-is_in q (object ms) = q.objects
+is_in q t = if q.is_limited then option_map_or (has_number q.integers) (as_number t) (has_type q t) else has_type q t
 
 -- the number of elements before the first that fails the check
 abbrev pub leading : {A : Type 0} → (A → Bool) → List A → ℕ

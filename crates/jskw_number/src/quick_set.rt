@@ -1,34 +1,34 @@
 //! Sets of values that a keyword is known to accept, and that a few instructions test. A keyword
 //! may accept more: a value that is not in its set is tested by the keyword itself.
-ghost use Rattle.std.specs.Prelude.{◌≡◌, ◌≤◌, ◌+◌, ◌&&◌, ◌||◌, IsTrue, ℤ, int_le, true, false};
-ghost use Rattle.std.specs.Prelude.{drop, length};
+ghost use Rattle.std.specs.Prelude.{◌≡◌, ◌≤◌, ◌<◌, ◌+◌, ◌&&◌, ◌||◌, IsTrue, ℤ, int_le, true, false};
+ghost use Rattle.std.specs.Prelude.{drop, get_or, length};
 ghost use Rattle.std.specs.Int.NonZero.{non_zero_u64_get};
 ghost use Rattle.jskw_value.specs.Number.{Num, is_exact, is_multiple_of};
 ghost use Rattle.jskw_value.specs.Tree.{Items, Members, Tree, array, is_array, is_lawful};
 ghost use Rattle.jskw_value.specs.Tree.{is_object, items, number, object};
-ghost use Rattle.jskw_value.specs.Types.{contains as has_type};
-ghost use Rattle.jskw_value.specs.declared.types.JsonType.TheVariants.{Integer, Number};
+ghost use Rattle.jskw_value.specs.declared.types.JsonType.{JsonType};
 ghost use Rattle.jskw_report.specs.Holds.{is_of};
 ghost use Rattle.jskw_report.specs.Keyword.{Integers};
-ghost use Rattle.jskw_number.specs.QuickSet.{divides, has_number, in_range, is_in, leading};
+ghost use Rattle.jskw_number.specs.QuickSet.{divides, has_number, in_range, is_in, leading, place};
 
 use jskw_value::{Array, JsonNumber, JsonType, JsonTypeSet, Node};
 use std::num::NonZeroU64;
 
-/// The integers from `low` to `high` that are multiples of the divisor, if there is one.
+/// The integers from `low` to `high` that are multiples of the divisor. That is 1 for all of them.
 #[derive(Clone, Copy)]
 pub struct IntegerRange {
     low: i64,
     high: i64,
-    divisor: Option<NonZeroU64>,
+    divisor: NonZeroU64,
 }
 
 impl IntegerRange {
     // The integers from `low` to `high`.
+    #[tactic(auto, using(crate::proofs::QuickSets::all_between))]
     fn between(low: i64, high: i64) -> IntegerRange
         ensures { (z : ℤ) → in_range result z ≡ (int_le low z && int_le z high) }
     {
-        let divisor = None;
+        let divisor = NonZeroU64::MIN;
         IntegerRange { low, high, divisor }
     }
 
@@ -72,34 +72,21 @@ impl IntegerRange {
             → is_multiple_of z 0 (non_zero_u64_get divisor) ≡ true }
     {
         IntegerRange {
-            divisor: Some(divisor),
+            divisor,
             ..IntegerRange::all()
         }
     }
 
-    // All integers if the types have `integer` or `number`, and else none.
-    fn of_types(types: JsonTypeSet) -> IntegerRange
-        ensures { (z : ℤ) → in_range result z ≡ true
-            → (has_type types Number || has_type types Integer) ≡ true }
-    {
-        if types.contains(JsonType::Number) || types.contains(JsonType::Integer) {
-            IntegerRange::all()
-        } else {
-            IntegerRange::none()
-        }
-    }
-
-    /// Returns whether `number` is in the range.
+    /// Returns whether `number` is in the range. No number is divided by 1.
+    #[tactic(auto, using(crate::proofs::QuickSets::one_divides))]
     fn contains(&self, number: i64) -> bool
         ensures { result ≡ in_range self.now number }
     {
         if number < self.low || self.high < number {
             return false;
         }
-        match self.divisor {
-            None => true,
-            Some(divisor) => number.unsigned_abs() % divisor.get() == 0,
-        }
+        let divisor = self.divisor.get();
+        divisor == 1 || number.unsigned_abs() % divisor == 0
     }
 
     // Returns whether the number, which must be lawful, is an integer of the range that is written
@@ -143,19 +130,22 @@ impl IntegerRange {
         }
     }
 
-    // Multiples of the divisor in the range: all of them, unless the range has a divisor too.
-    fn divided_by(self, divisor: Option<NonZeroU64>) -> IntegerRange
+    // Multiples of the divisor in the range: all of them, unless neither divisor is 1.
+    #[tactic(auto, using(crate::proofs::QuickSets::one_divides))]
+    fn divided_by(self, divisor: NonZeroU64) -> IntegerRange
         ensures { (z : ℤ) → in_range result z ≡ true
             → (in_range self z && divides divisor z) ≡ true }
     {
-        match (self.divisor, divisor) {
-            (_, None) => self,
-            (None, divisor) => IntegerRange { divisor, ..self },
-            (Some(_), Some(_)) => IntegerRange::none(),
+        if divisor.get() == 1 {
+            self
+        } else if self.divisor.get() == 1 {
+            IntegerRange { divisor, ..self }
+        } else {
+            IntegerRange::none()
         }
     }
 
-    // Integers that are in both ranges: all of them, unless both have a divisor.
+    // Integers that are in both ranges: all of them, unless neither divisor is 1.
     fn and(self, other: IntegerRange) -> IntegerRange
         ensures { (z : ℤ) → in_range result z ≡ true
             → (in_range self z && in_range other z) ≡ true }
@@ -165,29 +155,37 @@ impl IntegerRange {
     }
 }
 
-/// A set of values: those of some types, and the integers of a range that are written without a
-/// fraction.
+/// A set of values: those of some types, of the numbers all or only the integers of a range that are
+/// written without a fraction.
 #[derive(Clone, Copy)]
 pub struct QuickSet {
-    arrays: bool,
-    booleans: bool,
-    nulls: bool,
-    objects: bool,
-    strings: bool,
+    // for each type, at its place, whether values of the type are in the set
+    types: [bool; 6],
+    // the numbers in the set are the integers of the range, whatever `types` has for numbers
+    is_limited: bool,
     integers: IntegerRange,
 }
 
 impl QuickSet {
+    // Returns the set of all values of some types: those with a mark at their places.
+    fn of_places(types: [bool; 6]) -> QuickSet
+        ensures types { result.types ≡ types }
+        ensures unlimited { result.is_limited ≡ false }
+    {
+        QuickSet {
+            types,
+            is_limited: false,
+            integers: IntegerRange::all(),
+        }
+    }
+
     /// Returns the set of all values that are no numbers, and of these integers.
     pub fn but_numbers(integers: IntegerRange) -> QuickSet
         ensures { (n : Num) → is_in result (number n) ≡ has_number integers n }
     {
         QuickSet {
-            arrays: true,
-            booleans: true,
-            nulls: true,
-            objects: true,
-            strings: true,
+            types: [true; 6],
+            is_limited: true,
             integers,
         }
     }
@@ -196,53 +194,47 @@ impl QuickSet {
     pub fn none() -> QuickSet
         ensures { (t : Tree) → is_in result t ≡ false }
     {
-        QuickSet {
-            arrays: false,
-            booleans: false,
-            nulls: false,
-            objects: false,
-            strings: false,
-            integers: IntegerRange::none(),
-        }
+        QuickSet::of_places([false; 6])
     }
 
-    /// Returns the set of all values that can be in one.
-    pub fn all() -> QuickSet {
-        QuickSet::but_numbers(IntegerRange::all())
+    /// Returns the set of all values.
+    pub fn all() -> QuickSet
+        ensures { (t : Tree) → is_in result t ≡ true }
+    {
+        QuickSet::of_places([true; 6])
     }
 
     /// Returns the set of all values but arrays.
     pub fn but_arrays() -> QuickSet
         ensures { (t : Tree) → is_in result t ≡ true → is_array t ≡ false }
     {
-        QuickSet {
-            arrays: false,
-            ..QuickSet::all()
-        }
+        QuickSet::of_places([true, true, true, true, false, true])
     }
 
     /// Returns the set of all values but objects.
     pub fn but_objects() -> QuickSet
         ensures { (t : Tree) → is_in result t ≡ true → is_object t ≡ false }
     {
-        QuickSet {
-            objects: false,
-            ..QuickSet::all()
-        }
+        QuickSet::of_places([true, true, true, true, true, false])
     }
 
-    /// Returns the values of these types. With `integer` or `number` all integers are in the set.
+    /// Returns the values of these types. With `integer` and without `number`, all integers from -2^63
+    /// to 2^63-1 are in the set that are written without a fraction.
     #[tactic(auto, using(crate::proofs::QuickSets::accepted_types))]
     pub fn of_types(types: JsonTypeSet) -> QuickSet
         ensures { (rule : Integers) (t : Tree) → is_in result t ≡ true → is_of rule types t ≡ true }
     {
         QuickSet {
-            arrays: types.contains(JsonType::Array),
-            booleans: types.contains(JsonType::Boolean),
-            nulls: types.contains(JsonType::Null),
-            objects: types.contains(JsonType::Object),
-            strings: types.contains(JsonType::String),
-            integers: IntegerRange::of_types(types),
+            types: [
+                types.contains(JsonType::Null),
+                types.contains(JsonType::Boolean),
+                types.contains(JsonType::Number),
+                types.contains(JsonType::String),
+                types.contains(JsonType::Array),
+                types.contains(JsonType::Object),
+            ],
+            is_limited: types.contains(JsonType::Integer) && !types.contains(JsonType::Number),
+            integers: IntegerRange::all(),
         }
     }
 
@@ -253,31 +245,37 @@ impl QuickSet {
         requires { IsTrue (is_lawful (N.tree instance.now)) }
         ensures { result ≡ is_in self.now (N.tree instance.now) }
     {
-        if let Some(number) = instance.as_number() {
-            return self.integers.has(number);
+        if self.is_limited {
+            if let Some(number) = instance.as_number() {
+                return self.integers.has(number);
+            }
         }
-        match instance.json_type() {
-            JsonType::Array => self.arrays,
-            JsonType::Boolean => self.booleans,
-            JsonType::Null => self.nulls,
-            JsonType::Object => self.objects,
-            JsonType::String => self.strings,
-            JsonType::Integer | JsonType::Number => false,
-        }
+        self.types[place(instance.json_type())]
     }
 
     /// Returns whether all arrays are in the set; if not, none is.
     pub fn has_arrays(&self) -> bool
         ensures { (ts : Items) → is_in self.now (array ts) ≡ result }
     {
-        self.arrays
+        self.types[place(JsonType::Array)]
     }
 
     /// Returns whether all objects are in the set; if not, none is.
     pub fn has_objects(&self) -> bool
         ensures { (ms : Members) → is_in self.now (object ms) ≡ result }
     {
-        self.objects
+        self.types[place(JsonType::Object)]
+    }
+
+    // Returns a range whose numbers are in the set.
+    fn numbers(self) -> IntegerRange
+        ensures { (n : Num) → has_number result n ≡ true → is_in self (number n) ≡ true }
+    {
+        if self.is_limited || self.types[place(JsonType::Number)] {
+            self.integers
+        } else {
+            IntegerRange::none()
+        }
     }
 
     // Returns the index behind the first items from `start` on that are integers of the set. A loop of
@@ -291,6 +289,9 @@ impl QuickSet {
             ≡ start + leading (is_in self.now) (drop start (items (N.tree instance.now))) }
         ensures within { result ≤ count }
     {
+        if !self.is_limited {
+            return start;
+        }
         let integers = self.integers;
         for index in start..count {
             match instance.item(index).as_number() {
@@ -327,12 +328,40 @@ impl QuickSet {
         ensures { (t : Tree) → is_in result t ≡ true → (is_in self t && is_in other t) ≡ true }
     {
         QuickSet {
-            arrays: self.arrays && other.arrays,
-            booleans: self.booleans && other.booleans,
-            nulls: self.nulls && other.nulls,
-            objects: self.objects && other.objects,
-            strings: self.strings && other.strings,
-            integers: self.integers.and(other.integers),
+            types: in_both(&self.types, &other.types),
+            is_limited: self.is_limited | other.is_limited,
+            integers: self.numbers().and(other.numbers()),
         }
+    }
+}
+
+// Returns the types that have a mark in both.
+fn in_both(types: &[bool; 6], others: &[bool; 6]) -> [bool; 6]
+    ensures { (j : JsonType) → get_or result (place j) false
+        ≡ (get_or types.now (place j) false && get_or others.now (place j) false) }
+{
+    [
+        types[0] && others[0],
+        types[1] && others[1],
+        types[2] && others[2],
+        types[3] && others[3],
+        types[4] && others[4],
+        types[5] && others[5],
+    ]
+}
+
+// Returns the place of a type in a set. The order is that of the variants of `serde_json::Value`, so
+// that a value's variant is its place.
+fn place(json_type: JsonType) -> usize
+    ensures value { result ≡ place json_type }
+    ensures within { result < 6 }
+{
+    match json_type {
+        JsonType::Null => 0,
+        JsonType::Boolean => 1,
+        JsonType::Integer | JsonType::Number => 2,
+        JsonType::String => 3,
+        JsonType::Array => 4,
+        JsonType::Object => 5,
     }
 }
