@@ -1,6 +1,7 @@
 pub mod Bare
 pub mod Counting
 pub mod Distinct
+pub mod Ends
 pub mod Faults
 pub mod Fused
 pub mod FusedReading

@@ -18,20 +18,20 @@ use Rattle.jskw_leaf.specs.Required.{is_among, Marks}
 
 -- ---- the place of a name
 
-pub place_step : (ws : List (List ℕ)) (k : List ℕ) (i : ℕ) (w : List ℕ) → i < length ws → w ≡ get_or ws i w → is_among (drop i ws) k ≡ (bytes_eq w k || is_among (drop (i + 1) ws) k)
-place_step ws k i w h e = ap (λ xs. is_among xs k) (drop_more ws i w h) ∙ ap (λ x. bytes_eq k x || is_among (drop (i + 1) ws) k) (sym e) ∙ ap (λ b. b || is_among (drop (i + 1) ws) k) (nat_list_eq_equiv.symm k w)
+pub place_step : (ws : List (List ℕ)) (k : List ℕ) (i : ℕ) (w : List ℕ) → i < length ws → w ≡ get_or ws i w → is_among (drop i ws) k ≡ (bytes_eq k w || is_among (drop (i + 1) ws) k)
+place_step ws k i w h e = ap (λ xs. is_among xs k) (drop_more ws i w h) ∙ ap (λ x. bytes_eq k x || is_among (drop (i + 1) ws) k) (sym e)
 
 pub place_end : (ws : List (List ℕ)) (k : List ℕ) (n : ℕ) → length ws ≤ n → is_among (drop n ws) k ≡ false
 place_end ws k n h = at_drop_all (λ xs. is_among xs k) ws n h
 
-pub place_hit : (ws : List (List ℕ)) (k : List ℕ) (i : ℕ) (w : List ℕ) → i < length ws → w ≡ get_or ws i w → bytes_eq w k ≡ true → is_among (drop i ws) k ≡ true
+pub place_hit : (ws : List (List ℕ)) (k : List ℕ) (i : ℕ) (w : List ℕ) → i < length ws → w ≡ get_or ws i w → bytes_eq k w ≡ true → is_among (drop i ws) k ≡ true
 place_hit ws k i w h e m = place_step ws k i w h e ∙ ap (λ b. b || is_among (drop (i + 1) ws) k) m
 
-pub place_miss : (ws : List (List ℕ)) (k : List ℕ) (i : ℕ) (w : List ℕ) → i < length ws → w ≡ get_or ws i w → bytes_eq w k ≡ false → is_among (drop i ws) k ≡ is_among (drop (i + 1) ws) k
+pub place_miss : (ws : List (List ℕ)) (k : List ℕ) (i : ℕ) (w : List ℕ) → i < length ws → w ≡ get_or ws i w → bytes_eq k w ≡ false → is_among (drop i ws) k ≡ is_among (drop (i + 1) ws) k
 place_miss ws k i w h e m = place_step ws k i w h e ∙ ap (λ b. b || is_among (drop (i + 1) ws) k) m
 
-pub place_found : (ws : List (List ℕ)) (i : ℕ) (w k : List ℕ) → i < length ws → w ≡ get_or ws i w → bytes_eq w k ≡ true → slice_get ws i ≡ Some k
-place_found ws i w k h e m = slice_get-get_or ws i w h ∙ ap Some (sym e ∙ (bytes_eq-Decides w k).0 m)
+pub place_found : (ws : List (List ℕ)) (i : ℕ) (w k : List ℕ) → i < length ws → w ≡ get_or ws i w → bytes_eq k w ≡ true → slice_get ws i ≡ Some k
+place_found ws i w k h e m = slice_get-get_or ws i w h ∙ ap Some (sym e ∙ sym ((bytes_eq-Decides k w).0 m))
 
 -- a table of the names tells
 pub table_tells : (ws ts : List (List ℕ)) (k : List ℕ) → IsPermutation ws ts → some_text ts k ≡ is_among ws k

@@ -9,7 +9,7 @@ ghost use Rattle.jskw_value.specs.Tree.{has_name, is_object};
 ghost use Rattle.jskw_leaf.specs.Required.{is_among, Marks};
 
 use super::names::Names;
-use jskw_value::{Json, KeyHead, Object};
+use jskw_value::{Json, Object};
 
 // The largest number of names for the walk that distinguishes them: it compares each member with
 // every name, and marks a name by a bit.
@@ -75,9 +75,8 @@ fn place_of<F: Json, L: Names<F>>(names: &L, text: &str) -> Option<usize>
         × (slice_get (L.names names.now) i ≡ Some text.now)) }
     ensures found { is_some result ≡ is_among (L.names names.now) text.now }
 {
-    let head = KeyHead::of(text);
     for i in 0..names.len() {
-        if names.at(i).matches(head, text) {
+        if names.at(i).is(text) {
             return Some(i);
         }
     }

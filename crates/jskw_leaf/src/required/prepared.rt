@@ -1,28 +1,28 @@
 //! A required name, prepared for comparisons and lookups.
-ghost use Rattle.std.specs.Prelude.{◌≡◌, IfOk, IsTrue};
+ghost use Rattle.std.specs.Prelude.{◌≡◌, IfOk, IsTrue, length};
+ghost use Rattle.std.specs.Int.{w32, from_le_bytes, to_le_bytes};
 ghost use Rattle.std.specs.Str.{bytes_eq};
-ghost use Rattle.jskw_value.specs.PropertyName.{head_of};
 ghost use Rattle.jskw_value.specs.Tree.{has_name, is_object};
 
-use jskw_value::{Json, KeyHead, Node, Object, PropertyName};
+use jskw_value::{Json, Node, Object};
 use std::alloc::{AllocError, Global};
 use std::marker::Model;
 
 /// A required name with the key for its lookup. In contracts it is the name.
 #[derive(Drop)]
 pub struct PreparedName<F: Json> {
-    name: PropertyName,
+    name: String,
     key: <F::Node as Object>::PreparedKey,
 }
 
 impl<F: Json> Model for PreparedName<F> {
-    ghost use Rattle.std.specs.Prelude.{◌≡◌, ℕ, List};
+    ghost use Rattle.std.specs.Prelude.{◌≡◌, ℕ, List, string_bytes};
 
     ghost Value = { List ℕ };
 
-    ghost view = { λ p. p.name };
+    ghost view = { λ p. string_bytes p.name };
 
-    ghost invariant = { λ p. F.Node.key_name p.key ≡ p.name };
+    ghost invariant = { λ p. F.Node.key_name p.key ≡ string_bytes p.name };
 }
 
 impl<F: Json> PreparedName<F> {
@@ -31,7 +31,7 @@ impl<F: Json> PreparedName<F> {
         ensures { IfOk result (λ p. p ≡ text.now) }
     {
         Ok(PreparedName {
-            name: PropertyName::new(alloc, text)?,
+            name: String::from_str(alloc, text)?,
             key: F::prepare_key(alloc, text)?,
         })
     }
@@ -43,23 +43,13 @@ impl<F: Json> PreparedName<F> {
         self.name.as_str()
     }
 
-    // Returns whether the name is this text. Most names differ in length; the bytes of the others are
-    // compared by a call, so that what it prepares is not done for every member.
+    // Returns whether the name is this text. Most names differ in length.
     #[inline(always)]
     pub(crate) fn is(&self, text: &str) -> bool
         ensures { result ≡ bytes_eq text.now self.now }
     {
         let name = self.as_str();
         text.len() == name.len() && is_same(text, name)
-    }
-
-    // Returns whether the name is this text. `head` must be the head of the text: a caller that
-    // compares it with many names computes the head once.
-    pub(crate) fn matches(&self, head: KeyHead, text: &str) -> bool
-        requires { head ≡ head_of text.now }
-        ensures { result ≡ bytes_eq self.now text.now }
-    {
-        self.name.matches(head, text)
     }
 
     // Returns whether the object has a member with this name. Looks it up by the key.
@@ -71,9 +61,36 @@ impl<F: Json> PreparedName<F> {
     }
 }
 
-// Returns whether the texts are equal.
-#[inline(never)]
+// Returns whether the texts, which have the same length, are equal. Those of four to eight bytes, as
+// most names are, are compared as two words: the first and the last four bytes.
+#[inline(always)]
 fn is_same(text: &str, other: &str) -> bool
+    requires { length text.now ≡ length other.now }
+    ensures { result ≡ bytes_eq text.now other.now }
+{
+    let (left, right) = (text.as_bytes(), other.as_bytes());
+    let length = left.len();
+    if length < 4 || 8 < length {
+        return is_equal(text, other);
+    }
+    word(&left[..4]) == word(&right[..4]) && word(&left[length - 4..]) == word(&right[length - 4..])
+}
+
+// Returns four bytes as a number, the lowest byte first.
+fn word(bytes: &[u8]) -> u32
+    requires { length bytes.now ≡ 4 }
+    ensures value { result ≡ from_le_bytes w32 bytes.now }
+    ensures bytes { to_le_bytes w32 result ≡ bytes.now }
+{
+    let mut four = [0u8; 4];
+    four.copy_from_slice(bytes);
+    u32::from_le_bytes(four)
+}
+
+// Returns whether the texts are equal. By a call, so that what the comparison prepares is not done
+// for every member of an object.
+#[inline(never)]
+fn is_equal(text: &str, other: &str) -> bool
     ensures { result ≡ bytes_eq text.now other.now }
 {
     text == other

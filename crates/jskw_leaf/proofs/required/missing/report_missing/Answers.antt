@@ -2,7 +2,6 @@ use Rattle.std.proofs.Common.{◌<◌, length, [], ◌∷◌, sym, ◌∙◌, ar
 use Rattle.std.proofs.lemmas.Bool.{not-true, not-false}
 use Rattle.std.proofs.lemmas.List.{get_or_read}
 use Rattle.jskw_report.specs.Paths.{path_of}
-use Rattle.jskw_leaf.specs.Required.{required_fail}
 use Rattle.jskw_report.proofs.Reporting.{reported_more, reported_nothing, reported_stopped}
 use Rattle.jskw_leaf.proofs.Lacking.{fails_there, name_fails}
 use Rattle.jskw_leaf.proofs.required.missing.report_missing.Goals as goal
