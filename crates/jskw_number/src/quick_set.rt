@@ -155,8 +155,8 @@ impl IntegerRange {
     }
 }
 
-/// A set of values: those of some types, of the numbers all or only the integers of a range that are
-/// written without a fraction.
+/// A set of values by their types, in which the numbers may be limited to the integers of a range
+/// that are written without a fraction.
 #[derive(Clone, Copy)]
 pub struct QuickSet {
     // for each type, at its place, whether values of the type are in the set
@@ -218,8 +218,9 @@ impl QuickSet {
         QuickSet::of_places([true, true, true, true, true, false])
     }
 
-    /// Returns the values of these types. With `integer` and without `number`, all integers from -2^63
-    /// to 2^63-1 are in the set that are written without a fraction.
+    /// Returns values of these types (JSON Schema Validation 6.1.1), by whichever rule of integers:
+    /// all of them, but of the integers, if `number` is none of the types, only those from -2^63 to
+    /// 2^63-1 that are written without a fraction.
     #[tactic(auto, using(crate::proofs::QuickSets::accepted_types))]
     pub fn of_types(types: JsonTypeSet) -> QuickSet
         ensures { (rule : Integers) (t : Tree) → is_in result t ≡ true → is_of rule types t ≡ true }
@@ -329,7 +330,7 @@ impl QuickSet {
     {
         QuickSet {
             types: in_both(&self.types, &other.types),
-            is_limited: self.is_limited | other.is_limited,
+            is_limited: self.is_limited || other.is_limited,
             integers: self.numbers().and(other.numbers()),
         }
     }
