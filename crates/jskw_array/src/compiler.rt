@@ -416,7 +416,7 @@ fn below<'s, F: Json>(
       location = keyword_location ctx.now.location keyword;
     }) }
 {
-    ctx.new_at_keyword(alloc, keyword)
+    Ok(ctx.at(ctx.keyword_location(alloc, keyword)?))
 }
 
 // Returns the number of schemas in the array under a name, or `None` if there is no array.

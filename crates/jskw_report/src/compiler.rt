@@ -108,23 +108,9 @@ impl<'s, F: Json> Context<'s, F> {
         Ok(self.at(self.location.join(alloc, segment)?))
     }
 
-    /// Returns the context of the value of `keyword`, with the same settings and object layer, at its
-    /// [`keyword_location`](Context::keyword_location) (JSON Schema Core 12.3.1).
-    pub fn new_at_keyword(
-        &self,
-        alloc: Global,
-        keyword: KeywordName,
-    ) -> Result<Context<'s, F>, AllocError>
-        ensures { IfOk result (λ c. c ≡ record {
-          setting = self.now.setting;
-          location = keyword_location self.now.location keyword;
-        }) }
-    {
-        Ok(self.at(self.keyword_location(alloc, keyword)?))
-    }
-
-    // Returns the context at a location, with the same settings and object layer.
-    fn at(&self, location: Location) -> Context<'s, F>
+    /// Returns the context of a schema at this keyword location, with the same settings and object
+    /// layer.
+    pub fn at(&self, location: Location) -> Context<'s, F>
         ensures { result ≡ record { setting = self.now.setting; location = location } }
     {
         Context {

@@ -2,25 +2,46 @@
 //! out.
 #![tactic(auto, using(crate::proofs::Texts::lemmas))]
 
-ghost use Rattle.std.specs.Prelude.{◌≤◌, IsTrue, string_bytes};
+ghost use Rattle.std.specs.Prelude.{◌≤◌, string_bytes};
 ghost use Rattle.jskw_value.specs.Text.{Extends};
-ghost use Rattle.jskw_value.specs.Tree.{is_array, is_object};
 
 use crate::decimal::{Decimal, ten_to};
 use crate::json::{Array, JsonNumber, Node, Object};
 use std::alloc::AllocError;
 
-// Appends the text of a node of any type.
-#[cycle(write)]
+// Appends the text of a node of any type: the items of an array between brackets, the members of an
+// object between braces, in the order of their places.
+#[tactic(auto, using(crate::proofs::Texts::lemmas, crate::proofs::Depth::item_depth, crate::proofs::Depth::height_below))]
 pub(crate) fn write_node<N: Node>(node: &N, out: &mut String) -> Result<(), AllocError>
     ensures { Extends (string_bytes out.old) (string_bytes out.new) }
 {
     if node.is_array() {
-        return write_array(node, out);
+        out.push('[')?;
+        for i in 0..Array::len(node) {
+            if i > 0 {
+                out.push(',')?;
+            }
+            write_node(node.item(i), out)?;
+        }
+        return out.push(']');
     }
     if node.is_object() {
-        return write_object(node, out);
+        out.push('{')?;
+        let mut is_first = true;
+        for (name, member) in node.walk() {
+            write_name(is_first, name, out)?;
+            is_first = false;
+            write_node(member, out)?;
+        }
+        return out.push('}');
     }
+    write_scalar(node, out)
+}
+
+// Appends the text of a node that is neither an array nor an object.
+fn write_scalar<N: Node>(node: &N, out: &mut String) -> Result<(), AllocError>
+    ensures { Extends (string_bytes out.old) (string_bytes out.new) }
+{
     if let Some(text) = node.as_string() {
         return write_string(text, out);
     }
@@ -34,50 +55,15 @@ pub(crate) fn write_node<N: Node>(node: &N, out: &mut String) -> Result<(), Allo
     })
 }
 
-// Appends the items of an array between brackets.
-#[cycle(write)]
-#[tactic(auto, using(crate::proofs::Texts::lemmas, crate::proofs::Depth::item_depth))]
-fn write_array<N: Node>(node: &N, out: &mut String) -> Result<(), AllocError>
-    requires { IsTrue (is_array (N.tree node.now)) }
+// Appends the name of a member and a colon, after a comma if the member is not the first.
+fn write_name(is_first: bool, name: &str, out: &mut String) -> Result<(), AllocError>
     ensures { Extends (string_bytes out.old) (string_bytes out.new) }
 {
-    out.push('[')?;
-    for i in 0..Array::len(node) {
-        if i > 0 {
-            out.push(',')?;
-        }
-        write_node(node.item(i), out)?;
+    if !is_first {
+        out.push(',')?;
     }
-    out.push(']')
-}
-
-// Appends the members of an object between braces, in the order of their places.
-#[cycle(write)]
-#[tactic(auto, using(crate::proofs::Texts::lemmas, crate::proofs::Depth::height_below))]
-fn write_object<N: Node>(node: &N, out: &mut String) -> Result<(), AllocError>
-    requires { IsTrue (is_object (N.tree node.now)) }
-    ensures { Extends (string_bytes out.old) (string_bytes out.new) }
-{
-    out.push('{')?;
-    let mut is_first = true;
-    for (name, member) in node.walk() {
-        if !is_first {
-            out.push(',')?;
-        }
-        is_first = false;
-        write_member(name, member, out)?;
-    }
-    out.push('}')
-}
-
-// Appends a name, a colon and its member.
-#[cycle(write)]
-fn write_member<N: Node>(name: &str, member: &N, out: &mut String) -> Result<(), AllocError>
-    ensures { Extends (string_bytes out.old) (string_bytes out.new) }
-{
     write_string(name, out)?;
-    out.push(':')?;
-    write_node(member, out)
+    out.push(':')
 }
 
 // Appends a string between quotes, escaped as in RFC 8259, section 7.

@@ -1,7 +1,4 @@
 //! Seeds for the fingerprints of whole nodes, taken from what the nodes hold.
-ghost use Rattle.std.specs.Prelude.{IsTrue};
-ghost use Rattle.jskw_value.specs.Tree.{is_array, is_object};
-
 use crate::fingerprint::{of_whole, of_whole_text, stir};
 use crate::json::{Array, Node, Object};
 
@@ -39,43 +36,26 @@ pub fn seed_of<N: Node>(node: &N) -> u64 {
     with_node(start, node).first
 }
 
-// Returns the hash with the whole node mixed in.
-#[cycle(seed)]
-fn with_node<N: Node>(state: State, node: &N) -> State {
+// Returns the hash with the whole node mixed in: the number of items and each item of an array, the
+// number of members and each name and value of an object.
+#[tactic(auto, using(crate::proofs::Depth::item_depth, crate::proofs::Depth::height_below))]
+fn with_node<N: Node>(mut state: State, node: &N) -> State {
     if node.is_array() {
-        return with_items(state, node);
+        let count = Array::len(node);
+        state = state.with(4, count as u64);
+        for i in 0..count {
+            state = with_node(state, node.item(i));
+        }
+        state
+    } else if node.is_object() {
+        state = state.with(5, Object::len(node) as u64);
+        for (name, member) in node.walk() {
+            let one = of_whole_text(name, state.first);
+            let other = of_whole_text(name, state.second);
+            state = with_node(state.with(one, other), member);
+        }
+        state
+    } else {
+        state.with(of_whole(node, state.first), of_whole(node, state.second))
     }
-    if node.is_object() {
-        return with_members(state, node);
-    }
-    state.with(of_whole(node, state.first), of_whole(node, state.second))
-}
-
-// Returns the hash with the number of items and each item mixed in.
-#[cycle(seed)]
-#[tactic(auto, using(crate::proofs::Depth::item_depth))]
-fn with_items<N: Node>(state: State, node: &N) -> State
-    requires { IsTrue (is_array (N.tree node.now)) }
-{
-    let count = Array::len(node);
-    let mut state = state.with(4, count as u64);
-    for i in 0..count {
-        state = with_node(state, node.item(i));
-    }
-    state
-}
-
-// Returns the hash with the number of members and each name and value mixed in.
-#[cycle(seed)]
-#[tactic(auto, using(crate::proofs::Depth::height_below))]
-fn with_members<N: Node>(state: State, node: &N) -> State
-    requires { IsTrue (is_object (N.tree node.now)) }
-{
-    let mut state = state.with(5, Object::len(node) as u64);
-    for (name, member) in node.walk() {
-        let one = of_whole_text(name, state.first);
-        let other = of_whole_text(name, state.second);
-        state = with_node(state.with(one, other), member);
-    }
-    state
 }

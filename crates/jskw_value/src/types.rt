@@ -92,36 +92,17 @@ impl JsonTypeSet {
     pub fn insert(self, json_type: JsonType) -> JsonTypeSet
         ensures { result ≡ insert json_type self }
     {
+        let mut types = self;
         match json_type {
-            JsonType::Array => JsonTypeSet {
-                arrays: true,
-                ..self
-            },
-            JsonType::Boolean => JsonTypeSet {
-                booleans: true,
-                ..self
-            },
-            JsonType::Integer => JsonTypeSet {
-                integers: true,
-                ..self
-            },
-            JsonType::Null => JsonTypeSet {
-                nulls: true,
-                ..self
-            },
-            JsonType::Number => JsonTypeSet {
-                numbers: true,
-                ..self
-            },
-            JsonType::Object => JsonTypeSet {
-                objects: true,
-                ..self
-            },
-            JsonType::String => JsonTypeSet {
-                strings: true,
-                ..self
-            },
+            JsonType::Array => types.arrays = true,
+            JsonType::Boolean => types.booleans = true,
+            JsonType::Integer => types.integers = true,
+            JsonType::Null => types.nulls = true,
+            JsonType::Number => types.numbers = true,
+            JsonType::Object => types.objects = true,
+            JsonType::String => types.strings = true,
         }
+        types
     }
 
     /// Returns whether the set contains this type.
