@@ -60,11 +60,10 @@ impl VocabularySet {
     pub fn all() -> VocabularySet
         ensures { result ≡ all_vocabularies }
     {
-        VocabularySet {
-            core: true,
-            applicator: true,
-            validation: true,
-        }
+        VocabularySet::empty()
+            .insert(Vocabulary::Core)
+            .insert(Vocabulary::Applicator)
+            .insert(Vocabulary::Validation)
     }
 
     /// Returns the set with this vocabulary added.

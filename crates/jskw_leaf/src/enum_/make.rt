@@ -1,5 +1,5 @@
 //! Compiles `enum`.
-ghost use Rattle.std.specs.Prelude.{◌≡◌, true, IfOk};
+ghost use Rattle.std.specs.Prelude.{◌≡◌, IfOk};
 ghost use Rattle.serde_json.specs.Data.{array, item, no_items};
 ghost use Rattle.serde_json.specs.View.{view, items_view, members_view};
 ghost use Rattle.jskw_value.specs.Types.{no_types};
@@ -8,7 +8,7 @@ ghost use Rattle.jskw_report.specs.Meaning.{placed};
 ghost use Rattle.jskw_report.specs.Read.{enum_keyword, keyword_location};
 ghost use Rattle.jskw_report.specs.declared.keyword.KeywordName.TheVariants.{Enum};
 ghost use Rattle.jskw_leaf.specs.Meaning.{among_at, leaf_keyword};
-ghost use Rattle.jskw_leaf.specs.Options.{has_null, is_integer, is_text, only, option_types};
+ghost use Rattle.jskw_leaf.specs.Options.{has_null, only, option_types};
 
 use super::integers::SortedIntegers;
 use super::strings::FewStrings;
@@ -72,6 +72,15 @@ fn enum_validator<'a, F: Json>(
     Ok(validator_of(alloc, schema, items.as_slice(), location)?)
 }
 
+// Makes a validator of options in a table.
+macro_rules! table {
+    ($variant:ident, $alloc:expr, $options:expr, $items:expr, $location:expr) => {
+        Ok(LeafValidator::$variant(TableEnumValidator::compile(
+            $alloc, $options, $items, $location,
+        )?))
+    };
+}
+
 // Returns the validator for the number and the types of the options. `items` are the items of
 // `options`.
 #[tactic(auto, using(crate::proofs::Values::all_taken))]
@@ -87,16 +96,24 @@ fn validator_of<F: Json>(
     if items.len() == 1 {
         return one_value(options, &items[0], location);
     }
+    let (is_short, is_nullable) = (items.len() <= STRING_ENUM_THRESHOLD, has_null(items));
     if are_all::<FewStrings>(items) {
-        return strings(alloc, options, items, location);
+        return match (is_short, is_nullable) {
+            (true, true) => table!(NullableSmallStringEnum, alloc, options, items, location),
+            (true, false) => table!(SmallStringEnum, alloc, options, items, location),
+            (false, true) => table!(NullableBigStringEnum, alloc, options, items, location),
+            (false, false) => table!(BigStringEnum, alloc, options, items, location),
+        };
     }
     if are_all::<SortedIntegers>(items) {
-        return integers(alloc, options, items, location);
+        return if is_nullable {
+            table!(NullableIntegerEnum, alloc, options, items, location)
+        } else {
+            table!(IntegerEnum, alloc, options, items, location)
+        };
     }
     if ENUM_THRESHOLD < items.len() {
-        return Ok(LeafValidator::BigEnum(TableEnumValidator::compile(
-            alloc, options, items, location,
-        )?));
+        return table!(BigEnum, alloc, options, items, location);
     }
     Ok(LeafValidator::Enum(EnumValidator {
         options: options.clone()?,
@@ -119,55 +136,6 @@ fn one_value<F: Json>(
         value: value.clone()?,
         location,
     }))
-}
-
-// Returns the validator of options that are strings or null. `items` are the items of `options`.
-fn strings<F: Json>(
-    alloc: Global,
-    options: &Value,
-    items: &[Value],
-    location: Location,
-) -> Result<LeafValidator<F>, AllocError>
-    requires array { view options.now ≡ array (items_view items.now) }
-    requires texts { only is_text (items_view items.now) ≡ true }
-    ensures { IfOk result (λ v. leaf_keyword v ≡ placed (among_at location options.now)) }
-{
-    match (items.len() <= STRING_ENUM_THRESHOLD, has_null(items)) {
-        (true, true) => Ok(LeafValidator::NullableSmallStringEnum(TableEnumValidator::compile(
-            alloc, options, items, location,
-        )?)),
-        (true, false) => Ok(LeafValidator::SmallStringEnum(TableEnumValidator::compile(
-            alloc, options, items, location,
-        )?)),
-        (false, true) => Ok(LeafValidator::NullableBigStringEnum(TableEnumValidator::compile(
-            alloc, options, items, location,
-        )?)),
-        (false, false) => Ok(LeafValidator::BigStringEnum(TableEnumValidator::compile(
-            alloc, options, items, location,
-        )?)),
-    }
-}
-
-// Returns the validator of options that are integers or null. `items` are the items of `options`.
-fn integers<F: Json>(
-    alloc: Global,
-    options: &Value,
-    items: &[Value],
-    location: Location,
-) -> Result<LeafValidator<F>, AllocError>
-    requires array { view options.now ≡ array (items_view items.now) }
-    requires integers { only is_integer (items_view items.now) ≡ true }
-    ensures { IfOk result (λ v. leaf_keyword v ≡ placed (among_at location options.now)) }
-{
-    if has_null(items) {
-        Ok(LeafValidator::NullableIntegerEnum(TableEnumValidator::compile(
-            alloc, options, items, location,
-        )?))
-    } else {
-        Ok(LeafValidator::IntegerEnum(TableEnumValidator::compile(
-            alloc, options, items, location,
-        )?))
-    }
 }
 
 // Returns whether each item is null or a value that a table `T` can contain.

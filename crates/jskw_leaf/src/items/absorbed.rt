@@ -235,7 +235,7 @@ fn report_bound<'i, F: Json, A: Assertion>(
 
 // Returns the evaluation node of the assertion for the instance at `path`. `holds` must be whether
 // it holds.
-fn evaluate_assertion<F: Json, A: Assertion>(
+pub(super) fn evaluate_assertion<F: Json, A: Assertion>(
     alloc: Global,
     assertion: &A,
     holds: bool,

@@ -14,6 +14,7 @@ ghost use Rattle.jskw_number.specs.QuickSet.{leading};
 ghost use Rattle.jskw_leaf.specs.Items.{bare_items, bare_schema, items_type};
 ghost use Rattle.jskw_leaf.specs.Meaning.{leaf_keyword, rule_of, single_type, type_at};
 
+use super::absorbed::evaluate_assertion;
 use crate::leaf::LeafValidator;
 use crate::legacy::type_draft_4;
 use crate::type_::{
@@ -124,27 +125,23 @@ impl<T: ItemType, F: Json> ItemsTypeValidator<T, F> {
         first_other::<T, F>(0, count, instance) == count
     }
 
-    // Returns the evaluation of an item by a schema that has only `type`.
+    // Returns the evaluation of the item at `path` by a schema that has only `type`.
     fn evaluate_item(
         &self,
         alloc: Global,
         item: &F::Node,
-        location: &mut LazyLocation,
-        ctx: &mut ValidationContext,
+        path: &Location,
     ) -> Result<EvaluationNode, AllocError>
         requires { IsTrue (is_lawful (F.Node.tree item.now)) }
-        ensures gives { let check = single_type T.json_type T.rule self.now.validator in
+        ensures { let check = single_type T.json_type T.rule self.now.validator in
             IfOk result (λ node. node ≡ tree (bare_schema self.now.location check)
-            (F.Node.tree item.now) (path_of location.old)) }
-        ensures location { location.new ≡ location.old }
-        ensures counted { ctx.new ≡ ctx.old }
+            (F.Node.tree item.now) path.now) }
     {
-        let path = location.render()?;
-        let unit = Validate::<F>::evaluate(&self.validator, alloc, item, location, ctx)?;
+        let (check, holds) = (&self.validator, T::matches::<F>(item));
         let mut children = Vec::new(alloc);
-        children.push(EvaluationNode::new(alloc, unit, self.validator.location(), &path)?)?;
+        children.push(evaluate_assertion::<F, _>(alloc, check, holds, item, path)?)?;
         let result = EvaluationResult::from_children(alloc, children);
-        EvaluationNode::new(alloc, result, &self.location, &path)
+        EvaluationNode::new(alloc, result, &self.location, path)
     }
 }
 
@@ -180,14 +177,14 @@ impl<T: ItemType, F: Json> Validate<F> for ItemsTypeValidator<T, F> {
         alloc: Global,
         instance: &F::Node,
         location: &mut LazyLocation,
-        ctx: &mut ValidationContext,
+        _ctx: &mut ValidationContext,
     ) -> Result<EvaluationResult, AllocError> {
         let mut children = Vec::new(alloc);
         for index in 0..instance.item_count() {
             location.push(index)?;
-            let answer = self.evaluate_item(alloc, instance.item(index), location, ctx);
+            let path = location.render();
             location.pop();
-            children.push(answer?)?;
+            children.push(self.evaluate_item(alloc, instance.item(index), &path?)?)?;
         }
         Ok(items_unit(alloc, 0, children, instance))
     }

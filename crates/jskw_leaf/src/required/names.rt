@@ -16,15 +16,26 @@ pub trait Names<F: Json> {
     /// The names, in order.
     ghost names: { Self → List (List ℕ) };
 
-    /// Returns the number of names.
-    fn len(&self) -> usize
-        ensures count { result ≡ length (names self.now) }
+    /// Returns the names.
+    fn list(&self) -> &[PreparedName<F>]
+        ensures list { result.now ≡ names self.now }
         ensures distinct { IsDistinct bytes_eq (names self.now) };
 
+    /// Returns the number of names.
+    final fn len(&self) -> usize
+        ensures count { result ≡ length (names self.now) }
+        ensures distinct { IsDistinct bytes_eq (names self.now) }
+    {
+        self.list().len()
+    }
+
     /// Returns the name at `index`, which must be less than [`len`](Names::len).
-    fn at(&self, index: usize) -> &PreparedName<F>
+    final fn at(&self, index: usize) -> &PreparedName<F>
         requires { index < length (names self.now) }
-        ensures { result.now ≡ slice_index_or (names self.now) index result.now };
+        ensures { result.now ≡ slice_index_or (names self.now) index result.now }
+    {
+        &self.list()[index]
+    }
 
     /// Returns whether `text` is one of the names.
     fn contains(&self, text: &str) -> bool
@@ -92,12 +103,8 @@ fn strings_of(alloc: Global, texts: &[&str]) -> Result<Vec<String>, AllocError>
 impl<F: Json> Names<F> for NameList<F> {
     ghost names = { λ names. names };
 
-    fn len(&self) -> usize {
-        self.names.len()
-    }
-
-    fn at(&self, index: usize) -> &PreparedName<F> {
-        &self.names[index]
+    fn list(&self) -> &[PreparedName<F>] {
+        &self.names
     }
 
     fn contains(&self, text: &str) -> bool {
@@ -138,12 +145,8 @@ impl<F: Json> FewNames<F> {
 impl<F: Json> Names<F> for FewNames<F> {
     ghost names = { λ names. names };
 
-    fn len(&self) -> usize {
-        self.names.len()
-    }
-
-    fn at(&self, index: usize) -> &PreparedName<F> {
-        &self.names[index]
+    fn list(&self) -> &[PreparedName<F>] {
+        &self.names
     }
 
     fn contains(&self, text: &str) -> bool {

@@ -15,5 +15,4 @@ invariant-loop-index g l =
       last : l.index-end ≡ length ts;
       gathered : l.children.items ++ evaluate_each (tree s) l.index (drop l.index ts) p ≡ evaluate_each (tree s) 0 ts p;
       location : l.location ≡ l.initial.location;
-      counted : l.ctx ≡ l.initial.ctx;
     }
