@@ -1,5 +1,5 @@
 -- What a walk over a node's units has left at a unit, and at the end.
-use Rattle.std.proofs.Common.{◌≡◌, ℕ, zero, suc, ◌+◌, ◌<◌, ◌≤◌, List, [], ◌∷◌, ◌++◌, length, get_or, drop, max, ◌&&◌, ◌||◌, None, Some, refl, sym, if◌then◌else◌, ap, ◌∙◌, append_assoc, arith}
+use Rattle.std.proofs.Common.{◌≡◌, ℕ, zero, suc, ◌+◌, ◌<◌, ◌≤◌, List, [], ◌∷◌, ◌++◌, length, get_or, drop, max, true, false, ◌&&◌, ◌||◌, None, Some, refl, sym, if◌then◌else◌, ap, ◌∙◌, append_assoc, arith}
 use Rattle.std.proofs.lemmas.List.{drop_all}
 use Rattle.std.specs.Borrow.{Bor}
 use Rattle.jskw_array.specs.Words.{ArrayShapeValidator, Evaluation, HasUnits, Keywords, OfKeyword, Pointer, Schema, Shape, TheUnit, Tree, absorbed_by, absorbed_keywords, all_fail, all_hand_on, all_height, all_hold, all_needed, all_pairs, fail, false_schema, height, is_empty, keyword, keyword_height, keywords_of, meaning_fail, meaning_holds, meaning_needed, meaning_pairs, meaning_unit, no_keywords, node_at, of_children, of_errors, pairs, schema_location, schema_object, shape_keywords, tree, unit_hands_on, unit_location, unit_meaning, units, validator_keyword}
@@ -77,6 +77,21 @@ module _ {F N O P : Type 0} (us : List (TheUnit F N O P)) (i : ℕ) (u : TheUnit
 
   pub needed_at : (t : Tree) → all_needed (keywords_of (drop i us)) t ≡ meaning_needed (unit_meaning u) t + (if meaning_holds (unit_meaning u) t then all_needed (keywords_of rest) t else 0)
   needed_at t = ap (λ ks. all_needed ks t) here ∙ first_needs u rest t
+
+  -- where it holds, those behind it decide, and where it does not, none is asked
+  pub passed_at : (t : Tree) → meaning_holds (unit_meaning u) t ≡ true
+      → (all_hold (keywords_of (drop i us)) t ≡ all_hold (keywords_of rest) t) × (all_needed (keywords_of (drop i us)) t ≡ meaning_needed (unit_meaning u) t + all_needed (keywords_of rest) t)
+  passed_at t holds = (
+    hold_at t ∙ ap (λ b. b && all_hold (keywords_of rest) t) holds,
+    needed_at t ∙ ap (λ b. meaning_needed (unit_meaning u) t + (if b then all_needed (keywords_of rest) t else 0)) holds,
+  )
+
+  pub stopped_at : (t : Tree) → meaning_holds (unit_meaning u) t ≡ false
+      → (all_hold (keywords_of (drop i us)) t ≡ false) × (all_needed (keywords_of (drop i us)) t ≡ meaning_needed (unit_meaning u) t + 0)
+  stopped_at t fails = (
+    hold_at t ∙ ap (λ b. b && all_hold (keywords_of rest) t) fails,
+    needed_at t ∙ ap (λ b. meaning_needed (unit_meaning u) t + (if b then all_needed (keywords_of rest) t else 0)) fails,
+  )
 
   pub pairs_at : (t : Tree) → all_pairs (keywords_of (drop i us)) t ≡ meaning_pairs (unit_meaning u) t + all_pairs (keywords_of rest) t
   pairs_at t = ap (λ ks. all_pairs ks t) here ∙ first_meets u rest t

@@ -2,7 +2,8 @@
 use Rattle.std.proofs.Common.{◌≡◌, ℕ, zero, suc, ◌+◌, ◌<◌, ◌≤◌, min, List, [], ◌∷◌, ◌++◌, length, get_or, drop, sum_by, Bool, true, if◌then◌else◌, refl, ap, ap₂, ◌∙◌, arith}
 use Rattle.std.proofs.Math.Seq.{drop-nil}
 use Rattle.std.proofs.lemmas.List.Sums.{sum_by-cons}
-use Rattle.jskw_array.specs.Words.{Pointer, Schema, Schemas, Tree, each_fails, each_height, each_holds, each_needed, each_pairs, evaluate_pairs, fail, height, holds, item_location, needed, no_schemas, pairs, schema, schemas_of, sum_to_failure}
+use Rattle.jskw_array.specs.Words.{Each, Pointer, Schema, Schemas, Tree, each_fails, each_height, each_holds, each_keyword, each_needed, each_pairs, evaluate_pairs, fail, height, holds, item_location, keyword_height, needed, no_schemas, pairs, schema, schemas_of, sum_to_failure}
+use Rattle.jskw_array.specs.Heights.{each_is_as_high}
 use Rattle.jskw_report.proofs.Gathering.{drop_here}
 use Rattle.jskw_report.specs.Evaluation.{schema_count}
 
@@ -71,6 +72,10 @@ pub height_at : (ss : List Schema) (i : ℕ) (s : Schema) → i < length ss → 
 height_at [] i s within is = absurd (omega arith)
 height_at (r ∷ ss) zero s within is = let e = ap height is in omega arith
 height_at (r ∷ ss) (suc i) s within is = let below = height_at ss i s (omega arith) is in omega arith
+
+-- nor higher than the keyword
+pub each_lower : {F N O P : Type 0} (v : Each F N O P) (i : ℕ) (s : Schema) → i < length v.nodes.items → s ≡ get_or v.nodes.items i s → height s ≤ keyword_height (each_keyword v)
+each_lower v i s within is = omega (arith, height_at v.nodes.items i s within is, each_is_as_high v)
 
 -- there are as many schemas as in the list
 pub count_of : (ss : List Schema) → schema_count (schemas_of ss) ≡ length ss

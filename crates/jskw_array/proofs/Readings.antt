@@ -6,14 +6,17 @@ use Rattle.serde_json.specs.declared.value.Value.TheVariants as value
 use Rattle.jskw_report.specs.declared.keyword.KeywordName.TheVariants as word
 use Rattle.jskw_array.proofs.Depths.{same_items}
 
+-- what is so of the items of every array is so of those of this one
+of_array : {A : Type 0} (f : Data → A) (g : Items → A) → ((es : Items) → f (array es) ≡ g es) → (d : Data) (ds : Items) → as_array d ≡ Some ds → f d ≡ g ds
+of_array f g h (array es) ds e = h es ∙ ap g (same_items es ds e)
+of_array f g h _ ds e = cc
+
 -- ---- `items`
 
 pub items_of_array : (spot : Spot) (ms : Members) (d : Data) (ds : Items) → as_array d ≡ Some ds
     → reading word.Items spot ms d ≡ asserts items_list (read_each ds spot.setting (keyword_location spot.location word.Items) 0)
 unfolding asserted
-items_of_array spot ms (array es) ds e =
-    ap (λ xs. asserts items_list (read_each xs spot.setting (keyword_location spot.location word.Items) 0)) (same_items es ds e)
-items_of_array spot ms _ ds e = cc
+items_of_array spot ms = of_array (reading word.Items spot ms) _ (λ es. refl)
 
 pub items_silent : (spot : Spot) (ms : Members) (d : Data) → as_array d ≡ None → is_items_schema d ≡ false → reading word.Items spot ms d ≡ None
 unfolding asserted
@@ -62,9 +65,7 @@ module _ (s : Setting) (ms : Members) (d : Data) (bare : is_bare s ms d ≡ true
 pub prefix_of_array : (spot : Spot) (ms : Members) (d : Data) (ds : Items) → as_array d ≡ Some ds
     → reading word.PrefixItems spot ms d ≡ asserts prefix_items (read_each ds spot.setting (keyword_location spot.location word.PrefixItems) 0)
 unfolding asserted
-prefix_of_array spot ms (array es) ds e =
-    ap (λ xs. asserts prefix_items (read_each xs spot.setting (keyword_location spot.location word.PrefixItems) 0)) (same_items es ds e)
-prefix_of_array spot ms _ ds e = cc
+prefix_of_array spot ms = of_array (reading word.PrefixItems spot ms) _ (λ es. refl)
 
 pub prefix_refused : (spot : Spot) (ms : Members) (d : Data) → as_array d ≡ None
     → reading word.PrefixItems spot ms d ≡ Some (wrong (of_type Array) (keyword_location spot.location word.PrefixItems) d)

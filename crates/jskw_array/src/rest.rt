@@ -52,26 +52,6 @@ impl<F: Json> Rest<F> {
         }
         true
     }
-
-    // Returns the evaluation of `additionalItems`: its errors, and no nodes below.
-    fn evaluate_as_errors(
-        &self,
-        alloc: Global,
-        instance: &F::Node,
-        location: &mut LazyLocation,
-        ctx: &mut ValidationContext,
-    ) -> Result<EvaluationResult, AllocError>
-        requires { IsTrue (is_lawful (F.Node.tree instance.now)) }
-        ensures gives { IfOk result (λ r. result_of r ≡ of_errors (keyword_fail
-            (rest_keyword self.now) (F.Node.tree instance.now) (path_of location.old))) }
-        ensures location { location.new ≡ location.old }
-        ensures counted { CountsUpTo ctx.old ctx.new
-            (keyword_pairs (rest_keyword self.now) (F.Node.tree instance.now)) }
-    {
-        let mut errors: Vec<ValidationError<F>> = Vec::new(alloc);
-        self.collect_errors(instance, location, ctx, &mut errors)?;
-        evaluate_errors(alloc, errors.as_slice())
-    }
 }
 
 impl<F: Json> Validate<F> for Rest<F> {
@@ -109,7 +89,9 @@ impl<F: Json> Validate<F> for Rest<F> {
         ctx: &mut ValidationContext,
     ) -> Result<EvaluationResult, AllocError> {
         if self.is_additional {
-            return self.evaluate_as_errors(alloc, instance, location, ctx);
+            let mut errors = Vec::new(alloc);
+            self.collect_errors(instance, location, ctx, &mut errors)?;
+            return evaluate_errors(alloc, errors.as_slice());
         }
         let mut children = Vec::new(alloc);
         for index in self.start..instance.item_count() {

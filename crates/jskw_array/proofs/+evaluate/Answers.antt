@@ -5,11 +5,11 @@ use Rattle.jskw_array.specs.Words.{absorbed_by, all_height, bounds_of, evaluate_
 use Rattle.jskw_report.proofs.Gathering.{gathered_all, index_end, index_passed, index_taken, node_end, node_passed, node_taken}
 use Rattle.jskw_report.proofs.Valid.{tree_valid}
 use Rattle.jskw_report.specs.Evaluation.{is_valid}
-use Rattle.jskw_array.specs.Heights.{each_is_as_high, rest_is_as_high}
+use Rattle.jskw_array.specs.Heights.{rest_is_as_high}
 use Rattle.jskw_array.proofs.Keywords.{false_tree, items_height, keywords_end, one_pair, pairs_at, schema_height, schema_pairs, schema_tree, unit_height, unit_taken, unit_tall}
 use Rattle.jskw_array.proofs.MatchedItems.{matching_is_unit}
 use Rattle.jskw_array.proofs.Meant.{absurd-of, each_meets, each_no_assertion, items_unit_is, prefix_unit_is, rest_no_assertion}
-use Rattle.jskw_array.proofs.Meetings.{each_units_end, height_at, sum_at}
+use Rattle.jskw_array.proofs.Meetings.{each_lower, each_units_end, sum_at}
 use Rattle.jskw_array.proofs.+evaluate.Goals as goal
 
 -- ---- a schema for each item
@@ -28,9 +28,7 @@ each::EachValidate::evaluate-loop-index-init g t c =
 
 pub each::EachValidate::evaluate-evaluate_item-requires : goal.each::EachValidate::evaluate-evaluate_item-requires
 each::EachValidate::evaluate-evaluate_item-requires g t c κs within =
-    let v = c.args.self.now in
-    let below = height_at v.nodes.items c.loop-index.index c.index.result.now (omega arith) c.index.ensures in
-    (omega (arith, below, each_is_as_high v, c.decreases), search rules)
+    (omega (arith, each_lower c.args.self.now c.loop-index.index c.index.result.now (omega arith) c.index.ensures, c.decreases), search rules)
 
 pub each::EachValidate::evaluate-returns-in_err-evaluate_item-clause-quiet : goal.each::EachValidate::evaluate-returns-in_err-evaluate_item-clause-quiet
 each::EachValidate::evaluate-returns-in_err-evaluate_item-clause-quiet g t c assertion = absurd-of (each_no_assertion c.args.self.now) assertion
@@ -132,8 +130,7 @@ matching::MatchingValidate::evaluate-returns-clause-gives g t c =
 
 pub unit::evaluate_units-evaluate-requires : goal.unit::evaluate_units-evaluate-requires
 unit::evaluate_units-evaluate-requires g t c κs within =
-    let below = unit_height c.args.units.now c.loop-unit.unit-index c.unit-item.result c.loop-unit-test.true c.unit-item.is in
-    (omega (arith, below, c.decreases), search rules)
+    (omega (arith, unit_height c.args.units.now c.loop-unit.unit-index c.unit-item.result c.loop-unit-test.true c.unit-item.is, c.decreases), search rules)
 
 pub unit::evaluate_units-loop-unit-init : goal.unit::evaluate_units-loop-unit-init
 unit::evaluate_units-loop-unit-init g t c =

@@ -1,11 +1,11 @@
-use Rattle.std.proofs.Common.{rules, ◌≡◌, ◌∙◌, ◌+◌, ◌-◌, ◌≤◌, true, false, ◌&&◌, if◌then◌else◌, drop, subst, sym, ap, arith}
-use Rattle.jskw_array.specs.Words.{all_height, all_hold, all_needed, holds, items, keywords_of, list_all, meaning_holds, meaning_needed, needed, shape_keywords, sum_to_failure, unit_meaning}
-use Rattle.jskw_array.specs.Heights.{each_is_as_high, rest_is_as_high}
+use Rattle.std.proofs.Common.{rules, ◌≡◌, ◌∙◌, ◌+◌, ◌-◌, ◌≤◌, false, drop, subst, sym, ap, arith}
+use Rattle.jskw_array.specs.Words.{all_height, holds, items, list_all, needed, shape_keywords, sum_to_failure}
+use Rattle.jskw_array.specs.Heights.{rest_is_as_high}
 use Rattle.jskw_array.proofs.Accepted.{counted_within, one_needed}
 use Rattle.jskw_array.proofs.Begun.{only_holds, only_lower, only_needs}
-use Rattle.jskw_array.proofs.Keywords.{hold_at, items_height, needed_at, unit_height, unit_tall}
+use Rattle.jskw_array.proofs.Keywords.{items_height, passed_at, stopped_at, unit_height, unit_tall}
 use Rattle.jskw_array.proofs.Meant.{each_holds_of, each_needs, rest_holds_of, rest_needs}
-use Rattle.jskw_array.proofs.Meetings.{each_holds_end, height_at, until_at}
+use Rattle.jskw_array.proofs.Meetings.{each_holds_end, each_lower, until_at}
 use Rattle.jskw_array.proofs.Taken.{drop_behind, each_taken_holds, each_taken_needed, taken_holds, taken_needed}
 use Rattle.jskw_array.proofs.+is_valid.Goals as goal
 
@@ -13,9 +13,7 @@ use Rattle.jskw_array.proofs.+is_valid.Goals as goal
 
 pub each::Each::are_valid-is_valid-requires : goal.each::Each::are_valid-is_valid-requires
 each::Each::are_valid-is_valid-requires g t c κs within =
-    let v = c.args.self.now in
-    let below = height_at v.nodes.items c.loop-index.index c.index.result.now (omega arith) c.index.ensures in
-    (omega (arith, below, each_is_as_high v, c.decreases), search rules)
+    (omega (arith, each_lower c.args.self.now c.loop-index.index c.index.result.now (omega arith) c.index.ensures, c.decreases), search rules)
 
 pub each::Each::are_valid-returns-clause-answer : goal.each::Each::are_valid-returns-clause-answer
 each::Each::are_valid-returns-clause-answer g t c =
@@ -95,56 +93,33 @@ rest::Rest::holds_of-is_valid-requires g t c κs within = (omega (arith, rest_is
 
 pub unit::units_are_valid-is_valid-requires : goal.unit::units_are_valid-is_valid-requires
 unit::units_are_valid-is_valid-requires g t c κs within =
-    let below = unit_height c.args.units.now c.loop-unit.unit-index c.unit-item.result c.loop-unit-test.true c.unit-item.is in
-    (omega (arith, below, c.decreases), search rules)
+    (omega (arith, unit_height c.args.units.now c.loop-unit.unit-index c.unit-item.result c.loop-unit-test.true c.unit-item.is, c.decreases), search rules)
 
 pub unit::units_are_valid-loop-unit-preserved : goal.unit::units_are_valid-loop-unit-preserved
 unit::units_are_valid-loop-unit-preserved g t c =
     let l = c.loop-unit in
-    let instance = g.F.Node.Rooted.tree c.args.instance.now in
-    let us = c.args.units.now in
-    let u = c.unit-item.result in
-    let m = unit_meaning u in
-    let answered = c.is_valid.ensures.answer in
-    let asked = c.if-not-is_valid.false in
-    let holds_here : meaning_holds m instance ≡ true = cc in
-    let rest = keywords_of (drop (l.unit-index + 1) us) in
-    let here = needed_at us l.unit-index u c.loop-unit-test.true c.unit-item.is instance in
-    let left : all_needed (keywords_of (drop l.unit-index us)) instance ≡ meaning_needed m instance + all_needed rest instance = here ∙ ap (λ b. meaning_needed m instance + (if b then all_needed rest instance else 0)) holds_here in
+    let holds = sym c.is_valid.ensures.answer ∙ c.if-not-is_valid.false in
+    let passed = passed_at c.args.units.now l.unit-index c.unit-item.result c.loop-unit-test.true c.unit-item.is (g.F.Node.Rooted.tree c.args.instance.now) holds in
     let next = c.is_valid.ensures.counted in
     record {
-      answer = l.invariant.answer ∙ hold_at us l.unit-index u c.loop-unit-test.true c.unit-item.is instance ∙ ap (λ b. b && all_hold rest instance) holds_here;
+      answer = l.invariant.answer ∙ passed.0;
       counted_from = omega (arith, l.invariant.counted_from, next.from);
-      counted_to = omega (arith, left, l.invariant.counted_to, next.to);
+      counted_to = omega (arith, passed.1, l.invariant.counted_to, next.to);
     }
 
 pub unit::units_are_valid-returns-then-not-is_valid-clause-answer : goal.unit::units_are_valid-returns-then-not-is_valid-clause-answer
 unit::units_are_valid-returns-then-not-is_valid-clause-answer g t c =
-    let l = c.loop-unit in
-    let instance = g.F.Node.Rooted.tree c.args.instance.now in
-    let us = c.args.units.now in
-    let u = c.unit-item.result in
-    let answered = c.is_valid.ensures.answer in
-    let asked = c.if-not-is_valid.true in
-    let fails : meaning_holds (unit_meaning u) instance ≡ false = cc in
-    let rest = keywords_of (drop (l.unit-index + 1) us) in
-    sym (l.invariant.answer ∙ hold_at us l.unit-index u c.loop-unit-test.true c.unit-item.is instance ∙ ap (λ b. b && all_hold rest instance) fails)
+    let fails = sym c.is_valid.ensures.answer ∙ c.if-not-is_valid.true in
+    let stopped = stopped_at c.args.units.now c.loop-unit.unit-index c.unit-item.result c.loop-unit-test.true c.unit-item.is (g.F.Node.Rooted.tree c.args.instance.now) fails in
+    sym (c.loop-unit.invariant.answer ∙ stopped.0)
 
 pub unit::units_are_valid-returns-then-not-is_valid-clause-counted : goal.unit::units_are_valid-returns-then-not-is_valid-clause-counted
 unit::units_are_valid-returns-then-not-is_valid-clause-counted g t c =
     let l = c.loop-unit in
-    let instance = g.F.Node.Rooted.tree c.args.instance.now in
-    let us = c.args.units.now in
-    let u = c.unit-item.result in
-    let m = unit_meaning u in
-    let answered = c.is_valid.ensures.answer in
-    let asked = c.if-not-is_valid.true in
-    let fails : meaning_holds m instance ≡ false = cc in
-    let rest = keywords_of (drop (l.unit-index + 1) us) in
-    let left : all_needed (keywords_of (drop l.unit-index us)) instance ≡ meaning_needed m instance + 0 =
-    needed_at us l.unit-index u c.loop-unit-test.true c.unit-item.is instance ∙ ap (λ b. meaning_needed m instance + (if b then all_needed rest instance else 0)) fails in
+    let fails = sym c.is_valid.ensures.answer ∙ c.if-not-is_valid.true in
+    let stopped = stopped_at c.args.units.now l.unit-index c.unit-item.result c.loop-unit-test.true c.unit-item.is (g.F.Node.Rooted.tree c.args.instance.now) fails in
     let next = c.is_valid.ensures.counted in
-    record { from = omega (arith, l.invariant.counted_from, next.from); to = omega (arith, left, l.invariant.counted_to, next.to) }
+    record { from = omega (arith, l.invariant.counted_from, next.from); to = omega (arith, stopped.1, l.invariant.counted_to, next.to) }
 
 pub unit::UnitValidate::is_valid-is_valid-requires-in-Shape : goal.unit::UnitValidate::is_valid-is_valid-requires-in-Shape
 unit::UnitValidate::is_valid-is_valid-requires-in-Shape g t c κs within =

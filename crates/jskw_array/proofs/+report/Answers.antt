@@ -2,12 +2,12 @@ use Rattle.std.proofs.Common.{rules, ◌≡◌, ◌∙◌, ◌+◌, ◌-◌, ◌
 use Rattle.jskw_array.specs.Words.{Reports, absorbed_keywords, all_fail, all_height, applications, each_item, each_keyword, fail, item_location, items, keyword_fail, meaning_applications, meaning_fail, path_of, rest_keyword, shape_keywords, unit_meaning, validator_keyword, wants_all}
 use Rattle.jskw_report.proofs.Appended.{fail_appended}
 use Rattle.jskw_report.proofs.Reporting.{Reported, reported_all, reported_nothing, reports_begun, reports_behind, reports_memory, reports_none}
-use Rattle.jskw_array.specs.Heights.{each_is_as_high, rest_is_as_high}
+use Rattle.jskw_array.specs.Heights.{rest_is_as_high}
 use Rattle.jskw_array.proofs.Accepted.{counted_within, no_errors}
 use Rattle.jskw_array.proofs.Keywords.{fail_at, items_height, items_keywords, keywords_end, unit_height, unit_tall}
 use Rattle.jskw_array.proofs.Meant.{absurd-of, each_fails_of, each_no_assertion, rest_fails_of, rest_no_assertion}
 use Rattle.jskw_leaf.proofs.Walks.{entered, fails_at}
-use Rattle.jskw_array.proofs.Meetings.{each_fails_at, each_fails_end, height_at}
+use Rattle.jskw_array.proofs.Meetings.{each_fails_at, each_fails_end, each_lower}
 use Rattle.jskw_array.proofs.Taken.{drop_behind, each_taken_fails, taken_fails}
 use Rattle.jskw_array.proofs.Walk.{each_applied, each_item_applied, each_item_passed, each_taken_applied, item_applied, item_passed, items_applications, one_applied, rest_applied, taken_applied, unit_applied, unit_passed, walk_counted, walk_on, walk_stopped}
 use Rattle.jskw_array.proofs.+report.Goals as goal
@@ -60,9 +60,7 @@ each::EachValidate::report_errors-loop-index-init g t c =
 
 pub each::EachValidate::report_errors-report_item-requires : goal.each::EachValidate::report_errors-report_item-requires
 each::EachValidate::report_errors-report_item-requires g t c κs within =
-    let v = c.args.self.now in
-    let below = height_at v.nodes.items c.loop-index.index c.index.result.now (omega arith) c.index.ensures in
-    (omega (arith, below, each_is_as_high v, c.decreases), search rules)
+    (omega (arith, each_lower c.args.self.now c.loop-index.index c.index.result.now (omega arith) c.index.ensures, c.decreases), search rules)
 
 pub each::EachValidate::report_errors-returns-in_err-report_item-clause-quiet : goal.each::EachValidate::report_errors-returns-in_err-report_item-clause-quiet
 each::EachValidate::report_errors-returns-in_err-report_item-clause-quiet g t c assertion = absurd-of (each_no_assertion c.args.self.now) assertion
@@ -201,8 +199,7 @@ unit::report_units-loop-unit-init g t c =
 
 pub unit::report_units-report_errors-requires : goal.unit::report_units-report_errors-requires
 unit::report_units-report_errors-requires g t c κs within =
-    let below = unit_height c.args.units.now c.loop-unit.unit-index c.unit-item.result c.loop-unit-test.true c.unit-item.is in
-    (omega (arith, below, c.decreases), search rules)
+    (omega (arith, unit_height c.args.units.now c.loop-unit.unit-index c.unit-item.result c.loop-unit-test.true c.unit-item.is, c.decreases), search rules)
 
 pub unit::report_units-returns-in_err-report_errors-clause-reported : goal.unit::report_units-returns-in_err-report_errors-clause-reported
 unit::report_units-returns-in_err-report_errors-clause-reported g t c =
