@@ -2,6 +2,7 @@
 //! item for one type, and the [fused shape of an array](fusion), with the [keywords that are
 //! checked before its items](absorbed).
 pub mod absorbed;
+mod assertion_node;
 pub mod fusion;
 pub mod item_type;
 

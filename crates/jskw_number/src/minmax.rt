@@ -7,6 +7,8 @@
 //!
 //! - any other number, such as `1.5`, `2.0` or `-0`, with the kind `CompileError`;
 //! - any other value with the kind `WrongType` and the type number.
+#![tactic(auto, unfolding(jskw_report::specs::Read::asserted))]
+
 ghost use Rattle.std.specs.Prelude.{◌≡◌, ◌≤ℤ◌, ◌<ℤ◌, ℤ, pos, negsuc, true, refl, Some};
 ghost use Rattle.std.specs.Prelude.{IfOk, IfSome, IsTrue};
 ghost use Rattle.serde_json.specs.View.{view, members_view};
@@ -367,7 +369,6 @@ pub(crate) fn make<'a, F: Json, R: LimitTest>(
 ///
 /// Fails if `schema` is not a limit, as the [module's documentation](self) says, or if memory runs
 /// out.
-#[tactic(auto, unfolding(jskw_report::specs::Read::asserted))]
 pub fn compile_minimum<'a, F: Json>(
     alloc: Global,
     ctx: &Context<'_, F>,
@@ -391,7 +392,6 @@ pub fn compile_minimum<'a, F: Json>(
 ///
 /// Fails if `schema` is not a limit, as the [module's documentation](self) says, or if memory runs
 /// out.
-#[tactic(auto, unfolding(jskw_report::specs::Read::asserted))]
 pub fn compile_maximum<'a, F: Json>(
     alloc: Global,
     ctx: &Context<'_, F>,
@@ -414,7 +414,6 @@ pub fn compile_maximum<'a, F: Json>(
 ///
 /// Fails if `schema` is not a limit, as the [module's documentation](self) says, or if memory runs
 /// out.
-#[tactic(auto, unfolding(jskw_report::specs::Read::asserted))]
 pub fn compile_exclusive_minimum<'a, F: Json>(
     alloc: Global,
     ctx: &Context<'_, F>,
@@ -437,7 +436,6 @@ pub fn compile_exclusive_minimum<'a, F: Json>(
 ///
 /// Fails if `schema` is not a limit, as the [module's documentation](self) says, or if memory runs
 /// out.
-#[tactic(auto, unfolding(jskw_report::specs::Read::asserted))]
 pub fn compile_exclusive_maximum<'a, F: Json>(
     alloc: Global,
     ctx: &Context<'_, F>,

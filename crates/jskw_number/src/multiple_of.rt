@@ -7,6 +7,8 @@
 //! - an integer of 0 or less with the kind `ExclusiveMinimum` and the limit 0;
 //! - any other number, such as `0.5`, `2.0` or `-0`, with the kind `CompileError`;
 //! - any other value with the kind `WrongType` and the type number.
+#![tactic(auto, unfolding(jskw_report::specs::Read::asserted))]
+
 ghost use Rattle.std.specs.Int.NonZero.{non_zero_u64_get};
 ghost use Rattle.std.specs.Prelude.{refl};
 ghost use Rattle.serde_json.specs.View.{view, members_view};
@@ -82,7 +84,6 @@ impl Assertion for MultipleOfIntegerValidator {
 ///
 /// Fails if `schema` is not a divisor, as the [module's documentation](self) says, or if memory
 /// runs out.
-#[tactic(auto, unfolding(jskw_report::specs::Read::asserted))]
 pub fn compile<'a, F: Json>(
     alloc: Global,
     ctx: &Context<'_, F>,

@@ -5,6 +5,8 @@
 //! A bound is an integer from 0 to 2^64-1, as [`size_limit`](crate::helpers::size_limit) says.
 //! [`fail_on_non_positive_integer`](crate::helpers::fail_on_non_positive_integer) says how other
 //! values are refused.
+#![tactic(auto, unfolding(jskw_report::specs::Read::asserted))]
+
 ghost use Rattle.std.specs.Prelude.{◌≡◌, IsTrue, length, refl, true};
 ghost use Rattle.serde_json.specs.View.{view, members_view};
 ghost use Rattle.jskw_value.specs.Tree.{Tree, is_array, items};
@@ -141,7 +143,6 @@ impl<const OF_ARRAYS: bool, const IS_LEAST: bool> Assertion for SizeLimit<OF_ARR
 /// # Errors
 ///
 /// Fails if `schema` is not an integer from 0 to 2^64-1, or if memory runs out.
-#[tactic(auto, unfolding(jskw_report::specs::Read::asserted))]
 pub fn compile_min_items<'a, F: Json>(
     alloc: Global,
     ctx: &Context<'_, F>,
@@ -163,7 +164,6 @@ pub fn compile_min_items<'a, F: Json>(
 /// # Errors
 ///
 /// Fails if `schema` is not an integer from 0 to 2^64-1, or if memory runs out.
-#[tactic(auto, unfolding(jskw_report::specs::Read::asserted))]
 pub fn compile_max_items<'a, F: Json>(
     alloc: Global,
     ctx: &Context<'_, F>,
@@ -185,7 +185,6 @@ pub fn compile_max_items<'a, F: Json>(
 /// # Errors
 ///
 /// Fails if `schema` is not an integer from 0 to 2^64-1, or if memory runs out.
-#[tactic(auto, unfolding(jskw_report::specs::Read::asserted))]
 pub fn compile_min_properties<'a, F: Json>(
     alloc: Global,
     ctx: &Context<'_, F>,
@@ -207,7 +206,6 @@ pub fn compile_min_properties<'a, F: Json>(
 /// # Errors
 ///
 /// Fails if `schema` is not an integer from 0 to 2^64-1, or if memory runs out.
-#[tactic(auto, unfolding(jskw_report::specs::Read::asserted))]
 pub fn compile_max_properties<'a, F: Json>(
     alloc: Global,
     ctx: &Context<'_, F>,

@@ -3,13 +3,11 @@ ghost use Rattle.std.specs.Prelude.{◌≡◌, ◌∷◌, [], IfOk, IfSome, IsTr
 ghost use Rattle.serde_json.specs.View.{members_view};
 ghost use Rattle.jskw_value.specs.Tree.{Tree, is_array as is_list, is_lawful, items};
 ghost use Rattle.jskw_report.specs.Compile.{Makes};
-ghost use Rattle.jskw_report.specs.Errors.{kind_of};
-ghost use Rattle.jskw_report.specs.Evaluation.{node_at, of_errors, unit, units};
-ghost use Rattle.jskw_report.specs.EvaluationView.{result_of};
+ghost use Rattle.jskw_report.specs.Evaluation.{node_at, unit, units};
 ghost use Rattle.jskw_report.specs.Fail.{all_fail};
-ghost use Rattle.jskw_report.specs.Holds.{all_hold, assertion_holds};
+ghost use Rattle.jskw_report.specs.Holds.{all_hold};
 ghost use Rattle.jskw_report.specs.Meaning.{placed};
-ghost use Rattle.jskw_report.specs.Observe.{Reports, failures_unless};
+ghost use Rattle.jskw_report.specs.Observe.{Reports};
 ghost use Rattle.jskw_report.specs.Paths.{path_of};
 ghost use Rattle.jskw_report.specs.Read.{part_named, read_words};
 ghost use Rattle.jskw_report.specs.Sibling.{is_fused, takes_size};
@@ -18,16 +16,16 @@ ghost use Rattle.jskw_number.specs.Size.{size_of, word_of};
 ghost use Rattle.jskw_leaf.specs.Items.{Extends, absorbed_bounds, absorbed_keywords, absorbed_type};
 ghost use Rattle.jskw_leaf.specs.Items.{count_of, optional};
 
+use super::assertion_node::evaluate_assertion;
 use crate::type_::ArrayTypeValidator;
 use jskw_number::max_items::MaxItemsValidator;
 use jskw_number::min_items::MinItemsValidator;
 use jskw_number::sizes::SizeLimit;
 use jskw_report::assertion::report_assertion;
 use jskw_report::compiler::member_of;
-use jskw_report::validator::evaluate_first;
 use jskw_report::{
-    Assertion, CompilationResult, Context, EvaluationNode, EvaluationResult, Fault, KeywordName,
-    LazyLocation, Location, Report, Stop, ValidationError, ValidationErrorKind,
+    Assertion, CompilationResult, Context, EvaluationNode, KeywordName, LazyLocation, Location,
+    Report, Stop,
 };
 use jskw_value::{Array, Json, Node};
 use serde_json::{Map, Value};
@@ -231,46 +229,6 @@ fn report_bound<'i, F: Json, A: Assertion>(
         Some(bound) => report_assertion(bound, instance, location, report),
         None => Ok(()),
     }
-}
-
-// Returns the evaluation node of the assertion for the instance at `path`. `holds` must be whether
-// it holds.
-pub(super) fn evaluate_assertion<F: Json, A: Assertion>(
-    alloc: Global,
-    assertion: &A,
-    holds: bool,
-    instance: &F::Node,
-    path: &Location,
-) -> Result<EvaluationNode, AllocError>
-    requires { holds ≡ assertion_holds (A.asserts assertion.now).claim (F.Node.tree instance.now) }
-    ensures { let a = A.asserts assertion.now in IfOk result (λ node. node
-        ≡ node_at a.location path.now (unit (placed a) (F.Node.tree instance.now) path.now)) }
-{
-    let kind = assertion.kind();
-    let schema_path = assertion.location();
-    let result = evaluate_unless::<F>(alloc, holds, kind, schema_path, instance, path)?;
-    EvaluationNode::new(alloc, result, schema_path, path)
-}
-
-// Returns the evaluation of an assertion: valid if `holds`, else with the error made of the other
-// arguments.
-#[tactic(auto, unfolding(jskw_report::specs::Evaluation::of_errors))]
-fn evaluate_unless<'i, F: Json>(
-    alloc: Global,
-    holds: bool,
-    kind: ValidationErrorKind<'i>,
-    schema_path: &'i Location,
-    instance: &'i F::Node,
-    path: &Location,
-) -> Result<EvaluationResult, AllocError>
-    ensures { IfOk result (λ r. result_of r ≡ of_errors (failures_unless holds (kind_of kind.entry)
-        schema_path.now (F.Node.tree instance.now) path.now)) }
-{
-    if holds {
-        return Ok(EvaluationResult::valid_empty(alloc));
-    }
-    let error = ValidationError::new(kind, path.copy(alloc)?, schema_path, instance);
-    evaluate_first::<F>(alloc, Err(Fault::Invalid(error)))
 }
 
 // Appends the evaluation node of the bound, if there is one. `holds` must be whether it holds for

@@ -14,7 +14,7 @@ ghost use Rattle.jskw_number.specs.QuickSet.{leading};
 ghost use Rattle.jskw_leaf.specs.Items.{bare_items, bare_schema, items_type};
 ghost use Rattle.jskw_leaf.specs.Meaning.{leaf_keyword, rule_of, single_type, type_at};
 
-use super::absorbed::evaluate_assertion;
+use super::assertion_node::evaluate_assertion;
 use crate::leaf::LeafValidator;
 use crate::legacy::type_draft_4;
 use crate::type_::{

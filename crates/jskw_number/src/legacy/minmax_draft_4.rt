@@ -1,5 +1,7 @@
 //! `minimum` and `maximum` in Draft 4 (Draft 4 Validation 5.1.3, 5.1.2): beside an
 //! `exclusiveMinimum` or `exclusiveMaximum` of `true` a number must be above or below the limit.
+#![tactic(auto, unfolding(jskw_report::specs::Read::asserted))]
+
 ghost use Rattle.std.specs.Prelude.{◌≡◌, false, IfOk, IfSome};
 ghost use Rattle.serde_json.specs.View.{view, members_view};
 ghost use Rattle.jskw_report.specs.Compile.{Compiles, reading};
@@ -24,7 +26,6 @@ use std::alloc::Global;
 /// # Errors
 ///
 /// Fails if `schema` is not a limit, as [`minmax`](crate::minmax) says, or if memory runs out.
-#[tactic(auto, unfolding(jskw_report::specs::Read::asserted))]
 pub fn compile_minimum<'a, F: Json>(
     alloc: Global,
     ctx: &Context<'_, F>,
@@ -52,7 +53,6 @@ pub fn compile_minimum<'a, F: Json>(
 /// # Errors
 ///
 /// Fails if `schema` is not a limit, as [`minmax`](crate::minmax) says, or if memory runs out.
-#[tactic(auto, unfolding(jskw_report::specs::Read::asserted))]
 pub fn compile_maximum<'a, F: Json>(
     alloc: Global,
     ctx: &Context<'_, F>,
