@@ -3,7 +3,7 @@ ghost use Rattle.std.specs.Prelude.{◌≡◌, ◌++◌, ◌∷◌};
 ghost use Rattle.jskw_array.specs.Words.{[], Asserts, Boolean, Compiles, Err, IfOk};
 ghost use Rattle.jskw_array.specs.Words.{IsTrue, Keywords, Makes, Object, Ok, Reading, Refusal};
 ghost use Rattle.jskw_array.specs.Words.{MarksLengths, Result, Schema, Some, active_member, after};
-ghost use Rattle.jskw_array.specs.Words.{before, begin_fused, boolean_schema, fused_words};
+ghost use Rattle.jskw_array.specs.Words.{before, begin_fused, boolean_schema, each_of, fused_words};
 ghost use Rattle.jskw_array.specs.Words.{get_member, is_fused, is_leaf, items_view};
 ghost use Rattle.jskw_array.specs.Words.{keyword_location, keywords};
 ghost use Rattle.jskw_array.specs.Words.{keywords_of, map_ok, members_view, no_keywords, object, of_types};
@@ -12,6 +12,7 @@ ghost use Rattle.jskw_array.specs.Words.{reading, schema_count, schemas_of, shap
 ghost use Rattle.jskw_array.specs.Words.{validator_keyword, view, wrong};
 ghost use Rattle.jskw_array.specs.declared.unit.Unit.TheVariants as unit;
 
+use crate::each::of_schemas;
 use crate::items::{ArrayShapeValidator, array_shape_fusion};
 use crate::node::SchemaNode;
 use crate::unit::{PlacedValidator, Unit};
@@ -357,20 +358,22 @@ pub(crate) fn compile_at<'a, F: Json>(
     compile(alloc, &below, schema)
 }
 
-// Compiles the value of a keyword as an array of schemas. `ctx` is at the object of the keyword.
+// Compiles the value of a keyword as an array of schemas, each for the item at its index. `ctx` is
+// at the object of the keyword, which is `prefixItems` if `is_prefix`, else `items`.
 #[cycle(compile)]
-pub(crate) fn compile_each_at<'a, F: Json>(
+pub(crate) fn compile_list<'a, F: Json>(
     alloc: Global,
     ctx: &Context<'_, F>,
     keyword: KeywordName,
-    schemas: &'a [Value],
-) -> CompilationResult<'a, Vec<SchemaNode<F>>>
-    ensures { Makes (λ nodes. schemas_of nodes.items) result
-        (read_each (items_view schemas.now) ctx.now.setting
-        (keyword_location ctx.now.location keyword) 0) }
+    is_prefix: bool,
+    schemas: &'a Vec<Value>,
+) -> CompilationResult<'a, Validator<F>>
+    ensures { Makes validator_keyword result (map_ok (each_of is_prefix)
+        (read_each (items_view schemas.now.items) ctx.now.setting
+        (keyword_location ctx.now.location keyword) 0)) }
 {
     let below = below(alloc, ctx, keyword)?;
-    compile_each(alloc, &below, schemas)
+    of_schemas(is_prefix, compile_each(alloc, &below, schemas.as_slice()))
 }
 
 // Compiles each schema at its index below the keyword location of `ctx`.

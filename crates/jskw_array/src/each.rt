@@ -1,8 +1,8 @@
 //! A schema for each item: `prefixItems` (JSON Schema Core 10.3.1.1), and `items` of an array of
 //! schemas (Draft 7 Validation 6.4.1). A non-array has no items.
 ghost use Rattle.std.specs.Prelude.{◌≡◌, ◌+◌, ◌≤◌};
-ghost use Rattle.jskw_array.specs.Words.{Compiles, CountsUpTo, IsTrue, Makes, Refusal, Result};
-ghost use Rattle.jskw_array.specs.Words.{Schemas, Some, drop, each_holds, each_needed, is_lawful};
+ghost use Rattle.jskw_array.specs.Words.{CountsUpTo, IsTrue, Makes, Refusal, Result};
+ghost use Rattle.jskw_array.specs.Words.{Schemas, drop, each_holds, each_needed, is_lawful};
 ghost use Rattle.jskw_array.specs.Words.{items, length, min, take, true};
 ghost use Rattle.jskw_array.specs.Words.{each_keyword, each_of, map_ok, one, schemas_of};
 ghost use Rattle.jskw_array.specs.Words.{validator_keyword};
@@ -79,6 +79,7 @@ impl<F: Json> Each<F> {
     }
 }
 
+#[tactic(auto, using(crate::proofs::Meant::each_no_assertion))]
 impl<F: Json> Validate<F> for Each<F> {
     ghost meaning = { λ v. one (each_keyword v) };
 
@@ -135,13 +136,13 @@ impl<F: Json> Validate<F> for Each<F> {
 pub(crate) fn of_schemas<'a, F: Json>(
     is_prefix: bool,
     compiled: CompilationResult<'a, Vec<SchemaNode<F>>>,
-) -> Option<CompilationResult<'a, Validator<F>>>
+) -> CompilationResult<'a, Validator<F>>
     ensures { (read : Result Schemas Refusal)
         → Makes (λ nodes. schemas_of nodes.items) compiled.entry read
-        → Compiles validator_keyword result (Some (map_ok (each_of is_prefix) read)) }
+        → Makes validator_keyword result (map_ok (each_of is_prefix) read) }
 {
-    match compiled {
-        Ok(nodes) => Some(Ok(Validator::Each(Each { nodes, is_prefix }))),
-        Err(fault) => Some(Err(fault)),
-    }
+    Ok(Validator::Each(Each {
+        nodes: compiled?,
+        is_prefix,
+    }))
 }

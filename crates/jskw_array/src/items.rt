@@ -9,8 +9,8 @@ ghost use Rattle.jskw_array.specs.Words.{members_view, read, reading, validator_
 mod array_shape;
 mod inline;
 
-use crate::compiler::{compile_at, compile_each_at, schema_count};
-use crate::each::{Each, of_schemas};
+use crate::compiler::{compile_at, compile_list, schema_count};
+use crate::each::Each;
 use crate::rest::{Rest, of_schema};
 use crate::validator::Validator;
 pub use array_shape::ArrayShapeValidator;
@@ -56,11 +56,7 @@ pub fn compile<'a, F: Json>(
         (reading KeywordName.Items ctx.now (members_view parent.now.entries) (view schema.now)) }
 {
     if let Some(schemas) = schema.as_array() {
-        let keyword = KeywordName::Items;
-        return of_schemas(
-            false,
-            compile_each_at(alloc, ctx, keyword, schemas.as_slice()),
-        );
+        return Some(compile_list(alloc, ctx, KeywordName::Items, false, schemas));
     }
     if !is_items_schema(schema) {
         return None;

@@ -5,8 +5,8 @@ ghost use Rattle.jskw_array.specs.Words.{items, keyword_location, length, member
 ghost use Rattle.jskw_array.specs.Words.{of_children, of_type, option_map, prefix_annotation};
 ghost use Rattle.jskw_array.specs.Words.{reading, result_of, validator_keyword, view, wrong};
 
-use crate::compiler::compile_each_at;
-use crate::each::{Each, of_schemas};
+use crate::compiler::compile_list;
+use crate::each::Each;
 use crate::validator::Validator;
 use jskw_report::{
     Annotations, CompilationResult, CompileFault, Context, EvaluationNode, EvaluationResult,
@@ -77,11 +77,7 @@ pub fn compile<'a, F: Json>(
     let Some(schemas) = schema.as_array() else {
         return Some(Err(no_array(alloc, ctx, schema)));
     };
-    let keyword = KeywordName::PrefixItems;
-    of_schemas(
-        true,
-        compile_each_at(alloc, ctx, keyword, schemas.as_slice()),
-    )
+    Some(compile_list(alloc, ctx, KeywordName::PrefixItems, true, schemas))
 }
 
 // Refuses a value that is not an array.

@@ -54,6 +54,7 @@ impl<F: Json> Rest<F> {
     }
 }
 
+#[tactic(auto, using(crate::proofs::Meant::rest_no_assertion))]
 impl<F: Json> Validate<F> for Rest<F> {
     ghost meaning = { λ v. one (rest_keyword v) };
 

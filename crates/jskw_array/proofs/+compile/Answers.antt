@@ -102,49 +102,33 @@ compiler::push_keywords-loop-keyword-init g t c = record { left = refl; fused = 
 pub compiler::push_keywords-loop-keyword-preserved-in_default : goal.compiler::push_keywords-loop-keyword-preserved-in_default
 compiler::push_keywords-loop-keyword-preserved-in_default g t c =
     let l = c.loop-keyword in
-    let ws = c.args.keywords.now in
-    let spot = c.args.ctx.now in
-    let ms = members_view c.args.parent.now.entries in
-    let w = get_or ws l.keyword-index word.TypeKeyword in
-    let none : active_member spot.setting ms w ≡ None = search (rules, c.active_member.ensures, c.in_default.is) in
+    let w = get_or c.args.keywords.now l.keyword-index word.TypeKeyword in
+    let none : active_member c.args.ctx.now.setting (members_view c.args.parent.now.entries) w ≡ None = search (rules, c.active_member.ensures, c.in_default.is) in
     record {
-      left = turn_silent (keywords_of l.units.items) _ spot.setting spot.location ms (λ name. part_named name ms) ws l.keyword-index word.TypeKeyword c.loop-keyword-test.true l.invariant.left (inactive_reads w spot ms none);
+      left = turn_silent _ _ _ _ _ _ c.args.keywords.now l.keyword-index word.TypeKeyword c.loop-keyword-test.true l.invariant.left (inactive_reads w c.args.ctx.now _ none);
       fused = l.invariant.fused;
     }
 
 pub compiler::push_keywords-loop-keyword-preserved : goal.compiler::push_keywords-loop-keyword-preserved
 compiler::push_keywords-loop-keyword-preserved g t c =
     let l = c.loop-keyword in
-    let ws = c.args.keywords.now in
-    let spot = c.args.ctx.now in
-    let ms = members_view c.args.parent.now.entries in
-    let w = get_or ws l.keyword-index word.TypeKeyword in
-    let d = view c.in-Some.schema.now in
-    let found : active_member spot.setting ms w ≡ Some d = search (rules, c.active_member.ensures, c.in-Some.is) in
-    let done = keywords_of l.units.items in
-    let new = keywords_of c.push_unit.new.units.items in
-    let made : after done (before (keyword_location spot.location w) (reading w spot ms d) (Ok no_keywords)) ≡ Ok new = c.in_ok-push_unit.ensures.made _ c.compile_keyword-compiled.ensures in
+    let w = get_or c.args.keywords.now l.keyword-index word.TypeKeyword in
+    let found : active_member c.args.ctx.now.setting (members_view c.args.parent.now.entries) w ≡ Some (view c.in-Some.schema.now) = search (rules, c.active_member.ensures, c.in-Some.is) in
     record {
-      left = turn_made done _ spot.setting spot.location ms (λ name. part_named name ms) ws l.keyword-index word.TypeKeyword c.loop-keyword-test.true l.invariant.left new
-          (ap (λ read. after done (before (keyword_location spot.location w) read (Ok no_keywords))) (active_reads w spot ms d found) ∙ made);
+      left = turn_made _ _ _ _ _ _ c.args.keywords.now l.keyword-index word.TypeKeyword c.loop-keyword-test.true l.invariant.left _
+          (ap (λ read. after (keywords_of l.units.items) (before (keyword_location c.args.ctx.now.location w) read (Ok no_keywords))) (active_reads w c.args.ctx.now _ _ found) ∙ c.in_ok-push_unit.ensures.made _ c.compile_keyword-compiled.ensures);
       fused = c.in_ok-push_unit.ensures.fused ∙ l.invariant.fused;
     }
 
 pub compiler::push_keywords-returns-in_err-push_unit-clause-made : goal.compiler::push_keywords-returns-in_err-push_unit-clause-made
 compiler::push_keywords-returns-in_err-push_unit-clause-made g t c =
     let l = c.loop-keyword in
-    let ws = c.args.keywords.now in
-    let spot = c.args.ctx.now in
-    let ms = members_view c.args.parent.now.entries in
-    let w = get_or ws l.keyword-index word.TypeKeyword in
-    let d = view c.in-Some.schema.now in
-    let found : active_member spot.setting ms w ≡ Some d = search (rules, c.active_member.ensures, c.in-Some.is) in
-    let done = keywords_of l.units.items in
-    let new = keywords_of c.push_unit.new.units.items in
-    let q = keyword_location spot.location w in
-    handed_on (λ (u : Unit {0}). new) (λ (u : Unit {0}). new) c.in_err-push_unit.field-0.0 _ (after done (before q (reading w spot ms d) (Ok no_keywords))) _ c.from_residual.ensures.1 (c.in_err-push_unit.ensures.made _ c.compile_keyword-compiled.ensures)
-    (λ x refused. turn_refused done _ spot.setting spot.location ms (λ name. part_named name ms) ws l.keyword-index word.TypeKeyword c.loop-keyword-test.true l.invariant.left x
-    (ap (λ read. after done (before q read (Ok no_keywords))) (active_reads w spot ms d found) ∙ refused))
+    let w = get_or c.args.keywords.now l.keyword-index word.TypeKeyword in
+    let found : active_member c.args.ctx.now.setting (members_view c.args.parent.now.entries) w ≡ Some (view c.in-Some.schema.now) = search (rules, c.active_member.ensures, c.in-Some.is) in
+    let new = λ (u : Unit {0}). keywords_of c.push_unit.new.units.items in
+    handed_on new new c.in_err-push_unit.field-0.0 _ _ _ c.from_residual.ensures.1 (c.in_err-push_unit.ensures.made _ c.compile_keyword-compiled.ensures)
+    (λ x refused. turn_refused _ _ _ _ _ _ c.args.keywords.now l.keyword-index word.TypeKeyword c.loop-keyword-test.true l.invariant.left x
+    (ap (λ read. after (keywords_of l.units.items) (before (keyword_location c.args.ctx.now.location w) read (Ok no_keywords))) (active_reads w c.args.ctx.now _ _ found) ∙ refused))
 
 pub compiler::push_keywords-returns-clause-fused : goal.compiler::push_keywords-returns-clause-fused
 compiler::push_keywords-returns-clause-fused g t c = c.loop-keyword.invariant.fused
@@ -166,28 +150,14 @@ compiler::compile_each-compile-requires g t c κs within =
 
 pub compiler::compile_each-loop-index-preserved : goal.compiler::compile_each-loop-index-preserved
 compiler::compile_each-loop-index-preserved g t c =
-    let l = c.loop-index in
-    let s = c.args.ctx.now.setting in
-    let p = c.args.ctx.now.location in
-    let vs = c.args.schemas.now in
-    let v = c.index-schemas-index.result in
-    let all = read_each (items_view vs) s p 0 in
-    let here = read (view v) s (item_location p l.index) in
-    let made = subst (λ spot. Makes (λ (n : Schema). n) c.compile.result (read (view v) spot.setting spot.location)) c.in_ok-item.ensures c.compile.ensures in
-    each_made l.nodes.items all s p vs l.index v c.loop-index-test.true c.index-schemas-index.is l.invariant c.push_node.new.nodes.items (c.in_ok-push_node.ensures here made)
+    let made = subst (λ spot. Makes (λ (n : Schema). n) c.compile.result (read (view c.index-schemas-index.result) spot.setting spot.location)) c.in_ok-item.ensures c.compile.ensures in
+    each_made c.loop-index.nodes.items _ _ _ c.args.schemas.now _ _ c.loop-index-test.true c.index-schemas-index.is c.loop-index.invariant _ (c.in_ok-push_node.ensures _ made)
 
 pub compiler::compile_each-returns-in_err-push_node : goal.compiler::compile_each-returns-in_err-push_node
 compiler::compile_each-returns-in_err-push_node g t c =
-    let l = c.loop-index in
-    let s = c.args.ctx.now.setting in
-    let p = c.args.ctx.now.location in
-    let vs = c.args.schemas.now in
-    let v = c.index-schemas-index.result in
-    let all = read_each (items_view vs) s p 0 in
-    let here = read (view v) s (item_location p l.index) in
-    let made = subst (λ spot. Makes (λ (n : Schema). n) c.compile.result (read (view v) spot.setting spot.location)) c.in_ok-item.ensures c.compile.ensures in
-    handed_on (λ (u : Unit {0}). c.push_node.new.nodes.items) schemas_in c.in_err-push_node.field-0.0 _ (map_ok (λ n. l.nodes.items ++ n ∷ []) here) all c.from_residual-in_err-push_node.ensures.1 (c.in_err-push_node.ensures here made)
-    (each_refused l.nodes.items all s p vs l.index v c.loop-index-test.true c.index-schemas-index.is l.invariant)
+    let made = subst (λ spot. Makes (λ (n : Schema). n) c.compile.result (read (view c.index-schemas-index.result) spot.setting spot.location)) c.in_ok-item.ensures c.compile.ensures in
+    handed_on (λ (u : Unit {0}). c.push_node.new.nodes.items) schemas_in c.in_err-push_node.field-0.0 _ _ _ c.from_residual-in_err-push_node.ensures.1 (c.in_err-push_node.ensures _ made)
+    (each_refused c.loop-index.nodes.items _ _ _ c.args.schemas.now _ _ c.loop-index-test.true c.index-schemas-index.is c.loop-index.invariant)
 
 pub compiler::compile_each-returns : goal.compiler::compile_each-returns
 compiler::compile_each-returns g t c =
@@ -203,12 +173,15 @@ compiler::compile_at-returns g t c =
 pub compiler::compile_at-compile-requires : goal.compiler::compile_at-compile-requires
 compiler::compile_at-compile-requires g t c κs within = (omega (arith, c.decreases), search rules)
 
-pub compiler::compile_each_at-returns : goal.compiler::compile_each_at-returns
-compiler::compile_each_at-returns g t c =
-    subst (λ spot. Makes schemas_in c.compile_each.result (read_each (items_view c.args.schemas.now) spot.setting spot.location 0)) c.in_ok-below.ensures c.compile_each.ensures
+pub compiler::compile_list-returns : goal.compiler::compile_list-returns
+compiler::compile_list-returns g t c =
+    let at = subst (λ spot. Makes schemas_in c.compile_each.result (read_each (items_view c.as_slice.result.now) spot.setting spot.location 0)) c.in_ok-below.ensures c.compile_each.ensures in
+    c.of_schemas.ensures _ (subst (λ vs. Makes schemas_in c.compile_each.result (read_each (items_view vs) c.args.ctx.now.setting (keyword_location c.args.ctx.now.location c.args.keyword) 0)) c.as_slice.ensures.value at)
 
-pub compiler::compile_each_at-compile_each-requires : goal.compiler::compile_each_at-compile_each-requires
-compiler::compile_each_at-compile_each-requires g t c κs within = (omega (arith, c.decreases), search rules)
+pub compiler::compile_list-compile_each-requires : goal.compiler::compile_list-compile_each-requires
+compiler::compile_list-compile_each-requires g t c κs within =
+    let same = ap (λ vs. items_depth (items_view vs)) c.as_slice.ensures.value in
+    (omega (arith, same, c.decreases), search rules)
 
 -- ---- `prefixItems`
 
@@ -221,45 +194,17 @@ prefix_items::compile-returns-in_default g t c =
     compiles_as (validator_keyword {F = g.row.F.Denot} {N = g.row.F-Node.Denot} {O = g.row.F-Node-Number.Denot} {P = g.row.F-Node-PreparedKey.Denot}) (Some (Err c.no_array.result)) _ (Some part) (prefix_refused c.args.ctx.now ms d lost)
     (refused_whole (λ (k : Keyword). k) (validator_keyword {F = g.row.F.Denot} {N = g.row.F-Node.Denot} {O = g.row.F-Node-Number.Denot} {P = g.row.F-Node-PreparedKey.Denot}) c.no_array.result part part c.no_array.ensures (λ r e. e))
 
-pub prefix_items::compile-compile_each_at-requires : goal.prefix_items::compile-compile_each_at-requires
-prefix_items::compile-compile_each_at-requires g t c κs within =
-    let d = view c.args.schema.now in
-    let found : as_array d ≡ Some (items_view c.in-Some.schemas.now.items) = search (rules, c.as_array.ensures, c.in-Some.is) in
-    let e = depth_array d (items_view c.in-Some.schemas.now.items) found in
-    let same = ap (λ vs. items_depth (items_view vs)) c.as_slice.ensures.value in
-    (omega (arith, e, same, c.decreases), search rules)
-
 pub prefix_items::compile-returns : goal.prefix_items::compile-returns
 prefix_items::compile-returns g t c =
-    let s = c.args.ctx.now.setting in
-    let q = keyword_location c.args.ctx.now.location word.PrefixItems in
-    let ms = members_view c.args.parent.now.entries in
-    let d = view c.args.schema.now in
-    let ds = items_view c.in-Some.schemas.now.items in
-    let found : as_array d ≡ Some ds = search (rules, c.as_array.ensures, c.in-Some.is) in
-    let made = subst (λ vs. Makes schemas_in c.compile_each_at.result (read_each (items_view vs) s q 0)) c.as_slice.ensures.value c.compile_each_at.ensures in
-    compiles_as _ c.of_schemas.result _ _ (prefix_of_array c.args.ctx.now ms d ds found) (c.of_schemas.ensures _ made)
+    let found : as_array (view c.args.schema.now) ≡ Some (items_view c.in-Some.schemas.now.items) = search (rules, c.as_array.ensures, c.in-Some.is) in
+    compiles_as _ (Some c.compile_list.result) _ _ (prefix_of_array c.args.ctx.now (members_view c.args.parent.now.entries) _ _ found) c.compile_list.ensures
 
 -- ---- `items`
 
 pub items::compile-returns-in-Some : goal.items::compile-returns-in-Some
 items::compile-returns-in-Some g t c =
-    let s = c.args.ctx.now.setting in
-    let q = keyword_location c.args.ctx.now.location word.Items in
-    let ms = members_view c.args.parent.now.entries in
-    let d = view c.args.schema.now in
-    let ds = items_view c.in-Some.schemas.now.items in
-    let found : as_array d ≡ Some ds = search (rules, c.as_array.ensures, c.in-Some.is) in
-    let made = subst (λ vs. Makes schemas_in c.compile_each_at.result (read_each (items_view vs) s q 0)) c.as_slice.ensures.value c.compile_each_at.ensures in
-    compiles_as _ c.of_schemas.result _ _ (items_of_array c.args.ctx.now ms d ds found) (c.of_schemas.ensures _ made)
-
-pub items::compile-compile_each_at-requires : goal.items::compile-compile_each_at-requires
-items::compile-compile_each_at-requires g t c κs within =
-    let d = view c.args.schema.now in
-    let found : as_array d ≡ Some (items_view c.in-Some.schemas.now.items) = search (rules, c.as_array.ensures, c.in-Some.is) in
-    let e = depth_array d (items_view c.in-Some.schemas.now.items) found in
-    let same = ap (λ vs. items_depth (items_view vs)) c.as_slice.ensures.value in
-    (omega (arith, e, same, c.decreases), search rules)
+    let found : as_array (view c.args.schema.now) ≡ Some (items_view c.in-Some.schemas.now.items) = search (rules, c.as_array.ensures, c.in-Some.is) in
+    compiles_as _ (Some c.compile_list.result) _ _ (items_of_array c.args.ctx.now (members_view c.args.parent.now.entries) _ _ found) c.compile_list.ensures
 
 pub items::compile-returns-then-not-is_items_schema : goal.items::compile-returns-then-not-is_items_schema
 items::compile-returns-then-not-is_items_schema g t c =
@@ -358,6 +303,16 @@ contains::compile-returns-in-Err g t c =
     compiles_as keyword_of (Some (Err c.in-Err.fault)) _ _ (contains_read c.args.ctx.now ms d) (refused_whole bounds_of keyword_of c.in-Err.fault bounds _ made (λ r e. ap (λ b. join_ok (λ b s. contains s b) b sub) e))
 
 -- ---- the calls go down
+
+pub prefix_items::compile-compile_list-requires : goal.prefix_items::compile-compile_list-requires
+prefix_items::compile-compile_list-requires g t c κs within =
+    let found : as_array (view c.args.schema.now) ≡ Some (items_view c.in-Some.schemas.now.items) = search (rules, c.as_array.ensures, c.in-Some.is) in
+    (omega (arith, depth_array _ _ found, c.decreases), search rules)
+
+pub items::compile-compile_list-requires : goal.items::compile-compile_list-requires
+items::compile-compile_list-requires g t c κs within =
+    let found : as_array (view c.args.schema.now) ≡ Some (items_view c.in-Some.schemas.now.items) = search (rules, c.as_array.ensures, c.in-Some.is) in
+    (omega (arith, depth_array _ _ found, c.decreases), search rules)
 
 pub items::compile_schema-compile_at-requires : goal.items::compile_schema-compile_at-requires
 items::compile_schema-compile_at-requires g t c κs within = (omega (arith, c.decreases), search rules)

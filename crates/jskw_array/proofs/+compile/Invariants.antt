@@ -12,8 +12,8 @@ decreases-compiler::compile_at g l = 10 * depth (view l.schema.now) + 1
 abbrev pub decreases-compiler::compile_each : goal.decreases-compiler::compile_each
 decreases-compiler::compile_each g l = 10 * items_depth (items_view l.schemas.now) + 1
 
-abbrev pub decreases-compiler::compile_each_at : goal.decreases-compiler::compile_each_at
-decreases-compiler::compile_each_at g l = 10 * items_depth (items_view l.schemas.now) + 2
+abbrev pub decreases-compiler::compile_list : goal.decreases-compiler::compile_list
+decreases-compiler::compile_list g l = 10 * items_depth (items_view l.schemas.now.items) + 2
 
 abbrev pub decreases-items::compile : goal.decreases-items::compile
 decreases-items::compile g l = 10 * depth (view l.schema.now) + 3

@@ -30,12 +30,6 @@ pub each::EachValidate::evaluate-evaluate_item-requires : goal.each::EachValidat
 each::EachValidate::evaluate-evaluate_item-requires g t c κs within =
     (omega (arith, each_lower c.args.self.now c.loop-index.index c.index.result.now (omega arith) c.index.ensures, c.decreases), search rules)
 
-pub each::EachValidate::evaluate-returns-in_err-evaluate_item-clause-quiet : goal.each::EachValidate::evaluate-returns-in_err-evaluate_item-clause-quiet
-each::EachValidate::evaluate-returns-in_err-evaluate_item-clause-quiet g t c assertion = absurd-of (each_no_assertion c.args.self.now) assertion
-
-pub each::EachValidate::evaluate-returns-in_err-push-clause-quiet : goal.each::EachValidate::evaluate-returns-in_err-push-clause-quiet
-each::EachValidate::evaluate-returns-in_err-push-clause-quiet g t c assertion = absurd-of (each_no_assertion c.args.self.now) assertion
-
 pub each::EachValidate::evaluate-returns-then-not-self-clause-gives : goal.each::EachValidate::evaluate-returns-then-not-self-clause-gives
 each::EachValidate::evaluate-returns-then-not-self-clause-gives g t c =
     let l = c.loop-index in
@@ -59,15 +53,6 @@ each::EachValidate::evaluate-returns-clause-gives g t c =
 
 pub rest::RestValidate::evaluate-evaluate_item-requires : goal.rest::RestValidate::evaluate-evaluate_item-requires
 rest::RestValidate::evaluate-evaluate_item-requires g t c κs within = (omega (arith, rest_is_as_high c.args.self.now, c.decreases), search rules)
-
-pub rest::RestValidate::evaluate-returns-then-self-clause-quiet : goal.rest::RestValidate::evaluate-returns-then-self-clause-quiet
-rest::RestValidate::evaluate-returns-then-self-clause-quiet g t c assertion = absurd-of (rest_no_assertion c.args.self.now) assertion
-
-pub rest::RestValidate::evaluate-returns-in_err-evaluate_item-clause-quiet : goal.rest::RestValidate::evaluate-returns-in_err-evaluate_item-clause-quiet
-rest::RestValidate::evaluate-returns-in_err-evaluate_item-clause-quiet g t c assertion = absurd-of (rest_no_assertion c.args.self.now) assertion
-
-pub rest::RestValidate::evaluate-returns-in_err-push-clause-quiet : goal.rest::RestValidate::evaluate-returns-in_err-push-clause-quiet
-rest::RestValidate::evaluate-returns-in_err-push-clause-quiet g t c assertion = absurd-of (rest_no_assertion c.args.self.now) assertion
 
 -- ---- the items that match
 

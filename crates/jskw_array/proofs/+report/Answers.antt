@@ -62,9 +62,6 @@ pub each::EachValidate::report_errors-report_item-requires : goal.each::EachVali
 each::EachValidate::report_errors-report_item-requires g t c κs within =
     (omega (arith, each_lower c.args.self.now c.loop-index.index c.index.result.now (omega arith) c.index.ensures, c.decreases), search rules)
 
-pub each::EachValidate::report_errors-returns-in_err-report_item-clause-quiet : goal.each::EachValidate::report_errors-returns-in_err-report_item-clause-quiet
-each::EachValidate::report_errors-returns-in_err-report_item-clause-quiet g t c assertion = absurd-of (each_no_assertion c.args.self.now) assertion
-
 pub each::EachValidate::report_errors-returns-in_err-report_item-clause-reported : goal.each::EachValidate::report_errors-returns-in_err-report_item-clause-reported
 each::EachValidate::report_errors-returns-in_err-report_item-clause-reported g t c =
     let l = c.loop-index in
@@ -143,9 +140,6 @@ rest::RestValidate::report_errors-loop-index-init g t c =
 
 pub rest::RestValidate::report_errors-report_item-requires : goal.rest::RestValidate::report_errors-report_item-requires
 rest::RestValidate::report_errors-report_item-requires g t c κs within = (omega (arith, rest_is_as_high c.args.self.now, c.decreases), search rules)
-
-pub rest::RestValidate::report_errors-returns-in_err-report_item-clause-quiet : goal.rest::RestValidate::report_errors-returns-in_err-report_item-clause-quiet
-rest::RestValidate::report_errors-returns-in_err-report_item-clause-quiet g t c assertion = absurd-of (rest_no_assertion c.args.self.now) assertion
 
 pub rest::RestValidate::report_errors-returns-in_err-report_item-clause-reported : goal.rest::RestValidate::report_errors-returns-in_err-report_item-clause-reported
 rest::RestValidate::report_errors-returns-in_err-report_item-clause-reported g t c =
