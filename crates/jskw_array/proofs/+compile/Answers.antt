@@ -1,5 +1,5 @@
-use Rattle.std.proofs.Common.{rules, ◌≡◌, [], ◌∷◌, ◌++◌, Bool, ℕ, Some, None, Result, Ok, Err, true, false, drop, get_or, refl, sym, ap, ap₂, subst, ◌∙◌, arith}
-use Rattle.jskw_array.specs.Words.{Array, Keyword, Makes, Refusal, Schema, absorbed_keywords, active_member, after, append_keywords, as_array, before, begin_fused, bounds_of, contains, fused_words, get_member, is_fused, is_items_schema, item_location, items_depth, items_from, items_view, join_ok, keyword, keyword_location, keywords, keywords_of, map_ok, members_view, name_of, no_keywords, of_type, part_named, read, read_bounds, read_each, read_words, reading, schema_count, shape_keywords, validator_keyword, view, wrong}
+use Rattle.std.proofs.Common.{rules, ◌≡◌, Bool, ℕ, Some, None, Result, Ok, Err, true, false, drop, get_or, refl, sym, ap, ap₂, subst, ◌∙◌, arith}
+use Rattle.jskw_array.specs.Words.{Array, Keyword, Makes, Refusal, Schema, absorbed_keywords, active_member, after, append_keywords, as_array, before, begin_fused, bounds_of, contains, fused_words, get_member, is_fused, is_items_schema, items_depth, items_from, items_view, join_ok, keyword, keyword_location, keywords, keywords_of, map_ok, members_view, name_of, no_keywords, of_type, part_named, read, read_bounds, read_each, read_words, reading, schema_count, shape_keywords, validator_keyword, view, wrong}
 use Rattle.jskw_report.specs.declared.keyword.KeywordName.TheVariants as word
 use Rattle.jskw_array.proofs.Depths.{depth_array, item_depth, member_depth}
 use Rattle.jskw_array.proofs.EachSchema.{after_none as after_no_schemas, each_end, each_made, each_refused, schemas_in}

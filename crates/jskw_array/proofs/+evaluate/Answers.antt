@@ -8,7 +8,7 @@ use Rattle.jskw_report.specs.Evaluation.{is_valid}
 use Rattle.jskw_array.specs.Heights.{rest_is_as_high}
 use Rattle.jskw_array.proofs.Keywords.{false_tree, items_height, keywords_end, one_pair, pairs_at, schema_height, schema_pairs, schema_tree, unit_height, unit_taken, unit_tall}
 use Rattle.jskw_array.proofs.MatchedItems.{matching_is_unit}
-use Rattle.jskw_array.proofs.Meant.{absurd-of, each_meets, each_no_assertion, items_unit_is, prefix_unit_is, rest_no_assertion}
+use Rattle.jskw_array.proofs.Meant.{each_meets, items_unit_is, prefix_unit_is}
 use Rattle.jskw_array.proofs.Meetings.{each_lower, each_units_end, sum_at}
 use Rattle.jskw_array.proofs.+evaluate.Goals as goal
 

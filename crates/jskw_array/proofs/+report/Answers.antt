@@ -5,7 +5,7 @@ use Rattle.jskw_report.proofs.Reporting.{Reported, reported_all, reported_nothin
 use Rattle.jskw_array.specs.Heights.{rest_is_as_high}
 use Rattle.jskw_array.proofs.Accepted.{counted_within, no_errors}
 use Rattle.jskw_array.proofs.Keywords.{fail_at, items_height, items_keywords, keywords_end, unit_height, unit_tall}
-use Rattle.jskw_array.proofs.Meant.{absurd-of, each_fails_of, each_no_assertion, rest_fails_of, rest_no_assertion}
+use Rattle.jskw_array.proofs.Meant.{each_fails_of, rest_fails_of}
 use Rattle.jskw_leaf.proofs.Walks.{entered, fails_at}
 use Rattle.jskw_array.proofs.Meetings.{each_fails_at, each_fails_end, each_lower}
 use Rattle.jskw_array.proofs.Taken.{drop_behind, each_taken_fails, taken_fails}
