@@ -41,6 +41,24 @@ pub struct MultipleOfIntegerValidator {
 }
 
 impl MultipleOfIntegerValidator {
+    // Reads the divisor, and creates its validator.
+    fn compile<'a, F: Json>(
+        alloc: Global,
+        ctx: &Context<'_, F>,
+        schema: &'a Value,
+    ) -> CompilationResult<'a, MultipleOfIntegerValidator>
+        ensures { let q = keyword_location ctx.now.location word.MultipleOf in
+            Makes (λ v. placed (multiple_of_integer v)) result
+            (divisor_keyword q (view schema.now)) }
+    {
+        let location = ctx.keyword_location(alloc, KeywordName::MultipleOf)?;
+        let multiple_of = divisor(alloc, &location, schema)?;
+        Ok(MultipleOfIntegerValidator {
+            multiple_of,
+            location,
+        })
+    }
+
     /// Returns values that the keyword accepts, among them all that are no numbers.
     #[tactic(auto, using(crate::proofs::QuickSets::accepted_multiple))]
     pub fn quick_set(&self) -> QuickSet
@@ -94,24 +112,10 @@ pub fn compile<'a, F: Json>(
         (reading word.MultipleOf ctx.now (members_view parent.now.entries) (view schema.now)) }
 {
     let _ = parent;
-    Some(make(alloc, ctx, schema))
-}
-
-// Reads the divisor, and returns its validator.
-fn make<'a, F: Json>(
-    alloc: Global,
-    ctx: &Context<'_, F>,
-    schema: &'a Value,
-) -> CompilationResult<'a, NumberValidator>
-    ensures { let q = keyword_location ctx.now.location word.MultipleOf in
-        Makes number_keyword result (divisor_keyword q (view schema.now)) }
-{
-    let location = ctx.keyword_location(alloc, KeywordName::MultipleOf)?;
-    let multiple_of = divisor(alloc, &location, schema)?;
-    Ok(NumberValidator::MultipleOfInteger(MultipleOfIntegerValidator {
-        multiple_of,
-        location,
-    }))
+    match MultipleOfIntegerValidator::compile(alloc, ctx, schema) {
+        Ok(validator) => Some(Ok(NumberValidator::MultipleOfInteger(validator))),
+        Err(fault) => Some(Err(fault)),
+    }
 }
 
 // Reads the divisor that `value` is. Refuses any other value at `location`.
