@@ -126,17 +126,6 @@ impl<F: Json> Unit<F> {
         }
     }
 
-    // Returns values of which the unit holds.
-    fn quick_set(&self) -> QuickSet
-        ensures { (t : Tree) → is_in result t ≡ true
-            → meaning_holds (unit_meaning self.now) t ≡ true }
-    {
-        match self {
-            Unit::Keyword(keyword) => keyword.validator.quick_set(),
-            Unit::Shape(_) => QuickSet::none(),
-        }
-    }
-
     // Returns arrays and objects of which the unit holds, whatever their items and members are.
     fn outline(&self) -> Outline
         ensures { (t : Tree) → in_outline result t ≡ true
@@ -249,7 +238,10 @@ pub(crate) fn quick_set_of<F: Json>(units: &[Unit<F>]) -> QuickSet
 {
     let mut accepted = QuickSet::all();
     for unit in units {
-        accepted = accepted.and(unit.quick_set());
+        let Unit::Keyword(keyword) = unit else {
+            return QuickSet::none();
+        };
+        accepted = accepted.and(keyword.validator.quick_set());
     }
     accepted
 }
