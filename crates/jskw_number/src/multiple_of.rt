@@ -47,9 +47,8 @@ impl MultipleOfIntegerValidator {
         ctx: &Context<'_, F>,
         schema: &'a Value,
     ) -> CompilationResult<'a, MultipleOfIntegerValidator>
-        ensures { let q = keyword_location ctx.now.location word.MultipleOf in
-            Makes (λ v. placed (multiple_of_integer v)) result
-            (divisor_keyword q (view schema.now)) }
+        ensures { Makes (λ v. placed (multiple_of_integer v)) result (divisor_keyword
+            (keyword_location ctx.now.location word.MultipleOf) (view schema.now)) }
     {
         let location = ctx.keyword_location(alloc, KeywordName::MultipleOf)?;
         let multiple_of = divisor(alloc, &location, schema)?;
