@@ -1,8 +1,8 @@
 //! The units of a schema: its keywords in order, where the first four may be one unit, and the
 //! walks over them.
 ghost use Rattle.std.specs.Prelude.{◌≡◌, ◌++◌};
-ghost use Rattle.jskw_array.specs.Words.{BeginsWith, CountsUpTo, Extends, IfOk, IfSome, IsShape};
-ghost use Rattle.jskw_array.specs.Words.{IsTrue, Reports, Tree, absorbed_by, all_applications};
+ghost use Rattle.jskw_array.specs.Words.{BeginsWith, CountsUpTo, IfOk, IfSome, IsShape};
+ghost use Rattle.jskw_array.specs.Words.{IsTrue, Reports, Tree, all_applications};
 ghost use Rattle.jskw_array.specs.Words.{all_fail, all_hand_on, all_hold, all_needed, all_pairs};
 ghost use Rattle.jskw_array.specs.Words.{in_outline, is_in};
 ghost use Rattle.jskw_array.specs.Words.{is_lawful, is_shape, is_some, keywords_of, meaning_holds};
@@ -106,26 +106,6 @@ impl<F: Json> Unit<F> {
         }
     }
 
-    // Appends the evaluation nodes of `type`, `minItems` and `maxItems` for the instance at `path`,
-    // if the unit is the fused shape.
-    fn evaluate_absorbed(
-        &self,
-        alloc: Global,
-        instance: &F::Node,
-        path: &Location,
-        children: &mut Vec<EvaluationNode>,
-    ) -> Result<(), AllocError>
-        ensures { Extends children.old.items children.new.items (units_of (absorbed_by self.now)
-            (F.Node.tree instance.now) path.now) result }
-    {
-        match self {
-            Unit::Keyword(_) => Ok(()),
-            Unit::Shape(shape) => shape
-                .absorbed
-                .evaluate::<F>(alloc, instance, path, children),
-        }
-    }
-
     // Returns arrays and objects of which the unit holds, whatever their items and members are.
     fn outline(&self) -> Outline
         ensures { (t : Tree) → in_outline result t ≡ true
@@ -211,7 +191,12 @@ pub(crate) fn evaluate_units<F: Json>(
         (all_pairs (keywords_of units.now) (F.Node.tree instance.now)) }
 {
     for unit in units {
-        unit.evaluate_absorbed(alloc, instance, path, children)?;
+        match unit {
+            Unit::Keyword(_) => {}
+            Unit::Shape(shape) => shape
+                .absorbed
+                .evaluate::<F>(alloc, instance, path, children)?,
+        }
         let result = unit.evaluate(alloc, instance, location, ctx)?;
         children.push(EvaluationNode::new(alloc, result, unit.location(), path)?)?;
     }

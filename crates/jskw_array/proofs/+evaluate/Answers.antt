@@ -1,7 +1,7 @@
-use Rattle.std.proofs.Common.{rules, ◌≡◌, ◌∙◌, ◌++◌, [], ◌∷◌, length, true, false, None, ap, ap₂, sym, subst, refl, IfOk, arith}
+use Rattle.std.proofs.Common.{rules, ◌≡◌, ◌∙◌, ◌++◌, [], ◌∷◌, length, true, false, None, ap, ap₂, sym, subst, refl, IfOk, arith, append-nil}
 use Rattle.std.proofs.Math.Nat.{le_trans}
 use Rattle.std.proofs.lemmas.Grind.{common_steps}
-use Rattle.jskw_array.specs.Words.{absorbed_by, all_height, bounds_of, evaluate_pairs, failing_locations, false_schema, holds, item_location, items, keywords_of, matching_result, meaning_unit, node_at, of_children, pairs, path_of, prefix_annotation, result_of, schema_location, schemas_of, shape_keywords, tree, unit_location, unit_meaning, units}
+use Rattle.jskw_array.specs.Words.{absorbed_by, absorbed_keywords, all_height, bounds_of, evaluate_pairs, failing_locations, false_schema, holds, item_location, items, keywords_of, matching_result, meaning_unit, node_at, of_children, pairs, path_of, prefix_annotation, result_of, schema_location, schemas_of, shape_keywords, tree, unit_location, unit_meaning, units}
 use Rattle.jskw_report.proofs.Gathering.{gathered_all, index_end, index_passed, index_taken, node_end, node_passed, node_taken}
 use Rattle.jskw_report.proofs.Valid.{tree_valid}
 use Rattle.jskw_report.specs.Evaluation.{is_valid}
@@ -11,6 +11,7 @@ use Rattle.jskw_array.proofs.MatchedItems.{matching_is_unit}
 use Rattle.jskw_array.proofs.Meant.{each_meets, items_unit_is, prefix_unit_is}
 use Rattle.jskw_array.proofs.Meetings.{each_lower, each_units_end, sum_at}
 use Rattle.jskw_array.proofs.+evaluate.Goals as goal
+use Rattle.jskw_array.proofs.+evaluate.Goals.{unit::evaluate_units-in-Keyword, unit::evaluate_units-in-Shape+in_ok-evaluate-in-Shape}
 
 -- ---- a schema for each item
 
@@ -113,8 +114,8 @@ matching::MatchingValidate::evaluate-returns-clause-gives g t c =
 
 -- ---- the keywords
 
-pub unit::evaluate_units-evaluate-requires : goal.unit::evaluate_units-evaluate-requires
-unit::evaluate_units-evaluate-requires g t c κs within =
+pub unit::evaluate_units-evaluate-requires-in-loop-unit : goal.unit::evaluate_units-evaluate-requires-in-loop-unit
+unit::evaluate_units-evaluate-requires-in-loop-unit g t c κs within =
     (omega (arith, unit_height c.args.units.now c.loop-unit.unit-index c.unit-item.result c.loop-unit-test.true c.unit-item.is, c.decreases), search rules)
 
 pub unit::evaluate_units-loop-unit-init : goal.unit::evaluate_units-loop-unit-init
@@ -158,10 +159,14 @@ unit::evaluate_units-loop-unit-preserved g t c =
     let p = path_of c.args.location.now in
     let us = c.args.units.now in
     let u = c.unit-item.result in
-    let before = c.in_ok-evaluate_absorbed.ensures ∙ ap (λ q. l.children.items ++ units (absorbed_by u) instance q) c.requires.path in
+    let absorbed : c.match-unit.children.items ≡ l.children.items ++ units (absorbed_by u) instance c.args.path.now = elim c.match-unit.branch [
+      | unit::evaluate_units-in-Keyword w ↦ rw w.children-is (rw w.in-Keyword.is (sym (append-nil _)))
+      | unit::evaluate_units-in-Shape+in_ok-evaluate-in-Shape w ↦ rw w.children-is (w.in_ok-evaluate-in-Shape.ensures ∙ ap (λ ks. l.children.items ++ units ks instance c.args.path.now) (ap (λ v. absorbed_keywords v.absorbed) w.deref.ensures ∙ ap absorbed_by (sym w.in-Shape.is)))
+    ] in
+    let before = absorbed ∙ ap (λ q. l.children.items ++ units (absorbed_by u) instance q) c.requires.path in
     let result = c.in_ok-result.ensures.gives ∙ ap (λ q. meaning_unit (unit_meaning u) instance (path_of q)) l.invariant.location in
     let made = c.in_ok-new.ensures ∙ ap (λ q. node_at q c.args.path.now (result_of c.in_ok-result.result)) c.location.ensures ∙ ap₂ (node_at (unit_location u)) c.requires.path result in
-    let more = c.in_ok-push.ensures.items ∙ ap (λ e. c.evaluate_absorbed.new.children.items ++ e ∷ []) made in
+    let more = c.in_ok-push.ensures.items ∙ ap (λ e. c.match-unit.children.items ++ e ∷ []) made in
     let cost = pairs_at us l.unit-index u c.loop-unit-test.true c.unit-item.is instance in
     let next = c.in_ok-result.ensures.counted in
     record {
