@@ -4,9 +4,9 @@ ghost use Rattle.std.specs.Prelude.{string_bytes};
 ghost use Rattle.jskw_rows.specs.Asks.{asked_tree};
 
 use crate::answer::push_compiled;
-use crate::calls::{Given, UNKNOWN};
-use crate::error_lines::Lines;
-use crate::stop::Made;
+use crate::calls::{Arguments, Given};
+use crate::lines::Lines;
+use crate::text::{Made, Text};
 use jskw_array::SchemaNode;
 use jskw_array::compiler::compile;
 use jskw_report::{Context, Fault, LazyLocation, ValidationContext};
@@ -183,73 +183,74 @@ impl Json for AskedJson {
 
 // How often each observer of a schema asks, if one asks more often than it may: `is_valid` and
 // `validate` up to the first failure, the others in all; asked once, and once more.
-pub(crate) fn counted(lines: &mut Lines, given: Given<'_>, arguments: &[Value]) -> Made<()> {
-    let [schema, tree, until_first, of_all] = arguments else {
-        return lines.text.push_str(UNKNOWN);
-    };
-    let (Some(until_first), Some(of_all)) = (until_first.as_u64(), of_all.as_u64()) else {
-        return lines.text.push_str(UNKNOWN);
-    };
-    let ctx: Context<AskedJson> = Context::new(lines.alloc, given.settings);
-    let compiled = compile(lines.alloc, &ctx, schema);
-    let tree = Asked::of(lines.alloc, tree)?;
-    let asked = (tree, [until_first, until_first, of_all, of_all]);
-    push_compiled(lines, Some(compiled), &asked, push_counts)
+pub(crate) fn counted(lines: &mut Lines, given: Given<'_>, all: Arguments<'_>) {
+    if let Some(tree) = lines.text.made(Asked::of(lines.alloc, all.value(3))) {
+        let (until_first, of_all) = (all.number(4), all.number(5));
+        let asked = (tree, [until_first, until_first, of_all, of_all]);
+        let ctx: Context<AskedJson> = Context::new(lines.alloc, given.settings);
+        let compiled = compile(lines.alloc, &ctx, all.value(2));
+        push_compiled(lines, Some(compiled), &asked, push_counts);
+    }
 }
 
-fn push_counts(
-    lines: &mut Lines,
-    node: &SchemaNode<AskedJson>,
-    (tree, most): &(Asked, [u64; 4]),
-) -> Made<()> {
+fn push_counts(lines: &mut Lines, node: &SchemaNode<AskedJson>, (tree, most): &(Asked, [u64; 4])) {
     for time in &["once", "once more"] {
-        let counts = counts(lines.alloc, node, tree)?;
+        let counts = counts(lines, node, tree);
         let mut pairs = counts.iter().zip(most);
         if pairs.any(|(count, most)| *count == 0 || *count > *most) {
-            write!(lines.text, "{time}: {counts:?}; ")?;
+            write!(lines.text, "{time}: {counts:?}; ");
         }
     }
-    Ok(())
 }
 
 // How often each observer asks whether a node of the instance is null.
 #[tactic(auto, using(crate::proofs::Asks::lawful_tree))]
-fn counts(alloc: Global, node: &SchemaNode<AskedJson>, tree: &Asked) -> Made<[u64; 4]> {
+fn counts(lines: &mut Lines, node: &SchemaNode<AskedJson>, tree: &Asked) -> [u64; 4] {
+    let alloc = lines.alloc;
     let (mut location, mut ctx) = (LazyLocation::new(alloc), ValidationContext::new());
     let _ = node.is_valid(tree, &mut ctx);
     let is_valid = tree.take_count();
     let first = node.validate(tree, &mut location, &mut ctx);
-    if matches!(first, Err(Fault::Memory(_))) {
-        return Err(AllocError);
-    }
+    let runs_out = matches!(first, Err(Fault::Memory(_)));
     let validate = tree.take_count();
     let collected = node.collect_errors(tree, &mut location, &mut ctx, &mut Vec::new(alloc));
-    collected?;
+    lines.text.keep(collected);
     let collect_errors = tree.take_count();
-    let _ = node.evaluate_instance(alloc, tree, &mut ctx)?;
-    Ok([is_valid, validate, collect_errors, tree.take_count()])
+    let evaluated = node.evaluate_instance(alloc, tree, &mut ctx);
+    if runs_out || evaluated.is_err() {
+        lines.text.keep(Err(AllocError));
+    }
+    [is_valid, validate, collect_errors, tree.take_count()]
 }
 
 // The names and the texts of the members of a value, and of an object that is walked over by place;
 // whether that object and an array of a null are equal to the value, and to one another.
-pub(crate) fn walks(lines: &mut Lines, value: &Value) -> Made<()> {
-    push_members(&mut lines.text, value)?;
-    lines.text.push(' ')?;
+pub(crate) fn walks(lines: &mut Lines, value: &Value) {
+    push_members(&mut lines.text, value);
+    if let Some((pair, nulls)) = &lines.text.made(pair_and_nulls(lines.alloc)) {
+        lines.text.push(" ");
+        push_members(&mut lines.text, pair);
+        let (is_pair, is_array) = (pair.equals_value(value), nulls.equals_value(value));
+        write!(lines.text, " {is_pair} {is_array} {}", nulls.equals(pair));
+    }
+}
+
+// Returns an object of nulls, and an array of a null.
+fn pair_and_nulls(alloc: Global) -> Made<(Asked, Asked)> {
     let (null, item) = (Asked::Null(Cell::new(0)), Asked::Null(Cell::new(0)));
-    let pair = Asked::Pair(Box::new(lines.alloc, null)?);
-    push_members(&mut lines.text, &pair)?;
-    let nulls = Asked::Array(Cell::new(0), Vec::from_array(lines.alloc, [item])?);
-    let (is_pair, is_array) = (pair.equals_value(value), nulls.equals_value(value));
-    write!(lines.text, " {is_pair} {is_array} {}", nulls.equals(&pair))
+    let pair = Asked::Pair(Box::new(alloc, null)?);
+    Ok((
+        pair,
+        Asked::Array(Cell::new(0), Vec::from_array(alloc, [item])?),
+    ))
 }
 
 // Appends the names of an object's members, each followed by its member's text.
-fn push_members<N: Node>(text: &mut String, node: &N) -> Made<()> {
+fn push_members<N: Node>(text: &mut Text, node: &N) {
     if node.is_object() {
         for (name, member) in node.walk() {
-            text.push_str(name)?;
-            member.write_json(text)?;
+            text.push(name);
+            text.push_json(member);
         }
     }
-    Ok(())
 }

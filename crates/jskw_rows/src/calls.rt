@@ -2,19 +2,17 @@
 mod compiled;
 mod devices;
 mod reports;
-mod unique;
 pub(crate) mod values;
 
 use crate::asked;
-use crate::error_lines::Lines;
-use crate::members::{Members, items, known, settings_of, text, wanted};
+use crate::lines::Lines;
+use crate::members::{Members, items, known, settings_of, text};
 use crate::representations::decimals_of;
-use crate::stop::{Checked, Made, Stop};
-use crate::tally::Tally;
+use crate::tally::{Name, Tally};
+use crate::text::{Made, Text};
 use jskw_report::Settings;
 use jskw_value::DecimalTree;
 use serde_json::Value;
-use serde_json::Value::{Array as List, Object, String as Text};
 use std::alloc::Global;
 
 /// The answer of what is no call, which no row wants.
@@ -29,115 +27,143 @@ pub(crate) struct Given<'v> {
     pub(crate) instance: &'v DecimalTree,
 }
 
-/// Makes the calls of a group.
-pub(crate) fn check<'v>(tally: &mut Tally, group: &'v Value) -> Checked<'v> {
-    let group = known(group, "description call calls")?;
-    let (description, name) = (text(group, "description")?, text(group, "call")?);
-    tally.take_name(description, name)?;
-    for call in items(group, "calls")? {
-        check_call(tally, description, name, call)?;
+/// The arguments of a call, and null, which stands for one that is not there.
+#[derive(Clone, Copy)]
+pub(crate) struct Arguments<'v>(&'v [Value], &'v Value);
+
+impl<'v> Arguments<'v> {
+    fn count(self) -> usize {
+        self.0.len()
     }
-    Ok(())
+
+    /// The argument at a place; null if there is none. Those below are also of a kind, and empty or 0
+    /// if the argument is of another one.
+    pub(crate) fn value(self, index: usize) -> &'v Value {
+        self.0.get(index).unwrap_or(self.1)
+    }
+
+    pub(crate) fn text(self, index: usize) -> &'v str {
+        self.value(index).as_str().unwrap_or("")
+    }
+
+    pub(crate) fn items(self, index: usize) -> &'v [Value] {
+        match self.value(index) {
+            Value::Array(items) => items.as_slice(),
+            _ => &[],
+        }
+    }
+
+    pub(crate) fn number(self, index: usize) -> u64 {
+        self.value(index).as_u64().unwrap_or(0)
+    }
+}
+
+/// Makes the calls of a group.
+pub(crate) fn check(tally: &mut Tally, group: &Value) {
+    if let Some(group) = known(tally, group, "description call calls") {
+        let description = text(tally, group, "description");
+        let name = text(tally, group, "call");
+        tally.take_name(description, name);
+        for call in items(tally, group, "calls") {
+            check_call(tally, description, name, call);
+        }
+    }
 }
 
 // Makes a call, and compares its answer with the one behind its arguments.
-fn check_call<'v>(tally: &mut Tally, group: &str, name: &'v str, call: &'v Value) -> Checked<'v> {
-    let alloc = tally.alloc;
-    let question = format!(in alloc; "{group}: {name} {}", call.to_string(alloc)?)?;
-    tally.take_question(&question)?;
-    let [arguments @ .., Text(wanted)] = wanted(call.as_array(), name)?.as_slice() else {
-        return Err(Stop::Wrong("a call without an answer", name));
+fn check_call(tally: &mut Tally, group: &str, name: &str, call: &Value) {
+    let parts = call.as_array().map(|parts| parts.as_slice());
+    let Some([arguments @ .., Value::String(wanted)]) = parts else {
+        return tally.tell_wrong("a call without an answer", name);
     };
-    let mut found = Lines::new(alloc, true);
-    answer(&mut found, name, arguments)?;
-    Ok(tally.compare(&question, "called", wanted, &found.text)?)
+    let (mut asks, mut found) = (Text::new(tally.alloc), Lines::new(tally.alloc, false, true));
+    asks.push_made(call.to_string(tally.alloc));
+    let asks = asks.as_str();
+    tally.take_question(format!(in tally.alloc; "{group}: {name} {asks}"), asks);
+    answer(&mut found, name, Arguments(arguments, &Value::Null));
+    tally.compare(
+        Name(group, name, asks),
+        "called",
+        wanted,
+        found.text.as_str(),
+    );
 }
 
 // Appends the answer of a call.
-fn answer(lines: &mut Lines, name: &str, arguments: &[Value]) -> Made<()> {
-    match (name, arguments) {
-        ("Decimal::new", [Text(digits), scale]) => values::made(lines, digits, scale),
-        ("Decimal", [Text(one), whole, Text(other)]) => values::decimal(lines, one, whole, other),
-        ("Node", [value]) => values::node(lines, value),
-        ("Node::equals", [left, right]) => values::equal(lines, left, right),
-        ("Node of decimals", [value, other]) => values::decimals(lines, value, other),
-        ("Members", [n]) if is_u64(n) => values::members(lines, n),
-        ("Members::insert", [List(names)]) => values::inserted(lines, names),
-        ("Members::from_pairs", [List(names)]) => values::paired(lines, names),
-        ("push_name", [Text(part), n]) if is_u64(n) => values::long_name(lines, part, n),
-        _ => answer_of_names(lines, name, arguments),
+fn answer(lines: &mut Lines, name: &str, all: Arguments<'_>) {
+    match (name, all.count()) {
+        ("Decimal::new", 2) => values::made(lines, all),
+        ("Decimal", 3) => values::decimal(lines, all),
+        ("Node", 1) => values::node(lines, all.value(0)),
+        ("Node::equals", 2) => values::equal(lines, all.value(0), all.value(1)),
+        ("Node of decimals", 2) => values::decimals(lines, all.value(0), all.value(1)),
+        ("Members", 2) => values::members(lines, all.value(0), all.items(1)),
+        ("KeyHead::of", 2) => values::heads(lines, all.text(0), all.text(1)),
+        ("PropertyName::matches", 1) => values::matching(lines, all.items(0)),
+        ("fingerprint::of_whole", 2) => values::prints(lines, all.value(0), all.value(1)),
+        _ => answer_of_names(lines, name, all),
     }
 }
 
-// Appends the answer of a call of names, locations, errors or devices.
-fn answer_of_names(lines: &mut Lines, name: &str, arguments: &[Value]) -> Made<()> {
-    match (name, arguments) {
-        ("KeyHead::of", [Text(left), Text(right)]) => values::heads(lines, left, right),
-        ("PropertyName::matches", [List(names)]) => values::matching(lines, names),
-        ("Location", [List(left), List(right)]) => reports::locations(lines, left, right),
-        ("LazyLocation", [List(steps)]) => reports::stack(lines, steps),
-        ("ValidationError::message", [options]) => reports::messages(lines, options),
-        ("AllocError", []) => reports::wanting(lines),
-        ("EvaluationResult", [Text(way), List(names)]) => reports::unit(lines, way, names),
-        ("reply_to", [List(parts)]) => devices::reply(lines, parts),
-        ("run over a device that fails", [Text(device), error, n]) if is_u64(n) => {
-            devices::ended(lines, device, error, n)
-        }
-        _ => answer_of_items(lines, name, arguments),
+// Appends the answer of a call of locations, errors or devices, or of one whose last argument is an
+// instance.
+fn answer_of_names(lines: &mut Lines, name: &str, all: Arguments<'_>) {
+    match (name, all.count()) {
+        ("Location", 2) => reports::locations(lines, all.items(0), all.items(1)),
+        ("LazyLocation", 1) => reports::stack(lines, all.items(0)),
+        ("ValidationError::message", 1) => reports::messages(lines, all.value(0)),
+        ("AllocError", 0) => reports::wanting(lines),
+        ("EvaluationResult", 2) => reports::unit(lines, all.text(0), all.items(1)),
+        ("reply_to", 1) => devices::reply(lines, all.items(0)),
+        ("run over a device that fails", 3) => devices::ended(lines, all),
+        ("Walk::by_place", 1) => asked::walks(lines, all.value(0)),
+        ("Limit::from", 1) => compiled::made_limit(lines, all.text(0)),
+        _ => match &tree_of(lines.alloc, all.0.last()) {
+            Ok(Some(instance)) => answer_of_instance(lines, name, all, instance),
+            _ => lines.text.push(UNKNOWN),
+        },
     }
 }
 
-// Appends the answer of a call of unique items, of members, or of a validator that is made by hand.
-fn answer_of_items(lines: &mut Lines, name: &str, arguments: &[Value]) -> Made<()> {
-    match (name, arguments) {
-        ("Array::is_unique", [n, Text(last)]) if is_u64(n) => unique::integers(lines, n, last),
-        ("Array::is_unique of alike items", _) => unique::alike(lines, arguments),
-        ("Array::is_unique of what crowds a sketch", []) => unique::crowding(lines),
-        ("fingerprint::of_whole", [List(sum), n]) if is_u64(n) => unique::colliding(lines, sum, n),
-        ("Walk::by_place", [value]) => asked::walks(lines, value),
-        ("Limit::from", [Text(value)]) => compiled::made_limit(lines, value),
-        _ => answer_of_instance(lines, name, arguments),
+// Appends the answer of a call whose last argument is an instance. Those of settings have a draft and
+// an object first, which says more of the settings and may be a schema.
+fn answer_of_instance(lines: &mut Lines, name: &str, all: Arguments<'_>, item: &DecimalTree) {
+    let parent = all.value(1).as_object();
+    match (name, all.count(), parent) {
+        ("new", 2, _) => compiled::made(lines, all.text(0), item),
+        ("compile_with_path", 2, _) => compiled::required(lines, all.value(0), item),
+        ("ItemType", 2, _) => compiled::item(lines, all.text(0), item),
+        (_, _, Some(parent)) => match &settings_of(lines.alloc, parent, all.text(0)) {
+            Ok(Some(settings)) => answer_given(lines, name, all, settings, parent, item),
+            _ => lines.text.push(UNKNOWN),
+        },
+        _ => lines.text.push(UNKNOWN),
     }
 }
 
-// Appends the answer of a call whose last argument is an instance.
-fn answer_of_instance(lines: &mut Lines, name: &str, arguments: &[Value]) -> Made<()> {
-    let tree = tree_of(lines.alloc, arguments.last())?;
-    let Some(instance) = &tree else {
-        return lines.text.push_str(UNKNOWN);
-    };
-    match (name, arguments) {
-        ("new", [Text(name), _]) => compiled::made(lines, name, instance),
-        ("compile_with_path", [names, _]) => compiled::required(lines, names, instance),
-        ("ItemType", [Text(name), _]) => compiled::item(lines, name, instance),
-        _ => answer_of_schema(lines, name, arguments, instance),
-    }
-}
-
-// Appends the answer of a call of settings, or of a keyword or a schema under them.
-fn answer_of_schema(lines: &mut Lines, name: &str, all: &[Value], item: &DecimalTree) -> Made<()> {
-    let [Text(draft), Object(parent), arguments @ ..] = all else {
-        return lines.text.push_str(UNKNOWN);
-    };
-    let Some(settings) = settings_of(lines.alloc, parent, draft)? else {
-        return lines.text.push_str(UNKNOWN);
-    };
+fn answer_given<'v>(
+    lines: &mut Lines,
+    name: &str,
+    all: Arguments<'v>,
+    settings: &'v Settings,
+    parent: &'v Members,
+    instance: &'v DecimalTree,
+) {
     let given = Given {
-        settings: &settings,
+        settings,
         parent,
-        instance: item,
+        instance,
     };
-    match (name, arguments) {
-        ("Settings", [Text(name)]) => reports::settings(lines, given, name),
-        ("Context", []) => reports::contexts(lines, given),
-        ("Limit::limit_value", []) => compiled::limit(lines, given),
-        ("map_get_u64", [Text(name)]) => compiled::bound(lines, given, name),
-        ("enum", [Text(quote), last, _]) => compiled::options(lines, given, quote, last),
-        ("ArrayShapeValidator", [_]) => compiled::shape(lines, given),
-        ("additional_items::compile", [_]) => compiled::additional(lines, given),
-        ("evaluate_instance_below", [schema, _]) => compiled::below(lines, given, schema),
-        ("how often nodes are asked", _) => asked::counted(lines, given, arguments),
-        _ => lines.text.push_str(UNKNOWN),
+    match (name, all.count()) {
+        ("Settings", 3) => reports::settings(lines, given, all.text(2)),
+        ("Context", 2) => reports::contexts(lines, given),
+        ("Limit::limit_value", 2) => compiled::limit(lines, given),
+        ("map_get_u64", 3) => compiled::bound(lines, given, all.text(2)),
+        ("enum", 4) => compiled::options(lines, given, all.value(2)),
+        ("ArrayShapeValidator", 3) => compiled::shape(lines, given),
+        ("additional_items::compile", 3) => compiled::additional(lines, given),
+        ("how often nodes are asked", 6) => asked::counted(lines, given, all),
+        _ => lines.text.push(UNKNOWN),
     }
 }
 
@@ -151,9 +177,4 @@ fn tree_of(alloc: Global, value: Option<&Value>) -> Made<Option<DecimalTree>> {
         Some(decimal) => decimals_of(alloc, decimal),
         None => DecimalTree::from_value(alloc, value),
     }
-}
-
-// Whether an argument is a count. It is 0 to the functions that make the calls if it is none.
-fn is_u64(value: &Value) -> bool {
-    value.as_u64().is_some()
 }

@@ -4,10 +4,10 @@ ghost use Rattle.std.specs.Prelude.{IsTrue};
 ghost use Rattle.jskw_value.specs.Tree.{is_lawful};
 
 use crate::answer::{Said, push_compiled, push_float};
-use crate::error_lines::Lines;
+use crate::lines::Lines;
 use crate::members::Members;
 use crate::row::Row;
-use crate::stop::Made;
+use crate::text::Made;
 use jskw_leaf::{LeafValidator, is_leaf};
 use jskw_report::{
     CompilationResult, Context, EvaluationNode, KeywordName, LazyLocation, Location,
@@ -29,13 +29,15 @@ pub(crate) fn push_answer<'r, F: Json>(
     row: &'r Row<'r>,
     parent: &'r Members,
     instance: &'r F::Node,
-) -> Made<()> {
-    let root: Context<F> = Context::new(lines.alloc, row.settings);
-    let root = root.with_object_layer(row.object_layer);
-    let ctx = root.new_at_location(lines.alloc, LocationSegment::Name("items"))?;
-    let leaves = compiled(lines.alloc, &ctx, parent);
-    let say = push_leaves::<F, LeafValidator<F>>;
-    push_compiled(lines, Some(leaves), &(row, instance), say)
+) {
+    let root: Context<F> = Context::new(lines.alloc, row.subject.settings);
+    let root = root.with_object_layer(row.subject.object_layer);
+    let ctx = root.new_at_location(lines.alloc, LocationSegment::Name("items"));
+    if let Some(ctx) = &lines.text.made(ctx) {
+        let leaves = compiled(lines.alloc, ctx, parent);
+        let say = push_leaves::<F, LeafValidator<F>>;
+        push_compiled(lines, Some(leaves), &(row, instance), say);
+    }
 }
 
 /// The compiled keywords of an object that are read and assert something.
@@ -78,17 +80,16 @@ fn push_leaves<'r, F: Json, V: Validate<F> + Drop>(
     lines: &mut Lines,
     leaves: &Vec<Leaf<V>>,
     &(row, instance): &(&'r Row<'r>, &'r F::Node),
-) -> Made<()> {
+) {
     if !instance.is_lawful() {
         return push_float(lines, instance);
     }
     let mut said = Said::new(lines);
     for leaf in leaves {
-        push_leaf(lines.alloc, &mut said, leaf, instance)?;
+        push_leaf(lines.alloc, &mut said, leaf, instance);
     }
     let root = if said.holds { "valid\n" } else { "invalid\n" };
-    said.tree.lines.text.insert_str(0, root)?;
-    said.push_lines(&mut lines.text, row.has_evaluation)
+    said.push_lines(&mut lines.text, root, row.has_evaluation);
 }
 
 // Appends what a keyword says of the item of the index 7.
@@ -97,18 +98,33 @@ fn push_leaf<F: Json, V: Validate<F> + Drop>(
     said: &mut Said,
     leaf: &Leaf<V>,
     instance: &F::Node,
-) -> Made<()>
+)
     requires { IsTrue (is_lawful (F.Node.tree instance.now)) }
 {
     let (mut location, mut ctx) = (LazyLocation::new(alloc), ValidationContext::new());
-    location.push(7)?;
+    said.errors.text.keep(location.push(7));
     let asked = &leaf.validator;
     said.holds = asked.is_valid(instance, &mut ctx) && said.holds;
-    said.push_first(asked.validate(instance, &mut location, &mut ctx))?;
+    said.push_first(asked.validate(instance, &mut location, &mut ctx));
     let mut errors = Vec::new(alloc);
-    asked.collect_errors(instance, &mut location, &mut ctx, &mut errors)?;
-    said.push_errors(errors)?;
-    let unit = asked.evaluate(alloc, instance, &mut location, &mut ctx)?;
-    let node = EvaluationNode::new(alloc, unit, &leaf.location, &location.render()?)?;
-    said.tree.push(1, &node)
+    let made = asked.collect_errors(instance, &mut location, &mut ctx, &mut errors);
+    said.push_errors(made, &errors);
+    said.tree
+        .push_tree(1, evaluated(alloc, leaf, instance, &mut location));
+}
+
+// Returns the node of a keyword's evaluation.
+fn evaluated<F: Json, V: Validate<F> + Drop>(
+    alloc: Global,
+    leaf: &Leaf<V>,
+    instance: &F::Node,
+    location: &mut LazyLocation,
+) -> Made<EvaluationNode>
+    requires { IsTrue (is_lawful (F.Node.tree instance.now)) }
+{
+    let mut ctx = ValidationContext::new();
+    let unit = leaf
+        .validator
+        .evaluate(alloc, instance, location, &mut ctx)?;
+    EvaluationNode::new(alloc, unit, &leaf.location, &location.render()?)
 }

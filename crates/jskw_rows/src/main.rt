@@ -6,17 +6,17 @@
 mod answer;
 mod asked;
 mod calls;
-mod error_lines;
 mod group;
 mod leaves;
+mod lines;
+mod made;
 mod members;
 mod memory;
 mod representations;
 mod requests;
 mod row;
-mod stop;
 mod tally;
-mod tree_lines;
+mod text;
 mod wanted;
 mod whole;
 
@@ -24,8 +24,8 @@ use jskw_service::read_value;
 use serde_json::Value;
 use std::process::ExitCode;
 use std::{env, fs, io};
-use stop::{Made, Stop};
 use tally::Tally;
+use text::Text;
 
 // The names of the files of rows in a folder, sorted.
 fn file_names(rt: &HostRuntime, folder: &str) -> io::Result<Vec<String>> {
@@ -41,61 +41,62 @@ fn file_names(rt: &HostRuntime, folder: &str) -> io::Result<Vec<String>> {
 }
 
 // Asks the rows of a file's text, which is an array of groups.
-fn check_text(tally: &mut Tally, text: &str) -> Made<()> {
-    let value = read_value(tally.alloc, text.as_bytes())?;
-    let Some(Value::Array(groups)) = &value else {
-        return tally.tell_wrong("the file", "it has to be", "a JSON array");
-    };
-    for group in groups {
-        check_group(tally, group)?;
+fn check_text(tally: &mut Tally, text: &str) {
+    match &read_value(tally.alloc, text.as_bytes()) {
+        Ok(Some(Value::Array(groups))) => {
+            for group in groups {
+                check_group(tally, group);
+            }
+        }
+        _ => tally.tell_wrong("the file has to be", "a JSON array"),
     }
-    Ok(())
 }
 
-// Asks the rows of a group, and tells of it if it is wrong.
-fn check_group(tally: &mut Tally, value: &Value) -> Made<()> {
-    match group::check(tally, value) {
-        Ok(()) => Ok(()),
-        Err(Stop::Memory(error)) => Err(error),
-        Err(Stop::Wrong(what, with)) => {
-            let group = value.get("description").and_then(Value::as_str);
-            tally.tell_wrong(group.unwrap_or("no description"), what, with)
-        }
-    }
+fn check_group(tally: &mut Tally, group: &Value) {
+    let description = group.get("description").and_then(Value::as_str);
+    tally.group = Text::new(tally.alloc);
+    tally.group.push(description.unwrap_or("no description"));
+    group::check(tally, group);
 }
 
 // Asks the rows of a file, and prints those that differ and how many there are.
 fn check_file(rt: &HostRuntime, tally: &mut Tally, folder: &str, name: &str) -> io::Result<()> {
     let path = format!(in rt.alloc(); "{folder}/{name}")?;
     let text = fs::read_to_string(rt, path.as_str())?;
-    tally.file = String::from_str(rt.alloc(), name)?;
-    tally.told = String::new(rt.alloc());
+    tally.file = Text::new(rt.alloc());
+    tally.file.push(name);
+    tally.told = Text::new(rt.alloc());
     let before = tally.rows;
-    check_text(tally, text.as_str())?;
+    check_text(tally, text.as_str());
     let rows = tally.rows.saturating_sub(before);
-    println!(rt; "{}{name}: {rows} rows", tally.told)
+    println!(rt; "{}{name}: {rows} rows", tally.told.as_str())
 }
 
-// Asks the rows of a folder, and returns whether no row differs and no group is wrong.
+// Asks the rows of a folder, and returns whether no answer differs and no row has a mistake.
 fn check_folder(rt: &HostRuntime, folder: &str) -> io::Result<bool> {
     let mut tally = Tally::new(rt.alloc());
     for name in &file_names(rt, folder)? {
         check_file(rt, &mut tally, folder, name.as_str())?;
     }
-    let (rows, differing, wrong) = (tally.rows, tally.differing, tally.wrong);
-    println!(rt; "{rows} rows, {differing} answers differ, {wrong} groups are wrong")?;
-    Ok(differing == 0 && wrong == 0)
+    let (rows, differing, mistakes) = (tally.rows, tally.differing, tally.mistakes);
+    println!(rt; "{rows} rows, {differing} answers differ, {mistakes} mistakes")?;
+    Ok(differing == 0 && mistakes == 0)
+}
+
+// Asks the rows of the current folder, and makes the calls of each line of standard input. Returns
+// whether that went well.
+fn check_here(rt: &HostRuntime) -> io::Result<bool> {
+    let mut is_right = check_folder(rt, ".")?;
+    for line in rt.lines(rt.alloc()) {
+        is_right = memory::make(rt, line?.as_str()) && is_right;
+    }
+    Ok(is_right)
 }
 
 fn main(rt: HostRuntime) -> io::Result<ExitCode> {
-    let is_right = if let Some(folder) = env::args(&rt)?.nth(1) {
-        check_folder(&rt, folder.as_str())?
-    } else {
-        let is_right = check_folder(&rt, ".")?;
-        for line in rt.lines(rt.alloc()) {
-            memory::make(&rt, line?.as_str())?;
-        }
-        is_right
+    let is_right = match env::args(&rt)?.nth(1) {
+        Some(folder) => check_folder(&rt, folder.as_str())?,
+        None => check_here(&rt)?,
     };
-    Ok(ExitCode::from(if is_right { 0 } else { 1 }))
+    Ok(ExitCode::from(u8::from(!is_right)))
 }

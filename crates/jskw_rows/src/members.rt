@@ -1,5 +1,7 @@
-//! The members of the objects that rows are made of, and the settings that they say.
-use crate::stop::{Checked, Made, Stop};
+//! The members of the objects that rows are made of, and the settings that they say. What is missing,
+//! or of another kind, is told to the tally, and read as if it were empty.
+use crate::tally::Tally;
+use crate::text::{Made, Text};
 use jskw_report::Settings;
 use jskw_service::{draft_named, overridden_of, vocabularies_of};
 use serde_json::{Map, Value};
@@ -7,15 +9,15 @@ use std::alloc::Global;
 
 pub(crate) type Members = Map<String, Value>;
 
-/// The members of a value that is an object with no other names than these words.
-pub(crate) fn known<'v>(value: &'v Value, names: &str) -> Result<&'v Members, Stop<'v>> {
-    let members = wanted(value.as_object(), "an object")?;
+/// The members of a value that is an object. It has to have no other names than these words.
+pub(crate) fn known<'v>(tally: &mut Tally, value: &'v Value, names: &str) -> Option<&'v Members> {
+    let members = wanted(tally, value.as_object(), "an object")?;
     for (name, _) in members.iter() {
         if !is_one_of(name.as_str(), names) {
-            return Err(Stop::Wrong("an unknown member", name.as_str()));
+            tally.tell_wrong("an unknown member", name.as_str());
         }
     }
-    Ok(members)
+    Some(members)
 }
 
 /// Whether a name is one of these words.
@@ -23,53 +25,77 @@ pub(crate) fn is_one_of(name: &str, names: &str) -> bool {
     names.split(' ').any(|one| one == name)
 }
 
-/// What is found, if it is there and of its kind; the name says where it was looked for.
-pub(crate) fn wanted<T: Drop>(found: Option<T>, name: &str) -> Result<T, Stop<'_>> {
-    found.ok_or(Stop::Wrong("missing, or of another kind", name))
+/// What is found. The name says where it was looked for.
+pub(crate) fn wanted<T: Drop>(tally: &mut Tally, found: Option<T>, name: &str) -> Option<T> {
+    if found.is_none() {
+        tally.tell_wrong("missing, or of another kind", name);
+    }
+    found
 }
 
-/// The member of a name, which has to be there. Those below also say of which kind it has to be.
-pub(crate) fn member<'v>(members: &'v Members, name: &'static str) -> Result<&'v Value, Stop<'v>> {
-    wanted(members.get(name), name)
+/// The text of the member of a name.
+pub(crate) fn text<'v>(tally: &mut Tally, members: &'v Members, name: &'static str) -> &'v str {
+    let text = members.get(name).and_then(Value::as_str);
+    wanted(tally, text, name).unwrap_or("")
 }
 
-pub(crate) fn text<'v>(members: &'v Members, name: &'static str) -> Result<&'v str, Stop<'v>> {
-    wanted(member(members, name)?.as_str(), name)
+/// The text of the member of a name, or another one if it is not there.
+pub(crate) fn text_or<'v>(
+    tally: &mut Tally,
+    members: &'v Members,
+    name: &'static str,
+    default: &'v str,
+) -> &'v str {
+    if members.contains_key(name) {
+        text(tally, members, name)
+    } else {
+        default
+    }
 }
 
-pub(crate) fn number<'v>(members: &'v Members, name: &'static str) -> Result<u64, Stop<'v>> {
-    wanted(member(members, name)?.as_u64(), name)
+/// The number that is the member of a name.
+pub(crate) fn number(tally: &mut Tally, members: &Members, name: &'static str) -> u64 {
+    let number = members.get(name).and_then(Value::as_u64);
+    wanted(tally, number, name).unwrap_or(0)
 }
 
 /// The items of the member of a name, which has to be an array of at least one.
-pub(crate) fn items<'v>(members: &'v Members, name: &'static str) -> Result<&'v [Value], Stop<'v>> {
+pub(crate) fn items<'v>(
+    tally: &mut Tally,
+    members: &'v Members,
+    name: &'static str,
+) -> &'v [Value] {
     match members.get(name) {
-        Some(Value::Array(items)) if !items.is_empty() => Ok(items.as_slice()),
-        _ => Err(Stop::Wrong("no array with items", name)),
+        Some(Value::Array(items)) if !items.is_empty() => items.as_slice(),
+        _ => {
+            tally.tell_wrong("no array with items", name);
+            &[]
+        }
     }
 }
 
 /// Appends the texts of the member of a name, each in a line; nothing if it is not there.
-pub(crate) fn push_lines<'v>(
-    text: &mut String,
-    members: &'v Members,
+pub(crate) fn push_lines(
+    tally: &mut Tally,
+    text: &mut Text,
+    members: &Members,
     name: &'static str,
-) -> Checked<'v> {
+) {
     if members.contains_key(name) {
-        for line in items(members, name)? {
-            write!(text, "{}\n", wanted(line.as_str(), name)?)?;
+        for line in items(tally, members, name) {
+            let line = wanted(tally, line.as_str(), name);
+            write!(text, "{}\n", line.unwrap_or(""));
         }
     }
-    Ok(())
 }
 
 /// Whether the member of a name is there, in which case it has to be `true`.
-pub(crate) fn is_true<'v>(members: &'v Members, name: &'static str) -> Result<bool, Stop<'v>> {
-    match members.get(name) {
-        None => Ok(false),
-        Some(Value::Bool(true)) => Ok(true),
-        Some(_) => Err(Stop::Wrong("it may be `true` alone", name)),
+pub(crate) fn is_true(tally: &mut Tally, members: &Members, name: &'static str) -> bool {
+    let value = members.get(name);
+    if value.is_some_and(|value| value.as_bool() != Some(true)) {
+        tally.tell_wrong("it may be `true` alone", name);
     }
+    value.is_some()
 }
 
 /// The settings of a group in the draft of this name, if it and what the group says of them is right.

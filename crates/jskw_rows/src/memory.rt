@@ -10,116 +10,146 @@ mod printed;
 
 use crate::calls::values::{insert_names, pairs_of, push_made, push_pair};
 use crate::members::settings_of;
-use crate::stop::Made;
+use crate::text::{Made, Text};
 use jskw_report::Settings;
 use jskw_service::read_value;
 use jskw_value::{Decimal, DecimalJson, DecimalTree, InsertFault, Members, Node, SerdeJson};
 use observers::compile_and_ask;
-use printed::{announce, print_lines, print_text, told};
+use printed::Printer;
 use serde_json::Value;
 use std::alloc::Global;
-use std::io;
 
-/// Prints the name of a line and makes its calls.
-pub(crate) fn make(rt: &HostRuntime, line: &str) -> io::Result<()> {
-    let line = read_value(rt.alloc(), line.as_bytes())?;
-    let items = line.as_ref().and_then(Value::as_array);
-    match items.map(|items| items.as_slice()) {
-        Some([Value::String(line), Value::String(kind), arguments @ ..]) => {
-            println!(rt; "{line}")?;
-            make_calls(rt, kind, arguments)
+/// Prints the name of a line and makes its calls. Returns whether it says what to do.
+pub(crate) fn make(rt: &HostRuntime, line: &str) -> bool {
+    let mut to = Printer { rt, is_right: true };
+    let line = read_value(rt.alloc(), line.as_bytes());
+    match &line {
+        Ok(Some(Value::Array(items))) => make_line(&mut to, items.as_slice()),
+        _ => to.check(false),
+    }
+    to.is_right
+}
+
+fn make_line(to: &mut Printer<'_>, items: &[Value]) {
+    match items {
+        [Value::String(line), Value::String(kind), arguments @ ..] => {
+            write!(to, "{line}\n");
+            make_calls(to, kind, arguments);
         }
-        _ => Err(io::ErrorKind::InvalidInput)?,
+        _ => to.check(false),
     }
 }
 
-fn make_calls(rt: &HostRuntime, kind: &str, arguments: &[Value]) -> io::Result<()> {
+fn make_calls(to: &mut Printer<'_>, kind: &str, arguments: &[Value]) {
     match (kind, arguments) {
-        ("value", [value]) => ask_value(rt, value),
-        ("insert", [Value::Array(names), Value::String(name)]) => insert(rt, names, name),
-        ("from_pairs", [Value::Array(names)]) => from_pairs(rt, names),
-        (_, [Value::String(draft), Value::Object(group), rest @ ..]) => {
-            let settings = settings_of(rt.alloc(), group, draft)?;
-            let settings = settings.ok_or(io::ErrorKind::InvalidInput)?;
-            ask_schema(rt, kind, &settings, rest)
+        ("value", [value]) => ask_value(to, value),
+        ("insert", [Value::Array(names), Value::String(name)]) => insert(to, names, name),
+        ("from_pairs", [Value::Array(names)]) => from_pairs(to, names),
+        (_, [Value::String(draft), Value::Object(group), schema, instance]) => {
+            match &settings_of(to.alloc(), group, draft) {
+                Ok(Some(settings)) => ask_schema(to, kind, settings, schema, instance),
+                _ => to.check(false),
+            }
         }
-        _ => Err(io::ErrorKind::InvalidInput)?,
+        _ => to.check(false),
     }
 }
 
 // Makes the calls of a kind that takes a schema and an instance.
-fn ask_schema(rt: &HostRuntime, kind: &str, settings: &Settings, rest: &[Value]) -> io::Result<()> {
-    let [schema, instance] = rest else {
-        return Err(io::ErrorKind::InvalidInput)?;
-    };
+fn ask_schema(
+    to: &mut Printer<'_>,
+    kind: &str,
+    settings: &Settings,
+    schema: &Value,
+    instance: &Value,
+) {
     if !kind.ends_with("of decimals") {
-        return compile_and_ask::<SerdeJson>(rt, kind, settings, schema, instance);
+        return compile_and_ask::<SerdeJson>(to, kind, settings, schema, instance);
     }
-    match DecimalTree::from_value(rt.alloc(), instance)? {
-        Some(tree) => compile_and_ask::<DecimalJson>(rt, kind, settings, schema, &tree),
-        None => Err(io::ErrorKind::InvalidInput)?,
+    match &DecimalTree::from_value(to.alloc(), instance) {
+        Ok(Some(tree)) => compile_and_ask::<DecimalJson>(to, kind, settings, schema, tree),
+        _ => to.check(false),
     }
 }
 
 // Asks a value where its first float is, for its tree of decimals and for its text, which goes
 // behind an old one.
-fn ask_value(rt: &HostRuntime, value: &Value) -> io::Result<()> {
-    announce(rt, "first_unlawful", true)?;
-    let found = value.first_unlawful(rt.alloc());
-    told(rt, found.is_err(), None)?;
+fn ask_value(to: &mut Printer<'_>, value: &Value) {
+    to.announce("first_unlawful", true);
+    let found = value.first_unlawful(to.alloc());
+    to.tell(found.is_err());
     if let Ok(Some(location)) = &found {
-        print_lines(rt, location.as_str())?;
+        write!(to, "\t{location}\n");
     }
-    announce(rt, "from_value", true)?;
-    let tree = DecimalTree::from_value(rt.alloc(), value);
-    told(rt, tree.is_err(), None)?;
-    if let Ok(Some(tree)) = &tree {
-        print_text(rt, tree)?;
-    }
-    let mut text = String::from_str(rt.alloc(), "old ")?;
-    announce(rt, "write_json", true)?;
+    ask_tree(to, value);
+    ask_text(to, value);
+}
+
+fn ask_text(to: &mut Printer<'_>, value: &Value) {
+    let mut text = String::new(to.alloc());
+    let is_old = text.push_str("old ").is_ok();
+    to.announce("write_json", true);
     let written = value.write_json(&mut text);
-    told(rt, written.is_err(), None)?;
-    print_lines(rt, text.as_str())
+    to.tell(written.is_err());
+    to.print_lines(text.as_str());
+    to.check(is_old);
+}
+
+fn ask_tree(to: &mut Printer<'_>, value: &Value) {
+    to.announce("from_value", true);
+    let tree = DecimalTree::from_value(to.alloc(), value);
+    to.tell(tree.is_err());
+    if let Ok(Some(tree)) = &tree {
+        to.print_node(tree);
+    }
 }
 
 // Inserts one more member behind those of the names, each with its place in the line, and prints the
 // pair and the members before and afterwards. A name that is there already takes no memory.
-fn insert(rt: &HostRuntime, names: &[Value], name: &str) -> io::Result<()> {
-    println!(rt; "before")?;
-    let number = Decimal::from(names.len() as u64);
-    print_pair(rt, name, &DecimalTree::Number(number))?;
-    print_text(rt, &DecimalTree::Object(members_of(rt.alloc(), names)?))?;
-    let mut members = members_of(rt.alloc(), names)?;
-    let name = String::from_str(rt.alloc(), name)?;
-    announce(rt, "insert", members.get(&name).is_none())?;
-    let inserted = members.insert(name, DecimalTree::Number(number));
-    told(rt, matches!(inserted, Err(InsertFault::Memory(_, _))), None)?;
-    if let Err(InsertFault::Repeated(name, value) | InsertFault::Memory(name, value)) = &inserted {
-        print_pair(rt, name, value)?;
+fn insert(to: &mut Printer<'_>, names: &[Value], name: &str) {
+    let (alloc, number) = (to.alloc(), Decimal::from(names.len() as u64));
+    write!(to, "before\n");
+    print_pair(to, name, &DecimalTree::Number(number));
+    match members_of(alloc, names) {
+        Ok(members) => to.print_node(&DecimalTree::Object(members)),
+        Err(_) => to.check(false),
     }
-    print_text(rt, &DecimalTree::Object(members))
+    match (members_of(alloc, names), String::from_str(alloc, name)) {
+        (Ok(members), Ok(name)) => insert_into(to, members, name, number),
+        _ => to.check(false),
+    }
+}
+
+fn insert_into(to: &mut Printer<'_>, mut members: Members, name: String, number: Decimal) {
+    to.announce("insert", members.get(&name).is_none());
+    let inserted = members.insert(name, DecimalTree::Number(number));
+    to.tell(matches!(inserted, Err(InsertFault::Memory(_, _))));
+    if let Err(InsertFault::Repeated(name, value) | InsertFault::Memory(name, value)) = &inserted {
+        print_pair(to, name, value);
+    }
+    to.print_node(&DecimalTree::Object(members));
 }
 
 // Makes members of pairs of a name and its text, and prints what that gives.
-fn from_pairs(rt: &HostRuntime, names: &[Value]) -> io::Result<()> {
-    let pairs = pairs_of(rt.alloc(), names)?;
-    announce(rt, "from_pairs", false)?;
-    let made = Members::from_pairs(pairs);
-    told(rt, false, None)?;
-    let mut text = String::new(rt.alloc());
-    push_made(&mut text, made)?;
-    print_lines(rt, text.as_str())
+fn from_pairs(to: &mut Printer<'_>, names: &[Value]) {
+    if let Ok(pairs) = pairs_of(to.alloc(), names) {
+        to.announce("from_pairs", false);
+        let made = Members::from_pairs(pairs);
+        to.tell(false);
+        let mut text = Text::new(to.alloc());
+        push_made(&mut text, made);
+        to.print_lines(text.as_str());
+    }
 }
 
 fn members_of(alloc: Global, names: &[Value]) -> Made<Members> {
     let mut members = Members::new(alloc);
-    insert_names(alloc, &mut members, names, &mut String::new(alloc))?;
+    insert_names(alloc, &mut members, names, &mut Text::new(alloc))?;
     Ok(members)
 }
 
-fn print_pair(rt: &HostRuntime, name: &str, value: &DecimalTree) -> io::Result<()> {
-    let mut text = String::new(rt.alloc());
-    push_pair(&mut text, name, value)?;
-    print_lines(rt, text.as_str())
+fn print_pair(to: &mut Printer<'_>, name: &str, value: &DecimalTree) {
+    let mut text = Text::new(to.alloc());
+    push_pair(&mut text, name, value);
+    to.print_lines(text.as_str());
 }

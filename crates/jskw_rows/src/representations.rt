@@ -1,5 +1,5 @@
 //! Trees of decimals: from texts, and with two other ways to look for required names.
-use crate::stop::Made;
+use crate::text::Made;
 use jskw_value::{Decimal, DecimalJson, DecimalTree, Json, Members, Node};
 use serde_json::Value;
 use std::alloc::{AllocError, Global};

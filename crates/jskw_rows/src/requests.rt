@@ -1,20 +1,22 @@
 //! Requests, and what `run` writes for them.
 use crate::members::{Members, items, known, push_lines, text};
 use crate::row::check_run;
-use crate::stop::{Checked, Made};
-use crate::tally::Tally;
+use crate::tally::{Name, Tally};
+use crate::text::Text;
 use jskw_service::{StdSink, StdSource, run, status};
 use serde_json::Value;
 use std::alloc::Global;
 
 /// What `run` writes for a request, and its status in a line behind it.
-pub(crate) fn output(alloc: Global, request: &str) -> Made<String> {
+pub(crate) fn output(alloc: Global, request: &str) -> Text {
     let mut reader = StdSource::new(request.as_bytes());
     let mut writer = StdSink::new(Vec::new(alloc));
     let status = status(&run(alloc, &mut reader, &mut writer));
     let written = writer.into_inner();
-    let text = std::str::from_utf8(written.as_slice()).unwrap_or("no text\n");
-    format!(in alloc; "{text}status {status}\n")
+    let mut text = Text::new(alloc);
+    text.push(std::str::from_utf8(written.as_slice()).unwrap_or("no text\n"));
+    write!(text, "status {status}\n");
+    text
 }
 
 /// The request of a row.
@@ -24,34 +26,47 @@ pub(crate) fn request_of(
     draft: &str,
     schema: &Value,
     instance: &Value,
-) -> Made<String> {
-    let mut request = format!(in alloc; "{{\"draft\":\"{draft}\"")?;
-    for name in &["vocabularies", "overridden"] {
-        if let Some(value) = group.get(*name) {
-            write!(request, ",\"{name}\":{}", value.to_string(alloc)?)?;
+) -> Text {
+    let mut request = Text::new(alloc);
+    write!(request, "{{\"draft\":\"{draft}\"");
+    for (name, value) in &[
+        ("vocabularies", group.get("vocabularies")),
+        ("overridden", group.get("overridden")),
+        ("schema", Some(schema)),
+        ("instance", Some(instance)),
+    ] {
+        if let Some(value) = value {
+            write!(request, ",\"{name}\":");
+            request.push_made(value.to_string(alloc));
         }
     }
-    let (schema, instance) = (schema.to_string(alloc)?, instance.to_string(alloc)?);
-    write!(request, ",\"schema\":{schema},\"instance\":{instance}}}")?;
-    Ok(request)
+    request.push("}");
+    request
 }
 
 /// Asks the requests of a group of them.
-pub(crate) fn check<'v>(tally: &mut Tally, group: &'v Value) -> Checked<'v> {
-    let group = known(group, "description requests")?;
-    let name = text(group, "description")?;
-    for request in items(group, "requests")? {
-        check_one(tally, name, known(request, "description request output")?)?;
+pub(crate) fn check(tally: &mut Tally, group: &Value) {
+    if let Some(group) = known(tally, group, "description requests") {
+        let name = text(tally, group, "description");
+        for request in items(tally, group, "requests") {
+            if let Some(request) = known(tally, request, "description request output") {
+                check_one(tally, name, request);
+            }
+        }
     }
-    Ok(())
 }
 
-fn check_one<'v>(tally: &mut Tally, group: &str, members: &'v Members) -> Checked<'v> {
-    let (description, request) = (text(members, "description")?, text(members, "request")?);
-    tally.take_name(group, description)?;
-    tally.take_question(request)?;
-    let mut wanted = String::new(tally.alloc);
-    push_lines(&mut wanted, members, "output")?;
-    let name = format!(in tally.alloc; "{group}: {description}")?;
-    Ok(check_run(tally, name.as_str(), request, wanted.as_str())?)
+fn check_one(tally: &mut Tally, group: &str, members: &Members) {
+    let description = text(tally, members, "description");
+    let request = text(tally, members, "request");
+    tally.take_name(group, description);
+    tally.take_question(String::from_str(tally.alloc, request), description);
+    let mut wanted = Text::new(tally.alloc);
+    push_lines(tally, &mut wanted, members, "output");
+    check_run(
+        tally,
+        Name(group, description, ""),
+        request,
+        wanted.as_str(),
+    );
 }

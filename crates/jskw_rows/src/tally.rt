@@ -1,18 +1,24 @@
 //! What was asked so far, and what differed.
-use crate::stop::{Checked, Made, Stop};
+use crate::text::{Made, Text};
 use std::alloc::Global;
 use std::collections::BTreeSet;
+
+/// The name of a row: those of its group and of its test, and what it asks.
+#[derive(Clone, Copy)]
+pub(crate) struct Name<'r>(pub(crate) &'r str, pub(crate) &'r str, pub(crate) &'r str);
 
 /// The rows that were asked, and what is to be printed of them.
 #[derive(Drop)]
 pub(crate) struct Tally {
     pub(crate) alloc: Global,
-    pub(crate) file: String,
-    pub(crate) told: String,
+    pub(crate) file: Text,
+    pub(crate) group: Text,
+    pub(crate) told: Text,
     pub(crate) rows: u64,
     /// How many answers were not the wanted ones.
     pub(crate) differing: u64,
-    pub(crate) wrong: u64,
+    /// How many mistakes there are in rows.
+    pub(crate) mistakes: u64,
     // the names of the tests with their files, and what the rows ask
     taken: BTreeSet<String>,
 }
@@ -21,48 +27,54 @@ impl Tally {
     pub(crate) fn new(alloc: Global) -> Tally {
         Tally {
             alloc,
-            file: String::new(alloc),
-            told: String::new(alloc),
+            file: Text::new(alloc),
+            group: Text::new(alloc),
+            told: Text::new(alloc),
             rows: 0,
             differing: 0,
-            wrong: 0,
+            mistakes: 0,
             taken: BTreeSet::new(alloc),
         }
     }
 
     /// Takes the name of a test of a group, which no other of the file may have.
-    pub(crate) fn take_name<'v>(&mut self, group: &str, test: &'v str) -> Checked<'v> {
-        let name = format!(in self.alloc; "{}: {group}: {test}", self.file)?;
-        if self.taken.insert(name)? {
-            return Ok(());
-        }
-        Err(Stop::Wrong("two tests of one name", test))
+    pub(crate) fn take_name(&mut self, group: &str, test: &str) {
+        let file = self.file.as_str();
+        let name = format!(in self.alloc; "{file}: {group}: {test}");
+        self.take(name, "two tests of one name", test);
     }
 
     /// Counts a row, and takes what it asks, which no other row of any file may ask.
-    pub(crate) fn take_question(&mut self, question: &str) -> Result<(), Stop<'static>> {
+    pub(crate) fn take_question(&mut self, question: Made<String>, test: &str) {
         self.rows = self.rows.saturating_add(1);
-        if self.taken.insert(String::from_str(self.alloc, question)?)? {
-            return Ok(());
-        }
-        write!(self.told, "{}: {question}\n", self.file)?;
-        Err(Stop::Wrong("a row that stands elsewhere too", ""))
+        self.take(question, "a row that stands elsewhere too", test);
     }
 
-    /// Records that a group is wrong, how, and with which of its members or texts.
-    pub(crate) fn tell_wrong(&mut self, group: &str, what: &str, with: &str) -> Made<()> {
-        self.wrong = self.wrong.saturating_add(1);
-        write!(self.told, "{}: {group}\n", self.file)?;
-        write!(self.told, "  wrong: {what}: {with}\n")
+    fn take(&mut self, text: Made<String>, what: &str, with: &str) {
+        let is_new = match text {
+            Ok(text) => matches!(self.taken.insert(text), Ok(true)),
+            Err(_) => false,
+        };
+        if !is_new {
+            self.tell_wrong(what, with);
+        }
+    }
+
+    /// Records a mistake in the group, and the member or text that has it.
+    pub(crate) fn tell_wrong(&mut self, what: &str, with: &str) {
+        self.mistakes = self.mistakes.saturating_add(1);
+        let (file, group) = (self.file.as_str(), self.group.as_str());
+        write!(self.told, "{file}: {group}\n  wrong: {what}: {with}\n");
     }
 
     /// Records a row whose answer is not the wanted one. `way` is the call that gave it.
-    pub(crate) fn compare(&mut self, name: &str, way: &str, wanted: &str, found: &str) -> Made<()> {
+    pub(crate) fn compare(&mut self, name: Name<'_>, way: &str, wanted: &str, found: &str) {
         if wanted == found {
-            return Ok(());
+            return;
         }
         self.differing = self.differing.saturating_add(1);
-        write!(self.told, "{}: {name}, {way}\n", self.file)?;
-        write!(self.told, "  wanted:\n{wanted}\n  found:\n{found}\n")
+        let (file, Name(group, test, asks)) = (self.file.as_str(), name);
+        write!(self.told, "{file}: {group}: {test}: {asks}, {way}\n");
+        write!(self.told, "  wanted:\n{wanted}\n  found:\n{found}\n");
     }
 }

@@ -1,9 +1,8 @@
 //! What a row wants: the lines of the answers, and what `run` writes.
-use crate::error_lines::push_value;
-use crate::members::{Members, is_one_of, items, member, push_lines, text, wanted};
+use crate::members::{Members, is_one_of, is_true, items, push_lines, text, text_or, wanted};
 use crate::representations::decimals_of;
-use crate::stop::{Checked, Made, Stop};
-use jskw_value::Node;
+use crate::tally::Tally;
+use crate::text::Text;
 use serde_json::Value;
 use std::alloc::Global;
 
@@ -11,9 +10,9 @@ use std::alloc::Global;
 #[derive(Drop)]
 pub(crate) struct Wanted {
     /// The lines of the answers, and of the evaluation if that is claimed.
-    pub(crate) answer: String,
+    pub(crate) answer: Text,
     /// What is written for a request, and the status.
-    pub(crate) output: String,
+    pub(crate) output: Text,
     /// Whether an error has a message; then all have one.
     pub(crate) has_messages: bool,
 }
@@ -36,115 +35,123 @@ struct Error<'v> {
 impl Wanted {
     fn new(alloc: Global) -> Wanted {
         Wanted {
-            answer: String::new(alloc),
-            output: String::new(alloc),
+            answer: Text::new(alloc),
+            output: Text::new(alloc),
             has_messages: false,
         }
     }
 
     /// What a test wants of an instance.
-    pub(crate) fn of_test<'v>(
-        alloc: Global,
-        test: &'v Members,
-        instance: &Value,
-    ) -> Result<Wanted, Stop<'v>> {
-        let mut wanted = Wanted::new(alloc);
-        match (test.get("valid"), test.get("float"), test.get("errors")) {
-            (Some(Value::Bool(true)), None, None) => {
-                wanted.answer.push_str("valid\n")?;
-                wanted.output.push_str("valid\nstatus 0\n")?;
+    pub(crate) fn of_test(tally: &mut Tally, test: &Members, instance: &Value) -> Wanted {
+        let mut wanted = Wanted::new(tally.alloc);
+        if test.contains_key("errors") {
+            for error in items(tally, test, "errors") {
+                wanted.push_error(tally, test, instance, error);
             }
-            (None, Some(Value::String(location)), None) => {
-                write!(wanted.answer, "float at {location}\n")?;
-                write!(wanted.output, "refused: float\t{location}\nstatus 2\n")?;
-            }
-            (None, None, Some(_)) => wanted.push_errors(alloc, test, instance)?,
-            _ => return Err(Stop::Wrong("a test has one of", "valid (true), float, errors")),
+            wanted.output.push("status 1\n");
+        } else if test.contains_key("float") {
+            let location = text(tally, test, "float");
+            write!(wanted.answer, "float at {location}\n");
+            write!(wanted.output, "refused: float\t{location}\nstatus 2\n");
+        } else if is_true(tally, test, "valid") {
+            wanted.answer.push("valid\n");
+            wanted.output.push("valid\nstatus 0\n");
         }
-        push_lines(&mut wanted.answer, test, "evaluation")?;
-        Ok(wanted)
+        push_lines(tally, &mut wanted.answer, test, "evaluation");
+        wanted
     }
 
-    // Appends the errors of a test of an instance.
-    fn push_errors<'v>(&mut self, alloc: Global, test: &'v Members, item: &Value) -> Checked<'v> {
-        for error in items(test, "errors")? {
-            let error = error_of(error)?;
-            if error.members.contains_key("value") {
-                return Err(Stop::Wrong("the instance has the value of", "an error"));
+    // Appends an error of a test of an instance.
+    fn push_error(&mut self, tally: &mut Tally, test: &Members, item: &Value, error: &Value) {
+        let Some(error) = &error_of(tally, error) else {
+            return;
+        };
+        match item.pointer(error.at) {
+            Some(value) if !error.members.contains_key("value") => {
+                self.push_start(tally.alloc, error);
+                push_value_of(
+                    tally.alloc,
+                    &mut self.answer,
+                    value,
+                    test.contains_key("decimals"),
+                );
+                self.push_end(error);
             }
-            let value = wanted(item.pointer(error.at), "instanceLocation")?;
-            let value = text_of(alloc, value, test.contains_key("decimals"))?;
-            self.push_line(alloc, &error, value.as_str())?;
-            let (keyword, at, above, by) = (error.keyword, error.at, error.above, error.by);
-            write!(self.output, "{keyword}\t{at}\t{above}{by}\n")?;
+            _ => tally.tell_wrong("the instance has the value of an error", error.at),
         }
-        Ok(self.output.push_str("status 1\n")?)
+        let (keyword, at, above, by) = (error.keyword, error.at, error.above, error.by);
+        write!(self.output, "{keyword}\t{at}\t{above}{by}\n");
     }
 
     /// What is wanted of a schema that does not compile.
-    pub(crate) fn of_refusal(alloc: Global, error: &Value) -> Result<Wanted, Stop<'_>> {
-        let (mut wanted, error) = (Wanted::new(alloc), error_of(error)?);
-        let value = member(error.members, "value")?.to_string(alloc)?;
-        wanted.answer.push_str("refused: ")?;
-        wanted.push_line(alloc, &error, value.as_str())?;
-        let (keyword, above, by) = (error.keyword, error.above, error.by);
-        write!(wanted.output, "refused: schema\t{keyword}\t{above}{by}\n")?;
-        wanted.output.push_str("status 2\n")?;
-        Ok(wanted)
+    pub(crate) fn of_refusal(tally: &mut Tally, error: &Value) -> Wanted {
+        let mut wanted = Wanted::new(tally.alloc);
+        if let Some(error) = &error_of(tally, error) {
+            let value = error.members.get("value").unwrap_or(&Value::Null);
+            wanted.answer.push("refused: ");
+            wanted.push_start(tally.alloc, error);
+            wanted.answer.push_made(value.to_string(tally.alloc));
+            wanted.push_end(error);
+            let (keyword, above, by) = (error.keyword, error.above, error.by);
+            write!(
+                wanted.output,
+                "refused: schema\t{keyword}\t{above}{by}\nstatus 2\n"
+            );
+        }
+        wanted
     }
 
-    // Appends the line of an error, with its message if it has one.
-    fn push_line(&mut self, alloc: Global, error: &Error<'_>, value: &str) -> Made<()> {
-        let payload = error.payload.to_string(alloc)?;
+    // Appends what stands in front of the value at fault.
+    fn push_start(&mut self, alloc: Global, error: &Error<'_>) {
         let (keyword, at, above, by) = (error.keyword, error.at, error.above, error.by);
-        write!(self.answer, "{keyword} {payload} at {at} by {above}{by}")?;
-        write!(self.answer, " of {value}")?;
+        write!(self.answer, "{keyword} ");
+        self.answer.push_made(error.payload.to_string(alloc));
+        write!(self.answer, " at {at} by {above}{by} of ");
+    }
+
+    // Appends the message, if the error has one, and ends the line.
+    fn push_end(&mut self, error: &Error<'_>) {
         if let Some(Value::String(message)) = error.members.get("message") {
             self.has_messages = true;
-            write!(self.answer, ", {message}")?;
+            write!(self.answer, ", {message}");
         }
-        self.answer.push('\n')
+        self.answer.push("\n");
     }
 }
 
-// Returns the text of a value, in which the texts of decimals may stand for these.
-fn text_of(alloc: Global, value: &Value, has_decimals: bool) -> Made<String> {
-    let mut text = String::new(alloc);
-    match decimals_of(alloc, value)? {
-        Some(tree) if has_decimals => tree.write_json(&mut text)?,
-        _ => push_value(alloc, &mut text, value)?,
+// Appends the text of a value, in which the texts of decimals may stand for these.
+fn push_value_of(alloc: Global, text: &mut Text, value: &Value, has_decimals: bool) {
+    if !has_decimals {
+        return text.push_made(value.to_string(alloc));
     }
-    Ok(text)
+    if let Some(Some(tree)) = &text.made(decimals_of(alloc, value)) {
+        text.push_json(tree);
+    }
 }
 
 // Returns the error that a value is. It has one member beside the parts: its keyword, with the payload.
-fn error_of(value: &Value) -> Result<Error<'_>, Stop<'_>> {
-    let members = wanted(value.as_object(), "an error")?;
+fn error_of<'v>(tally: &mut Tally, value: &'v Value) -> Option<Error<'v>> {
+    let members = wanted(tally, value.as_object(), "an error")?;
     let mut kinds = members
         .iter()
         .filter(|(name, _)| !is_one_of(name.as_str(), PARTS));
-    let Some((keyword, payload)) = kinds.next() else {
-        return Err(Stop::Wrong("an error without a keyword", ""));
-    };
+    let (keyword, payload) = wanted(tally, kinds.next(), "the keyword of an error")?;
     if let Some((name, _)) = kinds.next() {
-        return Err(Stop::Wrong("an error with an unknown member", name.as_str()));
+        tally.tell_wrong("an error with an unknown member", name.as_str());
     }
-    let at = match members.get("instanceLocation") {
-        None => "",
-        Some(_) => text(members, "instanceLocation")?,
-    };
     let keyword = keyword.as_str();
-    let (above, by) = match members.get("keywordLocation") {
-        None if keyword == "falseSchema" => ("", ""),
-        None => ("/", keyword),
-        Some(_) => ("", text(members, "keywordLocation")?),
+    let default = if keyword == "falseSchema" {
+        ""
+    } else {
+        keyword
     };
-    Ok(Error {
+    let is_default = !default.is_empty() && !members.contains_key("keywordLocation");
+    Some(Error {
         members,
         keyword,
         payload,
-        at,
-        above,
-        by,
+        at: text_or(tally, members, "instanceLocation", ""),
+        above: if is_default { "/" } else { "" },
+        by: text_or(tally, members, "keywordLocation", default),
     })
 }

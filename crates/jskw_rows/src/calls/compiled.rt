@@ -4,10 +4,10 @@
 
 use super::{Given, UNKNOWN};
 use crate::answer::push_compiled;
-use crate::error_lines::{Lines, push_value};
+use crate::lines::Lines;
+use crate::made::array_of;
 use crate::members::Members;
-use crate::stop::Made;
-use crate::tree_lines::TreeLines;
+use crate::text::Text;
 use jskw_array::compiler::compile;
 use jskw_array::items::{
     ArrayShapeValidator, BooleanItems, IntegerItems, IntegerItemsDraft4, ItemType,
@@ -33,7 +33,7 @@ use serde_json::Value;
 type Schema = SchemaNode<DecimalJson>;
 
 // The keyword and the value of the limit that an object is compiled to.
-pub(super) fn limit(lines: &mut Lines, given: Given<'_>) -> Made<()> {
+pub(super) fn limit(lines: &mut Lines, given: Given<'_>) {
     let ctx: Context<SerdeJson> = Context::new(lines.alloc, given.settings);
     for keyword in [Minimum, Maximum, ExclusiveMinimum, ExclusiveMaximum] {
         if let Some(value) = given.parent.get(keyword.as_str()) {
@@ -41,10 +41,10 @@ pub(super) fn limit(lines: &mut Lines, given: Given<'_>) -> Made<()> {
             return push_compiled(lines, limit, value, push_limit);
         }
     }
-    lines.text.push_str(UNKNOWN)
+    lines.text.push(UNKNOWN)
 }
 
-fn push_limit(lines: &mut Lines, limit: &NumberValidator, _value: &Value) -> Made<()> {
+fn push_limit(lines: &mut Lines, limit: &NumberValidator, _value: &Value) {
     let (keyword, value) = match limit {
         NumberValidator::MinimumU64(limit) => ("minimum", limit.limit_value()),
         NumberValidator::MinimumI64(limit) => ("minimum", limit.limit_value()),
@@ -54,28 +54,32 @@ fn push_limit(lines: &mut Lines, limit: &NumberValidator, _value: &Value) -> Mad
         NumberValidator::ExclusiveMinimumI64(limit) => ("exclusiveMinimum", limit.limit_value()),
         NumberValidator::ExclusiveMaximumU64(limit) => ("exclusiveMaximum", limit.limit_value()),
         NumberValidator::ExclusiveMaximumI64(limit) => ("exclusiveMaximum", limit.limit_value()),
-        _ => return lines.text.push_str("no limit"),
+        _ => return lines.text.push("no limit"),
     };
-    write!(lines.text, "{keyword} ")?;
-    push_value(lines.alloc, &mut lines.text, value)
+    write!(lines.text, "{keyword} ");
+    lines.text.push_made(value.to_string(lines.alloc));
 }
 
 // The value of a limit of each relation that is made of 7 and that value.
-pub(super) fn made_limit(lines: &mut Lines, value: &str) -> Made<()> {
-    push_made_limit::<i64, AtLeast>(lines, 7, value)?;
-    push_made_limit::<i64, AtMost>(lines, 7, value)?;
-    push_made_limit::<i64, Above>(lines, 7, value)?;
-    push_made_limit::<u64, Below>(lines, 7, value)
+pub(super) fn made_limit(lines: &mut Lines, value: &str) {
+    push_made_limit::<i64, AtLeast>(lines, 7, value);
+    push_made_limit::<i64, AtMost>(lines, 7, value);
+    push_made_limit::<i64, Above>(lines, 7, value);
+    push_made_limit::<u64, Below>(lines, 7, value);
 }
 
-fn push_made_limit<T: Whole, R: LimitTest>(lines: &mut Lines, limit: T, value: &str) -> Made<()> {
-    let value = Value::String(String::from_str(lines.alloc, value)?);
-    let limit: Limit<T, R> = Limit::from((limit, value, Location::new(lines.alloc)));
-    push_value(lines.alloc, &mut lines.text, limit.limit_value())
+fn push_made_limit<T: Whole, R: LimitTest>(lines: &mut Lines, limit: T, value: &str) {
+    if let Some(value) = lines.text.made(String::from_str(lines.alloc, value)) {
+        let value = (limit, Value::String(value), Location::new(lines.alloc));
+        let limit: Limit<T, R> = Limit::from(value);
+        lines
+            .text
+            .push_made(limit.limit_value().to_string(lines.alloc));
+    }
 }
 
 // The bound of a name of an object.
-pub(super) fn bound(lines: &mut Lines, given: Given<'_>, name: &str) -> Made<()> {
+pub(super) fn bound(lines: &mut Lines, given: Given<'_>, name: &str) {
     let ctx: Context<SerdeJson> = Context::new(lines.alloc, given.settings);
     let bound = map_get_u64(lines.alloc, given.parent, &ctx, name);
     let say = |lines: &mut Lines, bound: &u64, _: &Members| write!(lines.text, "{bound}");
@@ -83,8 +87,10 @@ pub(super) fn bound(lines: &mut Lines, given: Given<'_>, name: &str) -> Made<()>
 }
 
 // What a validator that is made for `/a` says of an item of the index 7.
-pub(super) fn made(lines: &mut Lines, name: &str, item: &DecimalTree) -> Made<()> {
-    let at = Location::new(lines.alloc).join(lines.alloc, LocationSegment::Name("a"))?;
+pub(super) fn made(lines: &mut Lines, name: &str, item: &DecimalTree) {
+    let Some(at) = location_of_a(lines) else {
+        return;
+    };
     match name {
         "false" => push_said_by(lines, FalseValidator::new(at), item),
         "array" => push_said_by(lines, ArrayTypeValidator::new(at), item),
@@ -95,60 +101,64 @@ pub(super) fn made(lines: &mut Lines, name: &str, item: &DecimalTree) -> Made<()
         "number" => push_said_by(lines, NumberTypeValidator::new(at), item),
         "object" => push_said_by(lines, ObjectTypeValidator::new(at), item),
         "string" => push_said_by(lines, StringTypeValidator::new(at), item),
-        _ => lines.text.push_str(UNKNOWN),
+        _ => lines.text.push(UNKNOWN),
     }
+}
+
+// Returns the location `/a`.
+fn location_of_a(lines: &mut Lines) -> Option<Location> {
+    let at = Location::new(lines.alloc).join(lines.alloc, LocationSegment::Name("a"));
+    lines.text.made(at)
 }
 
 fn push_said_by<V: Validate<DecimalJson> + Drop>(
     lines: &mut Lines,
     validator: V,
     item: &DecimalTree,
-) -> Made<()> {
+) {
     push_said(lines, &validator, item)
 }
 
-fn push_said<V: Validate<DecimalJson>>(
-    lines: &mut Lines,
-    validator: &V,
-    item: &DecimalTree,
-) -> Made<()> {
+fn push_said<V: Validate<DecimalJson>>(lines: &mut Lines, validator: &V, item: &DecimalTree) {
     let (mut location, mut ctx) = (LazyLocation::new(lines.alloc), ValidationContext::new());
-    location.push(7)?;
-    lines.push_first(validator.validate(item, &mut location, &mut ctx))?;
-    let is_valid = lines.text.is_empty();
-    lines.text.push_str(if is_valid { "valid" } else { "" })
+    lines.text.keep(location.push(7));
+    lines.push_first(validator.validate(item, &mut location, &mut ctx));
+    if lines.text.as_str().is_empty() {
+        lines.text.push("valid");
+    }
 }
 
 // What a `required` that is compiled for `/a`, and handed on to no other code, says.
-pub(super) fn required(lines: &mut Lines, names: &Value, object: &DecimalTree) -> Made<()> {
-    let at = Location::new(lines.alloc).join(lines.alloc, LocationSegment::Name("a"))?;
-    let compiled = compile_with_path::<DecimalJson>(lines.alloc, names, at);
-    push_compiled(lines, compiled, object, push_said)
+pub(super) fn required(lines: &mut Lines, names: &Value, object: &DecimalTree) {
+    if let Some(at) = location_of_a(lines) {
+        let compiled = compile_with_path::<DecimalJson>(lines.alloc, names, at);
+        push_compiled(lines, compiled, object, push_said);
+    }
 }
 
-// Whether an instance is one of ten thousand integers, or texts of them, or a last option.
-pub(super) fn options(lines: &mut Lines, given: Given<'_>, quote: &str, last: &Value) -> Made<()> {
-    let mut schema = String::from_str(lines.alloc, "{\"enum\":[")?;
-    for number in 0..10000 {
-        write!(schema, "{quote}{number}{quote},")?;
+// Whether an instance is one of the options of a made array.
+pub(super) fn options(lines: &mut Lines, given: Given<'_>, maker: &Value) {
+    let mut schema = Text::new(lines.alloc);
+    if let Some(options) = &array_of(lines.alloc, maker) {
+        schema.push("{\"enum\":");
+        schema.push_made(options.to_string(lines.alloc));
+        schema.push("}");
     }
-    push_value(lines.alloc, &mut schema, last)?;
-    schema.push_str("]}")?;
-    let Ok(schema) = Value::from_str(lines.alloc, schema.as_str()) else {
-        return lines.text.push_str(UNKNOWN);
+    let Ok(schema) = &Value::from_str(lines.alloc, schema.as_str()) else {
+        return lines.text.push(UNKNOWN);
     };
     let ctx: Context<DecimalJson> = Context::new(lines.alloc, given.settings);
-    let compiled = compile(lines.alloc, &ctx, &schema);
-    push_compiled(lines, Some(compiled), given.instance, push_holds)
+    let compiled = compile(lines.alloc, &ctx, schema);
+    push_compiled(lines, Some(compiled), given.instance, push_holds);
 }
 
-fn push_holds(lines: &mut Lines, node: &Schema, instance: &DecimalTree) -> Made<()> {
+fn push_holds(lines: &mut Lines, node: &Schema, instance: &DecimalTree) {
     let holds = node.is_valid(instance, &mut ValidationContext::new());
-    write!(lines.text, "{holds}")
+    write!(lines.text, "{holds}");
 }
 
 // Whether a fused shape by itself holds, and the nodes of the absorbed keywords.
-pub(super) fn shape(lines: &mut Lines, given: Given<'_>) -> Made<()> {
+pub(super) fn shape(lines: &mut Lines, given: Given<'_>) {
     let (alloc, parent) = (lines.alloc, given.parent);
     let ctx: Context<DecimalJson> = Context::new(alloc, given.settings);
     match member_of(parent, "items") {
@@ -156,50 +166,50 @@ pub(super) fn shape(lines: &mut Lines, given: Given<'_>) -> Made<()> {
             let shape = ArrayShapeValidator::compile(alloc, &ctx, parent, items);
             push_compiled(lines, Some(shape), given.instance, push_shape)
         }
-        _ => lines.text.push_str(UNKNOWN),
+        _ => lines.text.push(UNKNOWN),
     }
 }
 
-fn push_shape(
-    lines: &mut Lines,
-    shape: &ArrayShapeValidator<DecimalJson>,
-    instance: &DecimalTree,
-) -> Made<()> {
+fn push_shape(lines: &mut Lines, shape: &ArrayShapeValidator<DecimalJson>, instance: &DecimalTree) {
     let (alloc, root, is_array) = (lines.alloc, Location::new(lines.alloc), instance.is_array());
-    let (mut tree, mut nodes) = (TreeLines::new(lines), Vec::new(alloc));
+    let (mut tree, mut nodes) = (lines.others(), Vec::new(alloc));
     let count = match is_array {
         true => Some(Array::len(instance) as u64),
         false => None,
     };
     let asked = shape.absorbed();
-    nodes.push(asked.evaluate_type::<DecimalJson>(alloc, instance, is_array, &root)?)?;
-    asked.evaluate_counts::<DecimalJson>(alloc, instance, count, &root, &mut nodes)?;
+    tree.push_tree(
+        0,
+        asked.evaluate_type::<DecimalJson>(alloc, instance, is_array, &root),
+    );
+    let made = asked.evaluate_counts::<DecimalJson>(alloc, instance, count, &root, &mut nodes);
+    lines.text.keep(made);
     for node in &nodes {
-        tree.push(0, node)?;
+        tree.push_nodes(0, node);
     }
     let holds = shape.is_valid(instance, &mut ValidationContext::new());
-    write!(lines.text, "{holds}\n{}", tree.lines.text)
+    write!(lines.text, "{holds}\n{}", tree.text.as_str());
 }
 
 // Whether the item of an array is of a type, by the test and by the validators of the type and of
 // items.
-pub(super) fn item(lines: &mut Lines, name: &str, array: &DecimalTree) -> Made<()> {
+pub(super) fn item(lines: &mut Lines, name: &str, array: &DecimalTree) {
     match name {
         "number" => push_item::<NumberItems>(lines, array),
         "string" => push_item::<StringItems>(lines, array),
         "boolean" => push_item::<BooleanItems>(lines, array),
         "integer" => push_item::<IntegerItems>(lines, array),
         "integer of Draft 4" => push_item::<IntegerItemsDraft4>(lines, array),
-        _ => lines.text.push_str(UNKNOWN),
+        _ => lines.text.push(UNKNOWN),
     }
 }
 
-fn push_item<T: ItemType>(lines: &mut Lines, array: &DecimalTree) -> Made<()> {
+fn push_item<T: ItemType>(lines: &mut Lines, array: &DecimalTree) {
     let DecimalTree::Array(items) = array else {
-        return lines.text.push_str(UNKNOWN);
+        return lines.text.push(UNKNOWN);
     };
     let [item] = items.as_slice() else {
-        return lines.text.push_str(UNKNOWN);
+        return lines.text.push(UNKNOWN);
     };
     let matches = T::matches::<DecimalJson>(item);
     let at = Location::new(lines.alloc);
@@ -214,9 +224,9 @@ fn holds_by<V: Validate<DecimalJson> + Drop>(validator: V, item: &DecimalTree) -
 }
 
 // How many schemas the evaluation of `additionalItems` by itself applies.
-pub(super) fn additional(lines: &mut Lines, given: Given<'_>) -> Made<()> {
+pub(super) fn additional(lines: &mut Lines, given: Given<'_>) {
     let Some(value) = given.parent.get("additionalItems") else {
-        return lines.text.push_str(UNKNOWN);
+        return lines.text.push(UNKNOWN);
     };
     let ctx: Context<DecimalJson> = Context::new(lines.alloc, given.settings);
     let compiled = additional_items::compile(lines.alloc, &ctx, given.parent, value);
@@ -227,27 +237,8 @@ fn push_applied<V: Validate<DecimalJson>>(
     lines: &mut Lines,
     validator: &V,
     instance: &DecimalTree,
-) -> Made<()> {
+) {
     let (mut location, mut ctx) = (LazyLocation::new(lines.alloc), ValidationContext::new());
-    let _ = validator.evaluate(lines.alloc, instance, &mut location, &mut ctx)?;
-    write!(lines.text, "{}", ctx.applications())
-}
-
-// What a schema of the member `a/b` says of the item of the index 3: its location, the lines of its
-// evaluation, and the instance location behind it.
-pub(super) fn below(lines: &mut Lines, given: Given<'_>, schema: &Value) -> Made<()> {
-    let root: Context<DecimalJson> = Context::new(lines.alloc, given.settings);
-    let ctx = root.new_at_location(lines.alloc, LocationSegment::Name("a/b"))?;
-    let compiled = compile(lines.alloc, &ctx, schema);
-    push_compiled(lines, Some(compiled), given.instance, push_below)
-}
-
-fn push_below(lines: &mut Lines, node: &Schema, instance: &DecimalTree) -> Made<()> {
-    let (mut location, mut ctx) = (LazyLocation::new(lines.alloc), ValidationContext::new());
-    location.push(3)?;
-    let below = node.evaluate_instance_below(lines.alloc, instance, &mut location, &mut ctx);
-    let mut tree = TreeLines::new(lines);
-    tree.push(0, &below?)?;
-    let (at, after) = (node.location().as_str(), location.render()?);
-    write!(lines.text, "{at}\n{}{}", tree.lines.text, after.as_str())
+    let _ = validator.evaluate(lines.alloc, instance, &mut location, &mut ctx);
+    write!(lines.text, "{}", ctx.applications());
 }

@@ -1,11 +1,12 @@
 //! Calls of the service over bytes that are no text, and over readers and writers that fail.
 ghost use Rattle.std.specs.Prelude.{◌≡◌, IfOk, IfSome, false};
 
-use super::UNKNOWN;
-use crate::error_lines::Lines;
-use crate::stop::Made;
+use super::{Arguments, UNKNOWN};
+use crate::lines::Lines;
+use crate::text::Made;
 use jskw_service::{DeviceFault, Sink, Source, StdSink, StdSource, reply_to, run, status};
 use serde_json::Value;
+use std::alloc::Global;
 use std::io::{self, ErrorKind, Read, Write};
 
 // A request, which is read in 8 pieces of 4 bytes and the end. Its reply is written in 5 pieces of 3.
@@ -129,31 +130,40 @@ impl<S: Sink> Sink for FailsOnce<S> {
 }
 
 // The verdict and the text of the reply to a request of texts and bytes.
-pub(super) fn reply(lines: &mut Lines, parts: &[Value]) -> Made<()> {
-    let mut bytes = Vec::new(lines.alloc);
+pub(super) fn reply(lines: &mut Lines, parts: &[Value]) {
+    let Some(Some(bytes)) = &lines.text.made(bytes_of(lines.alloc, parts)) else {
+        return lines.text.push(UNKNOWN);
+    };
+    if let Some(reply) = &lines.text.made(reply_to(lines.alloc, bytes)) {
+        let written = std::str::from_utf8(reply.text()).unwrap_or("no text");
+        write!(lines.text, "{:?} {written}", reply.verdict());
+    }
+}
+
+// Returns the bytes of texts and of numbers below 256, if all parts are such.
+fn bytes_of(alloc: Global, parts: &[Value]) -> Made<Option<Vec<u8>>> {
+    let mut bytes = Vec::new(alloc);
     for part in parts {
-        match (part.as_str(), part.as_u64()) {
+        match (part.as_str(), part.as_u64().map(u8::try_from)) {
             (Some(text), _) => bytes.extend_from_slice(text.as_bytes())?,
-            (None, Some(byte)) if byte < 256 => bytes.push(byte as u8)?,
-            _ => return lines.text.push_str(UNKNOWN),
+            (None, Some(Ok(byte))) => bytes.push(byte)?,
+            _ => return Ok(None),
         }
     }
-    let reply = reply_to(lines.alloc, bytes.as_slice())?;
-    let written = std::str::from_utf8(reply.text()).unwrap_or("no text");
-    write!(lines.text, "{:?} {written}", reply.verdict())
+    Ok(Some(bytes))
 }
 
 // How a run over a device that fails ends, its status, and what it writes.
-pub(super) fn ended(lines: &mut Lines, device: &str, error: &Value, calls: &Value) -> Made<()> {
-    let (calls, ever) = (calls.as_u64().unwrap_or(0) as usize, usize::MAX);
-    let calls = match device {
+pub(super) fn ended(lines: &mut Lines, all: Arguments<'_>) {
+    let (calls, ever) = (all.number(2) as usize, usize::MAX);
+    let calls = match all.text(0) {
         "source" => [calls, ever, ever, ever],
         "sink" => [ever, calls, ever, ever],
         "reader" => [ever, ever, calls, ever],
         "writer" => [ever, ever, ever, calls],
-        _ => return lines.text.push_str(UNKNOWN),
+        _ => return lines.text.push(UNKNOWN),
     };
-    push_end(lines, calls, error_of(error))
+    push_end(lines, calls, error_of(all.value(1)));
 }
 
 fn error_of(name: &Value) -> Option<ErrorKind> {
@@ -168,7 +178,7 @@ fn push_end(
     lines: &mut Lines,
     [source, sink, reader, writer]: [usize; 4],
     error: Option<ErrorKind>,
-) -> Made<()> {
+) {
     let reader = FailsOnce::new(REQUEST, reader, error);
     let writer = FailsOnce::new(Vec::new(lines.alloc), writer, error);
     let mut source = FailsOnce::new(StdSource::new(reader), source, None);
@@ -176,5 +186,5 @@ fn push_end(
     let outcome = run(lines.alloc, &mut source, &mut sink);
     let written = sink.device.into_inner().device;
     let written = std::str::from_utf8(written.as_slice()).unwrap_or("?");
-    write!(lines.text, "{outcome:?} {} {written}", status(&outcome))
+    write!(lines.text, "{outcome:?} {} {written}", status(&outcome));
 }

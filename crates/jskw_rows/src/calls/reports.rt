@@ -1,8 +1,7 @@
 //! Calls of settings, contexts, locations, errors and evaluations.
 use super::{Given, UNKNOWN};
-use crate::error_lines::{Lines, TYPES};
-use crate::stop::Made;
-use crate::tree_lines::TreeLines;
+use crate::lines::{Lines, TYPES};
+use crate::text::{Made, Text};
 use jskw_report::Vocabulary::{Applicator, Core, Validation};
 use jskw_report::compiler::member_of;
 use jskw_report::validator::evaluate_first;
@@ -20,53 +19,61 @@ use std::alloc::{AllocError, Global};
 
 // The draft of settings, whether all vocabularies are in their set, each vocabulary that they have,
 // with whether it is in the set, and whether they override a name; also of a context.
-pub(super) fn settings(lines: &mut Lines, given: Given<'_>, name: &str) -> Made<()> {
+pub(super) fn settings(lines: &mut Lines, given: Given<'_>, name: &str) {
     let (settings, text) = (given.settings, &mut lines.text);
     let ctx = Context::<SerdeJson>::new(lines.alloc, settings);
     let Some(set) = vocabularies_of(given.parent.get("vocabularies")) else {
-        return text.push_str(UNKNOWN);
+        return text.push(UNKNOWN);
     };
     let (is_one, is_all) = (settings.draft() == ctx.draft(), set == VocabularySet::all());
-    write!(text, "{:?} {is_one} {is_all}", ctx.draft())?;
+    write!(text, "{:?} {is_one} {is_all}", ctx.draft());
     for vocabulary in &[Core, Applicator, Validation] {
         if ctx.has_vocabulary(*vocabulary) != settings.has_vocabulary(*vocabulary) {
-            text.push_str(" of one alone")?;
+            text.push(" of one alone");
         }
         if settings.has_vocabulary(*vocabulary) {
-            write!(text, " {vocabulary:?} {}", set.contains(*vocabulary))?;
+            write!(text, " {vocabulary:?} {}", set.contains(*vocabulary));
         }
     }
-    write!(text, ", {}", settings.is_keyword_overridden(name))?;
-    write!(text, " {}", ctx.is_keyword_overridden(name))
+    write!(text, ", {}", settings.is_keyword_overridden(name));
+    write!(text, " {}", ctx.is_keyword_overridden(name));
 }
 
 // The location, the draft and the object layer of a context, of one without the layer, of two below
 // it, and of the last with the layer again; and whether an object has members of two names.
-pub(super) fn contexts(lines: &mut Lines, given: Given<'_>) -> Made<()> {
-    let (alloc, text) = (lines.alloc, &mut lines.text);
-    let whole = Context::<SerdeJson>::new(alloc, given.settings);
-    push_context(text, &whole)?;
-    let whole = whole.with_object_layer(false);
-    push_context(text, &whole)?;
-    let items = whole.new_at_location(alloc, LocationSegment::Name("items"))?;
-    push_context(text, &items)?;
-    let second = items.new_at_location(alloc, LocationSegment::Index(1))?;
-    push_context(text, &second)?;
-    push_context(text, &second.with_object_layer(true))?;
-    write!(text, "{} ", member_of(given.parent, "x").is_some())?;
-    write!(text, "{}", member_of(given.parent, "y").is_some())
+pub(super) fn contexts(lines: &mut Lines, given: Given<'_>) {
+    let made = push_contexts(lines.alloc, &mut lines.text, given);
+    lines.text.keep(made);
 }
 
-fn push_context(text: &mut String, ctx: &Context<'_, SerdeJson>) -> Made<()> {
+fn push_contexts(alloc: Global, text: &mut Text, given: Given<'_>) -> Made<()> {
+    let whole = Context::<SerdeJson>::new(alloc, given.settings);
+    push_context(text, &whole);
+    let whole = whole.with_object_layer(false);
+    push_context(text, &whole);
+    let items = whole.new_at_location(alloc, LocationSegment::Name("items"))?;
+    push_context(text, &items);
+    let second = items.new_at_location(alloc, LocationSegment::Index(1))?;
+    push_context(text, &second);
+    push_context(text, &second.with_object_layer(true));
+    write!(text, "{} ", member_of(given.parent, "x").is_some());
+    write!(text, "{}", member_of(given.parent, "y").is_some());
+    Ok(())
+}
+
+fn push_context(text: &mut Text, ctx: &Context<'_, SerdeJson>) {
     let (location, layer) = (ctx.location().as_str(), ctx.object_layer());
-    write!(text, "{location} {:?} {layer};", ctx.draft())
+    write!(text, "{location} {:?} {layer};", ctx.draft());
 }
 
 // The location of steps, and whether it is equal to that of others, as a copy of it is.
-pub(super) fn locations(lines: &mut Lines, left: &[Value], right: &[Value]) -> Made<()> {
-    let (left, right) = (joined(lines.alloc, left)?, joined(lines.alloc, right)?);
-    let (is_equal, is_copy) = (left == right, left.copy(lines.alloc)? == right);
-    write!(lines.text, "{} {is_equal} {is_copy}", left.as_str())
+pub(super) fn locations(lines: &mut Lines, left: &[Value], right: &[Value]) {
+    let (left, right) = (joined(lines.alloc, left), joined(lines.alloc, right));
+    if let (Ok(left), Ok(right)) = (&left, &right) {
+        let copy = lines.text.made(left.copy(lines.alloc));
+        let (is_equal, is_copy) = (left == right, copy.as_ref() == Some(right));
+        write!(lines.text, "{} {is_equal} {is_copy}", left.as_str());
+    }
 }
 
 // Returns the location of steps: numbers go to items, texts to members.
@@ -83,71 +90,87 @@ fn joined(alloc: Global, steps: &[Value]) -> Made<Location> {
 }
 
 // The location of numbers, which are pushed, and texts, each of which pops one.
-pub(super) fn stack(lines: &mut Lines, steps: &[Value]) -> Made<()> {
+pub(super) fn stack(lines: &mut Lines, steps: &[Value]) {
     let mut location = LazyLocation::new(lines.alloc);
     for step in steps {
         match step.as_u64() {
-            Some(index) => location.push(index as usize)?,
+            Some(index) => lines.text.keep(location.push(index as usize)),
             None => location.pop(),
         }
     }
-    lines.text.push_str(location.render()?.as_str())
+    if let Ok(rendered) = &location.render() {
+        lines.text.push(rendered.as_str());
+    }
 }
 
 // The messages of errors about null that no schema makes: a limit of what is no number, options that
 // are no array, and sets of one type and of all.
-pub(super) fn messages(lines: &mut Lines, options: &Value) -> Made<()> {
+pub(super) fn messages(lines: &mut Lines, options: &Value) {
     let mut all = JsonTypeSet::empty();
     for (_, json_type) in &TYPES {
         all = all.insert(*json_type);
     }
     let options = EnumOptions::Listed(options);
     let one = JsonTypeSet::from(JsonType::Array);
-    push_message(lines, ValidationErrorKind::Minimum { limit: 2 })?;
-    push_message(lines, ValidationErrorKind::Enum { options })?;
-    push_message(lines, ValidationErrorKind::of_types(one))?;
-    push_message(lines, ValidationErrorKind::of_types(all))
+    push_message(lines, ValidationErrorKind::Minimum { limit: 2 });
+    push_message(lines, ValidationErrorKind::Enum { options });
+    push_message(lines, ValidationErrorKind::of_types(one));
+    push_message(lines, ValidationErrorKind::of_types(all));
 }
 
 // Appends the message of an error about null.
-fn push_message(lines: &mut Lines, kind: ValidationErrorKind<'_>) -> Made<()> {
+fn push_message(lines: &mut Lines, kind: ValidationErrorKind<'_>) {
     let (at, by) = (Location::new(lines.alloc), Location::new(lines.alloc));
     let error: ValidationError<SerdeJson> = ValidationError::new(kind, at, &by, &Value::Null);
-    write!(lines.text, "{};", error.message(lines.alloc)?)
+    lines.text.push_made(error.message(lines.alloc));
+    lines.text.push(";");
 }
 
 // Whether want of memory is a fault of its own, and an error where errors are appended and where a
-// unit is made; and two constants of each representation and of each nullability.
-pub(super) fn wanting(lines: &mut Lines) -> Made<()> {
-    let (alloc, text) = (lines.alloc, &mut lines.text);
+// unit is made; and the constants of each representation and of each nullability.
+pub(super) fn wanting(lines: &mut Lines) {
     let is_fault = matches!(Fault::<SerdeJson>::from(AllocError), Fault::Memory(_));
     let is_compile_fault = matches!(CompileFault::from(AllocError), CompileFault::Memory(_));
-    write!(text, "{is_fault} {is_compile_fault}")?;
+    write!(lines.text, "{is_fault} {is_compile_fault}");
+    push_wanting_unit(lines);
     let (serde, decimals) = (SerdeJson::KEYS_PER_LOOKUP, DecimalJson::KEYS_PER_LOOKUP);
     let (with_null, without) = (Nullable::ACCEPTS_NULL, NotNullable::ACCEPTS_NULL);
-    let is_unit = evaluate_first::<SerdeJson>(alloc, Err(Fault::Memory(AllocError))).is_ok();
-    let mut errors: Vec<ValidationError<SerdeJson>> = Vec::new(alloc);
+    write!(lines.text, ", {serde} {decimals}, {with_null} {without}");
+}
+
+fn push_wanting_unit(lines: &mut Lines) {
+    let is_unit = evaluate_first::<SerdeJson>(lines.alloc, Err(Fault::Memory(AllocError))).is_ok();
+    let mut errors: Vec<ValidationError<SerdeJson>> = Vec::new(lines.alloc);
     let report = Report::behind(&mut errors);
-    let appended = report.into_all(Err(Stop::Memory(AllocError)), &mut errors);
-    write!(text, " {} {is_unit} {}", appended.is_ok(), errors.len())?;
-    write!(text, ", {serde} {decimals}, {with_null} {without}")
+    let is_appended = report
+        .into_all(Err(Stop::Memory(AllocError)), &mut errors)
+        .is_ok();
+    write!(lines.text, " {is_appended} {is_unit} {}", errors.len());
 }
 
 // The lines of a node of nodes that are made of names, those that begin with `x` invalid, and of the
 // errors that it describes; and the counts of a context after no application, one and two.
-pub(super) fn unit(lines: &mut Lines, way: &str, names: &[Value]) -> Made<()> {
-    let mut unit = unit_of(lines.alloc, way, names)?;
-    annotate(lines.alloc, way, &mut unit)?;
-    let at = Location::new(lines.alloc).join(lines.alloc, LocationSegment::Name("7"))?;
-    let mut tree = TreeLines::new(lines);
-    tree.push(0, &node_of(lines.alloc, unit, "items", &at)?)?;
+pub(super) fn unit(lines: &mut Lines, way: &str, names: &[Value]) {
+    let mut tree = lines.others();
+    tree.push_tree(0, node_of_names(lines.alloc, way, names));
     let mut ctx = ValidationContext::new();
     let none = ctx.applications();
     ctx.count_one();
     let one = ctx.applications();
     ctx.count_one();
-    let (nodes, described, two) = (&tree.lines.text, &tree.described, ctx.applications());
-    write!(lines.text, "{nodes}{described}{none} {one} {two}")
+    let (nodes, described) = (tree.text.as_str(), tree.described.as_str());
+    write!(
+        lines.text,
+        "{nodes}{described}{none} {one} {}",
+        ctx.applications()
+    );
+}
+
+fn node_of_names(alloc: Global, way: &str, names: &[Value]) -> Made<EvaluationNode> {
+    let mut unit = unit_of(alloc, way, names)?;
+    annotate(alloc, way, &mut unit)?;
+    let at = Location::new(alloc).join(alloc, LocationSegment::Name("7"))?;
+    node_of(alloc, unit, "items", &at)
 }
 
 // Returns a unit of nodes: with an error of its own, with two and no nodes, or as it is.

@@ -1,81 +1,99 @@
 //! The words around a call, and what it gave.
-use crate::error_lines::Lines;
-use crate::stop::Made;
-use crate::tree_lines::TreeLines;
+use crate::lines::Lines;
+use crate::text::{Made, Text};
 use jskw_report::{EvaluationNode, Fault, LazyLocation, ValidationError};
 use jskw_value::{Json, Node};
-use std::io;
+use std::alloc::Global;
+use std::fmt::Display;
 
-/// Says that the call of this name comes next, and whether it takes memory.
-pub(super) fn announce(rt: &HostRuntime, call: &str, takes_memory: bool) -> io::Result<()> {
-    if takes_memory {
-        print!(rt; "{call} asked")
-    } else {
-        print!(rt; "{call} ready")
+/// Standard output, and whether all could be printed and every line said what to do.
+#[derive(Drop)]
+pub(super) struct Printer<'r> {
+    pub(super) rt: &'r HostRuntime,
+    pub(super) is_right: bool,
+}
+
+impl Printer<'_> {
+    pub(super) fn alloc(&self) -> Global {
+        self.rt.alloc()
+    }
+
+    /// What `write!` calls.
+    pub(super) fn write_fmt<D: Display + Drop>(&mut self, part: D) {
+        let printed = print!(self.rt; "{part}");
+        self.check(printed.is_ok());
+    }
+
+    /// Notes whether a line says what to do, or can be made and printed.
+    pub(super) fn check(&mut self, is_right: bool) {
+        self.is_right = self.is_right && is_right;
+    }
+
+    /// Says that the call of this name comes next, and whether it takes memory.
+    pub(super) fn announce(&mut self, call: &str, takes_memory: bool) {
+        let word = if takes_memory { "asked" } else { "ready" };
+        write!(self, "{call} {word}");
+    }
+
+    /// Says that the call has returned and whether it ran out of memory.
+    pub(super) fn tell(&mut self, is_memory: bool) {
+        write!(self, ", {}\n", answered(is_memory));
+    }
+
+    /// Says that the call has returned and whether it ran out of memory, and what the location is then.
+    pub(super) fn tell_at(&mut self, is_memory: bool, at: &LazyLocation) {
+        write!(self, ", {} at ", answered(is_memory));
+        match &at.render() {
+            Ok(at) => write!(self, "{}\n", at.as_str()),
+            Err(_) => self.check(false),
+        }
+    }
+
+    /// Prints each line of a text behind a tab.
+    pub(super) fn print_lines(&mut self, text: &str) {
+        for line in text.lines() {
+            write!(self, "\t{line}\n");
+        }
+    }
+
+    pub(super) fn print_node<N: Node>(&mut self, node: &N) {
+        let mut text = Text::new(self.alloc());
+        text.push_json(node);
+        self.print_lines(text.as_str());
+    }
+
+    /// Prints errors, each in a line.
+    pub(super) fn print_errors<F: Json>(&mut self, errors: &[ValidationError<F>]) {
+        let mut lines = Lines::new(self.alloc(), false, true);
+        for error in errors {
+            lines.push_error(error);
+        }
+        self.print_lines(lines.text.as_str());
+    }
+
+    /// Says what `validate` returned, and where the location is then.
+    pub(super) fn print_first<F: Json>(
+        &mut self,
+        answer: Result<(), Fault<'_, F>>,
+        at: &LazyLocation,
+    ) {
+        self.tell_at(matches!(&answer, Err(Fault::Memory(_))), at);
+        if let Err(Fault::Invalid(error)) = &answer {
+            self.print_errors(std::slice::from_ref(error));
+        }
+    }
+
+    /// Prints the lines of an evaluation, and of the errors that it describes.
+    pub(super) fn print_tree(&mut self, answer: Made<EvaluationNode>) {
+        let mut tree = Lines::new(self.alloc(), false, true);
+        if let Ok(root) = &answer {
+            tree.push_nodes(0, root);
+        }
+        self.print_lines(tree.text.as_str());
+        self.print_lines(tree.described.as_str());
     }
 }
 
-/// Says that the call has returned and whether it ran out of memory, and then what the location is, if
-/// it has one.
-pub(super) fn told(rt: &HostRuntime, is_memory: bool, at: Option<&LazyLocation>) -> io::Result<()> {
-    print!(rt; ", {}", if is_memory { "memory" } else { "answered" })?;
-    match at {
-        None => println!(rt; ""),
-        Some(at) => println!(rt; " at {}", at.render()?.as_str()),
-    }
-}
-
-/// Prints each line of a text behind a tab.
-pub(super) fn print_lines(rt: &HostRuntime, text: &str) -> io::Result<()> {
-    for line in text.lines() {
-        println!(rt; "\t{line}")?;
-    }
-    Ok(())
-}
-
-pub(super) fn print_text<N: Node>(rt: &HostRuntime, node: &N) -> io::Result<()> {
-    let mut text = String::new(rt.alloc());
-    node.write_json(&mut text)?;
-    print_lines(rt, text.as_str())
-}
-
-/// Prints errors, each in a line.
-pub(super) fn print_errors<F: Json>(
-    rt: &HostRuntime,
-    errors: &[ValidationError<F>],
-) -> io::Result<()> {
-    let mut lines = Lines::new(rt.alloc(), true);
-    for error in errors {
-        lines.push_error(error)?;
-    }
-    print_lines(rt, lines.text.as_str())
-}
-
-/// Says what `validate` returned, and where the location is then.
-pub(super) fn print_first<F: Json>(
-    rt: &HostRuntime,
-    answer: Result<(), Fault<'_, F>>,
-    at: &LazyLocation,
-) -> io::Result<()> {
-    told(rt, matches!(&answer, Err(Fault::Memory(_))), Some(at))?;
-    match &answer {
-        Err(Fault::Invalid(error)) => print_errors(rt, std::slice::from_ref(error)),
-        _ => Ok(()),
-    }
-}
-
-/// Says what an evaluation returned, and where the location is then if it has one: the lines of the
-/// tree, and of the errors that it describes.
-pub(super) fn print_tree(
-    rt: &HostRuntime,
-    answer: Made<EvaluationNode>,
-    at: Option<&LazyLocation>,
-) -> io::Result<()> {
-    told(rt, answer.is_err(), at)?;
-    let mut tree = TreeLines::new(&Lines::new(rt.alloc(), true));
-    if let Ok(root) = &answer {
-        tree.push(0, root)?;
-    }
-    print_lines(rt, tree.lines.text.as_str())?;
-    print_lines(rt, tree.described.as_str())
+fn answered(is_memory: bool) -> &'static str {
+    if is_memory { "memory" } else { "answered" }
 }

@@ -1,0 +1,208 @@
+//! Errors and evaluations as lines: the kind as a row has it, both locations and the value at fault;
+//! a line for each node.
+use crate::text::{Made, Text};
+use jskw_report::{
+    Annotations, EnumOptions, EvaluationNode, Fault, Location, TypeKind, ValidationError,
+    ValidationErrorKind,
+};
+use jskw_value::{Json, JsonType, JsonTypeSet, Node, SerdeJson};
+use serde_json::Value;
+use std::alloc::Global;
+
+/// The lines of errors or of an evaluation, and how they are written.
+#[derive(Drop)]
+pub(crate) struct Lines {
+    pub(crate) alloc: Global,
+    /// Whether they are of a schema of `items` and of the item of the index 7. The beginning that all
+    /// their locations have is left out.
+    pub(crate) are_of_item: bool,
+    pub(crate) has_messages: bool,
+    pub(crate) text: Text,
+    /// The keyword and the message of each error, as an evaluation describes it.
+    pub(crate) described: Text,
+}
+
+/// The types in the order of their names.
+pub(crate) const TYPES: [(&str, JsonType); 7] = [
+    ("array", JsonType::Array),
+    ("boolean", JsonType::Boolean),
+    ("integer", JsonType::Integer),
+    ("null", JsonType::Null),
+    ("number", JsonType::Number),
+    ("object", JsonType::Object),
+    ("string", JsonType::String),
+];
+
+impl Lines {
+    /// No lines. The last argument says whether an error has its message.
+    pub(crate) fn new(alloc: Global, are_of_item: bool, has_messages: bool) -> Lines {
+        Lines {
+            alloc,
+            are_of_item,
+            has_messages,
+            text: Text::new(alloc),
+            described: Text::new(alloc),
+        }
+    }
+
+    /// No lines, which are written in the same way.
+    pub(crate) fn others(&self) -> Lines {
+        Lines::new(self.alloc, self.are_of_item, self.has_messages)
+    }
+
+    /// The location of a schema or an instance without this beginning, if it is of an item, or a
+    /// question mark if it has another one.
+    pub(crate) fn behind<'t>(&self, start: &str, location: &'t Location) -> &'t str {
+        let start = if self.are_of_item { start } else { "" };
+        location.as_str().strip_prefix(start).unwrap_or("?")
+    }
+
+    /// Appends the line of the error that `validate` returned, if any.
+    pub(crate) fn push_first<F: Json>(&mut self, answer: Result<(), Fault<F>>) {
+        match &answer {
+            Ok(()) => {}
+            Err(Fault::Invalid(error)) => self.push_error(error),
+            Err(Fault::Memory(error)) => self.text.keep(Err(*error)),
+        }
+    }
+
+    /// Appends the line of an error of an instance.
+    pub(crate) fn push_error<F: Json>(&mut self, error: &ValidationError<F>) {
+        let at = self.behind("/7", error.instance_path());
+        self.push_start(at, error);
+        self.text.push_json(error.instance());
+        self.push_end(error);
+    }
+
+    /// Appends the line of why a schema does not compile. The value at fault is written with its
+    /// floats.
+    pub(crate) fn push_refusal(&mut self, error: &ValidationError<SerdeJson>) {
+        self.text.push("refused: ");
+        self.push_start(error.instance_path().as_str(), error);
+        self.text.push_made(error.instance().to_string(self.alloc));
+        self.push_end(error);
+    }
+
+    // Appends what stands in front of the value at fault.
+    fn push_start<F: Json>(&mut self, at: &str, error: &ValidationError<F>) {
+        push_kind(self.alloc, &mut self.text, error.kind());
+        let is_same = error.evaluation_path() == error.schema_path();
+        let by = self.behind("/items", error.schema_path());
+        write!(self.text, " at {at} by {by}");
+        self.text.push_if(!is_same, " of another path");
+        self.text.push(" of ");
+    }
+
+    // Ends the line, with the message if it is to be written.
+    fn push_end<F: Json>(&mut self, error: &ValidationError<F>) {
+        if let Some(message) = &self.text.made(error.message(self.alloc)) {
+            self.text.push_if(self.has_messages, ", ");
+            self.text.push_if(self.has_messages, message);
+            write!(self.described, "{}: {message}\n", error.kind().keyword());
+        }
+        self.text.push("\n");
+    }
+
+    /// Appends the lines of an evaluation, which is made or not.
+    pub(crate) fn push_tree(&mut self, depth: usize, node: Made<EvaluationNode>) {
+        match &node {
+            Ok(node) => self.push_nodes(depth, node),
+            Err(error) => self.text.keep(Err(*error)),
+        }
+    }
+
+    /// Appends the lines of a node and of those below it. `depth` is how many nodes are above it.
+    pub(crate) fn push_nodes(&mut self, depth: usize, node: &EvaluationNode) {
+        self.push_node(depth, node);
+        for child in node.children() {
+            self.push_nodes(depth.saturating_add(1), child);
+        }
+    }
+
+    // Appends the line of a node, behind two spaces for each node that it stands below.
+    fn push_node(&mut self, depth: usize, node: &EvaluationNode) {
+        for _ in 0..depth {
+            self.text.push("  ");
+        }
+        self.push_place(node);
+        push_annotation(&mut self.text, node.annotations());
+        for error in node.errors() {
+            let (keyword, message) = (error.keyword(), error.message());
+            write!(self.text, " error {keyword}");
+            write!(self.described, "{keyword}: {message}\n");
+        }
+        self.text.push("\n");
+    }
+
+    // Appends whether a node is valid, and its locations.
+    fn push_place(&mut self, node: &EvaluationNode) {
+        let by = self.behind("/items", node.evaluation_path());
+        let at = self.behind("/7", node.instance_location());
+        let is_same = node.schema_location() == node.evaluation_path();
+        self.text.push_if(!node.valid(), "in");
+        self.text.push("valid");
+        self.text.push_if(!by.is_empty(), " ");
+        self.text.push(by);
+        self.text.push_if(!is_same, " elsewhere");
+        self.text.push_if(!at.is_empty(), " at ");
+        self.text.push(at);
+    }
+}
+
+// Appends the keyword of a kind and its payload as JSON, `true` for one without.
+fn push_kind(alloc: Global, text: &mut Text, kind: &ValidationErrorKind) {
+    write!(text, "{} ", kind.keyword());
+    match kind {
+        ValidationErrorKind::AdditionalItems { limit } => write!(text, "{limit}"),
+        ValidationErrorKind::CompileError { message } => write!(text, "\"{message}\""),
+        ValidationErrorKind::Constant { expected_value } => text.push_json(*expected_value),
+        ValidationErrorKind::Enum { options } => match options {
+            EnumOptions::Listed(options) => text.push_json(*options),
+            EnumOptions::TypeNames => text.push("\"typeNames\""),
+        },
+        ValidationErrorKind::MinItems { limit }
+        | ValidationErrorKind::MaxItems { limit }
+        | ValidationErrorKind::MinProperties { limit }
+        | ValidationErrorKind::MaxProperties { limit } => write!(text, "{limit}"),
+        ValidationErrorKind::Minimum { limit }
+        | ValidationErrorKind::Maximum { limit }
+        | ValidationErrorKind::ExclusiveMinimum { limit }
+        | ValidationErrorKind::ExclusiveMaximum { limit } => write!(text, "{limit}"),
+        ValidationErrorKind::MultipleOf { multiple_of } => write!(text, "{multiple_of}"),
+        ValidationErrorKind::Required { property } => push_name(alloc, text, property),
+        ValidationErrorKind::WrongType { kind } => push_types(text, *kind),
+        _ => text.push("true"),
+    }
+}
+
+fn push_name(alloc: Global, text: &mut Text, name: &str) {
+    if let Some(name) = text.made(String::from_str(alloc, name)) {
+        text.push_json(&Value::String(name));
+    }
+}
+
+// Appends the type that an instance was to be of, or those of a set as an array.
+fn push_types(text: &mut Text, kind: TypeKind) {
+    let (types, open, close) = match kind {
+        TypeKind::Single(json_type) => (JsonTypeSet::from(json_type), "", ""),
+        TypeKind::Multiple(types) => (types, "[", "]"),
+    };
+    text.push(open);
+    let mut is_first = true;
+    for (name, json_type) in &TYPES {
+        if types.contains(*json_type) {
+            write!(text, "{}\"{name}\"", if is_first { "" } else { "," });
+            is_first = false;
+        }
+    }
+    text.push(close);
+}
+
+fn push_annotation(text: &mut Text, annotation: Option<&Annotations>) {
+    match annotation {
+        None => {}
+        Some(Annotations::Bool(value)) => write!(text, " annotation {value}"),
+        Some(Annotations::Index(index)) => write!(text, " annotation {index}"),
+        Some(Annotations::Indices(indices)) => write!(text, " annotation {indices:?}"),
+    }
+}
