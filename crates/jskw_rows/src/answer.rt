@@ -1,8 +1,9 @@
 //! What the observers of a schema say of an instance, as lines.
 use crate::lines::Lines;
 use crate::text::{Made, Text};
-use jskw_report::{CompilationResult, CompileFault, Fault, ValidationError};
+use jskw_report::{CompilationResult, CompileFault, Fault, ValidationContext, ValidationError};
 use jskw_value::{Json, Node};
+use serde_json::Value;
 
 /// What the observers of a schema, or of its keywords one after the other, say of an instance.
 #[derive(Drop)]
@@ -15,6 +16,8 @@ pub(crate) struct Said {
     pub(crate) errors: Lines,
     /// `evaluate`.
     pub(crate) tree: Lines,
+    /// What each observer counted, in this order: the subschemas that it applied.
+    pub(crate) contexts: [ValidationContext; 4],
 }
 
 impl Said {
@@ -25,6 +28,12 @@ impl Said {
             first: lines.others(),
             errors: lines.others(),
             tree: lines.others(),
+            contexts: [
+                ValidationContext::new(),
+                ValidationContext::new(),
+                ValidationContext::new(),
+                ValidationContext::new(),
+            ],
         }
     }
 
@@ -61,6 +70,25 @@ impl Said {
         text.push_if(has_evaluation, tree);
     }
 
+    /// Appends a line for each count that is out of its range, so many times over.
+    pub(crate) fn push_counts(&self, text: &mut Text, times: u64, most: &Value) {
+        let (first, all) = (number_of(most, "untilFirst"), number_of(most, "ofAll"));
+        let collected = most.get("collected").and_then(Value::as_u64);
+        let ranges = [
+            ("is_valid", 1, first),
+            ("validate", 1, first),
+            ("collect_errors", collected.unwrap_or(1), all),
+            ("evaluate_instance", 1, all),
+        ];
+        for ((observer, least, most), ctx) in ranges.iter().zip(&self.contexts) {
+            let (count, least) = (ctx.applications(), least.saturating_mul(times));
+            if count < least || count > most.saturating_mul(times) {
+                let what = "subschemas, asked";
+                write!(text, "{observer} applies {count} {what} {times} times\n");
+            }
+        }
+    }
+
     // Whether the first error is that of all errors, or there is none of both.
     fn is_first(&self) -> bool {
         let (first, errors) = (self.first.text.as_str(), self.errors.text.as_str());
@@ -69,6 +97,10 @@ impl Said {
             && self.errors.described.as_str().starts_with(message)
             && first.is_empty() == errors.is_empty()
     }
+}
+
+fn number_of(of: &Value, name: &'static str) -> u64 {
+    of.get(name).and_then(Value::as_u64).unwrap_or(0)
 }
 
 fn push_unless(text: &mut Text, agrees: bool, observer: &str, found: &str) {

@@ -89,7 +89,7 @@ fn push_leaves<'r, F: Json, V: Validate<F> + Drop>(
         push_leaf(lines.alloc, &mut said, leaf, instance);
     }
     let root = if said.holds { "valid\n" } else { "invalid\n" };
-    said.push_lines(&mut lines.text, root, row.has_evaluation);
+    said.push_lines(&mut lines.text, root, row.test.contains_key("evaluation"));
 }
 
 // Appends what a keyword says of the item of the index 7.

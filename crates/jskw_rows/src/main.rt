@@ -45,18 +45,11 @@ fn check_text(tally: &mut Tally, text: &str) {
     match &read_value(tally.alloc, text.as_bytes()) {
         Ok(Some(Value::Array(groups))) => {
             for group in groups {
-                check_group(tally, group);
+                group::check(tally, group);
             }
         }
         _ => tally.tell_wrong("the file has to be", "a JSON array"),
     }
-}
-
-fn check_group(tally: &mut Tally, group: &Value) {
-    let description = group.get("description").and_then(Value::as_str);
-    tally.group = Text::new(tally.alloc);
-    tally.group.push(description.unwrap_or("no description"));
-    group::check(tally, group);
 }
 
 // Asks the rows of a file, and prints those that differ and how many there are.

@@ -33,41 +33,27 @@ pub(crate) fn wanted<T: Drop>(tally: &mut Tally, found: Option<T>, name: &str) -
     found
 }
 
+/// Tells unless just one member of these names is there.
+pub(crate) fn one_of(tally: &mut Tally, members: &Members, names: &str) {
+    let found = names.split(' ').filter(|name| members.contains_key(*name));
+    if found.count() != 1 {
+        tally.tell_wrong("just one has to be there", names);
+    }
+}
+
 /// The text of the member of a name.
 pub(crate) fn text<'v>(tally: &mut Tally, members: &'v Members, name: &'static str) -> &'v str {
     let text = members.get(name).and_then(Value::as_str);
     wanted(tally, text, name).unwrap_or("")
 }
 
-/// The text of the member of a name, or another one if it is not there.
-pub(crate) fn text_or<'v>(
-    tally: &mut Tally,
-    members: &'v Members,
-    name: &'static str,
-    default: &'v str,
-) -> &'v str {
-    if members.contains_key(name) {
-        text(tally, members, name)
-    } else {
-        default
-    }
-}
-
-/// The number that is the member of a name.
-pub(crate) fn number(tally: &mut Tally, members: &Members, name: &'static str) -> u64 {
-    let number = members.get(name).and_then(Value::as_u64);
-    wanted(tally, number, name).unwrap_or(0)
-}
-
-/// The items of the member of a name, which has to be an array of at least one.
-pub(crate) fn items<'v>(
-    tally: &mut Tally,
-    members: &'v Members,
-    name: &'static str,
-) -> &'v [Value] {
-    match members.get(name) {
+/// The items of the member of a name, which has to be an array of at least one; none if it is not
+/// there.
+pub(crate) fn items<'v>(tally: &mut Tally, of: &'v Members, name: &'static str) -> &'v [Value] {
+    match of.get(name) {
+        None => &[],
         Some(Value::Array(items)) if !items.is_empty() => items.as_slice(),
-        _ => {
+        Some(_) => {
             tally.tell_wrong("no array with items", name);
             &[]
         }
@@ -75,17 +61,10 @@ pub(crate) fn items<'v>(
 }
 
 /// Appends the texts of the member of a name, each in a line; nothing if it is not there.
-pub(crate) fn push_lines(
-    tally: &mut Tally,
-    text: &mut Text,
-    members: &Members,
-    name: &'static str,
-) {
-    if members.contains_key(name) {
-        for line in items(tally, members, name) {
-            let line = wanted(tally, line.as_str(), name);
-            write!(text, "{}\n", line.unwrap_or(""));
-        }
+pub(crate) fn push_lines(tally: &mut Tally, to: &mut Text, of: &Members, name: &'static str) {
+    for line in items(tally, of, name) {
+        let line = wanted(tally, line.as_str(), name);
+        write!(to, "{}\n", line.unwrap_or(""));
     }
 }
 

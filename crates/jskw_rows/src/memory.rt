@@ -8,16 +8,17 @@
 mod observers;
 mod printed;
 
-use crate::calls::values::{insert_names, pairs_of, push_made, push_pair};
 use crate::members::settings_of;
 use crate::text::{Made, Text};
 use jskw_report::Settings;
 use jskw_service::read_value;
-use jskw_value::{Decimal, DecimalJson, DecimalTree, InsertFault, Members, Node, SerdeJson};
+use jskw_value::{
+    Decimal, DecimalJson, DecimalTree, InsertFault, Member, Members, Node, RepeatedName, SerdeJson,
+};
 use observers::compile_and_ask;
 use printed::Printer;
 use serde_json::Value;
-use std::alloc::Global;
+use std::alloc::{AllocError, Global};
 
 /// Prints the name of a line and makes its calls. Returns whether it says what to do.
 pub(crate) fn make(rt: &HostRuntime, line: &str) -> bool {
@@ -130,21 +131,51 @@ fn insert_into(to: &mut Printer<'_>, mut members: Members, name: String, number:
     to.print_node(&DecimalTree::Object(members));
 }
 
-// Makes members of pairs of a name and its text, and prints what that gives.
+// Makes members of pairs of a name and its text, and prints them, or all pairs and the place of the
+// first name that two of them have.
 fn from_pairs(to: &mut Printer<'_>, names: &[Value]) {
     if let Ok(pairs) = pairs_of(to.alloc(), names) {
         to.announce("from_pairs", false);
         let made = Members::from_pairs(pairs);
         to.tell(false);
-        let mut text = Text::new(to.alloc());
-        push_made(&mut text, made);
-        to.print_lines(text.as_str());
+        match made {
+            Ok(members) => to.print_node(&DecimalTree::Object(members)),
+            Err(RepeatedName { pairs, place }) => print_pairs(to, &pairs, place),
+        }
     }
 }
 
+fn print_pairs(to: &mut Printer<'_>, pairs: &[Member<DecimalTree>], place: usize) {
+    let mut text = Text::new(to.alloc());
+    for pair in pairs {
+        push_pair(&mut text, pair.name.as_str(), &pair.value);
+    }
+    write!(text, "repeated at {place}");
+    to.print_lines(text.as_str());
+}
+
+// Returns pairs of a name and its text.
+fn pairs_of(alloc: Global, names: &[Value]) -> Made<Vec<Member<DecimalTree>>> {
+    let mut pairs = Vec::new(alloc);
+    for name in names {
+        let name = name.as_str().unwrap_or("");
+        let value = DecimalTree::Text(String::from_str(alloc, name)?);
+        let name = String::from_str(alloc, name)?;
+        pairs.push(Member { name, value })?;
+    }
+    Ok(pairs)
+}
+
+// Returns the members of names, each with its place as its value. A name that is there already stays.
 fn members_of(alloc: Global, names: &[Value]) -> Made<Members> {
     let mut members = Members::new(alloc);
-    insert_names(alloc, &mut members, names, &mut Text::new(alloc))?;
+    for (place, name) in names.iter().enumerate() {
+        let name = String::from_str(alloc, name.as_str().unwrap_or(""))?;
+        let number = DecimalTree::Number(Decimal::from(place as u64));
+        if let Err(InsertFault::Memory(_, _)) = members.insert(name, number) {
+            return Err(AllocError);
+        }
+    }
     Ok(members)
 }
 
@@ -152,4 +183,10 @@ fn print_pair(to: &mut Printer<'_>, name: &str, value: &DecimalTree) {
     let mut text = Text::new(to.alloc());
     push_pair(&mut text, name, value);
     to.print_lines(text.as_str());
+}
+
+fn push_pair(text: &mut Text, name: &str, tree: &DecimalTree) {
+    write!(text, "{name} ");
+    text.push_json(tree);
+    text.push(", ");
 }

@@ -1,64 +1,71 @@
 //! A row, and how it is asked.
 use crate::answer::push_float;
 use crate::lines::Lines;
-use crate::members::Members;
+use crate::members::{Members, is_true, text};
 use crate::representations::{Keys, decimals_of};
-use crate::tally::{Name, Tally};
+use crate::requests::{check_run, request_of};
+use crate::tally::Tally;
 use crate::text::{Made, Text};
-use crate::{leaves, requests, whole};
+use crate::wanted::Wanted;
+use crate::{leaves, whole};
 use jskw_report::Settings;
 use jskw_value::{DecimalJson, DecimalTree, Json, SerdeJson};
 use serde_json::Value;
 
-/// How many subschemas the observers of a row may apply.
-#[derive(Clone, Copy)]
-pub(crate) struct Most {
-    /// `is_valid` and `validate`.
-    pub(crate) until_first: u64,
-    /// `collect_errors` and `evaluate_instance`.
-    pub(crate) of_all: u64,
-    /// `collect_errors`, no less than this.
-    pub(crate) collected: u64,
-}
-
 /// A schema under a setting.
 #[derive(Clone, Copy)]
 pub(crate) struct Subject<'r> {
+    pub(crate) group: &'r Members,
+    pub(crate) draft: &'r str,
     pub(crate) settings: &'r Settings,
-    pub(crate) object_layer: bool,
     pub(crate) schema: &'r Value,
+    pub(crate) object_layer: bool,
+    /// Whether `run` is asked too, which has no object layer.
+    pub(crate) by_run: bool,
     /// The schema, if it is an object in which no keyword that is read has subschemas.
     pub(crate) keywords: Option<&'r Members>,
     /// The lines of what it says of itself.
     pub(crate) front: &'static str,
 }
 
-/// A schema under a setting, an instance, and what is wanted.
+/// A schema under a setting, a test of it, and what the test wants of an instance.
 #[derive(Clone, Copy)]
 pub(crate) struct Row<'r> {
     pub(crate) subject: Subject<'r>,
-    pub(crate) name: Name<'r>,
-    /// Whether the row claims messages and the evaluation.
-    pub(crate) has_messages: bool,
-    pub(crate) has_evaluation: bool,
-    pub(crate) most: Option<Most>,
-    /// The wanted lines of the keywords, one by one or of the whole schema.
-    pub(crate) wanted: &'r str,
+    pub(crate) test: &'r Members,
+    pub(crate) wanted: &'r Wanted,
 }
 
-/// Asks a row over an instance, of which some texts may stand for decimals.
-pub(crate) fn check(tally: &mut Tally, row: &Row<'_>, instance: &Value, has_decimals: bool) {
+/// Asks a row of an instance, of which some texts may stand for decimals. `run`, which reads no
+/// decimals, is not asked of these.
+pub(crate) fn check(tally: &mut Tally, subject: Subject<'_>, test: &Members, instance: &Value) {
+    let name = text(tally, test, "description");
+    let has_decimals = is_true(tally, test, "decimals");
+    let request = request_of(tally.alloc, subject, instance);
+    let (request, layer) = (request.as_str(), subject.object_layer);
+    let mut question = Text::new(tally.alloc);
+    write!(question, "{request}, {layer}, decimals: {has_decimals}");
+    tally.take_row(name, question.as_str());
+    let wanted = &Wanted::of(tally, test, instance);
+    let row = Row {
+        subject,
+        test,
+        wanted,
+    };
+    check_all(tally, &row, instance, has_decimals);
+    if subject.by_run && !has_decimals {
+        check_run(tally, request, wanted.output.as_str());
+    }
+}
+
+// Asks a row over each representation.
+fn check_all(tally: &mut Tally, row: &Row<'_>, instance: &Value, has_decimals: bool) {
     if has_decimals {
         return check_tree(tally, row, instance, decimals_of(tally.alloc, instance));
     }
     check_over::<SerdeJson>(tally, row, instance, "over serde_json");
     let tree = DecimalTree::from_value(tally.alloc, instance);
     check_tree(tally, row, instance, tree);
-}
-
-pub(crate) fn check_run(tally: &mut Tally, name: Name<'_>, request: &str, wanted: &str) {
-    let found = requests::output(tally.alloc, request);
-    tally.compare(name, "by run", wanted, found.as_str());
 }
 
 // Asks a row over each representation whose nodes are trees of decimals.
@@ -72,7 +79,7 @@ fn check_tree(tally: &mut Tally, row: &Row<'_>, instance: &Value, tree: Made<Opt
 }
 
 fn check_float(tally: &mut Tally, row: &Row<'_>, instance: &Value) {
-    let mut found = Lines::new(tally.alloc, false, row.has_messages);
+    let mut found = Lines::new(tally.alloc, false, row.wanted.has_messages);
     found.text.push(row.subject.front);
     push_float(&mut found, instance);
     check_whole(tally, row, "as decimals", &found);
@@ -80,15 +87,15 @@ fn check_float(tally: &mut Tally, row: &Row<'_>, instance: &Value) {
 
 // Asks a row over one representation: the whole schema, and its keywords one by one.
 fn check_over<F: Json>(tally: &mut Tally, row: &Row<'_>, node: &F::Node, way: &str) {
-    let mut found = Lines::new(tally.alloc, false, row.has_messages);
+    let mut found = Lines::new(tally.alloc, false, row.wanted.has_messages);
     whole::push_answer::<F>(&mut found, row, node);
     check_whole(tally, row, way, &found);
     if let Some(parent) = row.subject.keywords {
-        let mut found = Lines::new(tally.alloc, true, row.has_messages);
+        let mut found = Lines::new(tally.alloc, true, row.wanted.has_messages);
         leaves::push_answer::<F>(&mut found, row, parent, node);
         let mut by = Text::new(tally.alloc);
         write!(by, "{way}, each keyword by itself");
-        tally.compare(row.name, by.as_str(), row.wanted, found.text.as_str());
+        tally.compare(by.as_str(), row.wanted.answer.as_str(), found.text.as_str());
     }
 }
 
@@ -96,7 +103,7 @@ fn check_over<F: Json>(tally: &mut Tally, row: &Row<'_>, node: &F::Node, way: &s
 fn check_whole(tally: &mut Tally, row: &Row<'_>, way: &str, found: &Lines) {
     let found = found.text.as_str();
     match found.strip_prefix(row.subject.front) {
-        Some(found) => tally.compare(row.name, way, row.wanted, found),
-        None => tally.compare(row.name, way, row.subject.front, found),
+        Some(found) => tally.compare(way, row.wanted.answer.as_str(), found),
+        None => tally.compare(way, row.subject.front, found),
     }
 }

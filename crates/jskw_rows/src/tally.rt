@@ -3,16 +3,14 @@ use crate::text::{Made, Text};
 use std::alloc::Global;
 use std::collections::BTreeSet;
 
-/// The name of a row: those of its group and of its test, and what it asks.
-#[derive(Clone, Copy)]
-pub(crate) struct Name<'r>(pub(crate) &'r str, pub(crate) &'r str, pub(crate) &'r str);
-
 /// The rows that were asked, and what is to be printed of them.
 #[derive(Drop)]
 pub(crate) struct Tally {
     pub(crate) alloc: Global,
     pub(crate) file: Text,
     pub(crate) group: Text,
+    // the row that is asked: the name of its test, and what it asks
+    row: Text,
     pub(crate) told: Text,
     pub(crate) rows: u64,
     /// How many answers were not the wanted ones.
@@ -29,6 +27,7 @@ impl Tally {
             alloc,
             file: Text::new(alloc),
             group: Text::new(alloc),
+            row: Text::new(alloc),
             told: Text::new(alloc),
             rows: 0,
             differing: 0,
@@ -37,17 +36,20 @@ impl Tally {
         }
     }
 
-    /// Takes the name of a test of a group, which no other of the file may have.
-    pub(crate) fn take_name(&mut self, group: &str, test: &str) {
-        let file = self.file.as_str();
-        let name = format!(in self.alloc; "{file}: {group}: {test}");
+    /// Takes the name of a test in a part of the group, which no other of the file may have.
+    pub(crate) fn take_name(&mut self, part: &str, test: &str) {
+        let (file, group) = (self.file.as_str(), self.group.as_str());
+        let name = format!(in self.alloc; "{file}: {group}: {part}: {test}");
         self.take(name, "two tests of one name", test);
     }
 
     /// Counts a row, and takes what it asks, which no other row of any file may ask.
-    pub(crate) fn take_question(&mut self, question: Made<String>, test: &str) {
+    pub(crate) fn take_row(&mut self, test: &str, question: &str) {
         self.rows = self.rows.saturating_add(1);
-        self.take(question, "a row that stands elsewhere too", test);
+        self.row = Text::new(self.alloc);
+        write!(self.row, "{test}: {question}");
+        let taken = String::from_str(self.alloc, question);
+        self.take(taken, "a row that stands elsewhere too", question);
     }
 
     fn take(&mut self, text: Made<String>, what: &str, with: &str) {
@@ -67,14 +69,14 @@ impl Tally {
         write!(self.told, "{file}: {group}\n  wrong: {what}: {with}\n");
     }
 
-    /// Records a row whose answer is not the wanted one. `way` is the call that gave it.
-    pub(crate) fn compare(&mut self, name: Name<'_>, way: &str, wanted: &str, found: &str) {
+    /// Records the row if its answer is not the wanted one. `way` is the call that gave it.
+    pub(crate) fn compare(&mut self, way: &str, wanted: &str, found: &str) {
         if wanted == found {
             return;
         }
         self.differing = self.differing.saturating_add(1);
-        let (file, Name(group, test, asks)) = (self.file.as_str(), name);
-        write!(self.told, "{file}: {group}: {test}: {asks}, {way}\n");
+        let (file, group, row) = (self.file.as_str(), self.group.as_str(), self.row.as_str());
+        write!(self.told, "{file}: {group}: {row}, {way}\n");
         write!(self.told, "  wanted:\n{wanted}\n  found:\n{found}\n");
     }
 }

@@ -1,5 +1,5 @@
 //! What a row wants: the lines of the answers, and what `run` writes.
-use crate::members::{Members, is_one_of, is_true, items, push_lines, text, text_or, wanted};
+use crate::members::{Members, is_one_of, is_true, items, push_lines, text, wanted};
 use crate::representations::decimals_of;
 use crate::tally::Tally;
 use crate::text::Text;
@@ -21,96 +21,77 @@ pub(crate) struct Wanted {
 const PARTS: &str = "instanceLocation keywordLocation value message";
 
 // An error as a row has it.
-#[derive(Clone, Copy)]
+#[derive(Drop)]
 struct Error<'v> {
     members: &'v Members,
     keyword: &'v str,
     payload: &'v Value,
     at: &'v str,
-    // what stands in front of the last part of the keyword location, and that part
-    above: &'static str,
-    by: &'v str,
+    by: Text,
 }
 
 impl Wanted {
-    fn new(alloc: Global) -> Wanted {
-        Wanted {
-            answer: Text::new(alloc),
-            output: Text::new(alloc),
+    /// What a test wants of an instance, or a group whose schema does not compile.
+    pub(crate) fn of(tally: &mut Tally, test: &Members, instance: &Value) -> Wanted {
+        let mut wanted = Wanted {
+            answer: Text::new(tally.alloc),
+            output: Text::new(tally.alloc),
             has_messages: false,
+        };
+        for error in items(tally, test, "errors") {
+            wanted.push_error_at(tally, test, instance, error);
         }
-    }
-
-    /// What a test wants of an instance.
-    pub(crate) fn of_test(tally: &mut Tally, test: &Members, instance: &Value) -> Wanted {
-        let mut wanted = Wanted::new(tally.alloc);
-        if test.contains_key("errors") {
-            for error in items(tally, test, "errors") {
-                wanted.push_error(tally, test, instance, error);
-            }
-            wanted.output.push("status 1\n");
-        } else if test.contains_key("float") {
+        wanted
+            .output
+            .push_if(test.contains_key("errors"), "status 1\n");
+        if let Some(error) = test.get("refused") {
+            wanted.push_refusal(tally, error);
+        }
+        if test.contains_key("float") {
             let location = text(tally, test, "float");
             write!(wanted.answer, "float at {location}\n");
             write!(wanted.output, "refused: float\t{location}\nstatus 2\n");
-        } else if is_true(tally, test, "valid") {
-            wanted.answer.push("valid\n");
-            wanted.output.push("valid\nstatus 0\n");
         }
+        let is_valid = is_true(tally, test, "valid");
+        wanted.answer.push_if(is_valid, "valid\n");
+        wanted.output.push_if(is_valid, "valid\nstatus 0\n");
         push_lines(tally, &mut wanted.answer, test, "evaluation");
         wanted
     }
 
-    // Appends an error of a test of an instance.
-    fn push_error(&mut self, tally: &mut Tally, test: &Members, item: &Value, error: &Value) {
+    // Appends an error of a test, whose value at fault is that of the instance.
+    fn push_error_at(&mut self, tally: &mut Tally, test: &Members, of: &Value, error: &Value) {
         let Some(error) = &error_of(tally, error) else {
             return;
         };
-        match item.pointer(error.at) {
+        match of.pointer(error.at) {
             Some(value) if !error.members.contains_key("value") => {
-                self.push_start(tally.alloc, error);
-                push_value_of(
-                    tally.alloc,
-                    &mut self.answer,
-                    value,
-                    test.contains_key("decimals"),
-                );
-                self.push_end(error);
+                self.push_error(tally.alloc, error, value, test.contains_key("decimals"));
             }
             _ => tally.tell_wrong("the instance has the value of an error", error.at),
         }
-        let (keyword, at, above, by) = (error.keyword, error.at, error.above, error.by);
-        write!(self.output, "{keyword}\t{at}\t{above}{by}\n");
+        let (keyword, at, by) = (error.keyword, error.at, error.by.as_str());
+        write!(self.output, "{keyword}\t{at}\t{by}\n");
     }
 
-    /// What is wanted of a schema that does not compile.
-    pub(crate) fn of_refusal(tally: &mut Tally, error: &Value) -> Wanted {
-        let mut wanted = Wanted::new(tally.alloc);
+    // Appends the error of a schema that does not compile.
+    fn push_refusal(&mut self, tally: &mut Tally, error: &Value) {
         if let Some(error) = &error_of(tally, error) {
             let value = error.members.get("value").unwrap_or(&Value::Null);
-            wanted.answer.push("refused: ");
-            wanted.push_start(tally.alloc, error);
-            wanted.answer.push_made(value.to_string(tally.alloc));
-            wanted.push_end(error);
-            let (keyword, above, by) = (error.keyword, error.above, error.by);
-            write!(
-                wanted.output,
-                "refused: schema\t{keyword}\t{above}{by}\nstatus 2\n"
-            );
+            self.answer.push("refused: ");
+            self.push_error(tally.alloc, error, value, false);
+            let (keyword, by) = (error.keyword, error.by.as_str());
+            write!(self.output, "refused: schema\t{keyword}\t{by}\nstatus 2\n");
         }
-        wanted
     }
 
-    // Appends what stands in front of the value at fault.
-    fn push_start(&mut self, alloc: Global, error: &Error<'_>) {
-        let (keyword, at, above, by) = (error.keyword, error.at, error.above, error.by);
+    // Appends the line of an error, with its message if it has one.
+    fn push_error(&mut self, alloc: Global, error: &Error<'_>, value: &Value, has_decimals: bool) {
+        let (keyword, at, by) = (error.keyword, error.at, error.by.as_str());
         write!(self.answer, "{keyword} ");
         self.answer.push_made(error.payload.to_string(alloc));
-        write!(self.answer, " at {at} by {above}{by} of ");
-    }
-
-    // Appends the message, if the error has one, and ends the line.
-    fn push_end(&mut self, error: &Error<'_>) {
+        write!(self.answer, " at {at} by {by} of ");
+        push_value_of(alloc, &mut self.answer, value, has_decimals);
         if let Some(Value::String(message)) = error.members.get("message") {
             self.has_messages = true;
             write!(self.answer, ", {message}");
@@ -140,18 +121,24 @@ fn error_of<'v>(tally: &mut Tally, value: &'v Value) -> Option<Error<'v>> {
         tally.tell_wrong("an error with an unknown member", name.as_str());
     }
     let keyword = keyword.as_str();
-    let default = if keyword == "falseSchema" {
-        ""
-    } else {
-        keyword
-    };
-    let is_default = !default.is_empty() && !members.contains_key("keywordLocation");
+    let is_default = keyword != "falseSchema" && !members.contains_key("keywordLocation");
+    let mut by = Text::new(tally.alloc);
+    by.push_if(is_default, "/");
+    by.push_if(is_default, keyword);
+    by.push(location(tally, members, "keywordLocation"));
     Some(Error {
         members,
         keyword,
         payload,
-        at: text_or(tally, members, "instanceLocation", ""),
-        above: if is_default { "/" } else { "" },
-        by: text_or(tally, members, "keywordLocation", default),
+        at: location(tally, members, "instanceLocation"),
+        by,
     })
+}
+
+// The text of the member of a name; empty if it is not there.
+fn location<'v>(tally: &mut Tally, members: &'v Members, name: &'static str) -> &'v str {
+    if !members.contains_key(name) {
+        return "";
+    }
+    text(tally, members, name)
 }

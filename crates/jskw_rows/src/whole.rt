@@ -4,12 +4,12 @@ ghost use Rattle.jskw_value.specs.Tree.{is_lawful};
 
 use crate::answer::{Said, push_compiled, push_float};
 use crate::lines::Lines;
-use crate::row::{Most, Row};
-use crate::text::Text;
+use crate::members::Members;
+use crate::row::Row;
 use jskw_array::SchemaNode;
 use jskw_array::compiler::compile;
 use jskw_array::items::array_shape_fusion;
-use jskw_report::{Context, LazyLocation, ValidationContext};
+use jskw_report::{Context, LazyLocation};
 use jskw_value::{Json, Node};
 
 /// Appends what the schema of a row says of itself and of the instance, or its refusal.
@@ -36,76 +36,40 @@ fn push_node<'r, F: Json>(
     if !instance.is_lawful() {
         return push_float(lines, instance);
     }
-    let mut counts = Counts {
-        is_valid: ValidationContext::new(),
-        validate: ValidationContext::new(),
-        collect: ValidationContext::new(),
-        evaluate: ValidationContext::new(),
-    };
-    push_answers(lines, &mut counts, node, row, instance);
+    push_answers(lines, node, row.test, instance);
 }
 
 // Appends what a schema says of an instance, which is asked twice if the row claims the counts.
 fn push_answers<F: Json>(
     lines: &mut Lines,
-    counts: &mut Counts,
     node: &SchemaNode<F>,
-    row: &Row<'_>,
+    test: &Members,
     instance: &F::Node,
 )
     requires { IsTrue (is_lawful (F.Node.tree instance.now)) }
 {
     let mut said = Said::new(lines);
-    observe(&mut said, counts, node, instance);
-    said.push_lines(&mut lines.text, "", row.has_evaluation);
-    if let Some(most) = row.most {
-        counts.push_lines(&mut lines.text, 1, most);
-        observe(&mut said, counts, node, instance);
-        counts.push_lines(&mut lines.text, 2, most);
-    }
-}
-
-// What each observer counted: the subschemas that it applied.
-#[derive(Drop)]
-struct Counts {
-    is_valid: ValidationContext,
-    validate: ValidationContext,
-    collect: ValidationContext,
-    evaluate: ValidationContext,
-}
-
-impl Counts {
-    // Appends a line for each count that is out of its range, so many times over.
-    fn push_lines(&self, text: &mut Text, times: u64, most: Most) {
-        let (first, all) = (most.until_first, most.of_all);
-        for (observer, least, most, ctx) in &[
-            ("is_valid", 1, first, &self.is_valid),
-            ("validate", 1, first, &self.validate),
-            ("collect_errors", most.collected, all, &self.collect),
-            ("evaluate_instance", 1, all, &self.evaluate),
-        ] {
-            let (count, least) = (ctx.applications(), least.saturating_mul(times));
-            if count < least || count > most.saturating_mul(times) {
-                let what = "subschemas, asked";
-                write!(text, "{observer} applies {count} {what} {times} times\n");
-            }
-        }
+    observe(&mut said, node, instance);
+    said.push_lines(&mut lines.text, "", test.contains_key("evaluation"));
+    if let Some(most) = test.get("applications") {
+        said.push_counts(&mut lines.text, 1, most);
+        observe(&mut said, node, instance);
+        said.push_counts(&mut lines.text, 2, most);
     }
 }
 
 // Asks each observer of a schema.
-fn observe<F: Json>(said: &mut Said, counts: &mut Counts, node: &SchemaNode<F>, instance: &F::Node)
+fn observe<F: Json>(said: &mut Said, node: &SchemaNode<F>, instance: &F::Node)
     requires { IsTrue (is_lawful (F.Node.tree instance.now)) }
 {
     let alloc = said.tree.alloc;
-    let mut location = LazyLocation::new(alloc);
-    said.holds = node.is_valid(instance, &mut counts.is_valid);
-    said.push_first(node.validate(instance, &mut location, &mut counts.validate));
-    let mut errors = Vec::new(alloc);
-    let made = node.collect_errors(instance, &mut location, &mut counts.collect, &mut errors);
+    let (mut location, mut errors) = (LazyLocation::new(alloc), Vec::new(alloc));
+    said.holds = node.is_valid(instance, &mut said.contexts[0]);
+    let first = node.validate(instance, &mut location, &mut said.contexts[1]);
+    said.push_first(first);
+    let ctx = &mut said.contexts[2];
+    let made = node.collect_errors(instance, &mut location, ctx, &mut errors);
     said.push_errors(made, &errors);
-    said.tree.push_tree(
-        0,
-        node.evaluate_instance(alloc, instance, &mut counts.evaluate),
-    );
+    let tree = node.evaluate_instance(alloc, instance, &mut said.contexts[3]);
+    said.tree.push_tree(0, tree);
 }

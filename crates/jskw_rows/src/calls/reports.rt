@@ -1,5 +1,5 @@
 //! Calls of settings, contexts, locations, errors and evaluations.
-use super::{Given, UNKNOWN};
+use super::Given;
 use crate::lines::{Lines, TYPES};
 use crate::text::{Made, Text};
 use jskw_report::Vocabulary::{Applicator, Core, Validation};
@@ -17,26 +17,30 @@ use jskw_value::{
 use serde_json::Value;
 use std::alloc::{AllocError, Global};
 
-// The draft of settings, whether all vocabularies are in their set, each vocabulary that they have,
-// with whether it is in the set, and whether they override a name; also of a context.
+// The drafts of settings and of a context under them, whether all vocabularies are in their set, and of
+// each vocabulary whether both have it and whether it is in the set; whether both override a name.
 pub(super) fn settings(lines: &mut Lines, given: Given<'_>, name: &str) {
     let (settings, text) = (given.settings, &mut lines.text);
     let ctx = Context::<SerdeJson>::new(lines.alloc, settings);
-    let Some(set) = vocabularies_of(given.parent.get("vocabularies")) else {
-        return text.push(UNKNOWN);
-    };
-    let (is_one, is_all) = (settings.draft() == ctx.draft(), set == VocabularySet::all());
-    write!(text, "{:?} {is_one} {is_all}", ctx.draft());
+    let set = vocabularies_of(given.parent.get("vocabularies")).unwrap_or(VocabularySet::empty());
+    let is_all = set == VocabularySet::all();
+    write!(text, "{:?} {:?} {is_all}", settings.draft(), ctx.draft());
     for vocabulary in &[Core, Applicator, Validation] {
-        if ctx.has_vocabulary(*vocabulary) != settings.has_vocabulary(*vocabulary) {
-            text.push(" of one alone");
-        }
-        if settings.has_vocabulary(*vocabulary) {
-            write!(text, " {vocabulary:?} {}", set.contains(*vocabulary));
-        }
+        let (has, also) = (
+            settings.has_vocabulary(*vocabulary),
+            ctx.has_vocabulary(*vocabulary),
+        );
+        write!(
+            text,
+            " {vocabulary:?} {has} {also} {}",
+            set.contains(*vocabulary)
+        );
     }
-    write!(text, ", {}", settings.is_keyword_overridden(name));
-    write!(text, " {}", ctx.is_keyword_overridden(name));
+    let (is_one, is_other) = (
+        settings.is_keyword_overridden(name),
+        ctx.is_keyword_overridden(name),
+    );
+    write!(text, ", {is_one} {is_other}");
 }
 
 // The location, the draft and the object layer of a context, of one without the layer, of two below
@@ -166,9 +170,13 @@ pub(super) fn unit(lines: &mut Lines, way: &str, names: &[Value]) {
     );
 }
 
+// Returns a node of a unit of nodes, which is annotated twice unless it is of `children` alone.
 fn node_of_names(alloc: Global, way: &str, names: &[Value]) -> Made<EvaluationNode> {
     let mut unit = unit_of(alloc, way, names)?;
-    annotate(alloc, way, &mut unit)?;
+    if way != "children" {
+        unit.annotate(Annotations::Bool(true));
+        unit.annotate(Annotations::Indices(Vec::from_array(alloc, [0, 2])?));
+    }
     let at = Location::new(alloc).join(alloc, LocationSegment::Name("7"))?;
     node_of(alloc, unit, "items", &at)
 }
@@ -187,19 +195,6 @@ fn unit_of(alloc: Global, way: &str, names: &[Value]) -> Made<EvaluationResult> 
         }
         _ => Ok(EvaluationResult::from_children(alloc, nodes_of(alloc, names)?)),
     }
-}
-
-// Annotates a unit of nodes twice or not at all, another one once.
-fn annotate(alloc: Global, way: &str, unit: &mut EvaluationResult) -> Made<()> {
-    match way {
-        "children" => {}
-        "annotated" => {
-            unit.annotate(Annotations::Bool(true));
-            unit.annotate(Annotations::Index(7));
-        }
-        _ => unit.annotate(Annotations::Indices(Vec::from_array(alloc, [0, 2])?)),
-    }
-    Ok(())
 }
 
 // Returns descriptions of these keywords, of which `type` has a text.

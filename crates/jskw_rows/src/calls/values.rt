@@ -6,16 +6,16 @@ use super::{Arguments, UNKNOWN};
 use crate::lines::Lines;
 use crate::made::array_of;
 use crate::representations::{decimal_of, decimals_of};
-use crate::text::{Made, Text};
+use crate::text::Text;
 use jskw_value::fingerprint::of_whole;
 use jskw_value::laws::equal_values_have_one_fingerprint;
 use jskw_value::seed::seed_of;
 use jskw_value::{
-    Array, Decimal, DecimalJson, DecimalTree, InsertFault, Json, JsonNumber, JsonType, KeyHead,
-    Member, Members, Node, Object, PropertyName, RepeatedName, SerdeJson,
+    Array, Decimal, DecimalJson, DecimalTree, Json, JsonNumber, JsonType, KeyHead, Node, Object,
+    PropertyName, SerdeJson,
 };
 use serde_json::Value;
-use std::alloc::{AllocError, Global};
+use std::alloc::Global;
 
 // The coefficient and the scale of the decimal that is made of them, if there is one.
 pub(super) fn made(lines: &mut Lines, all: Arguments<'_>) {
@@ -160,79 +160,32 @@ fn push_member(text: &mut Text, member: Option<&DecimalTree>) {
     }
 }
 
-/// Inserts names with the values 0, 1 and so on, and appends each name that is there already, with
-/// the value that comes back.
-pub(crate) fn insert_names(
-    alloc: Global,
-    members: &mut Members,
-    names: &[Value],
-    text: &mut Text,
-) -> Made<()> {
-    for (place, name) in names.iter().enumerate() {
-        let name = String::from_str(alloc, name.as_str().unwrap_or(""))?;
-        match members.insert(name, DecimalTree::Number(Decimal::from(place as u64))) {
-            Ok(()) => {}
-            Err(InsertFault::Memory(_, _)) => return Err(AllocError),
-            Err(InsertFault::Repeated(name, value)) => push_pair(text, name.as_str(), &value),
-        }
-    }
-    Ok(())
-}
-
-/// Appends a name and the text of its value.
-pub(crate) fn push_pair(text: &mut Text, name: &str, tree: &DecimalTree) {
-    write!(text, "{name} ");
-    text.push_json(tree);
-    text.push(", ");
-}
-
-/// Returns pairs of a name and its text.
-pub(crate) fn pairs_of(alloc: Global, names: &[Value]) -> Made<Vec<Member<DecimalTree>>> {
-    let mut pairs = Vec::new(alloc);
+// For each name, how it stands to each: `=` if it matches it, `~` if their heads alone are equal.
+pub(super) fn names(lines: &mut Lines, names: &[Value]) {
     for name in names {
         let name = name.as_str().unwrap_or("");
-        let value = DecimalTree::Text(String::from_str(alloc, name)?);
-        let name = String::from_str(alloc, name)?;
-        pairs.push(Member { name, value })?;
-    }
-    Ok(pairs)
-}
-
-/// Appends members that were made of pairs, or all pairs and the place of the first name that two
-/// of them have.
-pub(crate) fn push_made(text: &mut Text, made: Result<Members, RepeatedName<DecimalTree>>) {
-    match made {
-        Ok(members) => text.push_json(&DecimalTree::Object(members)),
-        Err(RepeatedName { pairs, place }) => {
-            for pair in &pairs {
-                push_pair(text, pair.name.as_str(), &pair.value);
-            }
-            write!(text, "repeated at {place}");
+        if let Some(made) = &lines.text.made(PropertyName::new(lines.alloc, name)) {
+            push_matches(&mut lines.text, made, names);
         }
     }
 }
 
-// Whether two names have one head.
-pub(super) fn heads(lines: &mut Lines, left: &str, right: &str) {
-    write!(lines.text, "{}", KeyHead::of(left) == KeyHead::of(right));
-}
-
-// Whether each name matches its own text and no other.
-pub(super) fn matching(lines: &mut Lines, names: &[Value]) {
-    let mut all = true;
-    for name in names {
-        all = all && matches_alone(lines.alloc, name.as_str().unwrap_or(""), names);
+fn push_matches(text: &mut Text, name: &PropertyName, others: &[Value]) {
+    for other in others {
+        let other = other.as_str().unwrap_or("");
+        let head = KeyHead::of(other);
+        let sign = match (
+            name.matches(head, other),
+            head == KeyHead::of(name.as_str()),
+        ) {
+            (true, true) => "=",
+            (false, true) => "~",
+            (false, false) => ".",
+            (true, false) => "?",
+        };
+        text.push(sign);
     }
-    write!(lines.text, "{all}");
-}
-
-fn matches_alone(alloc: Global, name: &str, others: &[Value]) -> bool {
-    let Ok(made) = &PropertyName::new(alloc, name) else {
-        return false;
-    };
-    let mut others = others.iter().map(|other| other.as_str().unwrap_or(""));
-    let is_alone = others.all(|other| made.matches(KeyHead::of(other), other) == (name == other));
-    is_alone && made.as_str() == name
+    text.push(" ");
 }
 
 // How many items of a made array have the fingerprint of the first under the seeds 0 and 1 and under
