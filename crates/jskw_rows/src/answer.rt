@@ -81,10 +81,13 @@ impl Said {
             ("evaluate_instance", 1, all),
         ];
         for ((observer, least, most), ctx) in ranges.iter().zip(&self.contexts) {
-            let (count, least) = (ctx.applications(), least.saturating_mul(times));
-            if count < least || count > most.saturating_mul(times) {
-                let what = "subschemas, asked";
-                write!(text, "{observer} applies {count} {what} {times} times\n");
+            let (least, most) = (least.saturating_mul(times), most.saturating_mul(times));
+            let count = ctx.applications();
+            if (count < least) | (count > most) {
+                write!(
+                    text,
+                    "{observer} applies {count} subschemas, asked {times} times\n"
+                );
             }
         }
     }

@@ -25,13 +25,18 @@ pub(crate) struct Given<'v> {
     pub(crate) parent: &'v Members,
 }
 
-/// The arguments of a call, and null, which stands for one that is not there.
+/// The arguments of a call, null, which stands for one that is not there, and the last argument as an
+/// instance, null if it has a float.
 #[derive(Clone, Copy)]
-pub(crate) struct Arguments<'v>(&'v [Value], &'v Value);
+pub(crate) struct Arguments<'v>(&'v [Value], &'v Value, &'v DecimalTree);
 
 impl<'v> Arguments<'v> {
     fn count(self) -> usize {
         self.0.len()
+    }
+
+    pub(crate) fn instance(self) -> &'v DecimalTree {
+        self.2
     }
 
     /// The argument at a place; null if there is none. Those below are also of a kind, and empty or 0
@@ -53,14 +58,6 @@ impl<'v> Arguments<'v> {
 
     pub(crate) fn number(self, index: usize) -> u64 {
         self.value(index).as_u64().unwrap_or(0)
-    }
-    /// The tree of the argument at a place, or of the decimals that are written in its member
-    /// `decimal`; `None` if it has a float.
-    pub(crate) fn tree(self, alloc: Global, index: usize) -> Made<Option<DecimalTree>> {
-        match self.value(index).get("decimal") {
-            Some(decimals) => decimals_of(alloc, decimals),
-            None => DecimalTree::from_value(alloc, self.value(index)),
-        }
     }
 }
 
@@ -86,8 +83,24 @@ fn check_call(tally: &mut Tally, name: &str, call: &Value) {
     write!(asks, "{name} ");
     asks.push_made(call.to_string(tally.alloc));
     tally.take_row("a call", asks.as_str());
-    answer(&mut found, name, Arguments(arguments, &Value::Null));
+    let instance = found.text.made(tree_of(tally.alloc, arguments.last()));
+    let instance = &instance.flatten().unwrap_or(DecimalTree::Null);
+    answer(
+        &mut found,
+        name,
+        Arguments(arguments, &Value::Null, instance),
+    );
     tally.compare("answered", wanted, found.text.as_str());
+}
+
+// Returns the tree of a value, or of the decimals that are written in its member `decimal`, if there is
+// a value without floats.
+fn tree_of(alloc: Global, value: Option<&Value>) -> Made<Option<DecimalTree>> {
+    let value = value.unwrap_or(&Value::Null);
+    match value.get("decimal") {
+        Some(decimals) => decimals_of(alloc, decimals),
+        None => DecimalTree::from_value(alloc, value),
+    }
 }
 
 // Appends the answer of a call.
@@ -105,24 +118,31 @@ fn answer(lines: &mut Lines, name: &str, all: Arguments<'_>) {
     }
 }
 
-// Appends the answer of a call of locations, errors, devices or validators, or of one of settings.
-// The latter have a draft first, and an object that says more of the settings.
+// Appends the answer of a call of locations, errors, devices or validators.
 fn answer_of_names(lines: &mut Lines, name: &str, all: Arguments<'_>) {
-    match (name, all.count(), all.value(1).as_object()) {
-        ("Location", 2, _) => reports::locations(lines, all.items(0), all.items(1)),
-        ("LazyLocation", 1, _) => reports::stack(lines, all.items(0)),
-        ("ValidationError::message", 1, _) => reports::messages(lines, all.value(0)),
-        ("AllocError", 0, _) => reports::wanting(lines),
-        ("EvaluationResult", 2, _) => reports::unit(lines, all.text(0), all.items(1)),
-        ("reply_to", 1, _) => devices::reply(lines, all.items(0)),
-        ("run over a device that fails", 3, _) => devices::ended(lines, all),
-        ("Walk::by_place", 1, _) => asked::walks(lines, all.value(0)),
-        ("Limit::from", 1, _) => compiled::limits(lines, all.value(0)),
-        ("new", 2, _) => compiled::made(lines, all),
-        (_, _, Some(parent)) => match &settings_of(lines.alloc, parent, all.text(0)) {
-            Ok(Some(settings)) => answer_given(lines, Given { settings, parent }, name, all),
-            _ => lines.text.push(UNKNOWN),
-        },
+    match (name, all.count()) {
+        ("Location", 2) => reports::locations(lines, all.items(0), all.items(1)),
+        ("LazyLocation", 1) => reports::stack(lines, all.items(0)),
+        ("ValidationError::message", 1) => reports::messages(lines, all.value(0)),
+        ("AllocError", 0) => reports::wanting(lines),
+        ("EvaluationResult", 2) => reports::unit(lines, all.text(0), all.items(1)),
+        ("reply_to", 1) => devices::reply(lines, all.items(0)),
+        ("run over a device that fails", 3) => devices::ended(lines, all),
+        ("Walk::by_place", 1) => asked::walks(lines, all.value(0)),
+        ("Limit::from", 1) => compiled::limits(lines, all.value(0)),
+        ("new", 2) => compiled::made(lines, all),
+        _ => answer_of_settings(lines, name, all),
+    }
+}
+
+// Appends the answer of a call of settings, which has a draft first, and an object that says more of
+// the settings.
+fn answer_of_settings(lines: &mut Lines, name: &str, all: Arguments<'_>) {
+    let Some(parent) = all.value(1).as_object() else {
+        return lines.text.push(UNKNOWN);
+    };
+    match &settings_of(lines.alloc, parent, all.text(0)) {
+        Ok(Some(settings)) => answer_given(lines, Given { settings, parent }, name, all),
         _ => lines.text.push(UNKNOWN),
     }
 }

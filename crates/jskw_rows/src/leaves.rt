@@ -47,17 +47,33 @@ pub(crate) fn compiled<'a, F: Json>(
     parent: &'a Members,
 ) -> CompilationResult<'a, Vec<Leaf<LeafValidator<F>>>> {
     let mut leaves = Vec::new(alloc);
+    let made = compile_leaves(alloc, ctx, parent, &mut leaves);
+    all_or_fault(made, leaves)
+}
+
+// Returns a value, unless it could not be made.
+fn all_or_fault<'a, T: Drop>(made: CompilationResult<'a, ()>, all: T) -> CompilationResult<'a, T> {
+    made?;
+    Ok(all)
+}
+
+fn compile_leaves<'a, F: Json>(
+    alloc: Global,
+    ctx: &Context<'_, F>,
+    parent: &'a Members,
+    leaves: &mut Vec<Leaf<LeafValidator<F>>>,
+) -> CompilationResult<'a, ()> {
     for keyword in KeywordName::ALL {
-        let Some(schema) = parent.get(keyword.as_str()) else {
-            continue;
-        };
-        if is_leaf(keyword) && keyword.stands(ctx) {
-            let location = ctx.keyword_location(alloc, keyword);
-            let compiled = jskw_leaf::compile(alloc, ctx, parent, keyword, schema);
-            push_compiled_leaf(location, compiled, &mut leaves)?;
+        match parent.get(keyword.as_str()) {
+            Some(schema) if is_leaf(keyword) && keyword.stands(ctx) => {
+                let location = ctx.keyword_location(alloc, keyword);
+                let compiled = jskw_leaf::compile(alloc, ctx, parent, keyword, schema);
+                push_compiled_leaf(location, compiled, leaves)?;
+            }
+            _ => {}
         }
     }
-    Ok(leaves)
+    Ok(())
 }
 
 // Appends a compiled keyword, if it asserts something.

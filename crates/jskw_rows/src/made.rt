@@ -8,17 +8,23 @@ use std::alloc::Global;
 /// Returns the array that is described by a value: of an item for each number below `count`, and of
 /// `last`. `README.md` beside `src/` says what the members are. `None` if its text is no JSON.
 pub(crate) fn array_of(alloc: Global, maker: &Value) -> Option<Value> {
-    let (mut text, count) = (Text::new(alloc), maker.get("count").and_then(Value::as_u64));
+    let mut text = Text::new(alloc);
+    push_array(alloc, &mut text, maker);
+    Value::from_str(alloc, text.as_str()).ok()
+}
+
+/// Appends the text of that array.
+pub(crate) fn push_array(alloc: Global, text: &mut Text, maker: &Value) {
+    let count = maker.get("count").and_then(Value::as_u64);
     text.push("[");
     for item in 0..count.unwrap_or(0) {
-        push_item(&mut text, maker, item);
+        push_item(text, maker, item);
     }
     if let Some(last) = maker.get("last") {
         text.push(",");
         text.push_made(last.to_string(alloc));
     }
     text.push("]");
-    Value::from_str(alloc, text.as_str()).ok()
 }
 
 // Appends the item of a number, if it has one, behind a comma if it is not the first.
@@ -26,7 +32,7 @@ fn push_item(text: &mut Text, maker: &Value, item: u64) {
     if maker.get("crowded").is_some() && !is_crowded(item) {
         return;
     }
-    let is_first = text.as_str() == "[";
+    let is_first = text.as_str().ends_with('[');
     text.push_if(!is_first, ",");
     text.push(text_of(maker, "front"));
     match maker.get("choices").and_then(Value::as_array) {

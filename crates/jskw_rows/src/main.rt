@@ -31,13 +31,20 @@ use text::Text;
 fn file_names(rt: &HostRuntime, folder: &str) -> io::Result<Vec<String>> {
     let mut names = Vec::new(rt.alloc());
     for entry in fs::read_dir(rt, folder)? {
-        let entry = entry?;
-        if entry.file_name().ends_with(".json") {
-            names.push(String::from_str(rt.alloc(), entry.file_name())?)?;
-        }
+        push_name(
+            &mut names,
+            String::from_str(rt.alloc(), entry?.file_name())?,
+        )?;
     }
     names.sort()?;
     Ok(names)
+}
+
+fn push_name(names: &mut Vec<String>, name: String) -> io::Result<()> {
+    if name.as_str().ends_with(".json") {
+        names.push(name)?;
+    }
+    Ok(())
 }
 
 // Asks the rows of a file's text, which is an array of groups.
@@ -58,6 +65,7 @@ fn check_file(rt: &HostRuntime, tally: &mut Tally, folder: &str, name: &str) -> 
     let text = fs::read_to_string(rt, path.as_str())?;
     tally.file = Text::new(rt.alloc());
     tally.file.push(name);
+    tally.group = Text::new(rt.alloc());
     tally.told = Text::new(rt.alloc());
     let before = tally.rows;
     check_text(tally, text.as_str());

@@ -22,33 +22,31 @@ use std::alloc::{AllocError, Global};
 
 /// Prints the name of a line and makes its calls. Returns whether it says what to do.
 pub(crate) fn make(rt: &HostRuntime, line: &str) -> bool {
-    let mut to = Printer { rt, is_right: true };
-    let line = read_value(rt.alloc(), line.as_bytes());
-    match &line {
-        Ok(Some(Value::Array(items))) => make_line(&mut to, items.as_slice()),
-        _ => to.check(false),
+    match &read_value(rt.alloc(), line.as_bytes()) {
+        Ok(Some(Value::Array(items))) => make_line(rt, items.as_slice()),
+        _ => false,
     }
+}
+
+fn make_line(rt: &HostRuntime, items: &[Value]) -> bool {
+    let [Value::String(line), Value::String(kind), arguments @ ..] = items else {
+        return false;
+    };
+    let is_right = true;
+    let mut to = Printer { rt, kind, is_right };
+    write!(to, "{line}\n");
+    make_calls(&mut to, arguments);
     to.is_right
 }
 
-fn make_line(to: &mut Printer<'_>, items: &[Value]) {
-    match items {
-        [Value::String(line), Value::String(kind), arguments @ ..] => {
-            write!(to, "{line}\n");
-            make_calls(to, kind, arguments);
-        }
-        _ => to.check(false),
-    }
-}
-
-fn make_calls(to: &mut Printer<'_>, kind: &str, arguments: &[Value]) {
-    match (kind, arguments) {
+fn make_calls(to: &mut Printer<'_>, arguments: &[Value]) {
+    match (to.kind, arguments) {
         ("value", [value]) => ask_value(to, value),
         ("insert", [Value::Array(names), Value::String(name)]) => insert(to, names, name),
         ("from_pairs", [Value::Array(names)]) => from_pairs(to, names),
         (_, [Value::String(draft), Value::Object(group), schema, instance]) => {
             match &settings_of(to.alloc(), group, draft) {
-                Ok(Some(settings)) => ask_schema(to, kind, settings, schema, instance),
+                Ok(Some(settings)) => ask_schema(to, settings, schema, instance),
                 _ => to.check(false),
             }
         }
@@ -57,18 +55,12 @@ fn make_calls(to: &mut Printer<'_>, kind: &str, arguments: &[Value]) {
 }
 
 // Makes the calls of a kind that takes a schema and an instance.
-fn ask_schema(
-    to: &mut Printer<'_>,
-    kind: &str,
-    settings: &Settings,
-    schema: &Value,
-    instance: &Value,
-) {
-    if !kind.ends_with("of decimals") {
-        return compile_and_ask::<SerdeJson>(to, kind, settings, schema, instance);
+fn ask_schema(to: &mut Printer<'_>, settings: &Settings, schema: &Value, instance: &Value) {
+    if !to.kind.ends_with("of decimals") {
+        return compile_and_ask::<SerdeJson>(to, settings, schema, instance);
     }
     match &DecimalTree::from_value(to.alloc(), instance) {
-        Ok(Some(tree)) => compile_and_ask::<DecimalJson>(to, kind, settings, schema, tree),
+        Ok(Some(tree)) => compile_and_ask::<DecimalJson>(to, settings, schema, tree),
         _ => to.check(false),
     }
 }
@@ -171,12 +163,16 @@ fn members_of(alloc: Global, names: &[Value]) -> Made<Members> {
     let mut members = Members::new(alloc);
     for (place, name) in names.iter().enumerate() {
         let name = String::from_str(alloc, name.as_str().unwrap_or(""))?;
-        let number = DecimalTree::Number(Decimal::from(place as u64));
-        if let Err(InsertFault::Memory(_, _)) = members.insert(name, number) {
-            return Err(AllocError);
-        }
+        insert_one(&mut members, name, place as u64)?;
     }
     Ok(members)
+}
+
+fn insert_one(members: &mut Members, name: String, number: u64) -> Made<()> {
+    match members.insert(name, DecimalTree::Number(Decimal::from(number))) {
+        Err(InsertFault::Memory(_, _)) => Err(AllocError),
+        _ => Ok(()),
+    }
 }
 
 fn print_pair(to: &mut Printer<'_>, name: &str, value: &DecimalTree) {

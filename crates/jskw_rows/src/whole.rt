@@ -11,6 +11,7 @@ use jskw_array::compiler::compile;
 use jskw_array::items::array_shape_fusion;
 use jskw_report::{Context, LazyLocation};
 use jskw_value::{Json, Node};
+use serde_json::Value;
 
 /// Appends what the schema of a row says of itself and of the instance, or its refusal.
 pub(crate) fn push_answer<'r, F: Json>(lines: &mut Lines, row: &'r Row<'r>, instance: &'r F::Node) {
@@ -52,10 +53,23 @@ fn push_answers<F: Json>(
     observe(&mut said, node, instance);
     said.push_lines(&mut lines.text, "", test.contains_key("evaluation"));
     if let Some(most) = test.get("applications") {
-        said.push_counts(&mut lines.text, 1, most);
-        observe(&mut said, node, instance);
-        said.push_counts(&mut lines.text, 2, most);
+        push_counts(lines, &mut said, node, most, instance);
     }
+}
+
+// Appends which observers apply more subschemas than they may, or too few, asked once and once more.
+fn push_counts<F: Json>(
+    lines: &mut Lines,
+    said: &mut Said,
+    node: &SchemaNode<F>,
+    most: &Value,
+    instance: &F::Node,
+)
+    requires { IsTrue (is_lawful (F.Node.tree instance.now)) }
+{
+    said.push_counts(&mut lines.text, 1, most);
+    observe(said, node, instance);
+    said.push_counts(&mut lines.text, 2, most);
 }
 
 // Asks each observer of a schema.

@@ -5,7 +5,7 @@
 use super::{Arguments, Given, UNKNOWN};
 use crate::answer::push_compiled;
 use crate::lines::Lines;
-use crate::made::array_of;
+use crate::made::push_array;
 use crate::members::Members;
 use crate::text::Text;
 use jskw_array::compiler::compile;
@@ -52,9 +52,8 @@ pub(super) fn bound(lines: &mut Lines, given: Given<'_>, name: &str) {
 // What a validator that is made for `/a` says of an item of the index 7.
 pub(super) fn made(lines: &mut Lines, all: Arguments<'_>) {
     let at = Location::new(lines.alloc).join(lines.alloc, LocationSegment::Name("a"));
-    match (at, &all.tree(lines.alloc, 1)) {
-        (Ok(at), Ok(Some(item))) => push_made(lines, all.text(0), at, item),
-        _ => lines.text.push(UNKNOWN),
+    if let Some(at) = lines.text.made(at) {
+        push_made(lines, all.text(0), at, all.instance());
     }
 }
 
@@ -91,22 +90,17 @@ fn push_said<V: Validate<DecimalJson> + Drop>(lines: &mut Lines, validator: V, i
 // Whether an instance is one of the options of a made array.
 pub(super) fn options(lines: &mut Lines, given: Given<'_>, all: Arguments<'_>) {
     let mut schema = Text::new(lines.alloc);
-    if let Some(options) = &array_of(lines.alloc, all.value(2)) {
-        schema.push("{\"enum\":");
-        schema.push_made(options.to_string(lines.alloc));
-        schema.push("}");
-    }
-    let schema = Value::from_str(lines.alloc, schema.as_str());
-    match (&schema, &all.tree(lines.alloc, 3)) {
-        (Ok(schema), Ok(Some(instance))) => push_option(lines, given, schema, instance),
-        _ => lines.text.push(UNKNOWN),
-    }
-}
-
-fn push_option(lines: &mut Lines, given: Given<'_>, schema: &Value, instance: &DecimalTree) {
+    schema.push("{\"enum\":");
+    push_array(lines.alloc, &mut schema, all.value(2));
+    schema.push("}");
     let ctx: Context<DecimalJson> = Context::new(lines.alloc, given.settings);
-    let compiled = compile(lines.alloc, &ctx, schema);
-    push_compiled(lines, Some(compiled), instance, push_holds);
+    match &Value::from_str(lines.alloc, schema.as_str()) {
+        Ok(schema) => {
+            let compiled = compile(lines.alloc, &ctx, schema);
+            push_compiled(lines, Some(compiled), all.instance(), push_holds);
+        }
+        Err(_) => lines.text.push(UNKNOWN),
+    }
 }
 
 fn push_holds(lines: &mut Lines, node: &SchemaNode<DecimalJson>, instance: &DecimalTree) {
@@ -116,17 +110,10 @@ fn push_holds(lines: &mut Lines, node: &SchemaNode<DecimalJson>, instance: &Deci
 
 // How many schemas the evaluation of `additionalItems` by itself applies.
 pub(super) fn additional(lines: &mut Lines, given: Given<'_>, all: Arguments<'_>) {
-    match (
-        given.parent.get("additionalItems"),
-        &all.tree(lines.alloc, 2),
-    ) {
-        (Some(value), Ok(Some(instance))) => {
-            let ctx: Context<DecimalJson> = Context::new(lines.alloc, given.settings);
-            let compiled = additional_items::compile(lines.alloc, &ctx, given.parent, value);
-            push_compiled(lines, compiled, instance, push_applied)
-        }
-        _ => lines.text.push(UNKNOWN),
-    }
+    let value = given.parent.get("additionalItems").unwrap_or(&Value::Null);
+    let ctx: Context<DecimalJson> = Context::new(lines.alloc, given.settings);
+    let compiled = additional_items::compile(lines.alloc, &ctx, given.parent, value);
+    push_compiled(lines, compiled, all.instance(), push_applied)
 }
 
 fn push_applied<V: Validate<DecimalJson>>(

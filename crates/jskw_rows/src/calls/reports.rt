@@ -46,23 +46,29 @@ pub(super) fn settings(lines: &mut Lines, given: Given<'_>, name: &str) {
 // The location, the draft and the object layer of a context, of one without the layer, of two below
 // it, and of the last with the layer again; and whether an object has members of two names.
 pub(super) fn contexts(lines: &mut Lines, given: Given<'_>) {
-    let made = push_contexts(lines.alloc, &mut lines.text, given);
-    lines.text.keep(made);
+    let whole = Context::<SerdeJson>::new(lines.alloc, given.settings);
+    push_context(&mut lines.text, &whole);
+    let whole = whole.with_object_layer(false);
+    push_context(&mut lines.text, &whole);
+    push_items(lines, &whole);
+    let (x, y) = (member_of(given.parent, "x"), member_of(given.parent, "y"));
+    write!(lines.text, "{} {}", x.is_some(), y.is_some());
 }
 
-fn push_contexts(alloc: Global, text: &mut Text, given: Given<'_>) -> Made<()> {
-    let whole = Context::<SerdeJson>::new(alloc, given.settings);
-    push_context(text, &whole);
-    let whole = whole.with_object_layer(false);
-    push_context(text, &whole);
-    let items = whole.new_at_location(alloc, LocationSegment::Name("items"))?;
-    push_context(text, &items);
-    let second = items.new_at_location(alloc, LocationSegment::Index(1))?;
-    push_context(text, &second);
-    push_context(text, &second.with_object_layer(true));
-    write!(text, "{} ", member_of(given.parent, "x").is_some());
-    write!(text, "{}", member_of(given.parent, "y").is_some());
-    Ok(())
+fn push_items(lines: &mut Lines, whole: &Context<'_, SerdeJson>) {
+    let items = whole.new_at_location(lines.alloc, LocationSegment::Name("items"));
+    if let Some(items) = &lines.text.made(items) {
+        push_context(&mut lines.text, items);
+        push_second(lines, items);
+    }
+}
+
+fn push_second(lines: &mut Lines, items: &Context<'_, SerdeJson>) {
+    let second = items.new_at_location(lines.alloc, LocationSegment::Index(1));
+    if let Some(second) = lines.text.made(second) {
+        push_context(&mut lines.text, &second);
+        push_context(&mut lines.text, &second.with_object_layer(true));
+    }
 }
 
 fn push_context(text: &mut Text, ctx: &Context<'_, SerdeJson>) {
@@ -175,7 +181,7 @@ fn node_of_names(alloc: Global, way: &str, names: &[Value]) -> Made<EvaluationNo
     let mut unit = unit_of(alloc, way, names)?;
     if way != "children" {
         unit.annotate(Annotations::Bool(true));
-        unit.annotate(Annotations::Indices(Vec::from_array(alloc, [0, 2])?));
+        unit.annotate(Annotations::Index(7));
     }
     let at = Location::new(alloc).join(alloc, LocationSegment::Name("7"))?;
     node_of(alloc, unit, "items", &at)

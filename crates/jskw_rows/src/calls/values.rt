@@ -67,9 +67,9 @@ pub(super) fn node(lines: &mut Lines, value: &Value) {
         let mut other = Text::new(alloc);
         write!(other, "{:?} ", JsonType::from(value));
         push_node::<DecimalJson>(alloc, &mut other, tree);
-        if text.as_str() != other.as_str() {
-            write!(text, ", over decimals {}", other.as_str());
-        }
+        let differs = text.as_str() != other.as_str();
+        text.push_if(differs, ", over decimals ");
+        text.push_if(differs, other.as_str());
     }
 }
 
@@ -115,12 +115,18 @@ fn push_members<F: Json>(alloc: Global, text: &mut Text, node: &F::Node)
         text.push_json(node.member_at(place));
     }
     for name in &["", "b", "c"] {
-        if let Ok(key) = &F::prepare_key(alloc, name) {
-            let (by_key, by_name) = (node.get(key).is_some(), node.find(name).is_some());
-            write!(text, " {by_key} {by_name}");
-        }
+        push_found::<F>(alloc, text, node, name);
     }
     write!(text, " {}", node.is_empty());
+}
+
+fn push_found<F: Json>(alloc: Global, text: &mut Text, node: &F::Node, name: &str)
+    requires { IsTrue (is_object (F.Node.tree node.now)) }
+{
+    if let Some(key) = &text.made(F::prepare_key(alloc, name)) {
+        let (by_key, by_name) = (node.get(key).is_some(), node.find(name).is_some());
+        write!(text, " {by_key} {by_name}");
+    }
 }
 
 // Whether two values are equal, in both orders, and across representations.

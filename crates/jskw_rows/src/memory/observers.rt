@@ -19,49 +19,48 @@ use std::alloc::Global;
 
 // What is compiled, and what calls of a kind ask of it. Its type is a parameter, as in `push_compiled`.
 trait Observed<F: Json> {
-    fn ask(&self, to: &mut Printer<'_>, kind: &str, instance: &F::Node);
+    fn ask(&self, to: &mut Printer<'_>, instance: &F::Node);
 }
 
 /// Compiles a schema, and asks of an instance what the calls of a kind ask.
 pub(super) fn compile_and_ask<F: Json>(
     to: &mut Printer<'_>,
-    kind: &str,
     settings: &Settings,
     schema: &Value,
     instance: &F::Node,
 ) {
     let ctx: Context<F> = Context::new(to.alloc(), settings);
     let below = ctx.new_at_location(to.alloc(), LocationSegment::Name("a/b"));
-    match (kind, schema.as_object(), &below) {
-        ("below", _, Ok(below)) => return ask_whole(to, kind, below, schema, instance),
-        ("leaves" | "leaves of decimals", Some(parent), _) => {
-            ask_compiled(to, kind, compiled(to.alloc(), &ctx, parent), instance);
-        }
-        _ => {}
+    match (to.kind, &below) {
+        ("below", Ok(below)) => ask_whole(to, below, schema, instance),
+        _ => ask_whole(to, &ctx, schema, instance),
     }
-    ask_whole(to, kind, &ctx, schema, instance);
 }
 
 fn ask_whole<F: Json>(
     to: &mut Printer<'_>,
-    kind: &str,
     ctx: &Context<'_, F>,
     schema: &Value,
     instance: &F::Node,
 ) {
+    match schema {
+        Value::Object(parent) if to.kind.starts_with("leaves") => {
+            ask_compiled(to, compiled(to.alloc(), ctx, parent), instance);
+        }
+        _ => {}
+    }
     to.announce("compile", true);
-    ask_compiled(to, kind, compile(to.alloc(), ctx, schema), instance);
+    ask_compiled(to, compile(to.alloc(), ctx, schema), instance);
 }
 
 // Asks what was compiled, or says why it was not.
 fn ask_compiled<F: Json, C: Observed<F> + Drop>(
     to: &mut Printer<'_>,
-    kind: &str,
     made: CompilationResult<'_, C>,
     instance: &F::Node,
 ) {
     match &made {
-        Ok(compiled) => compiled.ask(to, kind, instance),
+        Ok(compiled) => compiled.ask(to, instance),
         Err(CompileFault::Memory(_)) => to.tell(true),
         Err(CompileFault::Bad(error)) => {
             to.tell(false);
@@ -74,27 +73,22 @@ fn ask_compiled<F: Json, C: Observed<F> + Drop>(
 }
 
 impl<F: Json> Observed<F> for SchemaNode<F> {
-    fn ask(&self, to: &mut Printer<'_>, kind: &str, instance: &F::Node) {
+    fn ask(&self, to: &mut Printer<'_>, instance: &F::Node) {
         to.tell(false);
-        // One of the schemas of `below` is `false`, whose compile takes no memory.
-        if kind != "below" {
-            write!(to, "\tcompiled\n");
-        }
-        if !instance.is_lawful() {
-            return to.check(false);
-        }
-        match kind {
-            "compile" => {}
-            "below" => ask_below(to, self, instance),
-            "schema" | "schema of decimals" => observe(to, true, self, instance),
-            "leaves" | "leaves of decimals" => observe(to, false, self, instance),
+        match (to.kind, instance.is_lawful()) {
+            // One of the schemas is `false`, whose compile takes no memory: no line says what it gave.
+            ("below", true) => ask_below(to, self, instance),
+            ("compile", true) => write!(to, "\tcompiled\n"),
+            ("schema" | "schema of decimals" | "leaves" | "leaves of decimals", true) => {
+                observe(to, self, instance);
+            }
             _ => to.check(false),
         }
     }
 }
 
 impl<F: Json, V: Validate<F> + Drop> Observed<F> for Vec<Leaf<V>> {
-    fn ask(&self, to: &mut Printer<'_>, _kind: &str, instance: &F::Node) {
+    fn ask(&self, to: &mut Printer<'_>, instance: &F::Node) {
         if !instance.is_lawful() {
             return to.check(false);
         }
@@ -136,24 +130,20 @@ fn two_below(alloc: Global) -> LazyLocation {
     location
 }
 
-// Asks the four observers, of which all but the last may take no memory.
-fn observe<F: Json>(
-    to: &mut Printer<'_>,
-    takes_memory: bool,
-    node: &SchemaNode<F>,
-    instance: &F::Node,
-)
+// Says that the schema is compiled, and asks the four observers. All but the last take no memory if
+// the schema has leaves alone, which hold.
+fn observe<F: Json>(to: &mut Printer<'_>, node: &SchemaNode<F>, instance: &F::Node)
     requires { IsTrue (is_lawful (F.Node.tree instance.now)) }
 {
+    write!(to, "\tcompiled\n");
     let (mut location, mut ctx) = (two_below(to.alloc()), ValidationContext::new());
     to.announce("is_valid", false);
     let is_valid = node.is_valid(instance, &mut ctx);
     write!(to, ", answered {is_valid}\n");
-    to.announce("validate", takes_memory);
+    to.announce("validate", !to.kind.starts_with("leaves"));
     let first = node.validate(instance, &mut location, &mut ctx);
     to.print_first(first, &location);
-    let whole = Location::new(to.alloc());
-    collect_errors(to, takes_memory, node, &whole, instance, &mut location);
+    collect_errors(to, node, instance, &mut location);
     to.announce("evaluate_instance", true);
     let tree = node.evaluate_instance(to.alloc(), instance, &mut ctx);
     to.tell(tree.is_err());
@@ -163,9 +153,7 @@ fn observe<F: Json>(
 // Asks for all errors, behind an old one.
 fn collect_errors<'i, F: Json>(
     to: &mut Printer<'_>,
-    takes_memory: bool,
     node: &'i SchemaNode<F>,
-    whole: &'i Location,
     instance: &'i F::Node,
     location: &mut LazyLocation,
 )
@@ -173,9 +161,9 @@ fn collect_errors<'i, F: Json>(
 {
     let (kind, at) = (ValidationErrorKind::UniqueItems, Location::new(to.alloc()));
     let mut errors = Vec::new(to.alloc());
-    let old = errors.push(ValidationError::new(kind, at, whole, instance));
+    let old = errors.push(ValidationError::new(kind, at, node.location(), instance));
     to.check(old.is_ok());
-    to.announce("collect_errors", takes_memory);
+    to.announce("collect_errors", !to.kind.starts_with("leaves"));
     let mut ctx = ValidationContext::new();
     let collected = node.collect_errors(instance, location, &mut ctx, &mut errors);
     to.tell_at(collected.is_err(), location);

@@ -6,10 +6,12 @@ use jskw_value::{Json, Node};
 use std::alloc::Global;
 use std::fmt::Display;
 
-/// Standard output, and whether all could be printed and every line said what to do.
+/// Standard output, and whether all could be printed and the line said what to do.
 #[derive(Drop)]
 pub(super) struct Printer<'r> {
     pub(super) rt: &'r HostRuntime,
+    /// The kind of calls that the line asks for.
+    pub(super) kind: &'r str,
     pub(super) is_right: bool,
 }
 
@@ -77,9 +79,13 @@ impl Printer<'_> {
         answer: Result<(), Fault<'_, F>>,
         at: &LazyLocation,
     ) {
-        self.tell_at(matches!(&answer, Err(Fault::Memory(_))), at);
-        if let Err(Fault::Invalid(error)) = &answer {
-            self.print_errors(std::slice::from_ref(error));
+        match &answer {
+            Ok(()) => self.tell_at(false, at),
+            Err(Fault::Memory(_)) => self.tell_at(true, at),
+            Err(Fault::Invalid(error)) => {
+                self.tell_at(false, at);
+                self.print_errors(std::slice::from_ref(error));
+            }
         }
     }
 
