@@ -125,7 +125,7 @@ fn answer_of_names(lines: &mut Lines, name: &str, all: Arguments<'_>) {
         ("LazyLocation", 1) => reports::stack(lines, all.items(0)),
         ("ValidationError::message", 1) => reports::messages(lines, all.value(0)),
         ("AllocError", 0) => reports::wanting(lines),
-        ("EvaluationResult", 2) => reports::unit(lines, all.text(0), all.items(1)),
+        ("EvaluationResult", 0) => reports::unit(lines),
         ("reply_to", 1) => devices::reply(lines, all.items(0)),
         ("run over a device that fails", 3) => devices::ended(lines, all),
         ("Walk::by_place", 1) => asked::walks(lines, all.value(0)),

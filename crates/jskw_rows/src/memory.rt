@@ -44,12 +44,16 @@ fn make_calls(to: &mut Printer<'_>, arguments: &[Value]) {
         ("value", [value]) => ask_value(to, value),
         ("insert", [Value::Array(names), Value::String(name)]) => insert(to, names, name),
         ("from_pairs", [Value::Array(names)]) => from_pairs(to, names),
-        (_, [Value::String(draft), Value::Object(group), schema, instance]) => {
-            match &settings_of(to.alloc(), group, draft) {
-                Ok(Some(settings)) => ask_schema(to, settings, schema, instance),
-                _ => to.check(false),
-            }
-        }
+        _ => make_calls_of_schema(to, arguments),
+    }
+}
+
+fn make_calls_of_schema(to: &mut Printer<'_>, arguments: &[Value]) {
+    let [Value::String(draft), Value::Object(group), schema, instance] = arguments else {
+        return to.check(false);
+    };
+    match &settings_of(to.alloc(), group, draft) {
+        Ok(Some(settings)) => ask_schema(to, settings, schema, instance),
         _ => to.check(false),
     }
 }

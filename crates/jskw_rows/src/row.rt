@@ -91,12 +91,22 @@ fn check_over<F: Json>(tally: &mut Tally, row: &Row<'_>, node: &F::Node, way: &s
     whole::push_answer::<F>(&mut found, row, node);
     check_whole(tally, row, way, &found);
     if let Some(parent) = row.subject.keywords {
-        let mut found = Lines::new(tally.alloc, true, row.wanted.has_messages);
-        leaves::push_answer::<F>(&mut found, row, parent, node);
-        let mut by = Text::new(tally.alloc);
-        write!(by, "{way}, each keyword by itself");
-        tally.compare(by.as_str(), row.wanted.answer.as_str(), found.text.as_str());
+        check_leaves::<F>(tally, row, parent, node, way);
     }
+}
+
+fn check_leaves<F: Json>(
+    tally: &mut Tally,
+    row: &Row<'_>,
+    parent: &Members,
+    node: &F::Node,
+    way: &str,
+) {
+    let mut found = Lines::new(tally.alloc, true, row.wanted.has_messages);
+    leaves::push_answer::<F>(&mut found, row, parent, node);
+    let mut by = Text::new(tally.alloc);
+    write!(by, "{way}, each keyword by itself");
+    tally.compare(by.as_str(), row.wanted.answer.as_str(), found.text.as_str());
 }
 
 // Compares the lines of a whole schema: what it says of itself before those of its keywords.

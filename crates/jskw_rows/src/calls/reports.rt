@@ -158,76 +158,41 @@ fn push_wanting_unit(lines: &mut Lines) {
     write!(lines.text, " {is_appended} {is_unit} {}", errors.len());
 }
 
-// The lines of a node of nodes that are made of names, those that begin with `x` invalid, and of the
-// errors that it describes; and the counts of a context after no application, one and two.
-pub(super) fn unit(lines: &mut Lines, way: &str, names: &[Value]) {
+// The lines of a node that is made by hand and of the errors that it describes; and the counts of a
+// context after no application, one and two.
+pub(super) fn unit(lines: &mut Lines) {
     let mut tree = lines.others();
-    tree.push_tree(0, node_of_names(lines.alloc, way, names));
+    tree.push_tree(0, node_by_hand(lines.alloc));
+    lines.text.push(tree.text.as_str());
+    lines.text.push(tree.described.as_str());
     let mut ctx = ValidationContext::new();
-    let none = ctx.applications();
-    ctx.count_one();
-    let one = ctx.applications();
-    ctx.count_one();
-    let (nodes, described) = (tree.text.as_str(), tree.described.as_str());
-    write!(
-        lines.text,
-        "{nodes}{described}{none} {one} {}",
-        ctx.applications()
-    );
-}
-
-// Returns a node of a unit of nodes, which is annotated twice unless it is of `children` alone.
-fn node_of_names(alloc: Global, way: &str, names: &[Value]) -> Made<EvaluationNode> {
-    let mut unit = unit_of(alloc, way, names)?;
-    if way != "children" {
-        unit.annotate(Annotations::Bool(true));
-        unit.annotate(Annotations::Index(7));
-    }
-    let at = Location::new(alloc).join(alloc, LocationSegment::Name("7"))?;
-    node_of(alloc, unit, "items", &at)
-}
-
-// Returns a unit of nodes: with an error of its own, with two and no nodes, or as it is.
-fn unit_of(alloc: Global, way: &str, names: &[Value]) -> Made<EvaluationResult> {
-    match way {
-        "invalid" => Ok(EvaluationResult::Invalid {
-            errors: errors_of(alloc, &["type"])?,
-            children: nodes_of(alloc, names)?,
-            annotations: None,
-        }),
-        "empty" => {
-            let errors = errors_of(alloc, &["type", "enum"])?;
-            Ok(EvaluationResult::invalid_empty(alloc, errors))
-        }
-        _ => Ok(EvaluationResult::from_children(alloc, nodes_of(alloc, names)?)),
+    for _ in 0..3 {
+        write!(lines.text, "{} ", ctx.applications());
+        ctx.count_one();
     }
 }
 
-// Returns descriptions of these keywords, of which `type` has a text.
-fn errors_of(alloc: Global, keywords: &[&'static str]) -> Made<Vec<ErrorDescription>> {
-    let mut errors = Vec::new(alloc);
-    for keyword in keywords {
-        let message = if *keyword == "type" { "a text" } else { "" };
-        errors.push(ErrorDescription::new(keyword, String::from_str(alloc, message)?))?;
-    }
-    Ok(errors)
+// Returns a node with errors and another node, which is annotated twice.
+fn node_by_hand(alloc: Global) -> Made<EvaluationNode> {
+    let by = Location::new(alloc).join(alloc, LocationSegment::Name("items"))?;
+    let at = Location::new(alloc);
+    let child = EvaluationNode::new(alloc, EvaluationResult::valid_empty(alloc), &by, &at)?;
+    let mut unit = EvaluationResult::Invalid {
+        errors: errors_by_hand(alloc)?,
+        children: Vec::from_array(alloc, [child])?,
+        annotations: None,
+    };
+    unit.annotate(Annotations::Bool(true));
+    unit.annotate(Annotations::Index(7));
+    EvaluationNode::new(alloc, unit, &by, &at)
 }
 
-// Returns a node for each name, without nodes below.
-fn nodes_of(alloc: Global, names: &[Value]) -> Made<Vec<EvaluationNode>> {
-    let mut nodes = Vec::new(alloc);
-    for name in names {
-        let name = name.as_str().unwrap_or("");
-        let unit = match name.starts_with('x') {
-            true => EvaluationResult::invalid_empty(alloc, errors_of(alloc, &["type"])?),
-            false => EvaluationResult::valid_empty(alloc),
-        };
-        nodes.push(node_of(alloc, unit, name, &Location::new(alloc))?)?;
-    }
-    Ok(nodes)
-}
-
-fn node_of(alloc: Global, unit: EvaluationResult, by: &str, at: &Location) -> Made<EvaluationNode> {
-    let by = Location::new(alloc).join(alloc, LocationSegment::Name(by))?;
-    EvaluationNode::new(alloc, unit, &by, at)
+// Returns descriptions of two errors, of which one has a text.
+fn errors_by_hand(alloc: Global) -> Made<Vec<ErrorDescription>> {
+    let text = String::from_str(alloc, "a text")?;
+    let errors = [
+        ErrorDescription::new("type", text),
+        ErrorDescription::new("enum", String::new(alloc)),
+    ];
+    Ok(Vec::from_array(alloc, errors)?)
 }

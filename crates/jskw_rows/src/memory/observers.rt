@@ -159,15 +159,25 @@ fn collect_errors<'i, F: Json>(
 )
     requires { IsTrue (is_lawful (F.Node.tree instance.now)) }
 {
-    let (kind, at) = (ValidationErrorKind::UniqueItems, Location::new(to.alloc()));
-    let mut errors = Vec::new(to.alloc());
-    let old = errors.push(ValidationError::new(kind, at, node.location(), instance));
-    to.check(old.is_ok());
+    let mut errors = old_error(to, node.location(), instance);
     to.announce("collect_errors", !to.kind.starts_with("leaves"));
     let mut ctx = ValidationContext::new();
     let collected = node.collect_errors(instance, location, &mut ctx, &mut errors);
     to.tell_at(collected.is_err(), location);
     to.print_errors(&errors);
+}
+
+// Returns an old error alone.
+fn old_error<'i, F: Json>(
+    to: &mut Printer<'_>,
+    by: &'i Location,
+    instance: &'i F::Node,
+) -> Vec<ValidationError<'i, F>> {
+    let (kind, at) = (ValidationErrorKind::UniqueItems, Location::new(to.alloc()));
+    let mut errors = Vec::new(to.alloc());
+    let old = errors.push(ValidationError::new(kind, at, by, instance));
+    to.check(old.is_ok());
+    errors
 }
 
 // Asks for the tree of an instance that is part of another.

@@ -79,13 +79,9 @@ impl Printer<'_> {
         answer: Result<(), Fault<'_, F>>,
         at: &LazyLocation,
     ) {
-        match &answer {
-            Ok(()) => self.tell_at(false, at),
-            Err(Fault::Memory(_)) => self.tell_at(true, at),
-            Err(Fault::Invalid(error)) => {
-                self.tell_at(false, at);
-                self.print_errors(std::slice::from_ref(error));
-            }
+        self.tell_at(matches!(&answer, Err(Fault::Memory(_))), at);
+        if let Err(Fault::Invalid(error)) = &answer {
+            self.print_errors(std::slice::from_ref(error));
         }
     }
 
