@@ -1,5 +1,4 @@
-//! Calls of keywords by themselves, of validators that are made by hand, and of schemas below another
-//! one.
+//! Calls of keywords by themselves, and of validators that are made by hand.
 #![tactic(auto, using(jskw_value::proofs::DecimalTrees::lawful_tree))]
 
 use super::{Arguments, Given, UNKNOWN};
