@@ -1,6 +1,7 @@
 """How the scripts here ask crates/jskw_bench, which its src/main.rt describes."""
 
 import json
+import os
 import pathlib
 import re
 import shutil
@@ -12,6 +13,10 @@ ROOT = pathlib.Path(__file__).resolve().parent.parent
 CRATE = ROOT / "crates" / "jskw_bench"
 BUILT = CRATE / "out" / "jskw_bench"
 ROUNDS = 3
+
+# The C library keeps memory that is freed, as it does in a program that holds other memory: else each compile of a large
+# schema would give its pages back to the system, and the next one take them anew.
+ENVIRONMENT = {**os.environ, "MALLOC_TRIM_THRESHOLD_": "1000000000"}
 
 
 def text_of(value):
@@ -40,7 +45,7 @@ def build():
 
 def said(command, mode, lines):
     text = "\n".join([mode, *lines]) + "\n"
-    ran = subprocess.run(command, input=text, text=True, capture_output=True, check=False)
+    ran = subprocess.run(command, input=text, text=True, capture_output=True, check=False, env=ENVIRONMENT)
     if ran.returncode:
         sys.exit(f"bench: {command[-1]} ended with {ran.returncode}: {ran.stderr[-1000:]}")
     return [line.split("\t") for line in ran.stdout.splitlines()]
