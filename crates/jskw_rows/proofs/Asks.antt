@@ -1,7 +1,5 @@
 -- A node that counts how often it is asked, beside its tree.
 use Rattle.std.proofs.Common.{◌≡◌, List, [], ◌∷◌, map, Vec, Global, refl, ap, sym, subst, ◌∙◌, true, false, rules}
-use Rattle.std.specs.List.{IsDistinct, list_all}
-use Rattle.std.specs.Str.{bytes_eq}
 use Rattle.std.specs.declared.cell.Cell.{Cell}
 use Rattle.std.proofs.lemmas.Grind.{common_steps}
 use Rattle.jskw_rows.specs.declared.asked.Asked.{Asked, Null, Array, the_lemmas}
@@ -10,7 +8,7 @@ use Rattle.jskw_rows.specs.declared.asked.Asked.TheFolds.{map-Asked, ind-Asked, 
 use Rattle.jskw_rows.specs.Asks.{asked_tree, asked_step}
 use Rattle.jskw_value.specs.DecimalTree.{items_from}
 use Rattle.jskw_value.specs.Tree as tree
-use Rattle.jskw_value.specs.Tree.{Tree, array, item_list, names, values}
+use Rattle.jskw_value.specs.Tree.{Tree, array, item_list}
 
 -- the items made from a list are the list
 item_list-items_from : (ts : List Tree) → item_list (items_from ts) ≡ ts
@@ -40,7 +38,6 @@ lawful_items (d ∷ ds) = rw (d.1, lawful_items ds) refl
 lawful_layer : (y : Asked-F Such)
     → tree.is_lawful (asked_step (map-Asked _ _ asked_tree (map-Asked _ _ (λ e. e.0) y))) ≡ true
 lawful_layer (Asked-F.Null c) = refl
-lawful_layer (Asked-F.Pair b) = rw (b.value.1) refl
 lawful_layer (Asked-F.Array c v) = lawful_items v.items
 
 -- every node is lawful, by induction
@@ -54,27 +51,14 @@ of_steps : (P : Tree → Type 0) → ((y : Asked-F Tree) → P (asked_step y)) �
 of_steps P step = ind-Asked (λ d. P (asked_tree d)) (λ x y is.
     subst P (sym (fold-roll-Asked Tree asked_step x)) (step (map-Asked _ _ asked_tree x)))
 
-distinct_step : (y : Asked-F Tree) → IsDistinct bytes_eq (names (asked_step y))
-unfolding IsDistinct
-distinct_step (Asked-F.Null c) = tt
-distinct_step (Asked-F.Array c v) = tt
-distinct_step (Asked-F.Pair b) = ((refl, tt), (tt, tt))
+object_step : (y : Asked-F Tree) → tree.is_object (asked_step y) ≡ false
+object_step (Asked-F.Null c) = refl
+object_step (Asked-F.Array c v) = refl
 
--- an object's names
-pub distinct_names : (d : Asked) → IsDistinct bytes_eq (names (asked_tree d))
-distinct_names = of_steps (λ t. IsDistinct bytes_eq (names t)) distinct_step
-
-lawful_step : (y : Asked-F Tree) → tree.is_lawful (asked_step y) ≡ true → list_all tree.is_lawful (values (asked_step y)) ≡ true
-lawful_step (Asked-F.Null c) h = refl
-lawful_step (Asked-F.Array c v) h = refl
-lawful_step (Asked-F.Pair b) h = h
-
--- an object's members
-pub lawful_values : (d : Asked) → list_all tree.is_lawful (values (asked_tree d)) ≡ true
-lawful_values d = of_steps (λ t. tree.is_lawful t ≡ true → list_all tree.is_lawful (values t) ≡ true) lawful_step d (lawful_tree d)
+-- no node is an object
+pub no_object : (d : Asked) → tree.is_object (asked_tree d) ≡ false
+no_object = of_steps (λ t. tree.is_object t ≡ false) object_step
 
 pub ruleset arrays = (items_of_array, lawful_tree, common_steps)
 
-pub ruleset objects = (lawful_tree, distinct_names, lawful_values, common_steps)
-
-pub ruleset nodes = (lawful_tree, common_steps)
+pub ruleset nodes = (lawful_tree, no_object, common_steps)

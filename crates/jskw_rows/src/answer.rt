@@ -38,7 +38,7 @@ impl Said {
     }
 
     /// Appends what `validate` says, unless an error was said before.
-    pub(crate) fn push_first<F: Json>(&mut self, answer: Result<(), Fault<F>>) {
+    pub(crate) fn push_first<F: Json>(&mut self, answer: &Result<(), Fault<F>>) {
         if self.first.text.as_str().is_empty() {
             self.first.push_first(answer);
         }
@@ -129,7 +129,7 @@ where
         None => lines.text.push("nothing"),
         Some(Ok(compiled)) => say(lines, compiled, asked),
         Some(Err(CompileFault::Bad(error))) => lines.push_refusal(error),
-        Some(Err(CompileFault::Memory(error))) => lines.text.keep(Err(*error)),
+        Some(Err(CompileFault::Memory(_))) => lines.text.cut(),
     }
     drop(compiled);
 }

@@ -1,5 +1,5 @@
-//! A representation of the rows: its nodes count how often they are asked whether they are null, and
-//! its objects have their members by place. Calls over it.
+//! A representation whose nodes count how often they are asked whether they are null, and how often
+//! observers ask that.
 ghost use Rattle.std.specs.Prelude.{string_bytes};
 ghost use Rattle.jskw_rows.specs.Asks.{asked_tree};
 
@@ -12,18 +12,16 @@ use jskw_array::compiler::compile;
 use jskw_report::{Context, Fault, LazyLocation, ValidationContext};
 use jskw_value::{Array, Decimal, Json, JsonType, Node, Object, Rooted, Walk};
 use serde_json::Value;
-use std::alloc::{AllocError, Global};
+use std::alloc::Global;
 use std::cell::Cell;
 
-/// Null or an array, with how often it was asked whether it is null; or an object.
+/// Null or an array, with how often it was asked whether it is null.
 #[derive(Drop)]
 pub(crate) enum Asked {
     /// null
     Null(Cell<u64>),
     /// an array
     Array(Cell<u64>, Vec<Asked>),
-    /// the object with `x` and `y`, which are this
-    Pair(Box<Asked>),
 }
 
 /// The representation whose nodes are these.
@@ -53,7 +51,6 @@ impl Asked {
                 }
                 count
             }
-            Asked::Pair(both) => both.take_count(),
         }
     }
 }
@@ -79,50 +76,34 @@ impl Array for Asked {
     }
 }
 
-#[tactic(auto, using(crate::proofs::Asks::objects))]
+#[tactic(auto, using(crate::proofs::Asks::nodes))]
 impl Object for Asked {
     type PreparedKey = String;
 
     ghost key_name = { string_bytes };
 
     fn len(&self) -> usize {
-        match self {
-            Asked::Pair(_) => 2,
-            _ => unreachable!(),
-        }
+        unreachable!()
     }
 
-    fn name_at(&self, place: usize) -> &str {
-        match self {
-            Asked::Pair(_) if place == 0 => "x",
-            Asked::Pair(_) => "y",
-            _ => unreachable!(),
-        }
+    fn name_at(&self, _place: usize) -> &str {
+        unreachable!()
     }
 
     fn member_at(&self, _place: usize) -> &Asked {
-        match self {
-            Asked::Pair(both) => both,
-            _ => unreachable!(),
-        }
+        unreachable!()
     }
 
     fn walk(&self) -> Walk<'_, Asked> {
-        // `len` is what says that the names are distinct.
-        let _count = Object::len(self);
         Walk::by_place(self)
     }
 
-    fn find(&self, name: &str) -> Option<&Asked> {
-        match self {
-            Asked::Pair(both) if name == "x" || name == "y" => Some(both),
-            Asked::Pair(_) => None,
-            _ => unreachable!(),
-        }
+    fn find(&self, _name: &str) -> Option<&Asked> {
+        unreachable!()
     }
 
-    fn get(&self, key: &String) -> Option<&Asked> {
-        self.find(key.as_str())
+    fn get(&self, _key: &String) -> Option<&Asked> {
+        unreachable!()
     }
 }
 
@@ -134,14 +115,12 @@ impl Node for Asked {
         match self {
             Asked::Null(_) => JsonType::Null,
             Asked::Array(_, _) => JsonType::Array,
-            Asked::Pair(_) => JsonType::Object,
         }
     }
 
     fn is_null(&self) -> bool {
         match self {
             Asked::Null(asks) | Asked::Array(asks, _) => asks.set(asks.get().saturating_add(1)),
-            Asked::Pair(_) => {}
         }
         matches!(self, Asked::Null(_))
     }
@@ -151,7 +130,7 @@ impl Node for Asked {
     }
 
     fn is_object(&self) -> bool {
-        matches!(self, Asked::Pair(_))
+        false
     }
 
     fn as_boolean(&self) -> Option<bool> {
@@ -211,46 +190,12 @@ fn counts(lines: &mut Lines, node: &SchemaNode<AskedJson>, tree: &Asked) -> [u64
     let _ = node.is_valid(tree, &mut ctx);
     let is_valid = tree.take_count();
     let first = node.validate(tree, &mut location, &mut ctx);
-    let runs_out = matches!(first, Err(Fault::Memory(_)));
     let validate = tree.take_count();
-    let collected = node.collect_errors(tree, &mut location, &mut ctx, &mut Vec::new(alloc));
-    lines.text.keep(collected);
+    let all = node.collect_errors(tree, &mut location, &mut ctx, &mut Vec::new(alloc));
     let collect_errors = tree.take_count();
-    let evaluated = node.evaluate_instance(alloc, tree, &mut ctx);
-    if runs_out || evaluated.is_err() {
-        lines.text.keep(Err(AllocError));
+    let evaluation = node.evaluate_instance(alloc, tree, &mut ctx);
+    if matches!(first, Err(Fault::Memory(_))) | all.is_err() | evaluation.is_err() {
+        lines.text.cut();
     }
     [is_valid, validate, collect_errors, tree.take_count()]
-}
-
-// The names and the texts of the members of a value, and of an object that is walked over by place;
-// whether that object and an array of a null are equal to the value, and to one another.
-pub(crate) fn walks(lines: &mut Lines, value: &Value) {
-    push_members(&mut lines.text, value);
-    if let Some((pair, nulls)) = &lines.text.made(pair_and_nulls(lines.alloc)) {
-        lines.text.push(" ");
-        push_members(&mut lines.text, pair);
-        let (is_pair, is_array) = (pair.equals_value(value), nulls.equals_value(value));
-        write!(lines.text, " {is_pair} {is_array} {}", nulls.equals(pair));
-    }
-}
-
-// Returns an object of nulls, and an array of a null.
-fn pair_and_nulls(alloc: Global) -> Made<(Asked, Asked)> {
-    let (null, item) = (Asked::Null(Cell::new(0)), Asked::Null(Cell::new(0)));
-    let pair = Asked::Pair(Box::new(alloc, null)?);
-    Ok((
-        pair,
-        Asked::Array(Cell::new(0), Vec::from_array(alloc, [item])?),
-    ))
-}
-
-// Appends the names of an object's members, each followed by its member's text.
-fn push_members<N: Node>(text: &mut Text, node: &N) {
-    if node.is_object() {
-        for (name, member) in node.walk() {
-            text.push(name);
-            text.push_json(member);
-        }
-    }
 }

@@ -31,10 +31,6 @@ pub(crate) struct Given<'v> {
 pub(crate) struct Arguments<'v>(&'v [Value], &'v Value, &'v DecimalTree);
 
 impl<'v> Arguments<'v> {
-    fn count(self) -> usize {
-        self.0.len()
-    }
-
     pub(crate) fn instance(self) -> &'v DecimalTree {
         self.2
     }
@@ -79,58 +75,86 @@ fn check_call(tally: &mut Tally, name: &str, call: &Value) {
     let Some([arguments @ .., Value::String(wanted)]) = parts else {
         return tally.tell_wrong("a call without an answer", name);
     };
-    let (mut asks, mut found) = (Text::new(tally.alloc), Lines::new(tally.alloc, false, true));
+    let mut asks = Text::new(tally.alloc);
     write!(asks, "{name} ");
     asks.push_made(call.to_string(tally.alloc));
     tally.take_row("a call", asks.as_str());
-    let instance = found.text.made(tree_of(tally.alloc, arguments.last()));
-    let instance = &instance.flatten().unwrap_or(DecimalTree::Null);
-    answer(
-        &mut found,
-        name,
-        Arguments(arguments, &Value::Null, instance),
-    );
+    check_answer(tally, name, arguments, wanted);
+}
+
+fn check_answer(tally: &mut Tally, name: &str, arguments: &[Value], wanted: &str) {
+    let mut found = Lines::new(tally.alloc, false, true);
+    let instance = tree_of(&mut found, arguments.last().unwrap_or(&Value::Null));
+    let arguments = Arguments(arguments, &Value::Null, &instance);
+    answer(&mut found, name, arguments);
     tally.compare("answered", wanted, found.text.as_str());
 }
 
-// Returns the tree of a value, or of the decimals that are written in its member `decimal`, if there is
-// a value without floats.
-fn tree_of(alloc: Global, value: Option<&Value>) -> Made<Option<DecimalTree>> {
-    let value = value.unwrap_or(&Value::Null);
-    match value.get("decimal") {
-        Some(decimals) => decimals_of(alloc, decimals),
-        None => DecimalTree::from_value(alloc, value),
-    }
+// Returns the tree of a value, or of the decimals that are written in its member `decimal`; null if
+// there is a float.
+fn tree_of(lines: &mut Lines, value: &Value) -> DecimalTree {
+    let tree = match value.get("decimal") {
+        Some(decimals) => decimals_of(lines.alloc, decimals),
+        None => DecimalTree::from_value(lines.alloc, value),
+    };
+    lines.text.made(tree).flatten().unwrap_or(DecimalTree::Null)
 }
+
+// The calls, and how many arguments each has.
+const CALLS: [(&str, usize); 22] = [
+    ("Decimal::new", 2),
+    ("Decimal", 3),
+    ("Node of decimals", 2),
+    ("Members", 2),
+    ("PropertyName", 1),
+    ("fingerprint::of_whole", 2),
+    ("Location", 2),
+    ("LazyLocation", 1),
+    ("ValidationError::message", 1),
+    ("AllocError", 0),
+    ("EvaluationResult", 0),
+    ("reply_to", 1),
+    ("run over a device that fails", 3),
+    ("Walk::by_place", 1),
+    ("Limit::from", 1),
+    ("new", 2),
+    ("Settings", 3),
+    ("Context", 2),
+    ("map_get_u64", 3),
+    ("enum", 4),
+    ("additional_items::compile", 3),
+    ("how often nodes are asked", 6),
+];
 
 // Appends the answer of a call.
 fn answer(lines: &mut Lines, name: &str, all: Arguments<'_>) {
-    match (name, all.count()) {
-        ("Decimal::new", 2) => values::made(lines, all),
-        ("Decimal", 3) => values::decimal(lines, all),
-        ("Node", 1) => values::node(lines, all.value(0)),
-        ("Node::equals", 2) => values::equal(lines, all.value(0), all.value(1)),
-        ("Node of decimals", 2) => values::decimals(lines, all.value(0), all.value(1)),
-        ("Members", 2) => values::members(lines, all.value(0), all.items(1)),
-        ("PropertyName", 1) => values::names(lines, all.items(0)),
-        ("fingerprint::of_whole", 2) => values::prints(lines, all.value(0), all.value(1)),
+    if !CALLS.contains(&(name, all.0.len())) {
+        return lines.text.push(UNKNOWN);
+    }
+    match name {
+        "Decimal::new" => values::made(lines, all),
+        "Decimal" => values::decimal(lines, all),
+        "Node of decimals" => values::decimals(lines, all.value(0), all.value(1)),
+        "Members" => values::members(lines, all.value(0), all.items(1)),
+        "PropertyName" => values::names(lines, all.items(0)),
+        "fingerprint::of_whole" => values::prints(lines, all.value(0), all.value(1)),
         _ => answer_of_names(lines, name, all),
     }
 }
 
 // Appends the answer of a call of locations, errors, devices or validators.
 fn answer_of_names(lines: &mut Lines, name: &str, all: Arguments<'_>) {
-    match (name, all.count()) {
-        ("Location", 2) => reports::locations(lines, all.items(0), all.items(1)),
-        ("LazyLocation", 1) => reports::stack(lines, all.items(0)),
-        ("ValidationError::message", 1) => reports::messages(lines, all.value(0)),
-        ("AllocError", 0) => reports::wanting(lines),
-        ("EvaluationResult", 0) => reports::unit(lines),
-        ("reply_to", 1) => devices::reply(lines, all.items(0)),
-        ("run over a device that fails", 3) => devices::ended(lines, all),
-        ("Walk::by_place", 1) => asked::walks(lines, all.value(0)),
-        ("Limit::from", 1) => compiled::limits(lines, all.value(0)),
-        ("new", 2) => compiled::made(lines, all),
+    match name {
+        "Location" => reports::locations(lines, all.items(0), all.items(1)),
+        "LazyLocation" => reports::stack(lines, all.items(0)),
+        "ValidationError::message" => reports::messages(lines, all.value(0)),
+        "AllocError" => reports::wanting(lines),
+        "EvaluationResult" => reports::unit(lines),
+        "reply_to" => devices::reply(lines, all.items(0)),
+        "run over a device that fails" => devices::ended(lines, all),
+        "Walk::by_place" => values::walks(&mut lines.text, all.value(0)),
+        "Limit::from" => compiled::limits(lines, all.value(0)),
+        "new" => compiled::made(lines, all),
         _ => answer_of_settings(lines, name, all),
     }
 }
@@ -148,13 +172,13 @@ fn answer_of_settings(lines: &mut Lines, name: &str, all: Arguments<'_>) {
 }
 
 fn answer_given(lines: &mut Lines, given: Given<'_>, name: &str, all: Arguments<'_>) {
-    match (name, all.count()) {
-        ("Settings", 3) => reports::settings(lines, given, all.text(2)),
-        ("Context", 2) => reports::contexts(lines, given),
-        ("map_get_u64", 3) => compiled::bound(lines, given, all.text(2)),
-        ("enum", 4) => compiled::options(lines, given, all),
-        ("additional_items::compile", 3) => compiled::additional(lines, given, all),
-        ("how often nodes are asked", 6) => asked::counted(lines, given, all),
+    match name {
+        "Settings" => reports::settings(lines, given, all.text(2)),
+        "Context" => reports::contexts(lines, given),
+        "map_get_u64" => compiled::bound(lines, given, all.text(2)),
+        "enum" => compiled::options(lines, given, all),
+        "additional_items::compile" => compiled::additional(lines, given, all),
+        "how often nodes are asked" => asked::counted(lines, given, all),
         _ => lines.text.push(UNKNOWN),
     }
 }

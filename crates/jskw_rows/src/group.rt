@@ -3,7 +3,6 @@ use crate::made::array_of;
 use crate::members::{Members, is_true, items, known, one_of, settings_of, text, wanted};
 use crate::row::{self, Subject};
 use crate::tally::Tally;
-use crate::text::Text;
 use crate::{calls, requests};
 use jskw_leaf::is_leaf;
 use jskw_report::{Context, KeywordName, Settings};
@@ -21,8 +20,7 @@ const TEST: &str = "description data each made decimals valid errors float evalu
 /// Asks the rows of a group.
 pub(crate) fn check(tally: &mut Tally, group: &Value) {
     let description = group.get("description").and_then(Value::as_str);
-    tally.group = Text::new(tally.alloc);
-    tally.group.push(description.unwrap_or("no description"));
+    tally.group.set(description.unwrap_or("no description"));
     wanted(tally, description, "description");
     if group.get("requests").is_some() {
         return requests::check(tally, group);

@@ -121,12 +121,13 @@ fn push_leaf<F: Json, V: Validate<F> + Drop>(
     said.errors.text.keep(location.push(7));
     let asked = &leaf.validator;
     said.holds = asked.is_valid(instance, &mut ctx) && said.holds;
-    said.push_first(asked.validate(instance, &mut location, &mut ctx));
+    let first = asked.validate(instance, &mut location, &mut ctx);
+    said.push_first(&first);
     let mut errors = Vec::new(alloc);
     let made = asked.collect_errors(instance, &mut location, &mut ctx, &mut errors);
     said.push_errors(made, &errors);
-    said.tree
-        .push_tree(1, evaluated(alloc, leaf, instance, &mut location));
+    let node = evaluated(alloc, leaf, instance, &mut location);
+    said.tree.push_tree(1, &node);
 }
 
 // Returns the node of a keyword's evaluation.
@@ -138,9 +139,9 @@ fn evaluated<F: Json, V: Validate<F> + Drop>(
 ) -> Made<EvaluationNode>
     requires { IsTrue (is_lawful (F.Node.tree instance.now)) }
 {
-    let mut ctx = ValidationContext::new();
+    let (at, mut ctx) = (location.render()?, ValidationContext::new());
     let unit = leaf
         .validator
         .evaluate(alloc, instance, location, &mut ctx)?;
-    EvaluationNode::new(alloc, unit, &leaf.location, &location.render()?)
+    EvaluationNode::new(alloc, unit, &leaf.location, &at)
 }

@@ -58,11 +58,11 @@ impl Lines {
     }
 
     /// Appends the line of the error that `validate` returned, if any.
-    pub(crate) fn push_first<F: Json>(&mut self, answer: Result<(), Fault<F>>) {
-        match &answer {
+    pub(crate) fn push_first<F: Json>(&mut self, answer: &Result<(), Fault<F>>) {
+        match answer {
             Ok(()) => {}
             Err(Fault::Invalid(error)) => self.push_error(error),
-            Err(Fault::Memory(error)) => self.text.keep(Err(*error)),
+            Err(Fault::Memory(_)) => self.text.cut(),
         }
     }
 
@@ -88,26 +88,29 @@ impl Lines {
         push_kind(self.alloc, &mut self.text, error.kind());
         let is_same = error.evaluation_path() == error.schema_path();
         let by = self.behind("/items", error.schema_path());
-        write!(self.text, " at {at} by {by}");
-        self.text.push_if(!is_same, " of another path");
-        self.text.push(" of ");
+        push_places(&mut self.text, at, by, is_same);
     }
 
     // Ends the line, with the message if it is to be written.
     fn push_end<F: Json>(&mut self, error: &ValidationError<F>) {
-        if let Some(message) = &self.text.made(error.message(self.alloc)) {
-            self.text.push_if(self.has_messages, ", ");
-            self.text.push_if(self.has_messages, message);
-            write!(self.described, "{}: {message}\n", error.kind().keyword());
-        }
+        let mut message = Text::new(self.alloc);
+        message.push_made(error.message(self.alloc));
+        self.text.push_if(self.has_messages, ", ");
+        self.text.push_if(self.has_messages, message.as_str());
         self.text.push("\n");
+        self.push_description(error.kind().keyword(), message.as_str());
+    }
+
+    // Appends the keyword and the message of an error, as an evaluation describes it.
+    fn push_description(&mut self, keyword: &str, message: &str) {
+        write!(self.described, "{keyword}: {message}\n");
     }
 
     /// Appends the lines of an evaluation, which is made or not.
-    pub(crate) fn push_tree(&mut self, depth: usize, node: Made<EvaluationNode>) {
-        match &node {
+    pub(crate) fn push_tree(&mut self, depth: usize, node: &Made<EvaluationNode>) {
+        match node {
             Ok(node) => self.push_nodes(depth, node),
-            Err(error) => self.text.keep(Err(*error)),
+            Err(_) => self.text.cut(),
         }
     }
 
@@ -127,9 +130,8 @@ impl Lines {
         self.push_place(node);
         push_annotation(&mut self.text, node.annotations());
         for error in node.errors() {
-            let (keyword, message) = (error.keyword(), error.message());
-            write!(self.text, " error {keyword}");
-            write!(self.described, "{keyword}: {message}\n");
+            write!(self.text, " error {}", error.keyword());
+            self.push_description(error.keyword(), error.message());
         }
         self.text.push("\n");
     }
@@ -147,6 +149,12 @@ impl Lines {
         self.text.push_if(!at.is_empty(), " at ");
         self.text.push(at);
     }
+}
+
+fn push_places(text: &mut Text, at: &str, by: &str, is_same: bool) {
+    write!(text, " at {at} by {by}");
+    text.push_if(!is_same, " of another path");
+    text.push(" of ");
 }
 
 // Appends the keyword of a kind and its payload as JSON, `true` for one without.

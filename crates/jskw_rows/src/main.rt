@@ -22,6 +22,7 @@ mod whole;
 
 use jskw_service::read_value;
 use serde_json::Value;
+use std::fs::DirEntry;
 use std::process::ExitCode;
 use std::{env, fs, io};
 use tally::Tally;
@@ -31,18 +32,16 @@ use text::Text;
 fn file_names(rt: &HostRuntime, folder: &str) -> io::Result<Vec<String>> {
     let mut names = Vec::new(rt.alloc());
     for entry in fs::read_dir(rt, folder)? {
-        push_name(
-            &mut names,
-            String::from_str(rt.alloc(), entry?.file_name())?,
-        )?;
+        push_name(&mut names, entry)?;
     }
     names.sort()?;
     Ok(names)
 }
 
-fn push_name(names: &mut Vec<String>, name: String) -> io::Result<()> {
-    if name.as_str().ends_with(".json") {
-        names.push(name)?;
+fn push_name(names: &mut Vec<String>, entry: io::Result<DirEntry>) -> io::Result<()> {
+    let entry = entry?;
+    if entry.file_name().ends_with(".json") {
+        names.push(String::from_str(*names.allocator(), entry.file_name())?)?;
     }
     Ok(())
 }
@@ -63,10 +62,7 @@ fn check_text(tally: &mut Tally, text: &str) {
 fn check_file(rt: &HostRuntime, tally: &mut Tally, folder: &str, name: &str) -> io::Result<()> {
     let path = format!(in rt.alloc(); "{folder}/{name}")?;
     let text = fs::read_to_string(rt, path.as_str())?;
-    tally.file = Text::new(rt.alloc());
-    tally.file.push(name);
-    tally.group = Text::new(rt.alloc());
-    tally.told = Text::new(rt.alloc());
+    tally.begin_file(name);
     let before = tally.rows;
     check_text(tally, text.as_str());
     let rows = tally.rows.saturating_sub(before);

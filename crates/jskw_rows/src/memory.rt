@@ -18,7 +18,7 @@ use jskw_value::{
 use observers::compile_and_ask;
 use printed::Printer;
 use serde_json::Value;
-use std::alloc::{AllocError, Global};
+use std::alloc::Global;
 
 /// Prints the name of a line and makes its calls. Returns whether it says what to do.
 pub(crate) fn make(rt: &HostRuntime, line: &str) -> bool {
@@ -32,8 +32,13 @@ fn make_line(rt: &HostRuntime, items: &[Value]) -> bool {
     let [Value::String(line), Value::String(kind), arguments @ ..] = items else {
         return false;
     };
-    let is_right = true;
-    let mut to = Printer { rt, kind, is_right };
+    let of_decimals = kind.strip_suffix(" of decimals");
+    let mut to = Printer {
+        rt,
+        kind: of_decimals.unwrap_or(kind),
+        is_of_decimals: of_decimals.is_some(),
+        is_right: true,
+    };
     write!(to, "{line}\n");
     make_calls(&mut to, arguments);
     to.is_right
@@ -60,7 +65,7 @@ fn make_calls_of_schema(to: &mut Printer<'_>, arguments: &[Value]) {
 
 // Makes the calls of a kind that takes a schema and an instance.
 fn ask_schema(to: &mut Printer<'_>, settings: &Settings, schema: &Value, instance: &Value) {
-    if !to.kind.ends_with("of decimals") {
+    if !to.is_of_decimals {
         return compile_and_ask::<SerdeJson>(to, settings, schema, instance);
     }
     match &DecimalTree::from_value(to.alloc(), instance) {
@@ -104,27 +109,33 @@ fn ask_tree(to: &mut Printer<'_>, value: &Value) {
 // Inserts one more member behind those of the names, each with its place in the line, and prints the
 // pair and the members before and afterwards. A name that is there already takes no memory.
 fn insert(to: &mut Printer<'_>, names: &[Value], name: &str) {
-    let (alloc, number) = (to.alloc(), Decimal::from(names.len() as u64));
+    let number = DecimalTree::Number(Decimal::from(names.len() as u64));
     write!(to, "before\n");
-    print_pair(to, name, &DecimalTree::Number(number));
-    match members_of(alloc, names) {
-        Ok(members) => to.print_node(&DecimalTree::Object(members)),
-        Err(_) => to.check(false),
-    }
-    match (members_of(alloc, names), String::from_str(alloc, name)) {
+    print_pair(to, name, &number);
+    let name = String::from_str(to.alloc(), name);
+    match (members_of(to.alloc(), names), name) {
         (Ok(members), Ok(name)) => insert_into(to, members, name, number),
         _ => to.check(false),
     }
 }
 
-fn insert_into(to: &mut Printer<'_>, mut members: Members, name: String, number: Decimal) {
-    to.announce("insert", members.get(&name).is_none());
-    let inserted = members.insert(name, DecimalTree::Number(number));
+fn insert_into(to: &mut Printer<'_>, members: Members, name: String, number: DecimalTree) {
+    let mut object = DecimalTree::Object(members);
+    to.print_node(&object);
+    if let DecimalTree::Object(members) = &mut object {
+        to.announce("insert", members.get(&name).is_none());
+        let inserted = members.insert(name, number);
+        print_inserted(to, &inserted);
+    }
+    to.print_node(&object);
+}
+
+// Says whether a member was inserted, and prints the pair if it was not.
+fn print_inserted(to: &mut Printer<'_>, inserted: &Result<(), InsertFault<DecimalTree>>) {
     to.tell(matches!(inserted, Err(InsertFault::Memory(_, _))));
-    if let Err(InsertFault::Repeated(name, value) | InsertFault::Memory(name, value)) = &inserted {
+    if let Err(InsertFault::Repeated(name, value) | InsertFault::Memory(name, value)) = inserted {
         print_pair(to, name, value);
     }
-    to.print_node(&DecimalTree::Object(members));
 }
 
 // Makes members of pairs of a name and its text, and prints them, or all pairs and the place of the
@@ -167,16 +178,10 @@ fn members_of(alloc: Global, names: &[Value]) -> Made<Members> {
     let mut members = Members::new(alloc);
     for (place, name) in names.iter().enumerate() {
         let name = String::from_str(alloc, name.as_str().unwrap_or(""))?;
-        insert_one(&mut members, name, place as u64)?;
+        // the members are printed, so that it shows if one is not there for want of memory
+        let _ = members.insert(name, DecimalTree::Number(Decimal::from(place as u64)));
     }
     Ok(members)
-}
-
-fn insert_one(members: &mut Members, name: String, number: u64) -> Made<()> {
-    match members.insert(name, DecimalTree::Number(Decimal::from(number))) {
-        Err(InsertFault::Memory(_, _)) => Err(AllocError),
-        _ => Ok(()),
-    }
 }
 
 fn print_pair(to: &mut Printer<'_>, name: &str, value: &DecimalTree) {

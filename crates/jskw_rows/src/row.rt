@@ -39,23 +39,34 @@ pub(crate) struct Row<'r> {
 /// Asks a row of an instance, of which some texts may stand for decimals. `run`, which reads no
 /// decimals, is not asked of these.
 pub(crate) fn check(tally: &mut Tally, subject: Subject<'_>, test: &Members, instance: &Value) {
-    let name = text(tally, test, "description");
     let has_decimals = is_true(tally, test, "decimals");
     let request = request_of(tally.alloc, subject, instance);
-    let (request, layer) = (request.as_str(), subject.object_layer);
-    let mut question = Text::new(tally.alloc);
-    write!(question, "{request}, {layer}, decimals: {has_decimals}");
-    tally.take_row(name, question.as_str());
-    let wanted = &Wanted::of(tally, test, instance);
+    take_row(tally, subject, test, request.as_str(), has_decimals);
+    let wanted = Wanted::of(tally, test, instance);
     let row = Row {
         subject,
         test,
-        wanted,
+        wanted: &wanted,
     };
     check_all(tally, &row, instance, has_decimals);
     if subject.by_run && !has_decimals {
-        check_run(tally, request, wanted.output.as_str());
+        check_run(tally, request.as_str(), wanted.output.as_str());
     }
+}
+
+// Takes what a row asks, which no other may ask.
+fn take_row(
+    tally: &mut Tally,
+    subject: Subject<'_>,
+    test: &Members,
+    request: &str,
+    has_decimals: bool,
+) {
+    let name = text(tally, test, "description");
+    let mut question = Text::new(tally.alloc);
+    let layer = subject.object_layer;
+    write!(question, "{request}, {layer}, decimals: {has_decimals}");
+    tally.take_row(name, question.as_str());
 }
 
 // Asks a row over each representation.

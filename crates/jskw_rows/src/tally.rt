@@ -36,6 +36,13 @@ impl Tally {
         }
     }
 
+    /// Takes the name of a file whose rows are asked next.
+    pub(crate) fn begin_file(&mut self, name: &str) {
+        self.file.set(name);
+        self.group.set("");
+        self.told.set("");
+    }
+
     /// Takes the name of a test in a part of the group, which no other of the file may have.
     pub(crate) fn take_name(&mut self, part: &str, test: &str) {
         let (file, group) = (self.file.as_str(), self.group.as_str());
@@ -46,8 +53,8 @@ impl Tally {
     /// Counts a row, and takes what it asks, which no other row of any file may ask.
     pub(crate) fn take_row(&mut self, test: &str, question: &str) {
         self.rows = self.rows.saturating_add(1);
-        self.row = Text::new(self.alloc);
-        write!(self.row, "{test}: {question}");
+        self.row.set(test);
+        write!(self.row, ": {question}");
         let taken = String::from_str(self.alloc, question);
         self.take(taken, "a row that stands elsewhere too", question);
     }

@@ -35,6 +35,13 @@ impl Text {
         self.keep(pushed);
     }
 
+    /// Puts another text in the place of this one.
+    pub(crate) fn set(&mut self, text: &str) {
+        self.text.clear();
+        self.is_cut = false;
+        self.push(text);
+    }
+
     /// Appends a text if something is so.
     pub(crate) fn push_if(&mut self, is_so: bool, part: &str) {
         if is_so {
@@ -58,8 +65,13 @@ impl Text {
     pub(crate) fn push_made(&mut self, part: Made<String>) {
         match part {
             Ok(part) => self.push(part.as_str()),
-            Err(_) => self.is_cut = true,
+            Err(_) => self.cut(),
         }
+    }
+
+    /// Notes that memory ran out in what belongs to this text.
+    pub(crate) fn cut(&mut self) {
+        self.is_cut = true;
     }
 
     /// Notes whether memory ran out in what belongs to this text.

@@ -80,10 +80,10 @@ fn observe<F: Json>(said: &mut Said, node: &SchemaNode<F>, instance: &F::Node)
     let (mut location, mut errors) = (LazyLocation::new(alloc), Vec::new(alloc));
     said.holds = node.is_valid(instance, &mut said.contexts[0]);
     let first = node.validate(instance, &mut location, &mut said.contexts[1]);
-    said.push_first(first);
+    said.push_first(&first);
     let ctx = &mut said.contexts[2];
     let made = node.collect_errors(instance, &mut location, ctx, &mut errors);
     said.push_errors(made, &errors);
     let tree = node.evaluate_instance(alloc, instance, &mut said.contexts[3]);
-    said.tree.push_tree(0, tree);
+    said.tree.push_tree(0, &tree);
 }

@@ -81,7 +81,7 @@ fn push_made(lines: &mut Lines, name: &str, at: Location, item: &DecimalTree) {
 fn push_said<V: Validate<DecimalJson> + Drop>(lines: &mut Lines, validator: V, item: &DecimalTree) {
     let (mut location, mut ctx) = (LazyLocation::new(lines.alloc), ValidationContext::new());
     lines.text.keep(location.push(7));
-    lines.push_first(validator.validate(item, &mut location, &mut ctx));
+    lines.push_first(&validator.validate(item, &mut location, &mut ctx));
     let is_valid = lines.text.as_str().is_empty();
     lines.text.push_if(is_valid, "valid");
 }

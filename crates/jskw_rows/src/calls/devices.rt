@@ -144,9 +144,9 @@ pub(super) fn reply(lines: &mut Lines, parts: &[Value]) {
 fn bytes_of(alloc: Global, parts: &[Value]) -> Made<Option<Vec<u8>>> {
     let mut bytes = Vec::new(alloc);
     for part in parts {
-        match (part.as_str(), part.as_u64().map(u8::try_from)) {
+        match (part.as_str(), part.as_u64()) {
             (Some(text), _) => bytes.extend_from_slice(text.as_bytes())?,
-            (None, Some(Ok(byte))) => bytes.push(byte)?,
+            (None, Some(byte @ 0..256)) => bytes.push(byte as u8)?,
             _ => return Ok(None),
         }
     }

@@ -4,11 +4,10 @@ use crate::lines::{Lines, TYPES};
 use crate::text::{Made, Text};
 use jskw_report::Vocabulary::{Applicator, Core, Validation};
 use jskw_report::compiler::member_of;
-use jskw_report::validator::evaluate_first;
 use jskw_report::{
     Annotations, CompileFault, Context, EnumOptions, ErrorDescription, EvaluationNode,
-    EvaluationResult, Fault, LazyLocation, Location, LocationSegment, Report, Stop, TypeKind,
-    ValidationContext, ValidationError, ValidationErrorKind, VocabularySet,
+    EvaluationResult, Fault, LazyLocation, Location, LocationSegment, TypeKind, ValidationContext,
+    ValidationError, ValidationErrorKind, VocabularySet,
 };
 use jskw_service::vocabularies_of;
 use jskw_value::{
@@ -80,10 +79,14 @@ fn push_context(text: &mut Text, ctx: &Context<'_, SerdeJson>) {
 pub(super) fn locations(lines: &mut Lines, left: &[Value], right: &[Value]) {
     let (left, right) = (joined(lines.alloc, left), joined(lines.alloc, right));
     if let (Ok(left), Ok(right)) = (&left, &right) {
-        let copy = lines.text.made(left.copy(lines.alloc));
-        let (is_equal, is_copy) = (left == right, copy.as_ref() == Some(right));
-        write!(lines.text, "{} {is_equal} {is_copy}", left.as_str());
+        push_locations(lines, left, right);
     }
+}
+
+fn push_locations(lines: &mut Lines, left: &Location, right: &Location) {
+    let copy = lines.text.made(left.copy(lines.alloc));
+    let (is_equal, is_copy) = (left == right, copy.as_ref() == Some(right));
+    write!(lines.text, "{} {is_equal} {is_copy}", left.as_str());
 }
 
 // Returns the location of steps: numbers go to items, texts to members.
@@ -136,33 +139,22 @@ fn push_message(lines: &mut Lines, kind: ValidationErrorKind<'_>) {
     lines.text.push(";");
 }
 
-// Whether want of memory is a fault of its own, and an error where errors are appended and where a
-// unit is made; and the constants of each representation and of each nullability.
+// Whether want of memory is a fault of its own; and the constants of each representation and of each
+// nullability.
 pub(super) fn wanting(lines: &mut Lines) {
     let is_fault = matches!(Fault::<SerdeJson>::from(AllocError), Fault::Memory(_));
     let is_compile_fault = matches!(CompileFault::from(AllocError), CompileFault::Memory(_));
     write!(lines.text, "{is_fault} {is_compile_fault}");
-    push_wanting_unit(lines);
     let (serde, decimals) = (SerdeJson::KEYS_PER_LOOKUP, DecimalJson::KEYS_PER_LOOKUP);
     let (with_null, without) = (Nullable::ACCEPTS_NULL, NotNullable::ACCEPTS_NULL);
     write!(lines.text, ", {serde} {decimals}, {with_null} {without}");
-}
-
-fn push_wanting_unit(lines: &mut Lines) {
-    let is_unit = evaluate_first::<SerdeJson>(lines.alloc, Err(Fault::Memory(AllocError))).is_ok();
-    let mut errors: Vec<ValidationError<SerdeJson>> = Vec::new(lines.alloc);
-    let report = Report::behind(&mut errors);
-    let is_appended = report
-        .into_all(Err(Stop::Memory(AllocError)), &mut errors)
-        .is_ok();
-    write!(lines.text, " {is_appended} {is_unit} {}", errors.len());
 }
 
 // The lines of a node that is made by hand and of the errors that it describes; and the counts of a
 // context after no application, one and two.
 pub(super) fn unit(lines: &mut Lines) {
     let mut tree = lines.others();
-    tree.push_tree(0, node_by_hand(lines.alloc));
+    tree.push_tree(0, &node_by_hand(lines.alloc));
     lines.text.push(tree.text.as_str());
     lines.text.push(tree.described.as_str());
     let mut ctx = ValidationContext::new();
@@ -177,9 +169,11 @@ fn node_by_hand(alloc: Global) -> Made<EvaluationNode> {
     let by = Location::new(alloc).join(alloc, LocationSegment::Name("items"))?;
     let at = Location::new(alloc);
     let child = EvaluationNode::new(alloc, EvaluationResult::valid_empty(alloc), &by, &at)?;
+    let mut children = Vec::new(alloc);
+    children.push(child)?;
     let mut unit = EvaluationResult::Invalid {
         errors: errors_by_hand(alloc)?,
-        children: Vec::from_array(alloc, [child])?,
+        children,
         annotations: None,
     };
     unit.annotate(Annotations::Bool(true));
@@ -189,10 +183,9 @@ fn node_by_hand(alloc: Global) -> Made<EvaluationNode> {
 
 // Returns descriptions of two errors, of which one has a text.
 fn errors_by_hand(alloc: Global) -> Made<Vec<ErrorDescription>> {
+    let mut errors = Vec::new(alloc);
     let text = String::from_str(alloc, "a text")?;
-    let errors = [
-        ErrorDescription::new("type", text),
-        ErrorDescription::new("enum", String::new(alloc)),
-    ];
-    Ok(Vec::from_array(alloc, errors)?)
+    errors.push(ErrorDescription::new("type", text))?;
+    errors.push(ErrorDescription::new("enum", String::new(alloc)))?;
+    Ok(errors)
 }

@@ -1,7 +1,4 @@
 //! Calls of values: decimals, nodes, members and names.
-ghost use Rattle.std.specs.Prelude.{IsTrue};
-ghost use Rattle.jskw_value.specs.Tree.{is_object};
-
 use super::{Arguments, UNKNOWN};
 use crate::lines::Lines;
 use crate::made::array_of;
@@ -11,8 +8,7 @@ use jskw_value::fingerprint::of_whole;
 use jskw_value::laws::equal_values_have_one_fingerprint;
 use jskw_value::seed::seed_of;
 use jskw_value::{
-    Array, Decimal, DecimalJson, DecimalTree, Json, JsonNumber, JsonType, KeyHead, Node, Object,
-    PropertyName, SerdeJson,
+    Decimal, DecimalTree, JsonNumber, KeyHead, Members, Node, Object, PropertyName, Walk,
 };
 use serde_json::Value;
 use std::alloc::Global;
@@ -58,85 +54,6 @@ fn push_number<A: JsonNumber>(text: &mut Text, number: &A) {
     write!(text, "{is_integer} {written} {u64:?} {i64:?} {is_equal}");
 }
 
-// The type of a value, and what it is, over each representation that has it.
-pub(super) fn node(lines: &mut Lines, value: &Value) {
-    let (alloc, text) = (lines.alloc, &mut lines.text);
-    write!(text, "{:?} ", JsonType::from(value));
-    push_node::<SerdeJson>(alloc, text, value);
-    if let Some(Some(tree)) = &text.made(DecimalTree::from_value(alloc, value)) {
-        let mut other = Text::new(alloc);
-        write!(other, "{:?} ", JsonType::from(value));
-        push_node::<DecimalJson>(alloc, &mut other, tree);
-        let differs = text.as_str() != other.as_str();
-        text.push_if(differs, ", over decimals ");
-        text.push_if(differs, other.as_str());
-    }
-}
-
-// Appends what a node is, and its strings with their lengths, or what it says of its members.
-fn push_node<F: Json>(alloc: Global, text: &mut Text, node: &F::Node) {
-    for (kind, is_so) in &[
-        ("null", node.is_null()),
-        ("number", node.is_number()),
-        ("string", node.is_string()),
-        ("array", node.is_array()),
-        ("object", node.is_object()),
-        ("true", node.as_boolean() == Some(true)),
-        ("false", node.as_boolean() == Some(false)),
-        ("with a float", !node.is_lawful()),
-    ] {
-        if *is_so {
-            write!(text, "{kind} ");
-        }
-    }
-    for index in 0..node.item_count() {
-        push_string(text, node, index);
-    }
-    if node.is_object() {
-        push_members::<F>(alloc, text, node);
-    }
-}
-
-// Appends an item that is a string, and its length.
-fn push_string<N: Node>(text: &mut Text, node: &N, index: usize) {
-    if node.is_array() && index < Array::len(node) {
-        if let Some(item) = node.item(index).as_string() {
-            write!(text, "{item}{} ", item.len());
-        }
-    }
-}
-
-// Appends members by place, whether a key and a text find three names, and whether it is empty.
-fn push_members<F: Json>(alloc: Global, text: &mut Text, node: &F::Node)
-    requires { IsTrue (is_object (F.Node.tree node.now)) }
-{
-    for place in 0..Object::len(node) {
-        text.push(node.name_at(place));
-        text.push_json(node.member_at(place));
-    }
-    for name in &["", "b", "c"] {
-        push_found::<F>(alloc, text, node, name);
-    }
-    write!(text, " {}", node.is_empty());
-}
-
-fn push_found<F: Json>(alloc: Global, text: &mut Text, node: &F::Node, name: &str)
-    requires { IsTrue (is_object (F.Node.tree node.now)) }
-{
-    if let Some(key) = &text.made(F::prepare_key(alloc, name)) {
-        let (by_key, by_name) = (node.get(key).is_some(), node.find(name).is_some());
-        write!(text, " {by_key} {by_name}");
-    }
-}
-
-// Whether two values are equal, in both orders, and across representations.
-pub(super) fn equal(lines: &mut Lines, left: &Value, right: &Value) {
-    let tree = lines.text.made(DecimalTree::from_value(lines.alloc, left));
-    let across = tree.flatten().map(|tree| tree.equals_value(right));
-    let (equal, across_same) = (left.equals(right), right.equals_value(left));
-    write!(lines.text, "{equal} {across_same} {across:?}");
-}
-
 // The text of a value in which each text stands for a decimal, behind another text, and whether it is
 // equal to another value.
 pub(super) fn decimals(lines: &mut Lines, value: &Value, other: &Value) {
@@ -151,10 +68,14 @@ pub(super) fn decimals(lines: &mut Lines, value: &Value, other: &Value) {
 // Whether an object has no member, how many it has, and the members of some names.
 pub(super) fn members(lines: &mut Lines, object: &Value, names: &[Value]) {
     if let Ok(Some(DecimalTree::Object(members))) = &DecimalTree::from_value(lines.alloc, object) {
-        write!(lines.text, "{} {}", members.is_empty(), members.len());
-        for name in names {
-            push_member(&mut lines.text, members.get(name.as_str().unwrap_or("")));
-        }
+        push_members_of(&mut lines.text, members, names);
+    }
+}
+
+fn push_members_of(text: &mut Text, members: &Members, names: &[Value]) {
+    write!(text, "{} {}", members.is_empty(), members.len());
+    for name in names {
+        push_member(text, members.get(name.as_str().unwrap_or("")));
     }
 }
 
@@ -163,6 +84,23 @@ fn push_member(text: &mut Text, member: Option<&DecimalTree>) {
     match member {
         Some(member) => text.push_json(member),
         None => text.push("none"),
+    }
+}
+
+// The names of an object's members, each followed by its member's text: in the order of its own walk,
+// and by place.
+pub(super) fn walks(text: &mut Text, value: &Value) {
+    if value.is_object() {
+        push_members(text, value.walk());
+        text.push(" ");
+        push_members(text, Walk::by_place(value));
+    }
+}
+
+fn push_members(text: &mut Text, members: Walk<'_, Value>) {
+    for (name, member) in members {
+        text.push(name);
+        text.push_json(member);
     }
 }
 
@@ -199,15 +137,17 @@ fn push_matches(text: &mut Text, name: &PropertyName, others: &[Value]) {
 pub(super) fn prints(lines: &mut Lines, maker: &Value, other: &Value) {
     equal_values_have_one_fingerprint();
     match (&array_of(lines.alloc, maker), &array_of(lines.alloc, other)) {
-        (Some(array), Some(other)) => {
-            let seed = seed_of(array);
-            for seed in &[0, 1, seed] {
-                write!(lines.text, "{} ", count_like_first(array, *seed));
-            }
-            write!(lines.text, "{}", seed != seed_of(other));
-        }
+        (Some(array), Some(other)) => push_prints(&mut lines.text, array, other),
         _ => lines.text.push(UNKNOWN),
     }
+}
+
+fn push_prints(text: &mut Text, array: &Value, other: &Value) {
+    let seed = seed_of(array);
+    for seed in &[0, 1, seed] {
+        write!(text, "{} ", count_like_first(array, *seed));
+    }
+    write!(text, "{}", seed != seed_of(other));
 }
 
 // Returns how many items have the fingerprint of the first under a seed.

@@ -4,7 +4,6 @@ ghost use Rattle.std.specs.Prelude.{IsTrue};
 ghost use Rattle.jskw_value.specs.Tree.{is_lawful};
 
 use crate::leaves::{Leaf, compiled};
-use crate::lines::Lines;
 use crate::memory::printed::Printer;
 use crate::text::Made;
 use jskw_array::SchemaNode;
@@ -64,9 +63,7 @@ fn ask_compiled<F: Json, C: Observed<F> + Drop>(
         Err(CompileFault::Memory(_)) => to.tell(true),
         Err(CompileFault::Bad(error)) => {
             to.tell(false);
-            let mut lines = Lines::new(to.alloc(), false, true);
-            lines.push_refusal(error);
-            to.print_lines(lines.text.as_str());
+            to.print_refusal(error);
         }
     }
     drop(made);
@@ -75,13 +72,14 @@ fn ask_compiled<F: Json, C: Observed<F> + Drop>(
 impl<F: Json> Observed<F> for SchemaNode<F> {
     fn ask(&self, to: &mut Printer<'_>, instance: &F::Node) {
         to.tell(false);
-        match (to.kind, instance.is_lawful()) {
+        if !instance.is_lawful() {
+            return to.check(false);
+        }
+        match to.kind {
             // One of the schemas is `false`, whose compile takes no memory: no line says what it gave.
-            ("below", true) => ask_below(to, self, instance),
-            ("compile", true) => write!(to, "\tcompiled\n"),
-            ("schema" | "schema of decimals" | "leaves" | "leaves of decimals", true) => {
-                observe(to, self, instance);
-            }
+            "below" => ask_below(to, self, instance),
+            "compile" => write!(to, "\tcompiled\n"),
+            "schema" | "leaves" => observe(to, self, instance),
             _ => to.check(false),
         }
     }
@@ -110,14 +108,14 @@ fn ask_leaf<F: Json, V: Validate<F> + Drop>(
     to.announce(leaf.location.as_str(), false);
     let (asked, mut errors) = (&leaf.validator, Vec::new(to.alloc()));
     let is_valid = asked.is_valid(instance, &mut ctx);
-    let first = asked.validate(instance, &mut location, &mut ctx).is_ok();
+    let first = asked.validate(instance, &mut location, &mut ctx);
     let all = asked.collect_errors(instance, &mut location, &mut ctx, &mut errors);
-    let (all, count) = (all.is_ok(), errors.len());
-    let unit = is_valid_unit(asked.evaluate(to.alloc(), instance, &mut location, &mut ctx));
-    write!(to, ", answered {is_valid} {first} {all} {count} {unit}\n");
+    let unit = asked.evaluate(to.alloc(), instance, &mut location, &mut ctx);
+    let holds = is_valid & first.is_ok() & all.is_ok() & errors.is_empty() & is_valid_unit(&unit);
+    write!(to, ", answered {holds}\n");
 }
 
-fn is_valid_unit(unit: Made<EvaluationResult>) -> bool {
+fn is_valid_unit(unit: &Made<EvaluationResult>) -> bool {
     matches!(unit, Ok(EvaluationResult::Valid { .. }))
 }
 
@@ -142,12 +140,12 @@ fn observe<F: Json>(to: &mut Printer<'_>, node: &SchemaNode<F>, instance: &F::No
     write!(to, ", answered {is_valid}\n");
     to.announce("validate", !to.kind.starts_with("leaves"));
     let first = node.validate(instance, &mut location, &mut ctx);
-    to.print_first(first, &location);
+    to.print_first(&first, &location);
     collect_errors(to, node, instance, &mut location);
     to.announce("evaluate_instance", true);
     let tree = node.evaluate_instance(to.alloc(), instance, &mut ctx);
     to.tell(tree.is_err());
-    to.print_tree(tree);
+    to.print_tree(&tree);
 }
 
 // Asks for all errors, behind an old one.
@@ -188,5 +186,5 @@ fn ask_below<F: Json>(to: &mut Printer<'_>, node: &SchemaNode<F>, instance: &F::
     to.announce("evaluate_instance_below", true);
     let tree = node.evaluate_instance_below(to.alloc(), instance, &mut location, &mut ctx);
     to.tell_at(tree.is_err(), &location);
-    to.print_tree(tree);
+    to.print_tree(&tree);
 }

@@ -2,7 +2,7 @@
 use crate::lines::Lines;
 use crate::text::{Made, Text};
 use jskw_report::{EvaluationNode, Fault, LazyLocation, ValidationError};
-use jskw_value::{Json, Node};
+use jskw_value::{Json, Node, SerdeJson};
 use std::alloc::Global;
 use std::fmt::Display;
 
@@ -10,8 +10,9 @@ use std::fmt::Display;
 #[derive(Drop)]
 pub(super) struct Printer<'r> {
     pub(super) rt: &'r HostRuntime,
-    /// The kind of calls that the line asks for.
+    /// The kind of calls that the line asks for, and whether they are over decimals.
     pub(super) kind: &'r str,
+    pub(super) is_of_decimals: bool,
     pub(super) is_right: bool,
 }
 
@@ -73,22 +74,29 @@ impl Printer<'_> {
         self.print_lines(lines.text.as_str());
     }
 
+    /// Prints why a schema does not compile.
+    pub(super) fn print_refusal(&mut self, error: &ValidationError<SerdeJson>) {
+        let mut lines = Lines::new(self.alloc(), false, true);
+        lines.push_refusal(error);
+        self.print_lines(lines.text.as_str());
+    }
+
     /// Says what `validate` returned, and where the location is then.
     pub(super) fn print_first<F: Json>(
         &mut self,
-        answer: Result<(), Fault<'_, F>>,
+        answer: &Result<(), Fault<'_, F>>,
         at: &LazyLocation,
     ) {
-        self.tell_at(matches!(&answer, Err(Fault::Memory(_))), at);
-        if let Err(Fault::Invalid(error)) = &answer {
+        self.tell_at(matches!(answer, Err(Fault::Memory(_))), at);
+        if let Err(Fault::Invalid(error)) = answer {
             self.print_errors(std::slice::from_ref(error));
         }
     }
 
     /// Prints the lines of an evaluation, and of the errors that it describes.
-    pub(super) fn print_tree(&mut self, answer: Made<EvaluationNode>) {
+    pub(super) fn print_tree(&mut self, answer: &Made<EvaluationNode>) {
         let mut tree = Lines::new(self.alloc(), false, true);
-        if let Ok(root) = &answer {
+        if let Ok(root) = answer {
             tree.push_nodes(0, root);
         }
         self.print_lines(tree.text.as_str());
