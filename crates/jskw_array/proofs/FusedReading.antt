@@ -1,11 +1,11 @@
 -- How the keywords of the fused shape are read.
 use Rattle.std.proofs.Common.{◌≡◌, ◌∙◌, List, [], ◌∷◌, ◌++◌, Some, Result, Ok, Err, true, refl, ap}
-use Rattle.jskw_array.specs.Words.{Data, Keyword, KeywordName, Keywords, Members, Pointer, Refusal, Setting, Spot, append_keywords, before, fused_words, get_member, is_bare, is_fused, is_items_schema, items_from, items_start, join_ok, keyword, keyword_location, map_ok, name_of, no_keywords, part_named, read, read_words, reading, stands}
-use Rattle.jskw_report.proofs.Appended.{read_appended}
-use Rattle.jskw_report.proofs.Reading.{read_standing}
+use Rattle.jskw_array.specs.Words.{CompilePoint, Data, Keyword, KeywordName, Keywords, Members, Pointer, Refusal, Setting, append_keywords, before, fused_words, get_member, is_bare, is_fused, is_items_schema, items_from, items_start, join_ok, keyword, keyword_location, map_ok, name_of, no_keywords, part_named, read, read_words, reading, stands}
+use Rattle.jskw_report.proofs.AppendedKeywords.{read_appended}
+use Rattle.jskw_report.proofs.SchemaMembers.{read_standing}
 use Rattle.jskw_report.specs.declared.keyword.KeywordName.TheVariants as word
 use Rattle.jskw_leaf.proofs.FusedReading.{fused_items, passed}
-use Rattle.jskw_array.proofs.Readings.{items_of_one}
+use Rattle.jskw_array.proofs.KeywordReadings.{items_of_one}
 
 -- ---- `items`
 
@@ -13,20 +13,20 @@ use Rattle.jskw_array.proofs.Readings.{items_of_one}
 abbrev pub items_value : Setting → Pointer → Members → Data → Result Keyword Refusal
 items_value s p ms d = map_ok (λ sub. items_from (items_start s ms) sub (is_bare s ms d)) (read d s (keyword_location p word.Items))
 
-module _ (spot : Spot) (ms : Members) (d : Data) (h : is_fused spot.setting ms ≡ true) (at : get_member (name_of word.Items) ms ≡ Some d) where
-  pub is_one : (is_items_schema d ≡ true) × (stands spot.setting word.Items ≡ true)
-  is_one = passed spot.setting ms word.Items is_items_schema d (fused_items spot.setting ms h) at
+module _ (point : CompilePoint) (ms : Members) (d : Data) (h : is_fused point.setting ms ≡ true) (at : get_member (name_of word.Items) ms ≡ Some d) where
+  pub is_one : (is_items_schema d ≡ true) × (stands point.setting word.Items ≡ true)
+  is_one = passed point.setting ms word.Items is_items_schema d (fused_items point.setting ms h) at
 
-  pub items_reads : reading word.Items spot ms d ≡ Some (items_value spot.setting spot.location ms d)
-  items_reads = items_of_one spot ms d is_one.0
+  pub items_reads : reading word.Items point ms d ≡ Some (items_value point.setting point.location ms d)
+  items_reads = items_of_one point ms d is_one.0
 
-  pub items_alone : read_words (word.Items ∷ []) spot.setting spot.location ms (λ name. part_named name ms)
-      ≡ map_ok (λ k. keyword (keyword_location spot.location word.Items) k no_keywords) (items_value spot.setting spot.location ms d)
+  pub items_alone : read_words (word.Items ∷ []) point.setting point.location ms (λ name. part_named name ms)
+      ≡ map_ok (λ k. keyword (keyword_location point.location word.Items) k no_keywords) (items_value point.setting point.location ms d)
   items_alone =
-      ap (λ a. before (keyword_location spot.location word.Items) a (Ok no_keywords)) (read_standing word.Items spot.setting spot.location ms d at is_one.1 ∙ items_reads)
-      ∙ go (items_value spot.setting spot.location ms d)
+      ap (λ a. before (keyword_location point.location word.Items) a (Ok no_keywords)) (read_standing word.Items point.setting point.location ms d at is_one.1 ∙ items_reads)
+      ∙ go (items_value point.setting point.location ms d)
     where
-      go : (r : Result Keyword Refusal) → before (keyword_location spot.location word.Items) (Some r) (Ok no_keywords) ≡ map_ok (λ k. keyword (keyword_location spot.location word.Items) k no_keywords) r
+      go : (r : Result Keyword Refusal) → before (keyword_location point.location word.Items) (Some r) (Ok no_keywords) ≡ map_ok (λ k. keyword (keyword_location point.location word.Items) k no_keywords) r
       go (Ok k) = refl
       go (Err e) = refl
 
@@ -46,16 +46,16 @@ fused_refused ws vs s p ms e first =
     read_appended ws vs s p ms (λ name. part_named name ms) ∙ ap (λ r. join_ok append_keywords r (read_words vs s p ms (λ name. part_named name ms))) first
 
 -- the shape is that of `items` behind the others
-pub shape_reads : (spot : Spot) (ms : Members) (d : Data) → is_fused spot.setting ms ≡ true → get_member (name_of word.Items) ms ≡ Some d → (js : Keywords)
-    → read_words (word.TypeKeyword ∷ word.MinItems ∷ word.MaxItems ∷ []) spot.setting spot.location ms (λ name. part_named name ms) ≡ Ok js
-    → read_words fused_words spot.setting spot.location ms (λ name. part_named name ms)
-    ≡ map_ok (λ k. append_keywords js (keyword (keyword_location spot.location word.Items) k no_keywords)) (items_value spot.setting spot.location ms d)
-shape_reads spot ms d h at js first =
-    fused_behind (word.TypeKeyword ∷ word.MinItems ∷ word.MaxItems ∷ []) (word.Items ∷ []) spot.setting spot.location ms js first
-    ∙ ap (map_ok (append_keywords js)) (items_alone spot ms d h at)
-    ∙ go (items_value spot.setting spot.location ms d)
+pub shape_reads : (point : CompilePoint) (ms : Members) (d : Data) → is_fused point.setting ms ≡ true → get_member (name_of word.Items) ms ≡ Some d → (js : Keywords)
+    → read_words (word.TypeKeyword ∷ word.MinItems ∷ word.MaxItems ∷ []) point.setting point.location ms (λ name. part_named name ms) ≡ Ok js
+    → read_words fused_words point.setting point.location ms (λ name. part_named name ms)
+    ≡ map_ok (λ k. append_keywords js (keyword (keyword_location point.location word.Items) k no_keywords)) (items_value point.setting point.location ms d)
+shape_reads point ms d h at js first =
+    fused_behind (word.TypeKeyword ∷ word.MinItems ∷ word.MaxItems ∷ []) (word.Items ∷ []) point.setting point.location ms js first
+    ∙ ap (map_ok (append_keywords js)) (items_alone point ms d h at)
+    ∙ go (items_value point.setting point.location ms d)
   where
-    go : (r : Result Keyword Refusal) → map_ok (append_keywords js) (map_ok (λ k. keyword (keyword_location spot.location word.Items) k no_keywords) r)
-        ≡ map_ok (λ k. append_keywords js (keyword (keyword_location spot.location word.Items) k no_keywords)) r
+    go : (r : Result Keyword Refusal) → map_ok (append_keywords js) (map_ok (λ k. keyword (keyword_location point.location word.Items) k no_keywords) r)
+        ≡ map_ok (λ k. append_keywords js (keyword (keyword_location point.location word.Items) k no_keywords)) r
     go (Ok k) = refl
     go (Err e) = refl

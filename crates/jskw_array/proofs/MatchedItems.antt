@@ -1,9 +1,9 @@
 -- The error of `contains`, and how often its schema is applied.
 use Rattle.std.proofs.Common.{◌≡◌, ◌≤◌, ◌+◌, ◌∙◌, ℕ, suc, List, [], ◌∷◌, length, map, sum_by, count_by, nat_le, Bool, true, false, cond, Some, None, refl, sym, ap, arith, zero-add, if◌then◌else◌}
 use Rattle.std.proofs.lemmas.List.Sums.{sum_by-cons, sum_by-le-sum_by}
-use Rattle.jskw_array.specs.Words.{Bounds, Evaluation, Failure, Pointer, Schema, Tree, contains, evaluate_matching, failing_bound, failing_locations, holds, indices, is_array, is_empty, items, keyword_fail, keyword_holds, matching_indices, matching_keyword, matching_result, meaning_applications, needed, of_errors, one, pairs, passes, tree, unit}
-use Rattle.jskw_report.proofs.Counts.{needed-le}
-use Rattle.jskw_report.proofs.Fails.{keyword_empty}
+use Rattle.jskw_array.specs.Words.{Bounds, Evaluation, Failure, Pointer, Schema, Tree, contains, evaluate_matching, failing_bound, failing_locations, holds, indices, is_array, is_empty, items, keyword_fail, keyword_holds, matching_indices, matching_keyword, matching_result, meaning_applications, needed, of_errors, one_keyword, pairs, passes, tree, unit}
+use Rattle.jskw_report.proofs.Pairs.{needed-le}
+use Rattle.jskw_report.proofs.HoldsIsNoFailure.{keyword_empty}
 use Rattle.jskw_report.specs.Kind as kind
 use Rattle.jskw_array.specs.declared.matching.Matching.{Matching}
 
@@ -25,7 +25,7 @@ pub sum_needed : (s : Schema) (ts : List Tree) → sum_by (needed s) ts ≤ sum_
 sum_needed s ts = sum_by-le-sum_by (needed s) (pairs s) ts (λ u. needed-le s u)
 
 -- whether all its errors are wanted or the first
-pub matching_applied : {F N O P : Type 0} (wanted : Bool) (v : Matching F N O P) (t : Tree) → sum_by (needed v.node) (items t) ≤ meaning_applications wanted (one (matching_keyword v)) t
+pub matching_applied : {F Node Number Key : Type 0} (wanted : Bool) (v : Matching F Node Number Key) (t : Tree) → sum_by (needed v.node) (items t) ≤ meaning_applications wanted (one_keyword (matching_keyword v)) t
 matching_applied true v t = sum_needed v.node (items t)
 matching_applied false v t = omega arith
 

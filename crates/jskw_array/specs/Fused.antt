@@ -8,14 +8,12 @@ use Rattle.jskw_leaf.specs.Items.{absorbed_keywords}
 use Rattle.jskw_array.specs.Meaning.{validator_keyword}
 use Rattle.jskw_array.specs.declared.items.array_shape.ArrayShapeValidator.{ArrayShapeValidator}
 
--- F, N, O and P are the types of a representation
-
 -- its keywords, in the order in which they are read: the first of all
 abbrev pub fused_words : List KeywordName
 fused_words = TypeKeyword ∷ MinItems ∷ MaxItems ∷ Items ∷ []
 
 -- all four keywords
-abbrev pub shape_keywords : {F N O P : Type 0} → ArrayShapeValidator F N O P → Keywords
+abbrev pub shape_keywords : {F Node Number Key : Type 0} → ArrayShapeValidator F Node Number Key → Keywords
 shape_keywords v = append_keywords (absorbed_keywords v.absorbed) (keyword v.items.location (validator_keyword v.items.validator) no_keywords)
 
 -- the keywords begin with these
@@ -23,5 +21,5 @@ abbrev pub Begins : Keywords → Keywords → Type 0
 Begins first all = (rest : Keywords) × (all ≡ append_keywords first rest)
 
 -- all four, with the unit of `items`
-abbrev pub shape_meaning : {F N O P : Type 0} → ArrayShapeValidator F N O P → Meaning
+abbrev pub shape_meaning : {F Node Number Key : Type 0} → ArrayShapeValidator F Node Number Key → Meaning
 shape_meaning v = shape (shape_keywords v) (validator_keyword v.items.validator)

@@ -7,7 +7,7 @@ use Rattle.jskw_value.specs.declared.json.JsonNumber as number
 use Rattle.jskw_value.specs.declared.json.Object as object
 use Rattle.jskw_value.specs.declared.json.Rooted as rooted
 use Rattle.jskw_report.specs.Applications.{height, all_height, keyword_height, each_height}
-use Rattle.jskw_report.proofs.Appended.{height_appended}
+use Rattle.jskw_report.proofs.AppendedKeywords.{height_appended}
 use Rattle.jskw_report.specs.Keyword.{Schema, Schemas, keyword, no_keywords}
 use Rattle.jskw_leaf.specs.Items.{absorbed_keywords}
 use Rattle.jskw_array.specs.Fused.{shape_keywords}
@@ -38,15 +38,15 @@ rest_as_high : (is_additional : Bool) (n : ℕ) (s : Schema) → keyword_height 
 rest_as_high true n s = refl
 rest_as_high false n s = refl
 
-pub each_is_as_high : {F N O P : Type 0} (v : Each F N O P) → keyword_height (each_keyword v) ≡ each_height (schemas_of v.nodes.items)
+pub each_is_as_high : {F Node Number Key : Type 0} (v : Each F Node Number Key) → keyword_height (each_keyword v) ≡ each_height (schemas_of v.nodes.items)
 each_is_as_high v = each_as_high v.is_prefix (schemas_of v.nodes.items)
 
-pub rest_is_as_high : {F N O P : Type 0} (v : Rest F N O P) → keyword_height (rest_keyword v) ≡ height v.node
+pub rest_is_as_high : {F Node Number Key : Type 0} (v : Rest F Node Number Key) → keyword_height (rest_keyword v) ≡ height v.node
 rest_is_as_high v = rest_as_high v.is_additional v.start v.node
 
--- F, N, O and P are the types of a representation, and r, o and j say what they are
-module _ {F N O P : Type 0} (r : rooted.Ghosts N) (o : object.Ghosts N P) (j : number.Ghosts O) where
-  keyword_falls : (v : Validator F N O P) → deep-Validator F N O P r o j v ≤ keyword_height (validator_keyword v) + 1
+-- r, o and j say what the types of a representation are
+module _ {F Node Number Key : Type 0} (r : rooted.Ghosts Node) (o : object.Ghosts Node Key) (j : number.Ghosts Number) where
+  keyword_falls : (v : Validator F Node Number Key) → deep-Validator F Node Number Key r o j v ≤ keyword_height (validator_keyword v) + 1
   keyword_falls (validator.Leaf v) = omega arith
   keyword_falls (validator.Each v) = omega (arith, each_falls v.nodes.items, each_is_as_high v)
   keyword_falls (validator.Rest v) = omega (arith, rest_is_as_high v)
@@ -58,18 +58,18 @@ module _ {F N O P : Type 0} (r : rooted.Ghosts N) (o : object.Ghosts N P) (j : n
   keyword_falls (validator.ItemsIntegerDraft4 v) = omega arith
   keyword_falls (validator.AdditionalItemsBoolean v) = omega arith
 
-  shape_falls : (v : ArrayShapeValidator F N O P) → deep-ArrayShapeValidator F N O P r o j v ≤ all_height (shape_keywords v) + 1
+  shape_falls : (v : ArrayShapeValidator F Node Number Key) → deep-ArrayShapeValidator F Node Number Key r o j v ≤ all_height (shape_keywords v) + 1
   shape_falls v =
       let parts = height_appended (absorbed_keywords v.absorbed) (keyword v.items.location (validator_keyword v.items.validator) no_keywords) in
       omega (arith, parts, keyword_falls v.items.validator)
 
-  all_fall : (us : List (TheUnit F N O P)) → most (deep-Unit F N O P r o j) us ≤ all_height (keywords_of us) + 1
+  all_fall : (us : List (TheUnit F Node Number Key)) → most (deep-Unit F Node Number Key r o j) us ≤ all_height (keywords_of us) + 1
   all_fall [] = omega arith
   all_fall (OfKeyword k ∷ us) = omega (arith, keyword_falls k.validator, all_fall us)
   all_fall (Shape v ∷ us) =
       let parts = height_appended (shape_keywords v.value) (keywords_of us) in
       omega (arith, parts, shape_falls v.value, all_fall us)
 
-  pub height_falls : (q : Pointer) (hands_on : Bool) (a : Assertions F N O P) → deep-Assertions F N O P r o j a ≤ height (schema_of q hands_on a)
+  pub height_falls : (q : Pointer) (hands_on : Bool) (a : Assertions F Node Number Key) → deep-Assertions F Node Number Key r o j a ≤ height (schema_of q hands_on a)
   height_falls q hands_on Never = omega arith
   height_falls q hands_on (Keywords us) = omega (arith, all_fall us.items)

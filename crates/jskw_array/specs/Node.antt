@@ -16,19 +16,18 @@ use Rattle.jskw_array.specs.declared.node.Assertions.TheVariants.{Never, Keyword
 use Rattle.jskw_array.specs.declared.unit.BegunUnits.{BegunUnits}
 use Rattle.jskw_array.specs.declared.unit.Unit.{Unit as TheUnit}
 
--- F, N, O and P are the types of a representation
-module _ {F N O P : Type 0} where
+module _ {F Node Number Key : Type 0} where
   -- what is marked of a schema of these units that hands its `required` on or does not
-  abbrev pub marked : Bool → List (TheUnit F N O P) → Marks
+  abbrev pub marked : Bool → List (TheUnit F Node Number Key) → Marks
   marked hands_on us = record { hands_on = hands_on; fused = begin_fused us }
 
   -- at this keyword location, with or without a `required` that it hands on
-  abbrev pub schema_of : Pointer → Bool → Assertions F N O P → Schema
+  abbrev pub schema_of : Pointer → Bool → Assertions F Node Number Key → Schema
   schema_of q hands_on Never = false_schema q
   schema_of q hands_on (Keywords us) = schema_object q (marked hands_on us.items) (keywords_of us.items)
 
   -- the schema is that of these units, or it is `false`
-  abbrev pub HasUnits : Schema → Option (Bor (List (TheUnit F N O P))) → Type 0
+  abbrev pub HasUnits : Schema → Option (Bor (List (TheUnit F Node Number Key))) → Type 0
   HasUnits s None = s ≡ false_schema (schema_location s)
   HasUnits s (Some us) = (hands_on : Bool) × (s ≡ schema_object (schema_location s) (marked hands_on us.now) (keywords_of us.now))
 
@@ -41,26 +40,26 @@ boolean_schema q false = false_schema q
 abbrev pub AllValid : QuickSet → Schema → Type 0
 AllValid q s = (t : Tree) → is_in q t ≡ true → holds s t ≡ true
 
--- ---- units that are known to hold; F, N, O and P are the types of a representation
+-- ---- units that are known to hold
 
-module _ {F N O P : Type 0} where
+module _ {F Node Number Key : Type 0} where
   -- the first of these units hold of every tree of the outline
-  abbrev pub BeginsWith : BegunUnits → List (TheUnit F N O P) → Type 0
+  abbrev pub BeginsWith : BegunUnits → List (TheUnit F Node Number Key) → Type 0
   BeginsWith b us = (b.count ≤ length us) × ((t : Tree) → in_outline b.outline t ≡ true → all_hold (keywords_of (take b.count us)) t ≡ true)
 
   -- the first units of a schema do
-  abbrev pub SchemaBegins : BegunUnits → Assertions F N O P → Type 0
+  abbrev pub SchemaBegins : BegunUnits → Assertions F Node Number Key → Type 0
   SchemaBegins b Never = ⊤
   SchemaBegins b (Keywords us) = BeginsWith b us.items
 
   -- for this tree these units are as good as the schema: they say the same of it, take no more applications, and are lower
-  pub record IsLeft (s : Schema) (t : Tree) (us : List (TheUnit F N O P)) : Type 0 where
+  pub record IsLeft (s : Schema) (t : Tree) (us : List (TheUnit F Node Number Key)) : Type 0 where
     pub answer : holds s t ≡ all_hold (keywords_of us) t
     pub errors : (p : Pointer) → fail s t p ≡ all_fail (keywords_of us) t p
     pub applied : (wanted : Bool) → 1 + all_applications wanted (keywords_of us) t ≤ applications wanted s t
     pub lower : 1 + all_height (keywords_of us) ≤ height s
 
   -- these units are left of the schema for this tree, or it is `false`
-  abbrev pub LeftUnits : Schema → Tree → Option (Bor (List (TheUnit F N O P))) → Type 0
+  abbrev pub LeftUnits : Schema → Tree → Option (Bor (List (TheUnit F Node Number Key))) → Type 0
   LeftUnits s t None = s ≡ false_schema (schema_location s)
   LeftUnits s t (Some us) = IsLeft s t us.now

@@ -3,7 +3,7 @@ use Rattle.std.specs.Prelude.{◌≡◌, List, [], ◌∷◌, Bool, true, false,
 use Rattle.jskw_value.specs.Pointer.{Pointer}
 use Rattle.jskw_report.specs.Keyword.{Keywords, no_keywords, keyword, append_keywords, all_hand_on, keyword_hands_on}
 use Rattle.jskw_report.specs.KeywordValue.{Refusal, map_ok}
-use Rattle.jskw_report.specs.Meaning.{Meaning, one}
+use Rattle.jskw_report.specs.Meaning.{Meaning, one_keyword}
 use Rattle.jskw_leaf.specs.Items.{absorbed_keywords}
 use Rattle.jskw_array.specs.Fused.{shape_keywords, shape_meaning}
 use Rattle.jskw_array.specs.Meaning.{validator_keyword}
@@ -15,43 +15,42 @@ use Rattle.jskw_array.specs.declared.unit.Unit.TheVariants.{Keyword as OfKeyword
 abbrev pub after : Keywords → Result Keywords Refusal → Result Keywords Refusal
 after done r = map_ok (append_keywords done) r
 
--- F, N, O and P are the types of a representation
-module _ {F N O P : Type 0} where
+module _ {F Node Number Key : Type 0} where
   -- the keywords of units, one after another
-  abbrev pub keywords_of : List (TheUnit F N O P) → Keywords
+  abbrev pub keywords_of : List (TheUnit F Node Number Key) → Keywords
   keywords_of [] = no_keywords
   keywords_of (OfKeyword k ∷ us) = keyword k.location (validator_keyword k.validator) (keywords_of us)
   keywords_of (Shape v ∷ us) = append_keywords (shape_keywords v.value) (keywords_of us)
 
-  abbrev pub unit_meaning : TheUnit F N O P → Meaning
-  unit_meaning (OfKeyword k) = one (validator_keyword k.validator)
+  abbrev pub unit_meaning : TheUnit F Node Number Key → Meaning
+  unit_meaning (OfKeyword k) = one_keyword (validator_keyword k.validator)
   unit_meaning (Shape v) = shape_meaning v.value
 
   -- the keyword location of the unit that is given
-  abbrev pub unit_location : TheUnit F N O P → Pointer
+  abbrev pub unit_location : TheUnit F Node Number Key → Pointer
   unit_location (OfKeyword k) = k.location
   unit_location (Shape v) = v.value.items.location
 
   -- the keywords before the one whose unit is given
-  abbrev pub absorbed_by : TheUnit F N O P → Keywords
+  abbrev pub absorbed_by : TheUnit F Node Number Key → Keywords
   absorbed_by (OfKeyword k) = no_keywords
   absorbed_by (Shape v) = absorbed_keywords v.value.absorbed
 
   -- the `required` of a subschema is handed on
-  abbrev pub unit_hands_on : TheUnit F N O P → Bool
+  abbrev pub unit_hands_on : TheUnit F Node Number Key → Bool
   unit_hands_on (OfKeyword k) = keyword_hands_on (validator_keyword k.validator)
   unit_hands_on (Shape v) = all_hand_on (shape_keywords v.value)
 
   -- the unit is a fused shape
-  abbrev pub is_shape : TheUnit F N O P → Bool
+  abbrev pub is_shape : TheUnit F Node Number Key → Bool
   is_shape (Shape v) = true
   is_shape (OfKeyword k) = false
 
   -- the unit is this fused shape: its keywords are those of the shape, whatever stands behind them
-  abbrev pub IsShape : TheUnit F N O P → ArrayShapeValidator F N O P → Type 0
-  IsShape u v = (us : List (TheUnit F N O P)) → keywords_of (u ∷ us) ≡ append_keywords (shape_keywords v) (keywords_of us)
+  abbrev pub IsShape : TheUnit F Node Number Key → ArrayShapeValidator F Node Number Key → Type 0
+  IsShape u v = (us : List (TheUnit F Node Number Key)) → keywords_of (u ∷ us) ≡ append_keywords (shape_keywords v) (keywords_of us)
 
   -- the first of them is the fused shape
-  abbrev pub begin_fused : List (TheUnit F N O P) → Bool
+  abbrev pub begin_fused : List (TheUnit F Node Number Key) → Bool
   begin_fused (Shape v ∷ us) = true
   begin_fused _ = false

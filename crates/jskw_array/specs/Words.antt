@@ -22,7 +22,7 @@ pub use Rattle.jskw_report.specs.Keyword.{Bounds, Integers, Keyword, Keywords, S
 pub use Rattle.jskw_report.specs.KeywordValue.{Refusal, join_ok, map_ok, of_type, of_types, wrong}
 pub use Rattle.jskw_report.specs.Read.{Asserts, Part, Reading, additional_keyword, asserts, before, bound_beside, bound_value, bounds_of as bounds_between, integers_of, items_start, keyword_location, marks_of, part, part_named, read, read_bounds, read_each, read_words, whole}
 unfoldable pub use Rattle.jskw_report.specs.Read.{asserted, read_word}
-pub use Rattle.jskw_report.specs.Setting.{Setting, Spot, is_2020_12, keywords, name_of, stands}
+pub use Rattle.jskw_report.specs.Setting.{CompilePoint, Setting, is_2020_12, keywords, name_of, stands}
 pub use Rattle.jskw_report.specs.Sibling.{has_keyword, is_absent, is_array as is_list, is_bare, is_inlined_type, is_items_schema, is_only_type, is_string, item_count, member_passes, takes_size, unfused_names}
 unfoldable pub use Rattle.jskw_report.specs.Sibling.{is_fused, is_handed_on}
 pub use Rattle.jskw_report.specs.Compile.{Compiles, Makes, reading}
@@ -35,13 +35,13 @@ pub use Rattle.jskw_report.specs.Evaluation.{Evaluation, evaluate_each, evaluate
 unfoldable pub use Rattle.jskw_report.specs.Evaluation.{of_errors}
 pub use Rattle.jskw_report.specs.Applications.{all_applications, all_height, all_needed, all_pairs, applications, each_height, each_needed, each_pairs, height, keyword_height, keyword_needed, keyword_pairs, needed, pairs, sum_to_failure}
 -- what the validators of a keyword stand for, and what their results say
-pub use Rattle.jskw_report.specs.Meaning.{is_assertion, meaning_applications, meaning_fail, meaning_holds, meaning_needed, meaning_pairs, meaning_unit, one}
+pub use Rattle.jskw_report.specs.Meaning.{is_assertion, meaning_applications, meaning_fail, meaning_holds, meaning_needed, meaning_pairs, meaning_unit, one_keyword}
 pub use Rattle.jskw_report.specs.Observe.{Appends, CountsUpTo, IsFirst, Reports, wants_all}
 pub use Rattle.jskw_report.specs.Errors.{failures_of}
 pub use Rattle.jskw_report.specs.EvaluationParts.{annotation_of}
 pub use Rattle.jskw_report.specs.EvaluationView.{result_of}
 pub use Rattle.jskw_number.specs.QuickSet.{Accepts, is_in}
-pub use Rattle.jskw_leaf.specs.Items.{Extends, absorbed_keywords, bare_items, bare_schema}
+pub use Rattle.jskw_leaf.specs.Items.{absorbed_keywords, bare_items, bare_schema}
 pub use Rattle.jskw_leaf.specs.Meaning.{type_at}
 pub use Rattle.jskw_leaf.specs.Names.{is_leaf}
 -- the same of this crate

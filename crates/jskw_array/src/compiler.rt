@@ -19,7 +19,7 @@ use crate::unit::{PlacedValidator, Unit};
 use crate::validator::Validator;
 use crate::{additional_items, contains, items, prefix_items};
 use jskw_leaf::required;
-use jskw_report::compiler::member_of;
+use jskw_report::context::member_of;
 use jskw_report::{
     CompilationResult, CompileFault, Context, KeywordName, Location, LocationSegment,
     ValidationErrorKind,
@@ -259,7 +259,7 @@ fn active_member<'a, F: Json>(
 
 // Appends the unit of a keyword that was compiled, if it asserts something.
 #[inline(never)]
-#[tactic(auto, using(crate::proofs::Turns::appends_nothing, crate::proofs::Turns::appends_refused))]
+#[tactic(auto, using(crate::proofs::CompiledKeywords::appends_nothing, crate::proofs::CompiledKeywords::appends_refused))]
 fn push_unit<'a, F: Json>(
     alloc: Global,
     ctx: &Context<'_, F>,
@@ -303,7 +303,7 @@ fn push_validator<F: Json>(
 
 // Compiles a keyword of an object. Returns `None` if it asserts nothing.
 #[inline(never)]
-#[tactic(auto, using(crate::proofs::Readings::others_are_leaves))]
+#[tactic(auto, using(crate::proofs::KeywordReadings::others_are_leaves))]
 #[cycle(compile)]
 fn compile_keyword<'a, F: Json>(
     alloc: Global,

@@ -4,7 +4,7 @@ ghost use Rattle.std.specs.Prelude.{◌≡◌, ◌+◌, ◌≤◌};
 ghost use Rattle.jskw_array.specs.Words.{CountsUpTo, IsTrue, Makes, Refusal, Result};
 ghost use Rattle.jskw_array.specs.Words.{Schemas, drop, each_holds, each_needed, is_lawful};
 ghost use Rattle.jskw_array.specs.Words.{items, length, min, take, true};
-ghost use Rattle.jskw_array.specs.Words.{each_keyword, each_of, map_ok, one, schemas_of};
+ghost use Rattle.jskw_array.specs.Words.{each_keyword, each_of, map_ok, one_keyword, schemas_of};
 ghost use Rattle.jskw_array.specs.Words.{validator_keyword};
 
 use crate::node::SchemaNode;
@@ -79,9 +79,9 @@ impl<F: Json> Each<F> {
     }
 }
 
-#[tactic(auto, using(crate::proofs::Meant::each_no_assertion))]
+#[tactic(auto, using(crate::proofs::ValidatorMeanings::each_no_assertion))]
 impl<F: Json> Validate<F> for Each<F> {
-    ghost meaning = { λ v. one (each_keyword v) };
+    ghost meaning = { λ v. one_keyword (each_keyword v) };
 
     #[inline(never)]
     #[cycle(is_valid)]

@@ -20,7 +20,7 @@ pub use jskw_leaf::items::{
     AbsorbedKeywords, BooleanItems, IntegerItems, IntegerItemsDraft4, ItemType, ItemsTypeValidator,
     NumberItems, StringItems, array_shape_fusion,
 };
-use jskw_report::compiler::member_of;
+use jskw_report::context::member_of;
 use jskw_report::{CompilationResult, CompileFault, Context, Draft, KeywordName};
 use jskw_value::Json;
 use serde_json::{Map, Value};

@@ -4,7 +4,7 @@ ghost use Rattle.std.specs.Prelude.{◌≡◌};
 ghost use Rattle.jskw_array.specs.Words.{CountsUpTo, IfOk, IsTrue, bounds_of, count_by};
 ghost use Rattle.jskw_array.specs.Words.{deciding_count, failing_bound, failing_locations, holds};
 ghost use Rattle.jskw_array.specs.Words.{is_lawful, items, length, locations_of, matching_keyword};
-ghost use Rattle.jskw_array.specs.Words.{matching_result, needed, one, result_of, sum_by};
+ghost use Rattle.jskw_array.specs.Words.{matching_result, needed, one_keyword, result_of, sum_by};
 
 use crate::node::SchemaNode;
 use jskw_report::validator::report_error;
@@ -123,7 +123,7 @@ impl<F: Json> Matching<F> {
 }
 
 impl<F: Json> Validate<F> for Matching<F> {
-    ghost meaning = { λ v. one (matching_keyword v) };
+    ghost meaning = { λ v. one_keyword (matching_keyword v) };
 
     #[cycle(is_valid)]
     fn is_valid(&self, instance: &F::Node, ctx: &mut ValidationContext) -> bool {

@@ -510,7 +510,7 @@ fn evaluate_refusal<'i, F: Json>(
 }
 
 // Returns whether the `required` of some schema, or of a subschema of it, is handed on.
-#[tactic(auto, using(crate::proofs::Units::each_hands_on_at, crate::proofs::Units::each_hands_on_end))]
+#[tactic(auto, using(crate::proofs::KeywordsOfUnits::each_hands_on_at, crate::proofs::KeywordsOfUnits::each_hands_on_end))]
 pub(crate) fn some_hands_on<F: Json>(nodes: &[SchemaNode<F>]) -> bool
     ensures { result ≡ each_hands_on (schemas_of nodes.now) }
 {

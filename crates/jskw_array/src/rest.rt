@@ -3,8 +3,9 @@
 ghost use Rattle.std.specs.Prelude.{◌≡◌};
 ghost use Rattle.jskw_array.specs.Words.{CountsUpTo, IfOk, IsTrue, Makes, Reading, is_lawful};
 ghost use Rattle.jskw_array.specs.Words.{items, keyword_fail, keyword_holds, keyword_needed};
-ghost use Rattle.jskw_array.specs.Words.{keyword_pairs, length, map_ok, of_errors, one, path_of};
-ghost use Rattle.jskw_array.specs.Words.{rest_keyword, rest_of, result_of, validator_keyword};
+ghost use Rattle.jskw_array.specs.Words.{keyword_pairs, length, map_ok, of_errors, one_keyword};
+ghost use Rattle.jskw_array.specs.Words.{path_of, rest_keyword, rest_of, result_of};
+ghost use Rattle.jskw_array.specs.Words.{validator_keyword};
 
 use crate::node::SchemaNode;
 use crate::validator::Validator;
@@ -54,9 +55,9 @@ impl<F: Json> Rest<F> {
     }
 }
 
-#[tactic(auto, using(crate::proofs::Meant::rest_no_assertion))]
+#[tactic(auto, using(crate::proofs::ValidatorMeanings::rest_no_assertion))]
 impl<F: Json> Validate<F> for Rest<F> {
-    ghost meaning = { λ v. one (rest_keyword v) };
+    ghost meaning = { λ v. one_keyword (rest_keyword v) };
 
     #[cycle(is_valid)]
     fn is_valid(&self, instance: &F::Node, ctx: &mut ValidationContext) -> bool {

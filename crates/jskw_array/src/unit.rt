@@ -204,7 +204,7 @@ pub(crate) fn evaluate_units<F: Json>(
 }
 
 // Returns whether the `required` of a subschema of some keyword is handed on.
-#[tactic(auto, using(crate::proofs::Units::hand_on_end))]
+#[tactic(auto, using(crate::proofs::KeywordsOfUnits::hand_on_end))]
 pub(crate) fn some_unit_hands_on<F: Json>(units: &[Unit<F>]) -> bool
     ensures { result ≡ all_hand_on (keywords_of units.now) }
 {
@@ -217,7 +217,7 @@ pub(crate) fn some_unit_hands_on<F: Json>(units: &[Unit<F>]) -> bool
 }
 
 // Returns values of which every keyword holds.
-#[tactic(auto, using(crate::proofs::Accepted::accepted_end))]
+#[tactic(auto, using(crate::proofs::AcceptedValues::accepted_end))]
 pub(crate) fn quick_set_of<F: Json>(units: &[Unit<F>]) -> QuickSet
     ensures { (t : Tree) → is_in result t ≡ true → all_hold (keywords_of units.now) t ≡ true }
 {

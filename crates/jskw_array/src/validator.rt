@@ -2,7 +2,7 @@
 ghost use Rattle.std.specs.Prelude.{◌≡◌};
 ghost use Rattle.jskw_array.specs.Words.{Accepts, CountsUpTo, IsTrue, Tree, in_outline, is_lawful};
 ghost use Rattle.jskw_array.specs.Words.{items, keyword_hands_on, keyword_holds, keyword_needed};
-ghost use Rattle.jskw_array.specs.Words.{length, one, true, validator_keyword};
+ghost use Rattle.jskw_array.specs.Words.{length, one_keyword, true, validator_keyword};
 
 use crate::additional_items::AdditionalItemsBooleanValidator;
 use crate::each::Each;
@@ -61,7 +61,7 @@ macro_rules! dispatch {
 }
 
 impl<F: Json> Validate<F> for Validator<F> {
-    ghost meaning = { λ v. one (validator_keyword v) };
+    ghost meaning = { λ v. one_keyword (validator_keyword v) };
 
     #[inline(always)]
     #[cycle(is_valid)]
@@ -149,7 +149,7 @@ impl<F: Json> Validator<F> {
     }
 
     // Returns whether the `required` of a subschema is handed on.
-    #[tactic(auto, using(crate::proofs::Meant::each_delegates, crate::proofs::Meant::rest_delegates))]
+    #[tactic(auto, using(crate::proofs::ValidatorMeanings::each_delegates, crate::proofs::ValidatorMeanings::rest_delegates))]
     pub(crate) fn hands_on_required(&self) -> bool
         ensures { result ≡ keyword_hands_on (validator_keyword self.now) }
     {

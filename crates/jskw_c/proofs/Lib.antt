@@ -1,5 +1,5 @@
-mod Askings
-mod Compiles
 mod Handles
 mod Lines
 mod Texts
+mod ToldAnswers
+mod ToldRefusals

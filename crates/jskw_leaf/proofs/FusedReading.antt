@@ -6,7 +6,7 @@ use Rattle.jskw_value.specs.declared.types.JsonType.TheVariants.{Array}
 use Rattle.serde_json.specs.Data.{Data, Members, string}
 use Rattle.jskw_report.specs.Keyword.{Keyword, Keywords, Size, append_keywords, assertion, by_value, keyword, no_keywords, size, type_is}
 use Rattle.jskw_report.specs.declared.keyword.KeywordName.{KeywordName}
-use Rattle.jskw_report.specs.Meaning.{placed}
+use Rattle.jskw_report.specs.Meaning.{as_keyword}
 use Rattle.jskw_value.specs.Pointer.{Pointer}
 use Rattle.jskw_report.specs.KeywordValue.{Refusal, join_ok, map_ok, size_value}
 use Rattle.jskw_report.specs.Setting.{Setting, name_of, stands}
@@ -22,8 +22,8 @@ use Rattle.jskw_value.specs.Types.{type_name}
 use Rattle.jskw_number.specs.Meaning.{sized}
 use Rattle.jskw_number.specs.Size.{size_of, word_of}
 use Rattle.jskw_number.specs.declared.sizes.SizeLimit.{SizeLimit}
-use Rattle.jskw_report.proofs.Appended.{read_appended}
-use Rattle.jskw_report.proofs.Reading.{read_absent, read_standing}
+use Rattle.jskw_report.proofs.AppendedKeywords.{read_appended}
+use Rattle.jskw_report.proofs.SchemaMembers.{read_absent, read_standing}
 use Rattle.jskw_report.specs.declared.keyword.KeywordName.TheVariants as word
 use Rattle.jskw_report.specs.declared.settings.Draft.{Draft}
 use Rattle.jskw_report.specs.declared.settings.Draft.TheVariants.{Draft4}
@@ -99,19 +99,19 @@ rule_of_array Draft4 = refl
 rule_of_array _ = refl
 
 pub type_read : (s : Setting) (p : Pointer) (ms : Members) → has_keyword s ms word.TypeKeyword (is_string (type_name Array)) ≡ true
-    → read_word word.TypeKeyword s p ms (part_named (name_of word.TypeKeyword) ms) ≡ Some (Ok (placed (type_at Array by_value (keyword_location p word.TypeKeyword))))
+    → read_word word.TypeKeyword s p ms (part_named (name_of word.TypeKeyword) ms) ≡ Some (Ok (as_keyword (type_at Array by_value (keyword_location p word.TypeKeyword))))
 unfolding asserted
 type_read s p ms h = go (get_member (name_of word.TypeKeyword) ms) refl
   where
     of : (d : Data) → is_string (type_name Array) d ≡ true
-        → ◌≡◌ {A = Option (Result Keyword Refusal)} (Some (type_keyword (integers_of s.draft) (keyword_location p word.TypeKeyword) d)) (Some (Ok (placed (type_at Array by_value (keyword_location p word.TypeKeyword)))))
+        → ◌≡◌ {A = Option (Result Keyword Refusal)} (Some (type_keyword (integers_of s.draft) (keyword_location p word.TypeKeyword) d)) (Some (Ok (as_keyword (type_at Array by_value (keyword_location p word.TypeKeyword)))))
     of (string r) e =
         ap (λ x. Some (type_keyword (integers_of s.draft) (keyword_location p word.TypeKeyword) (string x))) (sym ((bytes_eq-Decides (type_name Array) r).0 e))
         ∙ ap (λ rule. Some (Ok (assertion (keyword_location p word.TypeKeyword) (type_is (Single Array) rule)))) (rule_of_array s.draft)
     of _ e = cc
 
     go : (o : Option Data) → get_member (name_of word.TypeKeyword) ms ≡ o
-        → read_word word.TypeKeyword s p ms (part_named (name_of word.TypeKeyword) ms) ≡ Some (Ok (placed (type_at Array by_value (keyword_location p word.TypeKeyword))))
+        → read_word word.TypeKeyword s p ms (part_named (name_of word.TypeKeyword) ms) ≡ Some (Ok (as_keyword (type_at Array by_value (keyword_location p word.TypeKeyword))))
     go None at = absurd (is_there s ms word.TypeKeyword (is_string (type_name Array)) h at)
     go (Some d) at =
         let both = passed s ms word.TypeKeyword (is_string (type_name Array)) d h at in
@@ -149,12 +149,12 @@ module _ (least : Bool) (s : Setting) (p : Pointer) (ms : Members) where
       go (Err e) = refl
 
   -- the validator that was made stands where the keyword does
-  size_made : {A L : ℕ} (d : Data) (v : SizeLimit A L) → size_keyword which (keyword_location p w) d ≡ Ok (placed (sized which v))
+  size_made : {A L : ℕ} (d : Data) (v : SizeLimit A L) → size_keyword which (keyword_location p w) d ≡ Ok (as_keyword (sized which v))
       → map_ok (λ k. keyword (keyword_location p w) k no_keywords) (size_keyword which (keyword_location p w) d) ≡ Ok (optional (sized which) (Some v))
   size_made d v e =
-      ap (map_ok (λ k. keyword (keyword_location p w) k no_keywords)) e ∙ ap (λ q. Ok (keyword q (placed (sized which v)) no_keywords)) (place (size_value (keyword_location p w) d) e)
+      ap (map_ok (λ k. keyword (keyword_location p w) k no_keywords)) e ∙ ap (λ q. Ok (keyword q (as_keyword (sized which v)) no_keywords)) (place (size_value (keyword_location p w) d) e)
     where
-      place : (r : Result _ Refusal) → map_ok (λ n. assertion (keyword_location p w) (size which n)) r ≡ Ok (placed (sized which v)) → keyword_location p w ≡ v.location
+      place : (r : Result _ Refusal) → map_ok (λ n. assertion (keyword_location p w) (size which n)) r ≡ Ok (as_keyword (sized which v)) → keyword_location p w ≡ v.location
       place (Ok n) f = ap location_of f
         where
           location_of : Result Keyword Refusal → Pointer
@@ -163,7 +163,7 @@ module _ (least : Bool) (s : Setting) (p : Pointer) (ms : Members) where
       place (Err e) f = cc
 
   pub size_reads : {A L : ℕ} (d : Data) (v : SizeLimit A L) → takes_size s ms w ≡ true → get_member (name_of w) ms ≡ Some d
-      → size_keyword which (keyword_location p w) d ≡ Ok (placed (sized which v)) → alone ≡ Ok (optional (sized which) (Some v))
+      → size_keyword which (keyword_location p w) d ≡ Ok (as_keyword (sized which v)) → alone ≡ Ok (optional (sized which) (Some v))
   size_reads d v h at e = size_there d h at ∙ size_made d v e
 
 -- ---- all of them
@@ -171,12 +171,12 @@ module _ (least : Bool) (s : Setting) (p : Pointer) (ms : Members) where
 -- `type`, and the two bounds behind it
 pub absorbed_read : (s : Setting) (p : Pointer) (ms : Members) → has_keyword s ms word.TypeKeyword (is_string (type_name Array)) ≡ true
     → read_words (word.TypeKeyword ∷ word.MinItems ∷ word.MaxItems ∷ []) s p ms (λ name. part_named name ms)
-    ≡ map_ok (keyword (keyword_location p word.TypeKeyword) (placed (type_at Array by_value (keyword_location p word.TypeKeyword))))
+    ≡ map_ok (keyword (keyword_location p word.TypeKeyword) (as_keyword (type_at Array by_value (keyword_location p word.TypeKeyword))))
     (join_ok append_keywords (read_words (word.MinItems ∷ []) s p ms (λ name. part_named name ms)) (read_words (word.MaxItems ∷ []) s p ms (λ name. part_named name ms)))
 absorbed_read s p ms h =
     let bounds = read_words (word.MinItems ∷ word.MaxItems ∷ []) s p ms (λ name. part_named name ms) in
     ap (λ a. before (keyword_location p word.TypeKeyword) a bounds) (type_read s p ms h)
-    ∙ ap (map_ok (keyword (keyword_location p word.TypeKeyword) (placed (type_at Array by_value (keyword_location p word.TypeKeyword))))) (read_appended (word.MinItems ∷ []) (word.MaxItems ∷ []) s p ms (λ name. part_named name ms))
+    ∙ ap (map_ok (keyword (keyword_location p word.TypeKeyword) (as_keyword (type_at Array by_value (keyword_location p word.TypeKeyword))))) (read_appended (word.MinItems ∷ []) (word.MaxItems ∷ []) s p ms (λ name. part_named name ms))
 
 -- where a bound is refused all of them are
 pub absorbed_refused : (s : Setting) (p : Pointer) (ms : Members) → has_keyword s ms word.TypeKeyword (is_string (type_name Array)) ≡ true → (e : Refusal)
@@ -184,7 +184,7 @@ pub absorbed_refused : (s : Setting) (p : Pointer) (ms : Members) → has_keywor
     → read_words (word.TypeKeyword ∷ word.MinItems ∷ word.MaxItems ∷ []) s p ms (λ name. part_named name ms) ≡ Err e
 absorbed_refused s p ms h e min =
     absorbed_read s p ms h
-    ∙ ap (λ r. map_ok (keyword (keyword_location p word.TypeKeyword) (placed (type_at Array by_value (keyword_location p word.TypeKeyword)))) (join_ok append_keywords r (read_words (word.MaxItems ∷ []) s p ms (λ name. part_named name ms)))) min
+    ∙ ap (λ r. map_ok (keyword (keyword_location p word.TypeKeyword) (as_keyword (type_at Array by_value (keyword_location p word.TypeKeyword)))) (join_ok append_keywords r (read_words (word.MaxItems ∷ []) s p ms (λ name. part_named name ms)))) min
 
 -- or the one behind it
 pub absorbed_refused_next : (s : Setting) (p : Pointer) (ms : Members) → has_keyword s ms word.TypeKeyword (is_string (type_name Array)) ≡ true → (ks : Keywords) → (e : Refusal)
@@ -193,13 +193,13 @@ pub absorbed_refused_next : (s : Setting) (p : Pointer) (ms : Members) → has_k
     → read_words (word.TypeKeyword ∷ word.MinItems ∷ word.MaxItems ∷ []) s p ms (λ name. part_named name ms) ≡ Err e
 absorbed_refused_next s p ms h ks e min max =
     absorbed_read s p ms h
-    ∙ ap₂ (λ r t. map_ok (keyword (keyword_location p word.TypeKeyword) (placed (type_at Array by_value (keyword_location p word.TypeKeyword)))) (join_ok append_keywords r t)) min max
+    ∙ ap₂ (λ r t. map_ok (keyword (keyword_location p word.TypeKeyword) (as_keyword (type_at Array by_value (keyword_location p word.TypeKeyword)))) (join_ok append_keywords r t)) min max
 
 pub absorbed_made : (s : Setting) (p : Pointer) (ms : Members) → has_keyword s ms word.TypeKeyword (is_string (type_name Array)) ≡ true → (js ks : Keywords)
     → read_words (word.MinItems ∷ []) s p ms (λ name. part_named name ms) ≡ Ok js
     → read_words (word.MaxItems ∷ []) s p ms (λ name. part_named name ms) ≡ Ok ks
     → read_words (word.TypeKeyword ∷ word.MinItems ∷ word.MaxItems ∷ []) s p ms (λ name. part_named name ms)
-    ≡ Ok (keyword (keyword_location p word.TypeKeyword) (placed (type_at Array by_value (keyword_location p word.TypeKeyword))) (append_keywords js ks))
+    ≡ Ok (keyword (keyword_location p word.TypeKeyword) (as_keyword (type_at Array by_value (keyword_location p word.TypeKeyword))) (append_keywords js ks))
 absorbed_made s p ms h js ks min max =
     absorbed_read s p ms h
-    ∙ ap₂ (λ r t. map_ok (keyword (keyword_location p word.TypeKeyword) (placed (type_at Array by_value (keyword_location p word.TypeKeyword)))) (join_ok append_keywords r t)) min max
+    ∙ ap₂ (λ r t. map_ok (keyword (keyword_location p word.TypeKeyword) (as_keyword (type_at Array by_value (keyword_location p word.TypeKeyword)))) (join_ok append_keywords r t)) min max

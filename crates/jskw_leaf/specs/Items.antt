@@ -6,7 +6,7 @@ use Rattle.jskw_value.specs.Tree.{Tree, is_array, items}
 use Rattle.jskw_value.specs.declared.types.JsonType.{JsonType}
 use Rattle.jskw_value.specs.declared.types.JsonType.TheVariants.{Array}
 use Rattle.jskw_report.specs.Keyword.{Schema, schema_object, no_marks, Keyword, Keywords, no_keywords, keyword, append_keywords, items_from, Integers, by_value}
-use Rattle.jskw_report.specs.Meaning.{Placed, placed}
+use Rattle.jskw_report.specs.Meaning.{LocatedAssertion, as_keyword}
 use Rattle.jskw_number.specs.Meaning.{min_items, max_items}
 use Rattle.jskw_leaf.specs.Meaning.{single_type}
 use Rattle.jskw_leaf.specs.declared.items.absorbed.AbsorbedKeywords.{AbsorbedKeywords}
@@ -15,15 +15,15 @@ use Rattle.jskw_leaf.specs.declared.items.item_type.ItemsTypeValidator.{ItemsTyp
 -- ---- bare type checks
 
 -- the schema at q that has the assertion alone
-abbrev pub bare_schema : Pointer → Placed → Schema
-bare_schema q a = schema_object q no_marks (keyword a.location (placed a) no_keywords)
+abbrev pub bare_schema : Pointer → LocatedAssertion → Schema
+bare_schema q a = schema_object q no_marks (keyword a.location (as_keyword a) no_keywords)
 
 -- `items` at q of that schema, checked in place
-abbrev pub bare_items : Pointer → Placed → Keyword
+abbrev pub bare_items : Pointer → LocatedAssertion → Keyword
 bare_items q a = items_from 0 (bare_schema q a) true
 
--- T tests for the type j by the rule; F, N, O and P are the types of a representation
-abbrev pub items_type : {T F N O P : Type 0} → JsonType → Integers → ItemsTypeValidator T F N O P → Keyword
+-- T tests for the type j by the rule
+abbrev pub items_type : {T F Node Number Key : Type 0} → JsonType → Integers → ItemsTypeValidator T F Node Number Key → Keyword
 items_type j rule v = bare_items v.location (single_type j rule v.validator)
 
 -- ---- the keywords beside `items`
@@ -38,12 +38,12 @@ Extends old new all (Ok u) = new ≡ old ++ all
 Extends {A} old new all (Err e) = (done : List A) × (rest : List A) × (new ≡ old ++ done) × (done ++ rest ≡ all)
 
 -- the keyword of a validator that may not be there
-abbrev pub optional : {V : Type 0} → (V → Placed) → Option V → Keywords
+abbrev pub optional : {V : Type 0} → (V → LocatedAssertion) → Option V → Keywords
 optional asserts None = no_keywords
-optional asserts (Some v) = keyword (asserts v).location (placed (asserts v)) no_keywords
+optional asserts (Some v) = keyword (asserts v).location (as_keyword (asserts v)) no_keywords
 
 -- `type` of `array`
-abbrev pub absorbed_type : AbsorbedKeywords → Placed
+abbrev pub absorbed_type : AbsorbedKeywords → LocatedAssertion
 absorbed_type a = single_type Array by_value a.type_
 
 -- `minItems` and `maxItems`
@@ -51,4 +51,4 @@ abbrev pub absorbed_bounds : AbsorbedKeywords → Keywords
 absorbed_bounds a = append_keywords (optional min_items a.min_items) (optional max_items a.max_items)
 
 abbrev pub absorbed_keywords : AbsorbedKeywords → Keywords
-absorbed_keywords a = keyword (absorbed_type a).location (placed (absorbed_type a)) (absorbed_bounds a)
+absorbed_keywords a = keyword (absorbed_type a).location (as_keyword (absorbed_type a)) (absorbed_bounds a)

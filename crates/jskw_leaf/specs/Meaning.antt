@@ -7,7 +7,7 @@ use Rattle.jskw_value.specs.declared.types.JsonType.{JsonType}
 use Rattle.jskw_report.specs.declared.error.TypeKind.{TypeKind}
 use Rattle.jskw_report.specs.declared.error.TypeKind.TheVariants.{Single}
 use Rattle.jskw_report.specs.Keyword.{Keyword, constant, among, unique, never, type_is, Integers, by_value, as_written, required}
-use Rattle.jskw_report.specs.Meaning.{Placed, placed}
+use Rattle.jskw_report.specs.Meaning.{LocatedAssertion, as_keyword}
 use Rattle.jskw_number.specs.Meaning.{number_assertion}
 use Rattle.jskw_leaf.specs.declared.boolean.FalseValidator.{FalseValidator}
 use Rattle.jskw_leaf.specs.declared.type_.IntegerRule.{IntegerRule}
@@ -24,10 +24,10 @@ use Rattle.jskw_leaf.specs.declared.leaf.LeafValidator.{LeafValidator}
 use Rattle.jskw_leaf.specs.declared.leaf.LeafValidator.TheVariants.{False, Number as number, Types, Const, Enum, BigEnum, SingleValueEnum, SmallStringEnum, NullableSmallStringEnum, BigStringEnum, NullableBigStringEnum, IntegerEnum, NullableIntegerEnum, UniqueItems, Required, RequiredFew}
 use Rattle.jskw_leaf.specs.declared.required.RequiredNames.{RequiredNames}
 
-abbrev pub false_at : Pointer → Placed
-false_at q = record { location = q; claim = never }
+abbrev pub false_at : Pointer → LocatedAssertion
+false_at q = record { location = q; assertion = never }
 
-abbrev pub false_schema : FalseValidator → Placed
+abbrev pub false_schema : FalseValidator → LocatedAssertion
 false_schema v = false_at v.location
 
 -- ---- `type`
@@ -38,59 +38,59 @@ rule_of ByValue = by_value
 rule_of AsWritten = as_written
 
 -- the types of k, failing at the location
-abbrev pub types_at : TypeKind → Integers → Pointer → Placed
-types_at k rule q = record { location = q; claim = type_is k rule }
+abbrev pub types_at : TypeKind → Integers → Pointer → LocatedAssertion
+types_at k rule q = record { location = q; assertion = type_is k rule }
 
-abbrev pub named_types : TypeValidator → Placed
+abbrev pub named_types : TypeValidator → LocatedAssertion
 named_types v = types_at v.kind (rule_of v.rule) v.location
 
 -- the type j, failing at the location
-abbrev pub type_at : JsonType → Integers → Pointer → Placed
+abbrev pub type_at : JsonType → Integers → Pointer → LocatedAssertion
 type_at j rule q = types_at (Single j) rule q
 
 -- T tests for the type j by the rule
-abbrev pub single_type : {T : Type 0} → JsonType → Integers → SingleTypeValidator T → Placed
+abbrev pub single_type : {T : Type 0} → JsonType → Integers → SingleTypeValidator T → LocatedAssertion
 single_type j rule v = type_at j rule v.location
 
 -- ---- `const`
 
-abbrev pub const_value : ConstValueValidator → Placed
-const_value v = record { location = v.location; claim = constant (view v.value) }
+abbrev pub const_value : ConstValueValidator → LocatedAssertion
+const_value v = record { location = v.location; assertion = constant (view v.value) }
 
 -- ---- `enum`
 
 -- the options that a value lists, failing at the location
-abbrev pub among_at : Pointer → Value → Placed
-among_at q v = record { location = q; claim = among (options_of (view v)) }
+abbrev pub among_at : Pointer → Value → LocatedAssertion
+among_at q v = record { location = q; assertion = among (options_of (view v)) }
 
-abbrev pub enum_any : EnumValidator → Placed
+abbrev pub enum_any : EnumValidator → LocatedAssertion
 enum_any v = among_at v.location v.options
 
-abbrev pub enum_single : SingleValueEnumValidator → Placed
+abbrev pub enum_single : SingleValueEnumValidator → LocatedAssertion
 enum_single v = among_at v.location v.options
 
 -- T is the table of them, and N says whether null is among them
-abbrev pub enum_table : {T N : Type 0} → TableEnumValidator T N → Placed
+abbrev pub enum_table : {T N : Type 0} → TableEnumValidator T N → LocatedAssertion
 enum_table v = among_at v.location v.listed
 
 -- ---- `uniqueItems`
 
-abbrev pub unique_items : UniqueItemsValidator → Placed
-unique_items v = record { location = v.location; claim = unique }
+abbrev pub unique_items : UniqueItemsValidator → LocatedAssertion
+unique_items v = record { location = v.location; assertion = unique }
 
 -- ---- `required`
 
 -- the names, failing at the location
-abbrev pub required_at : Pointer → List (List ℕ) → Placed
-required_at q names = record { location = q; claim = required names }
+abbrev pub required_at : Pointer → List (List ℕ) → LocatedAssertion
+required_at q names = record { location = q; assertion = required names }
 
--- L holds names; F, N, O and P are the types of a representation
-abbrev pub required_names : {F N O P L : Type 0} → (L → List (List ℕ)) → RequiredNames F L N O P → Placed
+-- L holds names
+abbrev pub required_names : {F Node Number Key L : Type 0} → (L → List (List ℕ)) → RequiredNames F L Node Number Key → LocatedAssertion
 required_names names v = required_at v.location (names v.names)
 
--- ---- any of them; F, N, O and P are the types of a representation
+-- ---- any of them
 
-abbrev pub leaf_assertion : {F N O P : Type 0} → LeafValidator F N O P → Placed
+abbrev pub leaf_assertion : {F Node Number Key : Type 0} → LeafValidator F Node Number Key → LocatedAssertion
 leaf_assertion (False v) = false_schema v
 leaf_assertion (number v) = number_assertion v
 leaf_assertion (Types v) = named_types v
@@ -109,5 +109,5 @@ leaf_assertion (Required v) = required_names (λ names. names) v
 leaf_assertion (RequiredFew v) = required_names (λ names. names) v
 
 -- the keyword that it stands for
-abbrev pub leaf_keyword : {F N O P : Type 0} → LeafValidator F N O P → Keyword
-leaf_keyword v = placed (leaf_assertion v)
+abbrev pub leaf_keyword : {F Node Number Key : Type 0} → LeafValidator F Node Number Key → Keyword
+leaf_keyword v = as_keyword (leaf_assertion v)

@@ -7,11 +7,11 @@ ghost use Rattle.jskw_value.specs.Serde.{value_tree};
 ghost use Rattle.jskw_report.specs.Kind as kind;
 ghost use Rattle.jskw_leaf.specs.Meaning.{const_value};
 
-mod make;
+mod compilation;
 
+pub use compilation::compile;
 use jskw_report::{Assertion, Location, ValidationErrorKind};
 use jskw_value::{Json, Node};
-pub use make::compile;
 use serde_json::Value;
 
 /// The validator of `const`. It accepts an instance that equals the value.

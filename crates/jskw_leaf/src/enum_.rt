@@ -11,16 +11,16 @@ ghost use Rattle.jskw_report.specs.Errors.{kind_of};
 ghost use Rattle.jskw_report.specs.Holds.{is_option};
 ghost use Rattle.jskw_leaf.specs.Options.{not_among, options_of, option_types};
 
+mod compilation;
 mod integers;
-mod make;
 mod strings;
 mod table;
 mod values;
 
+pub use compilation::compile;
 pub use integers::IntegerEnumValidator;
 use jskw_report::{Assertion, EnumOptions, Location, ValidationErrorKind};
 use jskw_value::{Json, JsonTypeSet, Node};
-pub use make::compile;
 use serde_json::Value;
 pub use strings::{BigStringEnumValidator, SmallStringEnumValidator};
 pub use table::TableEnumValidator;

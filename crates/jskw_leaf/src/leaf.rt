@@ -1,5 +1,5 @@
 //! The validators of the keywords without subschemas as one type.
-ghost use Rattle.jskw_report.specs.Meaning.{one};
+ghost use Rattle.jskw_report.specs.Meaning.{one_keyword};
 ghost use Rattle.jskw_number.specs.QuickSet.{Accepts};
 ghost use Rattle.jskw_leaf.specs.Meaning.{leaf_keyword};
 
@@ -59,9 +59,9 @@ pub enum LeafValidator<F: Json> {
 }
 
 // Evaluates `$answer` with `$validator` as the validator in the variant, whichever it is.
-macro_rules! whichever {
+macro_rules! dispatch {
     ($leaf:expr, $validator:ident => $answer:expr) => {
-        whichever!(@ $leaf, $validator => $answer;
+        dispatch!(@ $leaf, $validator => $answer;
             False Number Types Const Enum BigEnum SingleValueEnum SmallStringEnum
             NullableSmallStringEnum BigStringEnum NullableBigStringEnum IntegerEnum
             NullableIntegerEnum UniqueItems Required RequiredFew
@@ -92,11 +92,11 @@ impl<F: Json> LeafValidator<F> {
 }
 
 impl<F: Json> Validate<F> for LeafValidator<F> {
-    ghost meaning = { λ v. one (leaf_keyword v) };
+    ghost meaning = { λ v. one_keyword (leaf_keyword v) };
 
     #[inline(always)]
     fn is_valid(&self, instance: &F::Node, ctx: &mut ValidationContext) -> bool {
-        whichever!(self, validator => Validate::<F>::is_valid(validator, instance, ctx))
+        dispatch!(self, validator => Validate::<F>::is_valid(validator, instance, ctx))
     }
 
     #[inline(always)]
@@ -107,7 +107,7 @@ impl<F: Json> Validate<F> for LeafValidator<F> {
         ctx: &mut ValidationContext,
         report: &mut Report<'i, F>,
     ) -> Result<(), Stop> {
-        whichever!(self, validator => validator.report_errors(instance, location, ctx, report))
+        dispatch!(self, validator => validator.report_errors(instance, location, ctx, report))
     }
 
     fn evaluate(
@@ -117,7 +117,7 @@ impl<F: Json> Validate<F> for LeafValidator<F> {
         location: &mut LazyLocation,
         ctx: &mut ValidationContext,
     ) -> Result<EvaluationResult, AllocError> {
-        whichever!(self, validator => Validate::<F>::evaluate(
+        dispatch!(self, validator => Validate::<F>::evaluate(
             validator, alloc, instance, location, ctx,
         ))
     }

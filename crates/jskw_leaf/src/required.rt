@@ -1,23 +1,23 @@
 //! `required` (JSON Schema Validation 6.5.3): the object has a member of each name.
 ghost use Rattle.std.specs.Prelude.{◌≡◌};
-ghost use Rattle.jskw_report.specs.Meaning.{one, placed};
+ghost use Rattle.jskw_report.specs.Meaning.{as_keyword, one_keyword};
 ghost use Rattle.jskw_leaf.specs.Meaning.{required_names};
 
-mod beside;
-mod found;
-mod make;
+mod compilation;
+mod delegation;
+mod lookup;
 mod missing;
 mod names;
 mod prepared;
 
-pub use beside::is_handed_on;
-use found::has_all;
+pub use compilation::{compile, compile_with_path};
+pub use delegation::is_handed_on;
 use jskw_report::validator::evaluate_errors;
 use jskw_report::{
     EvaluationResult, LazyLocation, Location, Report, Stop, Validate, ValidationContext,
 };
 use jskw_value::{Json, Node};
-pub use make::{compile, compile_with_path};
+use lookup::has_all;
 use missing::report_missing;
 use names::{FewNames, NameList, Names};
 use std::alloc::{AllocError, Global};
@@ -60,7 +60,7 @@ pub type Required2Validator<F> = RequiredNames<F, FewNames<F>>;
 pub type Required3Validator<F> = RequiredNames<F, FewNames<F>>;
 
 impl<F: Json, L: Names<F>> Validate<F> for RequiredNames<F, L> {
-    ghost meaning = { λ v. one (placed (required_names L.names v)) };
+    ghost meaning = { λ v. one_keyword (as_keyword (required_names L.names v)) };
 
     fn is_valid(&self, instance: &F::Node, _ctx: &mut ValidationContext) -> bool {
         !instance.is_object() || has_all(&self.names, instance)

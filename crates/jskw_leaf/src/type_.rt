@@ -16,7 +16,7 @@ ghost use Rattle.jskw_report.specs.Keyword.{Integers, by_value, type_is};
 ghost use Rattle.jskw_report.specs.KeywordValue.{type_value, array_types, one_type, type_set};
 ghost use Rattle.jskw_report.specs.KeywordValue.{named_type};
 ghost use Rattle.jskw_report.specs.Kind.{WrongType, types_of};
-ghost use Rattle.jskw_report.specs.Meaning.{placed};
+ghost use Rattle.jskw_report.specs.Meaning.{as_keyword};
 ghost use Rattle.jskw_report.specs.Read.{integers_of, keyword_location, type_keyword};
 ghost use Rattle.jskw_report.specs.declared.error.TypeKind.TheVariants.{Single};
 ghost use Rattle.jskw_report.specs.declared.keyword.KeywordName.TheVariants.{TypeKeyword};
@@ -94,7 +94,7 @@ impl TypeValidator {
 
     /// Returns values of the types.
     pub fn quick_set(&self) -> QuickSet
-        ensures { Accepts result (placed (named_types self.now)) }
+        ensures { Accepts result (as_keyword (named_types self.now)) }
     {
         QuickSet::of_types(match self.kind {
             TypeKind::Single(json_type) => JsonTypeSet::from(json_type),
@@ -176,7 +176,7 @@ impl<T: TypeTest> SingleTypeValidator<T> {
 
     /// Returns values of the type.
     pub fn quick_set(&self) -> QuickSet
-        ensures { Accepts result (placed (single_type T.json_type T.rule self.now)) }
+        ensures { Accepts result (as_keyword (single_type T.json_type T.rule self.now)) }
     {
         QuickSet::of_types(JsonTypeSet::from(T::json_type()))
     }
@@ -427,7 +427,7 @@ fn type_kind<'a>(
 }
 
 // Reads an array of names. An array of one name means the same as the name.
-#[tactic(auto, using(crate::proofs::Types::array_of_one, crate::proofs::Types::array_of_others))]
+#[tactic(auto, using(crate::proofs::TypeSets::array_of_one, crate::proofs::TypeSets::array_of_others))]
 fn array_types<'a>(
     alloc: Global,
     location: &Location,
@@ -456,7 +456,7 @@ fn one_type<'a>(
 }
 
 // Reads the names of a set of types.
-#[tactic(auto, using(crate::proofs::Types::next_type, crate::proofs::Types::with_no_types))]
+#[tactic(auto, using(crate::proofs::TypeSets::next_type, crate::proofs::TypeSets::with_no_types))]
 fn type_set<'a>(
     alloc: Global,
     location: &Location,

@@ -18,7 +18,7 @@ use Rattle.jskw_number.specs.declared.quick_set.QuickSet.{QuickSet}
 use Rattle.std.specs.Int.NonZero.{non_zero_u64_get}
 use Rattle.std.specs.declared.num.NonZeroU64.{NonZeroU64}
 use Rattle.jskw_number.specs.QuickSet.{Accepts, divides, has_number, in_range, has_type, is_in}
-use Rattle.jskw_report.proofs.Elsewhere.{IsOther, holds_of_other, subject}
+use Rattle.jskw_report.proofs.HoldsElsewhere.{IsOther, holds_of_other, subject}
 use Rattle.jskw_number.proofs.Divisors.{divides_other}
 use Rattle.jskw_number.proofs.Limits.{limit_other}
 

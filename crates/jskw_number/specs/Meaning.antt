@@ -11,7 +11,7 @@ use Rattle.jskw_report.specs.Keyword.{Keyword, Relation, Size, size, limit, mult
 use Rattle.jskw_report.specs.Keyword as which
 use Rattle.jskw_report.specs.Kind.{ErrorKind}
 use Rattle.jskw_report.specs.Kind as kind
-use Rattle.jskw_report.specs.Meaning.{Placed, placed}
+use Rattle.jskw_report.specs.Meaning.{LocatedAssertion, as_keyword}
 use Rattle.jskw_number.specs.declared.sizes.SizeLimit.{SizeLimit}
 use Rattle.jskw_number.specs.declared.multiple_of.MultipleOfIntegerValidator.{MultipleOfIntegerValidator}
 use Rattle.jskw_number.specs.declared.number.NumberValidator.{NumberValidator}
@@ -20,47 +20,47 @@ use Rattle.jskw_number.specs.declared.number.NumberValidator.TheVariants.{MinIte
 -- ---- sizes
 
 -- a bound on a size; A and L are the parameters of its type
-abbrev pub sized : {A L : ℕ} → Size → SizeLimit A L → Placed
-sized which v = record { location = v.location; claim = size which v.limit }
+abbrev pub sized : {A L : ℕ} → Size → SizeLimit A L → LocatedAssertion
+sized which v = record { location = v.location; assertion = size which v.limit }
 
-abbrev pub min_items : {A L : ℕ} → SizeLimit A L → Placed
+abbrev pub min_items : {A L : ℕ} → SizeLimit A L → LocatedAssertion
 min_items v = sized which.MinItems v
 
-abbrev pub max_items : {A L : ℕ} → SizeLimit A L → Placed
+abbrev pub max_items : {A L : ℕ} → SizeLimit A L → LocatedAssertion
 max_items v = sized which.MaxItems v
 
 -- ---- limits
 
 -- to the number z by the relation r, failing at the location
-abbrev pub placed_limit : Relation → ℤ → Pointer → Placed
-placed_limit r z q = record { location = q; claim = limit r z }
+abbrev pub limit_at : Relation → ℤ → Pointer → LocatedAssertion
+limit_at r z q = record { location = q; assertion = limit r z }
 
 -- ---- divisors
 
-abbrev pub multiple_of_integer : MultipleOfIntegerValidator → Placed
-multiple_of_integer v = record { location = v.location; claim = multiple_of (non_zero_u64_get v.multiple_of) }
+abbrev pub multiple_of_integer : MultipleOfIntegerValidator → LocatedAssertion
+multiple_of_integer v = record { location = v.location; assertion = multiple_of (non_zero_u64_get v.multiple_of) }
 
 -- ---- any of them
 
 -- what it asserts, and where
-abbrev pub number_assertion : NumberValidator → Placed
+abbrev pub number_assertion : NumberValidator → LocatedAssertion
 number_assertion (MinItems v) = sized which.MinItems v
 number_assertion (MaxItems v) = sized which.MaxItems v
 number_assertion (MinProperties v) = sized which.MinProperties v
 number_assertion (MaxProperties v) = sized which.MaxProperties v
-number_assertion (MinimumU64 v) = placed_limit which.Minimum (pos v.limit) v.location
-number_assertion (MinimumI64 v) = placed_limit which.Minimum v.limit v.location
-number_assertion (MaximumU64 v) = placed_limit which.Maximum (pos v.limit) v.location
-number_assertion (MaximumI64 v) = placed_limit which.Maximum v.limit v.location
-number_assertion (ExclusiveMinimumU64 v) = placed_limit which.ExclusiveMinimum (pos v.limit) v.location
-number_assertion (ExclusiveMinimumI64 v) = placed_limit which.ExclusiveMinimum v.limit v.location
-number_assertion (ExclusiveMaximumU64 v) = placed_limit which.ExclusiveMaximum (pos v.limit) v.location
-number_assertion (ExclusiveMaximumI64 v) = placed_limit which.ExclusiveMaximum v.limit v.location
+number_assertion (MinimumU64 v) = limit_at which.Minimum (pos v.limit) v.location
+number_assertion (MinimumI64 v) = limit_at which.Minimum v.limit v.location
+number_assertion (MaximumU64 v) = limit_at which.Maximum (pos v.limit) v.location
+number_assertion (MaximumI64 v) = limit_at which.Maximum v.limit v.location
+number_assertion (ExclusiveMinimumU64 v) = limit_at which.ExclusiveMinimum (pos v.limit) v.location
+number_assertion (ExclusiveMinimumI64 v) = limit_at which.ExclusiveMinimum v.limit v.location
+number_assertion (ExclusiveMaximumU64 v) = limit_at which.ExclusiveMaximum (pos v.limit) v.location
+number_assertion (ExclusiveMaximumI64 v) = limit_at which.ExclusiveMaximum v.limit v.location
 number_assertion (MultipleOfInteger v) = multiple_of_integer v
 
 -- the keyword that it stands for
 abbrev pub number_keyword : NumberValidator → Keyword
-number_keyword v = placed (number_assertion v)
+number_keyword v = as_keyword (number_assertion v)
 
 -- the kind of its error
 abbrev pub number_error : NumberValidator → ErrorKind
@@ -79,8 +79,8 @@ number_error (ExclusiveMaximumI64 v) = kind.ExclusiveMaximum v.limit
 number_error (MultipleOfInteger v) = kind.MultipleOf (non_zero_u64_get v.multiple_of)
 
 -- it has one error of that kind where it does not hold, and none where it does
-pub number_fails_once : (v : NumberValidator) (t : Tree) → error_kinds (number_assertion v).claim t
-    ≡ unless (assertion_holds (number_assertion v).claim t) (number_error v)
+pub number_fails_once : (v : NumberValidator) (t : Tree) → error_kinds (number_assertion v).assertion t
+    ≡ unless (assertion_holds (number_assertion v).assertion t) (number_error v)
 number_fails_once (MinItems v) t = refl
 number_fails_once _ t = refl
 

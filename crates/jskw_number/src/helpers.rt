@@ -12,7 +12,7 @@ ghost use Rattle.jskw_report.specs.Sibling.{is_true, member_passes};
 ghost use Rattle.jskw_report.specs.declared.error.CompileFault.TheVariants as fault;
 ghost use Rattle.jskw_number.specs.Limit.{whole_of};
 
-use jskw_report::compiler::member_of;
+use jskw_report::context::member_of;
 use jskw_report::{
     CompilationResult, CompileFault, Context, KeywordName, Location, LocationSegment,
     ValidationError, ValidationErrorKind,

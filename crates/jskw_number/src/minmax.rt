@@ -9,7 +9,7 @@
 //! - any other value with the kind `WrongType` and the type number.
 #![tactic(auto, unfolding(jskw_report::specs::Read::asserted))]
 
-ghost use Rattle.std.specs.Prelude.{◌≡◌, ◌≤ℤ◌, ◌<ℤ◌, ℤ, pos, negsuc, true, refl, Some};
+ghost use Rattle.std.specs.Prelude.{◌≡◌, ◌-◌, ◌^◌, ◌≤ℤ◌, ◌<ℤ◌, ℤ, pos, negsuc, true, refl, Some};
 ghost use Rattle.std.specs.Prelude.{IfOk, IfSome, IsTrue};
 ghost use Rattle.serde_json.specs.View.{view, members_view};
 ghost use Rattle.jskw_value.specs.Number.{is_exact};
@@ -19,14 +19,14 @@ ghost use Rattle.jskw_report.specs.Errors.{kind_of};
 ghost use Rattle.jskw_report.specs.Fail.{limit_kind};
 ghost use Rattle.jskw_report.specs.Holds.{stands_in};
 ghost use Rattle.jskw_report.specs.Keyword.{Relation};
-ghost use Rattle.jskw_report.specs.Meaning.{placed};
 ghost use Rattle.jskw_report.specs.Keyword as relation;
+ghost use Rattle.jskw_report.specs.Meaning.{as_keyword};
 ghost use Rattle.jskw_report.specs.Read.{limit_keyword, limit_word};
 ghost use Rattle.jskw_report.specs.Setting.{is_after_draft_4};
 ghost use Rattle.jskw_report.specs.declared.keyword.KeywordName.TheVariants as word;
 ghost use Rattle.jskw_number.specs.Limit.{allows, stands_to};
 ghost use Rattle.jskw_number.specs.QuickSet.{Accepts, in_range};
-ghost use Rattle.jskw_number.specs.Meaning.{limit_of, number_assertion, number_keyword, placed_limit};
+ghost use Rattle.jskw_number.specs.Meaning.{limit_at, limit_of, number_assertion, number_keyword};
 
 use crate::helpers::{WholeNumber, whole_number};
 use crate::number::NumberValidator;
@@ -48,8 +48,8 @@ pub trait Whole: Copy + Drop {
     /// Returns the integer, which is from -2^63 to 2^64-1.
     fn to_i128(self) -> i128
         ensures value { result ≡ whole self }
-        ensures low { negsuc 9223372036854775807 ≤ℤ result }
-        ensures high { result <ℤ pos 18446744073709551616 };
+        ensures low { negsuc (2 ^ 63 - 1) ≤ℤ result }
+        ensures high { result <ℤ pos (2 ^ 64) };
 
     /// Returns how `number` compares to this limit if it is written as an integer of this type,
     /// else `None`: the caller then compares decimals, which is slower. The number must be a
@@ -99,8 +99,8 @@ pub trait LimitTest {
 
     /// Returns integers that are within the limit, which must be from -2^63 to 2^64-1.
     fn integers(limit: i128) -> IntegerRange
-        requires low { negsuc 9223372036854775807 ≤ℤ limit }
-        requires high { limit <ℤ pos 18446744073709551616 }
+        requires low { negsuc (2 ^ 63 - 1) ≤ℤ limit }
+        requires high { limit <ℤ pos (2 ^ 64) }
         ensures { (z : ℤ) → in_range result z ≡ true → stands_in relation z 0 limit ≡ true };
 
     /// Returns the kind of error for a number that is not within the limit.
@@ -110,13 +110,13 @@ pub trait LimitTest {
     /// Creates the validator of a limit that is a `u64`. `value` is the limit as the schema has it,
     /// `location` the keyword location of the error.
     fn of_u64(limit: u64, value: Value, location: Location) -> NumberValidator
-        ensures assertion { number_assertion result ≡ placed_limit relation (pos limit) location }
+        ensures assertion { number_assertion result ≡ limit_at relation (pos limit) location }
         ensures value { limit_of result ≡ Some (view value) };
 
     /// Creates the validator of a limit that is an `i64`. `value` is the limit as the schema has
     /// it, `location` the keyword location of the error.
     fn of_i64(limit: i64, value: Value, location: Location) -> NumberValidator
-        ensures assertion { number_assertion result ≡ placed_limit relation limit location }
+        ensures assertion { number_assertion result ≡ limit_at relation limit location }
         ensures value { limit_of result ≡ Some (view value) };
 }
 
@@ -160,14 +160,14 @@ impl<T: Whole, R: LimitTest> Limit<T, R> {
     #[tactic(auto, using(crate::proofs::QuickSets::accepted_limit))]
     pub fn quick_set(&self) -> QuickSet
         ensures { Accepts result
-            (placed (placed_limit R.relation (T.whole self.now.limit) self.now.location)) }
+            (as_keyword (limit_at R.relation (T.whole self.now.limit) self.now.location)) }
     {
         QuickSet::but_numbers(R::integers(self.limit.to_i128()))
     }
 }
 
 impl<T: Whole, R: LimitTest> Assertion for Limit<T, R> {
-    ghost asserts = { λ v. placed_limit R.relation (T.whole v.limit) v.location };
+    ghost asserts = { λ v. limit_at R.relation (T.whole v.limit) v.location };
 
     ghost error = { λ v. limit_kind R.relation (T.whole v.limit) };
 

@@ -15,7 +15,7 @@ ghost use Rattle.serde_json.specs.View.{view, members_view};
 ghost use Rattle.jskw_report.specs.Compile.{Compiles, Makes, reading};
 ghost use Rattle.jskw_report.specs.KeywordValue.{divisor_value};
 ghost use Rattle.jskw_report.specs.Kind as kind;
-ghost use Rattle.jskw_report.specs.Meaning.{placed};
+ghost use Rattle.jskw_report.specs.Meaning.{as_keyword};
 ghost use Rattle.jskw_report.specs.Read.{divisor_keyword, keyword_location};
 ghost use Rattle.jskw_report.specs.declared.keyword.KeywordName.TheVariants as word;
 ghost use Rattle.jskw_number.specs.QuickSet.{Accepts};
@@ -47,7 +47,7 @@ impl MultipleOfIntegerValidator {
         ctx: &Context<'_, F>,
         schema: &'a Value,
     ) -> CompilationResult<'a, MultipleOfIntegerValidator>
-        ensures { Makes (λ v. placed (multiple_of_integer v)) result (divisor_keyword
+        ensures { Makes (λ v. as_keyword (multiple_of_integer v)) result (divisor_keyword
             (keyword_location ctx.now.location word.MultipleOf) (view schema.now)) }
     {
         let location = ctx.keyword_location(alloc, KeywordName::MultipleOf)?;
@@ -61,7 +61,7 @@ impl MultipleOfIntegerValidator {
     /// Returns values that the keyword accepts, among them all that are no numbers.
     #[tactic(auto, using(crate::proofs::QuickSets::accepted_multiple))]
     pub fn quick_set(&self) -> QuickSet
-        ensures { Accepts result (placed (multiple_of_integer self.now)) }
+        ensures { Accepts result (as_keyword (multiple_of_integer self.now)) }
     {
         QuickSet::but_numbers(IntegerRange::multiples_of(self.multiple_of))
     }

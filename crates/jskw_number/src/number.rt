@@ -46,9 +46,9 @@ pub enum NumberValidator {
 }
 
 // Evaluates `$answer` with `$validator` as the validator in the variant, whichever it is.
-macro_rules! whichever {
+macro_rules! dispatch {
     ($number:expr, $validator:ident => $answer:expr) => {
-        whichever!(
+        dispatch!(
             @arms $number, $validator => $answer;
             MinItems MaxItems MinProperties MaxProperties
             MinimumU64 MinimumI64 MaximumU64 MaximumI64
@@ -95,14 +95,14 @@ impl Assertion for NumberValidator {
 
     #[inline(never)]
     fn holds<F: Json>(&self, instance: &F::Node) -> bool {
-        whichever!(self, validator => validator.holds::<F>(instance))
+        dispatch!(self, validator => validator.holds::<F>(instance))
     }
 
     fn kind(&self) -> ValidationErrorKind<'_> {
-        whichever!(self, validator => validator.kind())
+        dispatch!(self, validator => validator.kind())
     }
 
     fn location(&self) -> &Location {
-        whichever!(self, validator => validator.location())
+        dispatch!(self, validator => validator.location())
     }
 }

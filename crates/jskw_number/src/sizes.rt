@@ -13,7 +13,7 @@ ghost use Rattle.jskw_value.specs.Tree.{Tree, is_array, items};
 ghost use Rattle.jskw_report.specs.Compile.{Compiles, Makes, reading};
 ghost use Rattle.jskw_report.specs.Fail.{size_kind};
 ghost use Rattle.jskw_report.specs.Holds.{assertion_holds};
-ghost use Rattle.jskw_report.specs.Meaning.{placed};
+ghost use Rattle.jskw_report.specs.Meaning.{as_keyword};
 ghost use Rattle.jskw_report.specs.Read.{keyword_location, size_keyword};
 ghost use Rattle.jskw_report.specs.declared.keyword.KeywordName.TheVariants as word;
 ghost use Rattle.jskw_number.specs.Meaning.{number_keyword, sized};
@@ -66,7 +66,7 @@ impl<const OF_ARRAYS: bool, const IS_LEAST: bool> SizeLimit<OF_ARRAYS, IS_LEAST>
         schema: &'a Value,
     ) -> CompilationResult<'a, SizeLimit<OF_ARRAYS, IS_LEAST>>
         ensures { let which = size_of OF_ARRAYS IS_LEAST in
-            Makes (λ v. placed (sized which v)) result (size_keyword which
+            Makes (λ v. as_keyword (sized which v)) result (size_keyword which
             (keyword_location ctx.now.location (word_of which)) (view schema.now)) }
     {
         let keyword = match (OF_ARRAYS, IS_LEAST) {
@@ -102,7 +102,7 @@ impl<const IS_LEAST: bool> SizeLimit<true, IS_LEAST> {
     /// Returns whether an array of `count` items is within the bound.
     pub fn accepts(&self, count: u64) -> bool
         ensures { (t : Tree) → IsTrue (is_array t) → length (items t) ≡ count
-            → result ≡ assertion_holds (sized (size_of true IS_LEAST) self.now).claim t }
+            → result ≡ assertion_holds (sized (size_of true IS_LEAST) self.now).assertion t }
     {
         self.allows(count)
     }

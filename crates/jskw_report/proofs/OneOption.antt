@@ -17,8 +17,8 @@ use Rattle.jskw_report.specs.Read.{Asserts, asserted, read_word, part, before, w
 use Rattle.jskw_report.specs.Setting.{Setting, name_of}
 use Rattle.jskw_report.specs.declared.keyword.KeywordName.{KeywordName}
 use Rattle.jskw_report.specs.declared.keyword.KeywordName.TheVariants as word
-use Rattle.jskw_report.proofs.Asserted.{asserted_if_read, same_keyword}
-use Rattle.jskw_report.proofs.Reading.{part_named-get}
+use Rattle.jskw_report.proofs.AssertedKeywords.{asserted_if_read, same_keyword}
+use Rattle.jskw_report.proofs.SchemaMembers.{part_named-get}
 
 -- ---- the keywords
 

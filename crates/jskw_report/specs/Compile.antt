@@ -6,19 +6,19 @@ use Rattle.serde_json.specs.declared.value.Value.{Value}
 use Rattle.jskw_report.specs.Errors.{kind_of, schema_path_of}
 use Rattle.jskw_report.specs.KeywordValue.{Refusal}
 use Rattle.jskw_report.specs.Read.{Asserts, asserted, part}
-use Rattle.jskw_report.specs.Setting.{Spot}
+use Rattle.jskw_report.specs.Setting.{CompilePoint}
 use Rattle.jskw_report.specs.declared.keyword.KeywordName.{KeywordName}
 use Rattle.jskw_report.specs.declared.error.ValidationError.{ValidationError}
 use Rattle.jskw_report.specs.declared.error.CompileFault.{CompileFault}
 use Rattle.jskw_report.specs.declared.error.CompileFault.TheVariants.{Bad, Memory}
 
--- a compile error, over the values of `serde_json`: F, O and P are the types of that representation
-abbrev pub refusal_of : {F O P : Type 0} → ValidationError F Value O P → Refusal
+-- a compile error, over the values of `serde_json`
+abbrev pub refusal_of : {F Number Key : Type 0} → ValidationError F Value Number Key → Refusal
 refusal_of e = record { kind = kind_of e.kind; location = schema_path_of e.schema_path; value = view e.instance.now }
 
--- what the keyword w asserts: the schema that has it stands at the spot, ms are its members, and d is the keyword's value
-abbrev pub reading : KeywordName → Spot → Members → Data → Asserts
-reading w spot ms d = asserted w spot.setting spot.location ms (part d)
+-- what the keyword w asserts: the schema that has it stands at the point, ms are its members, and d is the keyword's value
+abbrev pub reading : KeywordName → CompilePoint → Members → Data → Asserts
+reading w point ms d = asserted w point.setting point.location ms (part d)
 
 -- the fault is this refusal, with an empty instance location; or memory ran out
 abbrev pub Refuses : CompileFault → Refusal → Type 0

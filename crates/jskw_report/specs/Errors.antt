@@ -45,12 +45,12 @@ abbrev pub schema_path_of : SchemaPath → Pointer
 schema_path_of (Lent p) = p.now
 schema_path_of (Owned p) = p
 
--- ---- an error over a representation F, whose nodes are N and stand for trees (O and P are the other types of F)
+-- ---- an error over a representation F, whose nodes stand for trees
 
 -- what an error says
-abbrev pub failure_of : {F N O P : Type 0} → (N → Tree) → ValidationError F N O P → Failure
+abbrev pub failure_of : {F Node Number Key : Type 0} → (Node → Tree) → ValidationError F Node Number Key → Failure
 failure_of tree e = record { kind = kind_of e.kind; instance_location = e.instance_path; keyword_location = schema_path_of e.schema_path; tree = tree e.instance.now }
 
 -- what a list of errors says
-abbrev pub failures_of : {F N O P : Type 0} → (N → Tree) → List (ValidationError F N O P) → List Failure
+abbrev pub failures_of : {F Node Number Key : Type 0} → (Node → Tree) → List (ValidationError F Node Number Key) → List Failure
 failures_of tree es = map (failure_of tree) es

@@ -13,10 +13,10 @@ use Rattle.jskw_report.specs.declared.error.ValidationError.{ValidationError}
 use Rattle.jskw_report.specs.declared.report.Report.{Report}
 use Rattle.jskw_report.specs.declared.report.Report.TheVariants.{First, All}
 
--- F, N, O and P are the types of a representation, whose nodes N stand for trees
+-- F is a representation, with its types of nodes, of numbers and of prepared keys; a node stands for a tree
 
 -- Ok where nothing fails, and else the first failure; want of memory says nothing
-abbrev pub IsFirst : {F N O P : Type 0} → (N → Tree) → List Failure → Result Unit (Fault F N O P) → Type 0
+abbrev pub IsFirst : {F Node Number Key : Type 0} → (Node → Tree) → List Failure → Result Unit (Fault F Node Number Key) → Type 0
 IsFirst tree fs (Ok u) = fs ≡ []
 IsFirst tree fs (Err (fault.Invalid e)) = (rest : List Failure) × (fs ≡ failure_of tree e ∷ rest)
 IsFirst tree fs (Err (fault.Memory e)) = ⊤
@@ -38,16 +38,16 @@ AppendsFailures old new all (Ok u) = new ≡ old ++ all
 AppendsFailures old new all (Err e) = AppendsBeginning old new all
 
 -- the errors are the old ones followed by all these failures, or, where memory was wanting, by a beginning of them
-abbrev pub Appends : {F N O P E : Type 0} → (N → Tree) → List (ValidationError F N O P) → List (ValidationError F N O P) → List Failure → Result Unit E → Type 0
+abbrev pub Appends : {F Node Number Key E : Type 0} → (Node → Tree) → List (ValidationError F Node Number Key) → List (ValidationError F Node Number Key) → List Failure → Result Unit E → Type 0
 Appends tree old new fs r = AppendsFailures (failures_of tree old) (failures_of tree new) fs r
 
 -- whether a report takes all errors; otherwise it takes the first alone
-abbrev pub wants_all : {F N O P : Type 0} → Report F N O P → Bool
+abbrev pub wants_all : {F Node Number Key : Type 0} → Report F Node Number Key → Bool
 wants_all (First e) = false
 wants_all (All es) = true
 
 -- what the errors of a report say
-abbrev pub found : {F N O P : Type 0} → (N → Tree) → Report F N O P → List Failure
+abbrev pub found : {F Node Number Key : Type 0} → (Node → Tree) → Report F Node Number Key → List Failure
 found tree (First None) = []
 found tree (First (Some e)) = failure_of tree e ∷ []
 found tree (All es) = failures_of tree es.items
@@ -69,7 +69,7 @@ Leaves false old new fs (Err Invalid) = IsFirstOf new fs
 Leaves false old new fs (Err (Memory e)) = ⊤
 
 -- the failures were reported, as far as they are wanted
-pub record Reports {F N O P : Type 0} (tree : N → Tree) (old new : Report F N O P) (fs : List Failure) (r : Result Unit Stop) : Type 0 where
+pub record Reports {F Node Number Key : Type 0} (tree : Node → Tree) (old new : Report F Node Number Key) (fs : List Failure) (r : Result Unit Stop) : Type 0 where
   pub same : wants_all new ≡ wants_all old
   pub leaves : Leaves (wants_all old) (found tree old) (found tree new) fs r
 

@@ -26,7 +26,7 @@ abbrev pub with_object_layer : Bool → Setting → Setting
 with_object_layer b s = record s { object_layer = b }
 
 -- where a schema or a keyword is read: the setting, and the keyword location (Core 12.3.1)
-pub record Spot : Type 0 where
+pub record CompilePoint : Type 0 where
   pub setting : Setting
   pub location : Pointer
 

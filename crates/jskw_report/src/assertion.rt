@@ -7,7 +7,7 @@ ghost use Rattle.jskw_report.specs.Errors.{kind_of};
 ghost use Rattle.jskw_report.specs.Fail.{error_kinds, keyword_fail, unless};
 ghost use Rattle.jskw_report.specs.Holds.{assertion_holds, keyword_holds};
 ghost use Rattle.jskw_report.specs.Kind.{ErrorKind};
-ghost use Rattle.jskw_report.specs.Meaning.{Placed, placed, one};
+ghost use Rattle.jskw_report.specs.Meaning.{LocatedAssertion, as_keyword, one_keyword};
 ghost use Rattle.jskw_report.specs.Observe.{Reports, failures_unless};
 ghost use Rattle.jskw_report.specs.Paths.{path_of};
 
@@ -24,7 +24,7 @@ use std::alloc::{AllocError, Global};
 /// for every representation.
 pub trait Assertion {
     /// What is asserted, and the keyword location of the error.
-    ghost asserts: { Self → Placed };
+    ghost asserts: { Self → LocatedAssertion };
 
     /// The kind of the error.
     ghost error: { Self → ErrorKind };
@@ -33,7 +33,8 @@ pub trait Assertion {
     /// no float. Allocates nothing.
     fn holds<F: Json>(&self, instance: &F::Node) -> bool
         requires { IsTrue (is_lawful (F.Node.tree instance.now)) }
-        ensures { result ≡ assertion_holds (asserts self.now).claim (F.Node.tree instance.now) };
+        ensures { result
+            ≡ assertion_holds (asserts self.now).assertion (F.Node.tree instance.now) };
 
     /// Returns the kind of the error, with what the keyword expects.
     fn kind(&self) -> ValidationErrorKind<'_>
@@ -45,12 +46,12 @@ pub trait Assertion {
 
     /// The law of an assertion: it has one error, of the kind `error`, if it does not hold, and
     /// none if it does.
-    ghost fails_once: { (a : Self) (t : Tree) → error_kinds (asserts a).claim t
-        ≡ unless (assertion_holds (asserts a).claim t) (error a) };
+    ghost fails_once: { (a : Self) (t : Tree) → error_kinds (asserts a).assertion t
+        ≡ unless (assertion_holds (asserts a).assertion t) (error a) };
 }
 
 impl<F: Json, A: Assertion> Validate<F> for A {
-    ghost meaning = { λ a. one (placed (A.asserts a)) };
+    ghost meaning = { λ a. one_keyword (as_keyword (A.asserts a)) };
 
     fn is_valid(&self, instance: &F::Node, _ctx: &mut ValidationContext) -> bool {
         self.holds::<F>(instance)
@@ -103,10 +104,11 @@ pub fn report_assertion<'i, F: Json, A: Assertion>(
     report: &mut Report<'i, F>,
 ) -> Result<(), Stop>
     requires { IsTrue (is_lawful (F.Node.tree instance.now)) }
-    ensures quiet { IsTrue (keyword_holds (placed (A.asserts assertion.now))
+    ensures quiet { IsTrue (keyword_holds (as_keyword (A.asserts assertion.now))
         (F.Node.tree instance.now)) → IsOk result }
     ensures reported { Reports F.Node.tree report.old report.new (keyword_fail
-        (placed (A.asserts assertion.now)) (F.Node.tree instance.now) (path_of location.now)) result }
+        (as_keyword (A.asserts assertion.now)) (F.Node.tree instance.now)
+        (path_of location.now)) result }
 {
     if assertion.holds::<F>(instance) {
         return Ok(());

@@ -3,7 +3,7 @@ ghost use Rattle.std.specs.Prelude.{◌≡◌};
 ghost use Rattle.jskw_report.specs.Overridden.{place_of};
 ghost use Rattle.jskw_report.specs.Setting.{is_in, name_of, stands, vocabulary_of};
 
-use crate::compiler::Context;
+use crate::context::Context;
 use crate::settings::{Draft, Vocabulary};
 use jskw_value::Json;
 

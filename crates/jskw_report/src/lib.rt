@@ -29,7 +29,7 @@
 #![tactic(auto)]
 
 pub mod assertion;
-pub mod compiler;
+pub mod context;
 pub mod error;
 pub mod evaluation;
 pub mod keyword;
@@ -41,7 +41,7 @@ pub mod settings;
 pub mod validator;
 
 pub use assertion::Assertion;
-pub use compiler::Context;
+pub use context::Context;
 pub use error::{
     CompilationResult, CompileFault, EnumOptions, Fault, Stop, TypeKind, ValidationError,
     ValidationErrorKind,

@@ -173,7 +173,7 @@ fn answer_of_settings(lines: &mut Lines, name: &str, all: Arguments<'_>) {
 
 fn answer_given(lines: &mut Lines, given: Given<'_>, name: &str, all: Arguments<'_>) {
     match name {
-        "Settings" => reports::settings(lines, given, all.text(2)),
+        "Settings" => reports::settings(&mut lines.text, given.settings, all.text(2)),
         "Context" => reports::contexts(lines, given),
         "map_get_u64" => compiled::bound(lines, given, all.text(2)),
         "enum" => compiled::options(lines, given, all),

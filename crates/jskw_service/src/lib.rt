@@ -36,10 +36,10 @@
 #![tactic(auto)]
 
 mod device;
+mod io;
 mod request;
 mod service;
 mod std_device;
-mod whole;
 
 pub use device::{DeviceFault, Sink, Source};
 pub use request::{draft_named, overridden_of, vocabularies_of};

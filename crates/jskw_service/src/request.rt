@@ -6,7 +6,7 @@ ghost use Rattle.jskw_service.specs.Request.{text_of, texts_of, vocabularies_of,
 ghost use Rattle.jskw_service.specs.Request.{vocabulary_of, vocabulary_set};
 ghost use Rattle.jskw_service.specs.RequestView.{request_view};
 
-use jskw_report::compiler::member_of;
+use jskw_report::context::member_of;
 use jskw_report::{Draft, Settings, Vocabulary, VocabularySet};
 use serde_json::{Map, Value};
 use std::alloc::{AllocError, Global};

@@ -13,8 +13,8 @@ ghost use Rattle.jskw_service.specs.Reply.{text_in, verdict_in};
 ghost use Rattle.jskw_service.specs.Run.{Begins, IsOutput, Writes, status_of};
 
 use crate::device::{DeviceFault, Sink, Source};
+use crate::io::{ReadFault, read_all, write_all};
 use crate::request::{Request, request_of};
-use crate::whole::{ReadFault, read_all, write_all};
 use jskw_array::SchemaNode;
 use jskw_array::compiler::compile;
 use jskw_report::{CompileFault, Context, LazyLocation, ValidationContext, ValidationError};

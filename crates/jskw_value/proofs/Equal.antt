@@ -15,7 +15,7 @@ use Rattle.std.specs.Str.{bytes_eq}
 use Rattle.jskw_value.specs.Equality.{equal, has_equal, unique, items_alike, members_alike, AreAmong, AreMembers}
 use Rattle.jskw_value.specs.Number.{Num, num_equal}
 use Rattle.jskw_value.specs.Tree.{Tree, number, array, object, Items, no_items, item, Members, no_members, member, item_list, member_list, items, members, names, get, has_name, as_number, is_array, is_object}
-use Rattle.jskw_value.proofs.Alike.{names_found}
+use Rattle.jskw_value.proofs.AlikeTrees.{names_found}
 use Rattle.jskw_value.proofs.Depth.{item_depth}
 use Rattle.jskw_value.proofs.Lists.{at_index}
 use Rattle.jskw_value.proofs.SameNames.{same_length}

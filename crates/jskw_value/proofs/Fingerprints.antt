@@ -23,7 +23,7 @@ use Rattle.jskw_value.specs.Fingerprint.{stirred, word_at, pairs_stirred, text_b
 use Rattle.jskw_value.specs.Number.{Num, num_equal}
 use Rattle.jskw_value.specs.PropertyName.{padded}
 use Rattle.jskw_value.specs.Tree.{Tree, null, boolean, number, string, array, object, Items, no_items, item, Members, no_members, member, item_list, member_list, items, members, names, values, get, as_number, as_string, is_array, is_object, has_name}
-use Rattle.jskw_value.proofs.Alike.{names_found}
+use Rattle.jskw_value.proofs.AlikeTrees.{names_found}
 use Rattle.jskw_value.proofs.Depth.{item_depth}
 use Rattle.jskw_value.proofs.DistinctNames.{not_among}
 use Rattle.jskw_value.proofs.Lists.{at_index}

@@ -1,5 +1,5 @@
-pub mod Alike
-pub mod Blocks
+pub mod AlikeTrees
+pub mod BlockSearch
 pub mod Booleans
 pub mod DecimalTrees
 pub mod Depth
@@ -7,7 +7,6 @@ pub mod DistinctNames
 pub mod Equal
 pub mod Fingerprints
 pub mod FirstFloat
-pub mod Heads
 pub mod Lawful
 pub mod Lists
 pub mod Lookups
@@ -15,14 +14,15 @@ pub mod MembersByPlace
 pub mod MembersInOrder
 pub mod NumberPrints
 pub mod Numbers
-pub mod Places
+pub mod PlacesInTrees
 pub mod Pointers
 pub mod Powers
-pub mod Prints
 pub mod SameNames
-pub mod Serde
 pub mod SerdeDecimals
+pub mod SerdeTrees
 pub mod Sketches
+pub mod SortedPrints
 pub mod Sums
+pub mod TextHeads
 pub mod Texts
-pub mod Unique
+pub mod UniqueItems

@@ -21,7 +21,7 @@ use Rattle.jskw_value.specs.declared.decimal_tree.DecimalTree.{DecimalTree, Arra
 use Rattle.jskw_value.specs.declared.members.Member.{Member}
 use Rattle.jskw_value.proofs.DecimalTrees.{on_value}
 use Rattle.jskw_value.proofs.DecimalTrees as decimals
-use Rattle.jskw_value.proofs.Serde as values
+use Rattle.jskw_value.proofs.SerdeTrees as values
 
 -- the items of a value's array, by their trees
 items_by_trees : (vs : List Value) → items_from (map value_tree vs) ≡ items_of (items_view vs)

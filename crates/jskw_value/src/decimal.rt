@@ -1,5 +1,5 @@
 //! Exact decimals.
-ghost use Rattle.std.specs.Prelude.{◌≡◌, ◌≤◌, ◌<◌, ◌^◌, ℤ, pos, negsuc, ◌*ℤ◌, ◌≤ℤ◌, ◌<ℤ◌};
+ghost use Rattle.std.specs.Prelude.{◌≡◌, ◌≤◌, ◌<◌, ◌-◌, ◌^◌, ℤ, pos, negsuc, ◌*ℤ◌, ◌≤ℤ◌, ◌<ℤ◌};
 ghost use Rattle.std.specs.Prelude.{option_map, Some, None, if◌then◌else◌};
 ghost use Rattle.jskw_value.specs.Number.{exact, is_decimal, num_equal, cmp_whole, is_multiple_of};
 
@@ -13,8 +13,8 @@ use std::cmp::Ordering;
 pub struct Decimal {
     coefficient: i128,
     scale: u8,
-    ghost low: { negsuc 9223372036854775807 ≤ℤ coefficient },
-    ghost high: { coefficient <ℤ pos 18446744073709551616 },
+    ghost low: { negsuc (2 ^ 63 - 1) ≤ℤ coefficient },
+    ghost high: { coefficient <ℤ pos (2 ^ 64) },
     ghost short: { scale ≤ 18 },
 }
 
@@ -37,8 +37,8 @@ impl Decimal {
     /// Returns the coefficient, from -2^63 to 2^64-1.
     pub fn coefficient(&self) -> i128
         ensures value { result ≡ self.now.coefficient }
-        ensures low { negsuc 9223372036854775807 ≤ℤ result }
-        ensures high { result <ℤ pos 18446744073709551616 }
+        ensures low { negsuc (2 ^ 63 - 1) ≤ℤ result }
+        ensures high { result <ℤ pos (2 ^ 64) }
     {
         self.coefficient
     }
@@ -83,8 +83,8 @@ impl Decimal {
     /// Compares the number with an integer (JSON Schema Validation 6.2.2 to 6.2.5). `whole` must be
     /// from -2^63 to 2^64-1.
     pub fn cmp_whole(&self, whole: i128) -> Ordering
-        requires low { negsuc 9223372036854775807 ≤ℤ whole }
-        requires high { whole <ℤ pos 18446744073709551616 }
+        requires low { negsuc (2 ^ 63 - 1) ≤ℤ whole }
+        requires high { whole <ℤ pos (2 ^ 64) }
         ensures { result ≡ cmp_whole self.now.coefficient self.now.scale whole }
     {
         self.coefficient.cmp(&(whole * ten_to(self.scale) as i128))

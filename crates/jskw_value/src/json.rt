@@ -227,7 +227,7 @@ pub trait Node: Array + Object {
     }
 
     /// Returns the number of items of an array, and 0 for any other value.
-    #[tactic(auto, using(crate::proofs::Places::items_elsewhere))]
+    #[tactic(auto, using(crate::proofs::PlacesInTrees::items_elsewhere))]
     final fn item_count(&self) -> usize
         ensures { result ≡ length (items (Self.tree self.now)) }
     {

@@ -18,7 +18,7 @@ pub struct KeyHead {
 
 impl KeyHead {
     /// Returns the head of a text. Allocates nothing.
-    #[tactic(auto, using(crate::proofs::Heads::head_of_few, crate::proofs::Heads::head_of_many))]
+    #[tactic(auto, using(crate::proofs::TextHeads::head_of_few, crate::proofs::TextHeads::head_of_many))]
     pub fn of(text: &str) -> KeyHead
         ensures { result ≡ head_of text.now }
     {
@@ -60,7 +60,7 @@ fn padded(bytes: &[u8]) -> [u8; 8]
 
 // Returns fewer than eight bytes as a number, the lowest byte first. The number is put together in
 // registers: the processor would have to wait for a copy of a few bytes into memory.
-#[tactic(auto, using(crate::proofs::Heads::few_padded))]
+#[tactic(auto, using(crate::proofs::TextHeads::few_padded))]
 pub(crate) fn number_of_few(bytes: &[u8]) -> u64
     requires { length bytes.now < 8 }
     ensures { result ≡ from_le_bytes w64 (padded bytes.now) }

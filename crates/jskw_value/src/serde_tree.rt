@@ -54,7 +54,7 @@ impl JsonNumber for Number {
     }
 }
 
-#[tactic(auto, using(crate::proofs::Serde::arrays))]
+#[tactic(auto, using(crate::proofs::SerdeTrees::arrays))]
 impl Array for Value {
     fn len(&self) -> usize {
         match self {
@@ -71,7 +71,7 @@ impl Array for Value {
     }
 }
 
-#[tactic(auto, using(crate::proofs::Serde::objects))]
+#[tactic(auto, using(crate::proofs::SerdeTrees::objects))]
 impl Object for Value {
     type PreparedKey = String;
 
@@ -181,7 +181,7 @@ impl Node for Value {
 // scalars without a call.
 #[inline(always)]
 #[cycle(lawful)]
-#[tactic(auto, using(crate::proofs::Serde::lawful_by_level))]
+#[tactic(auto, using(crate::proofs::SerdeTrees::lawful_by_level))]
 fn value_is_lawful(value: &Value) -> bool
     ensures { result ≡ lawful (value_tree value.now) }
 {

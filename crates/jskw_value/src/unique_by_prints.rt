@@ -18,7 +18,7 @@ use crate::unique_items::occurs_between;
 // block are compared with those of all later items. Never inlined, so that a caller's frame does
 // not contain the fingerprints.
 #[inline(never)]
-#[tactic(auto, using(crate::proofs::Blocks::last_block, crate::proofs::Blocks::one_block, crate::proofs::Prints::no_block))]
+#[tactic(auto, using(crate::proofs::BlockSearch::last_block, crate::proofs::BlockSearch::one_block, crate::proofs::SortedPrints::no_block))]
 pub(crate) fn are_unique_by_prints<const SIZE: usize, N: Node>(array: &N) -> bool
     requires array { IsTrue (is_array (N.tree array.now)) }
     requires filled { 0 < SIZE }
@@ -40,7 +40,7 @@ pub(crate) fn are_unique_by_prints<const SIZE: usize, N: Node>(array: &N) -> boo
 
 // Returns whether no item from one index up to another is equal to a later one. `prints` must have
 // room for the fingerprints of all of them.
-#[tactic(auto, using(crate::proofs::Prints::sorted_prints, crate::proofs::Prints::unique_block))]
+#[tactic(auto, using(crate::proofs::SortedPrints::sorted_prints, crate::proofs::SortedPrints::unique_block))]
 fn is_block_unique<N: Node>(
     array: &N,
     prints: &mut [u64],
@@ -62,7 +62,7 @@ fn is_block_unique<N: Node>(
 }
 
 // Writes the fingerprints of the whole items from one index up to another.
-#[tactic(auto, using(crate::proofs::Prints::no_print))]
+#[tactic(auto, using(crate::proofs::SortedPrints::no_print))]
 fn write_prints<N: Node>(array: &N, prints: &mut [u64], seed: u64, start: usize, end: usize)
     requires array { IsTrue (is_array (N.tree array.now)) }
     requires room { end ≡ start + length prints.old }
@@ -77,7 +77,7 @@ fn write_prints<N: Node>(array: &N, prints: &mut [u64], seed: u64, start: usize,
 
 // Returns whether no two of the items with these fingerprints are equal. Usually no two
 // fingerprints are equal.
-#[tactic(auto, using(crate::proofs::Prints::none_new))]
+#[tactic(auto, using(crate::proofs::SortedPrints::none_new))]
 fn differ_in_block<N: Node>(array: &N, prints: &[u64], seed: u64, start: usize, end: usize) -> bool
     requires array { IsTrue (is_array (N.tree array.now)) }
     requires room { end ≡ start + length prints.now }
@@ -100,7 +100,7 @@ fn differ_in_block<N: Node>(array: &N, prints: &[u64], seed: u64, start: usize, 
 }
 
 // Returns whether no item after those with these fingerprints is equal to one of them.
-#[tactic(auto, using(crate::proofs::Prints::none_new))]
+#[tactic(auto, using(crate::proofs::SortedPrints::none_new))]
 fn differ_from_later<N: Node>(
     array: &N,
     prints: &[u64],
@@ -137,7 +137,7 @@ fn rises(numbers: &[u64]) -> bool
 }
 
 // Returns whether a number is in a sorted list.
-#[tactic(auto, using(crate::proofs::Prints::not_found))]
+#[tactic(auto, using(crate::proofs::SortedPrints::not_found))]
 fn is_among(sorted: &[u64], number: u64) -> bool
     requires { IsNonDecreasing sorted.now }
     ensures { result ≡ false → IsNotAmong number sorted.now }
@@ -146,7 +146,7 @@ fn is_among(sorted: &[u64], number: u64) -> bool
 }
 
 // Returns whether a number is in a sorted list at two places.
-#[tactic(auto, using(crate::proofs::Prints::not_found, crate::proofs::Prints::found_once))]
+#[tactic(auto, using(crate::proofs::SortedPrints::not_found, crate::proofs::SortedPrints::found_once))]
 fn is_repeated(sorted: &[u64], number: u64) -> bool
     requires { IsNonDecreasing sorted.now }
     ensures { result ≡ false → IsOnceAtMost number sorted.now }

@@ -48,7 +48,7 @@ const UNSEEDED: u64 = 0;
 
 // Returns whether no two items of the array are equal. The first item is compared with all others
 // before a sketch is begun, so that equal items at the beginning are found at once.
-#[tactic(auto, using(crate::proofs::Blocks::first_again, crate::proofs::Blocks::first_new))]
+#[tactic(auto, using(crate::proofs::BlockSearch::first_again, crate::proofs::BlockSearch::first_new))]
 pub(crate) fn has_unique_items<N: Node>(array: &N) -> bool
     requires { IsTrue (is_array (N.tree array.now)) }
     ensures { result ≡ unique (items (N.tree array.now)) }
@@ -121,7 +121,7 @@ fn occurs_from<N: Node>(array: &N, start: usize, node: &N) -> bool
 // by block, the items of a block are compared with all later ones. `None` if the sketch is given
 // up. Never inlined, so that a caller's frame does not contain the sketch.
 #[inline(never)]
-#[tactic(auto, using(crate::proofs::Blocks::next_block, crate::proofs::Blocks::last_block))]
+#[tactic(auto, using(crate::proofs::BlockSearch::next_block, crate::proofs::BlockSearch::last_block))]
 fn are_unique_by_sketch<const WORDS: usize, N: Node>(array: &N) -> Option<bool>
     requires array { IsTrue (is_array (N.tree array.now)) }
     requires first { IsUniqueIn 0 1 (items (N.tree array.now)) }
@@ -146,7 +146,7 @@ fn are_unique_by_sketch<const WORDS: usize, N: Node>(array: &N) -> Option<bool>
 // Returns whether no item from one index up to another is equal to a later one, or `None` if too
 // many of them look equal and aren't. The budget of each fingerprint is a quarter of the length of
 // the array, so that all fingerprints together take less time than all pairs would.
-#[tactic(auto, using(crate::proofs::Blocks::told_start, crate::proofs::Blocks::told_end))]
+#[tactic(auto, using(crate::proofs::BlockSearch::told_start, crate::proofs::BlockSearch::told_end))]
 fn is_block_unique<N: Node>(array: &N, sketch: &mut [u64], start: usize, end: usize) -> Option<bool>
     requires array { IsTrue (is_array (N.tree array.now)) }
     requires filled { 0 < length sketch.old }
@@ -169,7 +169,7 @@ fn is_block_unique<N: Node>(array: &N, sketch: &mut [u64], start: usize, end: us
 // Returns whether no earlier item of the block is equal to the one at an index: none is if its
 // fingerprint is not marked, and then it is marked if the item is in the block. `None` if it is
 // marked and no more such items are allowed.
-#[tactic(auto, using(crate::proofs::Blocks::told_later, crate::proofs::Blocks::told_again, crate::proofs::Blocks::told_new))]
+#[tactic(auto, using(crate::proofs::BlockSearch::told_later, crate::proofs::BlockSearch::told_again, crate::proofs::BlockSearch::told_new))]
 fn is_new<N: Node>(
     array: &N,
     index: usize,
@@ -204,7 +204,7 @@ fn is_new<N: Node>(
 // Returns whether an item from one index up to another is equal to a given one. Called rarely, and
 // never inlined, so that the loop over all items keeps its registers.
 #[inline(never)]
-#[tactic(auto, using(crate::proofs::Blocks::new_start, crate::proofs::Blocks::new_step, crate::proofs::Blocks::is_twice))]
+#[tactic(auto, using(crate::proofs::BlockSearch::new_start, crate::proofs::BlockSearch::new_step, crate::proofs::BlockSearch::is_twice))]
 pub(crate) fn occurs_between<N: Node>(array: &N, start: usize, end: usize, index: usize) -> bool
     requires array { IsTrue (is_array (N.tree array.now)) }
     requires end { end ≤ index }

@@ -91,7 +91,7 @@ impl<'a, V: Node> Iterator for Walk<'a, V> {
 }
 
 // Returns the name and the value of the member at a place, or `None` past the last.
-#[tactic(auto, using(crate::proofs::Places::drop_member, crate::proofs::Places::drop_elsewhere))]
+#[tactic(auto, using(crate::proofs::PlacesInTrees::drop_member, crate::proofs::PlacesInTrees::drop_elsewhere))]
 fn member_at_place<'a, V: Node>(object: &'a V, place: usize) -> Option<(&'a str, &'a V)>
     ensures value { let all = members_of (V.tree object.now) in
         MatchOption result (drop place all ≡ [])

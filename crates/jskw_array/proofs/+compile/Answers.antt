@@ -2,12 +2,12 @@ use Rattle.std.proofs.Common.{rules, ◌≡◌, Bool, ℕ, Some, None, Result, O
 use Rattle.jskw_array.specs.Words.{Array, Keyword, Makes, Refusal, Schema, absorbed_keywords, active_member, after, append_keywords, as_array, before, begin_fused, bounds_of, contains, fused_words, get_member, is_fused, is_items_schema, items_depth, items_from, items_view, join_ok, keyword, keyword_location, keywords, keywords_of, map_ok, members_view, name_of, no_keywords, of_type, part_named, read, read_bounds, read_each, read_words, reading, schema_count, shape_keywords, validator_keyword, view, wrong}
 use Rattle.jskw_report.specs.declared.keyword.KeywordName.TheVariants as word
 use Rattle.jskw_array.proofs.Depths.{depth_array, item_depth, member_depth}
-use Rattle.jskw_array.proofs.EachSchema.{after_none as after_no_schemas, each_end, each_made, each_refused, schemas_in}
-use Rattle.jskw_leaf.proofs.Faults.{compiles_as, handed_on, refused_whole}
+use Rattle.jskw_array.proofs.CompiledSchemas.{after_none as after_no_schemas, each_end, each_made, each_refused, schemas_in}
+use Rattle.jskw_leaf.proofs.PassedFaults.{compiles_as, handed_on, refused_whole}
 use Rattle.jskw_leaf.proofs.FusedReading.{fused_items, is_there}
 use Rattle.jskw_array.proofs.FusedReading.{fused_behind, fused_refused, is_one, items_value, shape_reads}
-use Rattle.jskw_array.proofs.Readings.{additional_absent, additional_false, additional_of_schema, additional_true, bare_is_type, bare_stands, bare_start, contains_of_schema, contains_read, items_of_array, items_of_one, items_silent, prefix_of_array, prefix_refused, read_boolean, view-Bool}
-use Rattle.jskw_array.proofs.Turns.{active_depth, active_reads, after_empty, inactive_reads, ok_then, turn_end, turn_made, turn_refused, turn_silent}
+use Rattle.jskw_array.proofs.KeywordReadings.{additional_absent, additional_false, additional_of_schema, additional_true, bare_is_type, bare_stands, bare_start, contains_of_schema, contains_read, items_of_array, items_of_one, items_silent, prefix_of_array, prefix_refused, read_boolean, view-Bool}
+use Rattle.jskw_array.proofs.CompiledKeywords.{active_depth, active_reads, after_empty, inactive_reads, ok_then, turn_end, turn_made, turn_refused, turn_silent}
 use Rattle.jskw_array.proofs.+compile.Goals as goal
 
 -- ---- a schema
@@ -77,13 +77,13 @@ items::array_shape::ArrayShapeValidator::compile-compile_schema-requires g t c �
 
 pub items::array_shape::ArrayShapeValidator::compile-returns : goal.items::array_shape::ArrayShapeValidator::compile-returns
 items::array_shape::ArrayShapeValidator::compile-returns g t c =
-    let spot = c.args.ctx.now in
+    let point = c.args.ctx.now in
     let ms = members_view c.args.parent.now.entries in
     let d = view c.args.items.now in
-    let of_shape = shape_keywords {F = g.row.F.Denot} {N = g.row.F-Node.Denot} {O = g.row.F-Node-Number.Denot} {P = g.row.F-Node-PreparedKey.Denot} in
+    let of_shape = shape_keywords {F = g.row.F.Denot} {Node = g.row.F-Node.Denot} {Number = g.row.F-Node-Number.Denot} {Key = g.row.F-Node-PreparedKey.Denot} in
     let absorbed = absorbed_keywords c.in_ok-absorbed.absorbed.value in
-    let all = shape_reads spot ms d c.requires.fused c.requires.items absorbed c.in_ok-absorbed.ensures in
-    subst (Makes of_shape c.with_items.result) (ap (λ q. map_ok (λ k. append_keywords absorbed (keyword q k no_keywords)) (items_value spot.setting spot.location ms d)) c.in_ok-location.ensures ∙ sym all)
+    let all = shape_reads point ms d c.requires.fused c.requires.items absorbed c.in_ok-absorbed.ensures in
+    subst (Makes of_shape c.with_items.result) (ap (λ q. map_ok (λ k. append_keywords absorbed (keyword q k no_keywords)) (items_value point.setting point.location ms d)) c.in_ok-location.ensures ∙ sym all)
     (c.with_items.ensures _ c.compile_schema.ensures)
 
 -- ---- the keywords of an object
@@ -150,12 +150,12 @@ compiler::compile_each-compile-requires g t c κs within =
 
 pub compiler::compile_each-loop-index-preserved : goal.compiler::compile_each-loop-index-preserved
 compiler::compile_each-loop-index-preserved g t c =
-    let made = subst (λ spot. Makes (λ (n : Schema). n) c.compile.result (read (view c.index-schemas-index.result) spot.setting spot.location)) c.in_ok-item.ensures c.compile.ensures in
+    let made = subst (λ point. Makes (λ (n : Schema). n) c.compile.result (read (view c.index-schemas-index.result) point.setting point.location)) c.in_ok-item.ensures c.compile.ensures in
     each_made c.loop-index.nodes.items _ _ _ c.args.schemas.now _ _ c.loop-index-test.true c.index-schemas-index.is c.loop-index.invariant _ (c.in_ok-push_node.ensures _ made)
 
 pub compiler::compile_each-returns-in_err-push_node : goal.compiler::compile_each-returns-in_err-push_node
 compiler::compile_each-returns-in_err-push_node g t c =
-    let made = subst (λ spot. Makes (λ (n : Schema). n) c.compile.result (read (view c.index-schemas-index.result) spot.setting spot.location)) c.in_ok-item.ensures c.compile.ensures in
+    let made = subst (λ point. Makes (λ (n : Schema). n) c.compile.result (read (view c.index-schemas-index.result) point.setting point.location)) c.in_ok-item.ensures c.compile.ensures in
     handed_on (λ (u : Unit {0}). c.push_node.new.nodes.items) schemas_in c.in_err-push_node.field-0.0 _ _ _ c.from_residual-in_err-push_node.ensures.1 (c.in_err-push_node.ensures _ made)
     (each_refused c.loop-index.nodes.items _ _ _ c.args.schemas.now _ _ c.loop-index-test.true c.index-schemas-index.is c.loop-index.invariant)
 
@@ -168,14 +168,14 @@ compiler::compile_each-returns g t c =
 
 pub compiler::compile_at-returns : goal.compiler::compile_at-returns
 compiler::compile_at-returns g t c =
-    subst (λ spot. Makes (λ (n : Schema). n) c.compile.result (read (view c.args.schema.now) spot.setting spot.location)) c.in_ok-below.ensures c.compile.ensures
+    subst (λ point. Makes (λ (n : Schema). n) c.compile.result (read (view c.args.schema.now) point.setting point.location)) c.in_ok-below.ensures c.compile.ensures
 
 pub compiler::compile_at-compile-requires : goal.compiler::compile_at-compile-requires
 compiler::compile_at-compile-requires g t c κs within = (omega (arith, c.decreases), search rules)
 
 pub compiler::compile_list-returns : goal.compiler::compile_list-returns
 compiler::compile_list-returns g t c =
-    let at = subst (λ spot. Makes schemas_in c.compile_each.result (read_each (items_view c.as_slice.result.now) spot.setting spot.location 0)) c.in_ok-below.ensures c.compile_each.ensures in
+    let at = subst (λ point. Makes schemas_in c.compile_each.result (read_each (items_view c.as_slice.result.now) point.setting point.location 0)) c.in_ok-below.ensures c.compile_each.ensures in
     c.of_schemas.ensures _ (subst (λ vs. Makes schemas_in c.compile_each.result (read_each (items_view vs) c.args.ctx.now.setting (keyword_location c.args.ctx.now.location c.args.keyword) 0)) c.as_slice.ensures.value at)
 
 pub compiler::compile_list-compile_each-requires : goal.compiler::compile_list-compile_each-requires
@@ -191,8 +191,8 @@ prefix_items::compile-returns-in_default g t c =
     let d = view c.args.schema.now in
     let lost : as_array d ≡ None = search (rules, c.as_array.ensures) in
     let part = wrong (of_type Array) (keyword_location c.args.ctx.now.location word.PrefixItems) d in
-    compiles_as (validator_keyword {F = g.row.F.Denot} {N = g.row.F-Node.Denot} {O = g.row.F-Node-Number.Denot} {P = g.row.F-Node-PreparedKey.Denot}) (Some (Err c.no_array.result)) _ (Some part) (prefix_refused c.args.ctx.now ms d lost)
-    (refused_whole (λ (k : Keyword). k) (validator_keyword {F = g.row.F.Denot} {N = g.row.F-Node.Denot} {O = g.row.F-Node-Number.Denot} {P = g.row.F-Node-PreparedKey.Denot}) c.no_array.result part part c.no_array.ensures (λ r e. e))
+    compiles_as (validator_keyword {F = g.row.F.Denot} {Node = g.row.F-Node.Denot} {Number = g.row.F-Node-Number.Denot} {Key = g.row.F-Node-PreparedKey.Denot}) (Some (Err c.no_array.result)) _ (Some part) (prefix_refused c.args.ctx.now ms d lost)
+    (refused_whole (λ (k : Keyword). k) (validator_keyword {F = g.row.F.Denot} {Node = g.row.F-Node.Denot} {Number = g.row.F-Node-Number.Denot} {Key = g.row.F-Node-PreparedKey.Denot}) c.no_array.result part part c.no_array.ensures (λ r e. e))
 
 pub prefix_items::compile-returns : goal.prefix_items::compile-returns
 prefix_items::compile-returns g t c =
@@ -208,7 +208,7 @@ items::compile-returns-in-Some g t c =
 
 pub items::compile-returns-then-not-is_items_schema : goal.items::compile-returns-then-not-is_items_schema
 items::compile-returns-then-not-is_items_schema g t c =
-    let keyword_of = validator_keyword {F = g.row.F.Denot} {N = g.row.F-Node.Denot} {O = g.row.F-Node-Number.Denot} {P = g.row.F-Node-PreparedKey.Denot} in
+    let keyword_of = validator_keyword {F = g.row.F.Denot} {Node = g.row.F-Node.Denot} {Number = g.row.F-Node-Number.Denot} {Key = g.row.F-Node-PreparedKey.Denot} in
     let ms = members_view c.args.parent.now.entries in
     let d = view c.args.schema.now in
     let lost : as_array d ≡ None = search (rules, c.as_array.ensures) in
@@ -223,7 +223,7 @@ pub items::compile-returns : goal.items::compile-returns
 items::compile-returns g t c =
     let ms = members_view c.args.parent.now.entries in
     let d = view c.args.schema.now in
-    compiles_as (validator_keyword {F = g.row.F.Denot} {N = g.row.F-Node.Denot} {O = g.row.F-Node-Number.Denot} {P = g.row.F-Node-PreparedKey.Denot}) (Some c.compile_schema.result) _ _ (items_of_one c.args.ctx.now ms d (sym c.is_items_schema.ensures ∙ c.if-not-is_items_schema.false)) c.compile_schema.ensures
+    compiles_as (validator_keyword {F = g.row.F.Denot} {Node = g.row.F-Node.Denot} {Number = g.row.F-Node-Number.Denot} {Key = g.row.F-Node-PreparedKey.Denot}) (Some c.compile_schema.result) _ _ (items_of_one c.args.ctx.now ms d (sym c.is_items_schema.ensures ∙ c.if-not-is_items_schema.false)) c.compile_schema.ensures
 
 pub items::compile_schema-compile_inline-requires : goal.items::compile_schema-compile_inline-requires
 items::compile_schema-compile_inline-requires g t c =
@@ -242,7 +242,7 @@ items::compile_schema-returns-then-is_bare g t c =
     let d = view c.args.schema.now in
     let bare = sym c.is_bare.ensures ∙ c.if-is_bare.true in
     let value : ℕ → Bool → Result Keyword Refusal = λ n b. map_ok (λ sub. items_from n sub b) (read d s (keyword_location c.args.ctx.now.location word.Items)) in
-    subst (Makes (validator_keyword {F = g.row.F.Denot} {N = g.row.F-Node.Denot} {O = g.row.F-Node-Number.Denot} {P = g.row.F-Node-PreparedKey.Denot}) c.compile_inline.result) (sym (ap₂ value (bare_start s ms d bare) bare)) c.compile_inline.ensures
+    subst (Makes (validator_keyword {F = g.row.F.Denot} {Node = g.row.F-Node.Denot} {Number = g.row.F-Node-Number.Denot} {Key = g.row.F-Node-PreparedKey.Denot}) c.compile_inline.result) (sym (ap₂ value (bare_start s ms d bare) bare)) c.compile_inline.ensures
 
 pub items::compile_schema-returns : goal.items::compile_schema-returns
 items::compile_schema-returns g t c =
@@ -250,13 +250,13 @@ items::compile_schema-returns g t c =
     let d = view c.args.schema.now in
     let bare = sym c.is_bare.ensures ∙ c.if-is_bare.false in
     let value : ℕ → Bool → Result Keyword Refusal = λ n b. map_ok (λ sub. items_from n sub b) (read d s (keyword_location c.args.ctx.now.location word.Items)) in
-    subst (Makes (validator_keyword {F = g.row.F.Denot} {N = g.row.F-Node.Denot} {O = g.row.F-Node-Number.Denot} {P = g.row.F-Node-PreparedKey.Denot}) c.of_schema.result) (ap₂ value c.items_start-start.ensures (sym bare)) (c.of_schema.ensures _ c.compile_at.ensures)
+    subst (Makes (validator_keyword {F = g.row.F.Denot} {Node = g.row.F-Node.Denot} {Number = g.row.F-Node-Number.Denot} {Key = g.row.F-Node-PreparedKey.Denot}) c.of_schema.result) (ap₂ value c.items_start-start.ensures (sym bare)) (c.of_schema.ensures _ c.compile_at.ensures)
 
 -- ---- `additionalItems`
 
 pub additional_items::compile-returns-in_default : goal.additional_items::compile-returns-in_default
 additional_items::compile-returns-in_default g t c =
-    let keyword_of = validator_keyword {F = g.row.F.Denot} {N = g.row.F-Node.Denot} {O = g.row.F-Node-Number.Denot} {P = g.row.F-Node-PreparedKey.Denot} in
+    let keyword_of = validator_keyword {F = g.row.F.Denot} {Node = g.row.F-Node.Denot} {Number = g.row.F-Node-Number.Denot} {Key = g.row.F-Node-PreparedKey.Denot} in
     let ms = members_view c.args.parent.now.entries in
     let d = view c.args.schema.now in
     let lost : schema_count (get_member (name_of word.Items) ms) ≡ None = search (rules, c.schema_count.ensures) in
@@ -264,7 +264,7 @@ additional_items::compile-returns-in_default g t c =
 
 pub additional_items::compile-returns-in-Some-true : goal.additional_items::compile-returns-in-Some-true
 additional_items::compile-returns-in-Some-true g t c =
-    let keyword_of = validator_keyword {F = g.row.F.Denot} {N = g.row.F-Node.Denot} {O = g.row.F-Node-Number.Denot} {P = g.row.F-Node-PreparedKey.Denot} in
+    let keyword_of = validator_keyword {F = g.row.F.Denot} {Node = g.row.F-Node.Denot} {Number = g.row.F-Node-Number.Denot} {Key = g.row.F-Node-PreparedKey.Denot} in
     let ms = members_view c.args.parent.now.entries in
     let d = view c.args.schema.now in
     compiles_as keyword_of None _ None (additional_true c.args.ctx.now ms d (sym c.as_bool.ensures ∙ c.in-Some-true.is ∙ ap Some c.in-Some-true.field-0-test)) tt
@@ -294,7 +294,7 @@ contains::compile-returns g t c =
 
 pub contains::compile-returns-in-Err : goal.contains::compile-returns-in-Err
 contains::compile-returns-in-Err g t c =
-    let keyword_of = validator_keyword {F = g.row.F.Denot} {N = g.row.F-Node.Denot} {O = g.row.F-Node-Number.Denot} {P = g.row.F-Node-PreparedKey.Denot} in
+    let keyword_of = validator_keyword {F = g.row.F.Denot} {Node = g.row.F-Node.Denot} {Number = g.row.F-Node-Number.Denot} {Key = g.row.F-Node-PreparedKey.Denot} in
     let ms = members_view c.args.parent.now.entries in
     let d = view c.args.schema.now in
     let bounds = read_bounds c.args.ctx.now.setting c.args.ctx.now.location ms in
@@ -330,25 +330,25 @@ compiler::compile_keyword-compile-requires g t c κs within = (omega (arith, c.d
 
 pub compiler::compile_keyword-returns-in-Items : goal.compiler::compile_keyword-returns-in-Items
 compiler::compile_keyword-returns-in-Items g t c =
-    compiles_as (validator_keyword {F = g.row.F.Denot} {N = g.row.F-Node.Denot} {O = g.row.F-Node-Number.Denot} {P = g.row.F-Node-PreparedKey.Denot}) c.compile.result _ _ (ap (λ w. reading w c.args.ctx.now (members_view c.args.parent.now.entries) (view c.args.schema.now)) c.in-Items.is) c.compile.ensures
+    compiles_as (validator_keyword {F = g.row.F.Denot} {Node = g.row.F-Node.Denot} {Number = g.row.F-Node-Number.Denot} {Key = g.row.F-Node-PreparedKey.Denot}) c.compile.result _ _ (ap (λ w. reading w c.args.ctx.now (members_view c.args.parent.now.entries) (view c.args.schema.now)) c.in-Items.is) c.compile.ensures
 
 pub compiler::compile_keyword-compile-requires-in-PrefixItems : goal.compiler::compile_keyword-compile-requires-in-PrefixItems
 compiler::compile_keyword-compile-requires-in-PrefixItems g t c κs within = (omega (arith, c.decreases), search rules)
 
 pub compiler::compile_keyword-returns-in-PrefixItems : goal.compiler::compile_keyword-returns-in-PrefixItems
 compiler::compile_keyword-returns-in-PrefixItems g t c =
-    compiles_as (validator_keyword {F = g.row.F.Denot} {N = g.row.F-Node.Denot} {O = g.row.F-Node-Number.Denot} {P = g.row.F-Node-PreparedKey.Denot}) c.compile-in-PrefixItems.result _ _ (ap (λ w. reading w c.args.ctx.now (members_view c.args.parent.now.entries) (view c.args.schema.now)) c.in-PrefixItems.is) c.compile-in-PrefixItems.ensures
+    compiles_as (validator_keyword {F = g.row.F.Denot} {Node = g.row.F-Node.Denot} {Number = g.row.F-Node-Number.Denot} {Key = g.row.F-Node-PreparedKey.Denot}) c.compile-in-PrefixItems.result _ _ (ap (λ w. reading w c.args.ctx.now (members_view c.args.parent.now.entries) (view c.args.schema.now)) c.in-PrefixItems.is) c.compile-in-PrefixItems.ensures
 
 pub compiler::compile_keyword-compile-requires-in-AdditionalItems : goal.compiler::compile_keyword-compile-requires-in-AdditionalItems
 compiler::compile_keyword-compile-requires-in-AdditionalItems g t c κs within = (omega (arith, c.decreases), search rules)
 
 pub compiler::compile_keyword-returns-in-AdditionalItems : goal.compiler::compile_keyword-returns-in-AdditionalItems
 compiler::compile_keyword-returns-in-AdditionalItems g t c =
-    compiles_as (validator_keyword {F = g.row.F.Denot} {N = g.row.F-Node.Denot} {O = g.row.F-Node-Number.Denot} {P = g.row.F-Node-PreparedKey.Denot}) c.compile-in-AdditionalItems.result _ _ (ap (λ w. reading w c.args.ctx.now (members_view c.args.parent.now.entries) (view c.args.schema.now)) c.in-AdditionalItems.is) c.compile-in-AdditionalItems.ensures
+    compiles_as (validator_keyword {F = g.row.F.Denot} {Node = g.row.F-Node.Denot} {Number = g.row.F-Node-Number.Denot} {Key = g.row.F-Node-PreparedKey.Denot}) c.compile-in-AdditionalItems.result _ _ (ap (λ w. reading w c.args.ctx.now (members_view c.args.parent.now.entries) (view c.args.schema.now)) c.in-AdditionalItems.is) c.compile-in-AdditionalItems.ensures
 
 pub compiler::compile_keyword-compile-requires-in-Contains : goal.compiler::compile_keyword-compile-requires-in-Contains
 compiler::compile_keyword-compile-requires-in-Contains g t c κs within = (omega (arith, c.decreases), search rules)
 
 pub compiler::compile_keyword-returns-in-Contains : goal.compiler::compile_keyword-returns-in-Contains
 compiler::compile_keyword-returns-in-Contains g t c =
-    compiles_as (validator_keyword {F = g.row.F.Denot} {N = g.row.F-Node.Denot} {O = g.row.F-Node-Number.Denot} {P = g.row.F-Node-PreparedKey.Denot}) c.compile-in-Contains.result _ _ (ap (λ w. reading w c.args.ctx.now (members_view c.args.parent.now.entries) (view c.args.schema.now)) c.in-Contains.is) c.compile-in-Contains.ensures
+    compiles_as (validator_keyword {F = g.row.F.Denot} {Node = g.row.F-Node.Denot} {Number = g.row.F-Node-Number.Denot} {Key = g.row.F-Node-PreparedKey.Denot}) c.compile-in-Contains.result _ _ (ap (λ w. reading w c.args.ctx.now (members_view c.args.parent.now.entries) (view c.args.schema.now)) c.in-Contains.is) c.compile-in-Contains.ensures

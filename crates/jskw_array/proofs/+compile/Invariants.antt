@@ -1,6 +1,6 @@
 use Rattle.std.proofs.Common.{◌≡◌, ◌+◌, ◌*◌, drop}
 use Rattle.jskw_array.specs.Words.{after, begin_fused, depth, items_depth, items_view, keywords_of, members_depth, members_view, part_named, read_each, read_words, schemas_of, view}
-use Rattle.jskw_array.proofs.EachSchema.{after as after_schemas}
+use Rattle.jskw_array.proofs.CompiledSchemas.{after as after_schemas}
 use Rattle.jskw_array.proofs.+compile.Given as goal
 
 abbrev pub decreases-compiler::compile : goal.decreases-compiler::compile

@@ -2,14 +2,14 @@ use Rattle.std.proofs.Common.{rules, ◌≡◌, ◌∙◌, ◌++◌, [], ◌∷�
 use Rattle.std.proofs.Math.Nat.{le_trans}
 use Rattle.std.proofs.lemmas.Grind.{common_steps}
 use Rattle.jskw_array.specs.Words.{absorbed_by, absorbed_keywords, all_height, bounds_of, evaluate_pairs, failing_locations, false_schema, holds, item_location, items, keywords_of, matching_result, meaning_unit, node_at, of_children, pairs, path_of, prefix_annotation, result_of, schema_location, schemas_of, shape_keywords, tree, unit_location, unit_meaning, units}
-use Rattle.jskw_report.proofs.Gathering.{gathered_all, index_end, index_passed, index_taken, node_end, node_passed, node_taken}
-use Rattle.jskw_report.proofs.Valid.{tree_valid}
+use Rattle.jskw_report.proofs.GatheredNodes.{gathered_all, index_end, index_passed, index_taken, node_end, node_passed, node_taken}
+use Rattle.jskw_report.proofs.EvaluationValidity.{tree_valid}
 use Rattle.jskw_report.specs.Evaluation.{is_valid}
 use Rattle.jskw_array.specs.Heights.{rest_is_as_high}
-use Rattle.jskw_array.proofs.Keywords.{false_tree, items_height, keywords_end, one_pair, pairs_at, schema_height, schema_pairs, schema_tree, unit_height, unit_taken, unit_tall}
+use Rattle.jskw_array.proofs.WalksOverUnits.{false_tree, items_height, keywords_end, one_pair, pairs_at, schema_height, schema_pairs, schema_tree, unit_height, unit_taken, unit_tall}
 use Rattle.jskw_array.proofs.MatchedItems.{matching_is_unit}
-use Rattle.jskw_array.proofs.Meant.{each_meets, items_unit_is, prefix_unit_is}
-use Rattle.jskw_array.proofs.Meetings.{each_lower, each_units_end, sum_at}
+use Rattle.jskw_array.proofs.ValidatorMeanings.{each_meets, items_unit_is, prefix_unit_is}
+use Rattle.jskw_array.proofs.WalksOverItems.{each_lower, each_units_end, sum_at}
 use Rattle.jskw_array.proofs.+evaluate.Goals as goal
 use Rattle.jskw_array.proofs.+evaluate.Goals.{unit::evaluate_units-in-Keyword, unit::evaluate_units-in-Shape+in_ok-evaluate-in-Shape}
 

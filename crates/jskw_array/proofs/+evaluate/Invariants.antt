@@ -1,6 +1,6 @@
 use Rattle.std.proofs.Common.{◌≡◌, ◌+◌, ◌*◌, ◌≤◌, ◌++◌, min, length, drop, sum_by}
 use Rattle.jskw_array.specs.Words.{all_height, all_pairs, each_keyword, each_pairs, evaluate_each, evaluate_matching, evaluate_pairs, height, holds, items, keyword_height, keyword_pairs, keywords_of, matching_indices, pairs, path_of, rest_keyword, schemas_of, tree, units, validator_keyword}
-use Rattle.jskw_array.proofs.Keywords.{unit_tall}
+use Rattle.jskw_array.proofs.WalksOverUnits.{unit_tall}
 use Rattle.jskw_array.proofs.+evaluate.Given as goal
 
 abbrev pub decreases-node::SchemaNode::evaluate_instance_below : goal.decreases-node::SchemaNode::evaluate_instance_below

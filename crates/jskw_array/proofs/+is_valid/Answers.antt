@@ -1,12 +1,12 @@
 use Rattle.std.proofs.Common.{rules, ◌≡◌, ◌∙◌, ◌+◌, ◌-◌, ◌≤◌, false, drop, subst, sym, ap, arith}
 use Rattle.jskw_array.specs.Words.{all_height, holds, items, list_all, needed, shape_keywords, sum_to_failure}
 use Rattle.jskw_array.specs.Heights.{rest_is_as_high}
-use Rattle.jskw_array.proofs.Accepted.{counted_within, one_needed}
-use Rattle.jskw_array.proofs.Begun.{only_holds, only_lower, only_needs}
-use Rattle.jskw_array.proofs.Keywords.{items_height, passed_at, stopped_at, unit_height, unit_tall}
-use Rattle.jskw_array.proofs.Meant.{each_holds_of, each_needs, rest_holds_of, rest_needs}
-use Rattle.jskw_array.proofs.Meetings.{each_holds_end, each_lower, until_at}
-use Rattle.jskw_array.proofs.Taken.{drop_behind, each_taken_holds, each_taken_needed, taken_holds, taken_needed}
+use Rattle.jskw_array.proofs.AcceptedValues.{counted_within, one_needed}
+use Rattle.jskw_array.proofs.UnitsLeft.{only_holds, only_lower, only_needs}
+use Rattle.jskw_array.proofs.WalksOverUnits.{items_height, passed_at, stopped_at, unit_height, unit_tall}
+use Rattle.jskw_array.proofs.ValidatorMeanings.{each_holds_of, each_needs, rest_holds_of, rest_needs}
+use Rattle.jskw_array.proofs.WalksOverItems.{each_holds_end, each_lower, until_at}
+use Rattle.jskw_array.proofs.ItemsTaken.{drop_behind, each_taken_holds, each_taken_needed, taken_holds, taken_needed}
 use Rattle.jskw_array.proofs.+is_valid.Goals as goal
 
 -- ---- a schema for each item

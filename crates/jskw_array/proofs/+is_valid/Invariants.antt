@@ -1,6 +1,6 @@
 use Rattle.std.proofs.Common.{◌≡◌, ◌+◌, ◌*◌, ◌≤◌, length, drop, sum_by, count_by}
 use Rattle.jskw_array.specs.Words.{all_height, all_hold, all_needed, each_holds, each_keyword, each_needed, height, holds, items, keyword_height, keyword_holds, keyword_needed, keywords_of, list_all, needed, rest_keyword, schemas_of, sum_to_failure, validator_keyword}
-use Rattle.jskw_array.proofs.Keywords.{unit_tall}
+use Rattle.jskw_array.proofs.WalksOverUnits.{unit_tall}
 use Rattle.jskw_array.proofs.+is_valid.Given as goal
 
 abbrev pub decreases-node::SchemaNode::is_valid : goal.decreases-node::SchemaNode::is_valid

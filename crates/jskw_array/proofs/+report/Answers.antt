@@ -1,15 +1,15 @@
 use Rattle.std.proofs.Common.{rules, ◌≡◌, ◌∙◌, ◌+◌, ◌-◌, ◌≤◌, Err, Ok, refl, drop, ap, ap₂, sym, subst, append-nil, arith}
 use Rattle.jskw_array.specs.Words.{Reports, absorbed_keywords, all_fail, all_height, applications, each_item, each_keyword, fail, item_location, items, keyword_fail, meaning_applications, meaning_fail, path_of, rest_keyword, shape_keywords, unit_meaning, validator_keyword, wants_all}
-use Rattle.jskw_report.proofs.Appended.{fail_appended}
-use Rattle.jskw_report.proofs.Reporting.{Reported, reported_all, reported_nothing, reports_begun, reports_behind, reports_memory, reports_none}
+use Rattle.jskw_report.proofs.AppendedKeywords.{fail_appended}
+use Rattle.jskw_report.proofs.ReportedFailures.{Reported, reported_all, reported_nothing, reports_begun, reports_behind, reports_memory, reports_none}
 use Rattle.jskw_array.specs.Heights.{rest_is_as_high}
-use Rattle.jskw_array.proofs.Accepted.{counted_within, no_errors}
-use Rattle.jskw_array.proofs.Keywords.{fail_at, items_height, items_keywords, keywords_end, unit_height, unit_tall}
-use Rattle.jskw_array.proofs.Meant.{each_fails_of, rest_fails_of}
-use Rattle.jskw_leaf.proofs.Walks.{entered, fails_at}
-use Rattle.jskw_array.proofs.Meetings.{each_fails_at, each_fails_end, each_lower}
-use Rattle.jskw_array.proofs.Taken.{drop_behind, each_taken_fails, taken_fails}
-use Rattle.jskw_array.proofs.Walk.{each_applied, each_item_applied, each_item_passed, each_taken_applied, item_applied, item_passed, items_applications, one_applied, rest_applied, taken_applied, unit_applied, unit_passed, walk_counted, walk_on, walk_stopped}
+use Rattle.jskw_array.proofs.AcceptedValues.{counted_within, no_errors}
+use Rattle.jskw_array.proofs.WalksOverUnits.{fail_at, items_height, items_keywords, keywords_end, unit_height, unit_tall}
+use Rattle.jskw_array.proofs.ValidatorMeanings.{each_fails_of, rest_fails_of}
+use Rattle.jskw_leaf.proofs.TypeWalks.{entered, fails_at}
+use Rattle.jskw_array.proofs.WalksOverItems.{each_fails_at, each_fails_end, each_lower}
+use Rattle.jskw_array.proofs.ItemsTaken.{drop_behind, each_taken_fails, taken_fails}
+use Rattle.jskw_array.proofs.ReportingWalks.{each_applied, each_item_applied, each_item_passed, each_taken_applied, item_applied, item_passed, items_applications, one_applied, rest_applied, taken_applied, unit_applied, unit_passed, walk_counted, walk_on, walk_stopped}
 use Rattle.jskw_array.proofs.+report.Goals as goal
 
 -- ---- an item

@@ -1,7 +1,7 @@
 use Rattle.std.proofs.Common.{◌≡◌, ◌+◌, ◌*◌, min, length, drop}
-use Rattle.jskw_array.specs.Words.{all_applications, all_fail, all_height, each_fails, each_item, each_keyword, fail, height, items, keyword_fail, keyword_height, keywords_of, meaning_applications, one, path_of, rest_keyword, schemas_of, validator_keyword, wants_all}
-use Rattle.jskw_array.proofs.Keywords.{unit_tall}
-use Rattle.jskw_array.proofs.Walk.{Walk, each_applications, items_applications}
+use Rattle.jskw_array.specs.Words.{all_applications, all_fail, all_height, each_fails, each_item, each_keyword, fail, height, items, keyword_fail, keyword_height, keywords_of, meaning_applications, one_keyword, path_of, rest_keyword, schemas_of, validator_keyword, wants_all}
+use Rattle.jskw_array.proofs.WalksOverUnits.{unit_tall}
+use Rattle.jskw_array.proofs.ReportingWalks.{Walk, each_applications, items_applications}
 use Rattle.jskw_array.proofs.+report.Given as goal
 
 abbrev pub decreases-node::SchemaNode::report_errors : goal.decreases-node::SchemaNode::report_errors
@@ -39,7 +39,7 @@ invariant-each::EachValidate::report_errors-loop-index g l =
     record {
       last : l.count ≡ min (length (items t)) (length l.self.nodes.items);
       walk : Walk tree l.initial.report l.report (each_fails ss l.index ts p) (keyword_fail (each_keyword l.self) t p)
-          l.fn.ctx l.ctx (each_applications wanted ss ts) (meaning_applications wanted (one (each_keyword l.self)) t);
+          l.fn.ctx l.ctx (each_applications wanted ss ts) (meaning_applications wanted (one_keyword (each_keyword l.self)) t);
       location : l.location ≡ l.initial.location;
     }
 
@@ -54,7 +54,7 @@ invariant-rest::RestValidate::report_errors-loop-index g l =
     record {
       last : l.count ≡ length (items t);
       walk : Walk tree l.initial.report l.report (each_item (fail s) l.index ts p) (keyword_fail (rest_keyword l.self) t p)
-          l.fn.ctx l.ctx (items_applications wanted s ts) (meaning_applications wanted (one (rest_keyword l.self)) t);
+          l.fn.ctx l.ctx (items_applications wanted s ts) (meaning_applications wanted (one_keyword (rest_keyword l.self)) t);
       location : l.location ≡ l.initial.location;
     }
 

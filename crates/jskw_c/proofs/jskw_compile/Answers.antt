@@ -4,7 +4,7 @@ use Rattle.jskw_c.specs.Replies.{CompilesTo}
 use Rattle.jskw_c.specs.Told.{Gives}
 use Rattle.jskw_c.specs.declared.ask.Told.{Told}
 use Rattle.jskw_c.specs.declared.compiled.CompiledSchema.{CompiledSchema}
-use Rattle.jskw_c.proofs.Compiles.{compiles_fault}
+use Rattle.jskw_c.proofs.ToldRefusals.{compiles_fault}
 use Rattle.jskw_c.proofs.jskw_compile.Goals as goal
 
 pub returns-in-Ok-Err : goal.returns-in-Ok-Err

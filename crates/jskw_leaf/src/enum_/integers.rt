@@ -76,7 +76,7 @@ fn is_in_table(table: &[i64], number: &Decimal) -> bool
 }
 
 // Returns how the entry compares to the number.
-#[tactic(auto, using(crate::proofs::Tables::reversed))]
+#[tactic(auto, using(crate::proofs::SortedTables::reversed))]
 fn compare(entry: i64, number: &Decimal) -> Ordering
     ensures { result ≡ integer_against number.now.coefficient number.now.scale entry }
 {

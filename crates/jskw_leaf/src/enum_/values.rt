@@ -8,7 +8,7 @@ ghost use Rattle.jskw_value.specs.Types.{has_type_of};
 ghost use Rattle.jskw_report.specs.Holds.{is_option};
 ghost use Rattle.jskw_leaf.specs.Values.{IsRun, has_value, is_printed};
 
-use super::make::types_of;
+use super::compilation::types_of;
 use super::table::{OptionTable, TableEnumValidator};
 use jskw_value::fingerprint::of_whole;
 use jskw_value::seed::seed_of;

@@ -6,7 +6,7 @@ ghost use Rattle.jskw_report.specs.Compile.{Makes};
 ghost use Rattle.jskw_report.specs.Evaluation.{node_at, unit, units};
 ghost use Rattle.jskw_report.specs.Fail.{all_fail};
 ghost use Rattle.jskw_report.specs.Holds.{all_hold};
-ghost use Rattle.jskw_report.specs.Meaning.{placed};
+ghost use Rattle.jskw_report.specs.Meaning.{as_keyword};
 ghost use Rattle.jskw_report.specs.Observe.{Reports};
 ghost use Rattle.jskw_report.specs.Paths.{path_of};
 ghost use Rattle.jskw_report.specs.Read.{part_named, read_words};
@@ -22,7 +22,7 @@ use jskw_number::max_items::MaxItemsValidator;
 use jskw_number::min_items::MinItemsValidator;
 use jskw_number::sizes::SizeLimit;
 use jskw_report::assertion::report_assertion;
-use jskw_report::compiler::member_of;
+use jskw_report::context::member_of;
 use jskw_report::{
     Assertion, CompilationResult, Context, EvaluationNode, KeywordName, LazyLocation, Location,
     Report, Stop,
@@ -141,7 +141,7 @@ impl AbsorbedKeywords {
         requires { is_array ≡ is_list (F.Node.tree instance.now) }
         ensures { let a = absorbed_type self.now in IfOk result (λ node. node
             ≡ node_at a.location instance_location.now
-            (unit (placed a) (F.Node.tree instance.now) instance_location.now)) }
+            (unit (as_keyword a) (F.Node.tree instance.now) instance_location.now)) }
     {
         let type_ = &self.type_;
         evaluate_assertion::<F, _>(alloc, type_, is_array, instance, instance_location)

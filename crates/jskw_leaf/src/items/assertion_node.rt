@@ -4,7 +4,7 @@ ghost use Rattle.jskw_report.specs.Errors.{kind_of};
 ghost use Rattle.jskw_report.specs.Evaluation.{node_at, of_errors, unit};
 ghost use Rattle.jskw_report.specs.EvaluationView.{result_of};
 ghost use Rattle.jskw_report.specs.Holds.{assertion_holds};
-ghost use Rattle.jskw_report.specs.Meaning.{placed};
+ghost use Rattle.jskw_report.specs.Meaning.{as_keyword};
 ghost use Rattle.jskw_report.specs.Observe.{failures_unless};
 
 use jskw_report::validator::evaluate_first;
@@ -24,9 +24,10 @@ pub(super) fn evaluate_assertion<F: Json, A: Assertion>(
     instance: &F::Node,
     path: &Location,
 ) -> Result<EvaluationNode, AllocError>
-    requires { holds ≡ assertion_holds (A.asserts assertion.now).claim (F.Node.tree instance.now) }
+    requires { holds
+        ≡ assertion_holds (A.asserts assertion.now).assertion (F.Node.tree instance.now) }
     ensures { let a = A.asserts assertion.now in IfOk result (λ node. node
-        ≡ node_at a.location path.now (unit (placed a) (F.Node.tree instance.now) path.now)) }
+        ≡ node_at a.location path.now (unit (as_keyword a) (F.Node.tree instance.now) path.now)) }
 {
     let kind = assertion.kind();
     let schema_path = assertion.location();

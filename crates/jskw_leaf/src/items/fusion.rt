@@ -8,7 +8,7 @@ ghost use Rattle.jskw_report.specs.Sibling.{has_keyword, is_absent, is_fused, is
 ghost use Rattle.jskw_report.specs.Sibling.{is_string, takes_size, unfused_names};
 
 use jskw_number::helpers::size_limit;
-use jskw_report::compiler::member_of;
+use jskw_report::context::member_of;
 use jskw_report::{Context, KeywordName};
 use jskw_value::Json;
 use serde_json::{Map, Value};

@@ -7,7 +7,7 @@ ghost use Rattle.jskw_report.specs.Evaluation.{flag, of_children, tree, valid_un
 ghost use Rattle.jskw_report.specs.EvaluationView.{result_of};
 ghost use Rattle.jskw_report.specs.Holds.{assertion_holds, keyword_holds};
 ghost use Rattle.jskw_report.specs.Keyword.{type_is};
-ghost use Rattle.jskw_report.specs.Meaning.{one, placed};
+ghost use Rattle.jskw_report.specs.Meaning.{as_keyword, one_keyword};
 ghost use Rattle.jskw_report.specs.Paths.{path_of};
 ghost use Rattle.jskw_report.specs.declared.error.TypeKind.TheVariants.{Single};
 ghost use Rattle.jskw_number.specs.QuickSet.{leading};
@@ -33,12 +33,12 @@ use std::marker::PhantomData;
 pub trait ItemType: TypeTest {
     /// Returns the validator of the type. `location` is the keyword location of `type` in `items`.
     fn compile_type<F: Json>(location: Location) -> LeafValidator<F>
-        ensures { leaf_keyword result ≡ placed (type_at Self.json_type Self.rule location) };
+        ensures { leaf_keyword result ≡ as_keyword (type_at Self.json_type Self.rule location) };
 }
 
 // Returns the validator of one type.
 fn typed<F: Json>(json_type: JsonType, rule: IntegerRule, location: Location) -> LeafValidator<F>
-    ensures { leaf_keyword result ≡ placed (type_at json_type (rule_of rule) location) }
+    ensures { leaf_keyword result ≡ as_keyword (type_at json_type (rule_of rule) location) }
 {
     LeafValidator::Types(TypeValidator::new(TypeKind::Single(json_type), rule, location))
 }
@@ -146,7 +146,7 @@ impl<T: ItemType, F: Json> ItemsTypeValidator<T, F> {
 }
 
 impl<T: ItemType, F: Json> Validate<F> for ItemsTypeValidator<T, F> {
-    ghost meaning = { λ v. one (items_type T.json_type T.rule v) };
+    ghost meaning = { λ v. one_keyword (items_type T.json_type T.rule v) };
 
     fn is_valid(&self, instance: &F::Node, _ctx: &mut ValidationContext) -> bool {
         self.holds_of(instance.item_count(), instance)

@@ -3,7 +3,7 @@ ghost use Rattle.jskw_report.specs.Observe.{Reports};
 ghost use Rattle.jskw_report.specs.Paths.{path_of};
 ghost use Rattle.jskw_leaf.specs.Required.{required_fails};
 
-use super::found::{is_missing, scanned};
+use super::lookup::{is_missing, scanned};
 use super::names::Names;
 use jskw_report::validator::report_error;
 use jskw_report::{LazyLocation, Location, Report, Stop, ValidationErrorKind};

@@ -3,43 +3,25 @@ use super::Given;
 use crate::lines::{Lines, TYPES};
 use crate::text::{Made, Text};
 use jskw_report::Vocabulary::{Applicator, Core, Validation};
-use jskw_report::compiler::member_of;
+use jskw_report::context::member_of;
 use jskw_report::{
     Annotations, CompileFault, Context, EnumOptions, ErrorDescription, EvaluationNode,
-    EvaluationResult, Fault, LazyLocation, Location, LocationSegment, TypeKind, ValidationContext,
-    ValidationError, ValidationErrorKind, VocabularySet,
+    EvaluationResult, Fault, LazyLocation, Location, LocationSegment, Settings, ValidationContext,
+    ValidationError, ValidationErrorKind,
 };
-use jskw_service::vocabularies_of;
 use jskw_value::{
     DecimalJson, Json, JsonType, JsonTypeSet, NotNullable, Nullability, Nullable, SerdeJson,
 };
 use serde_json::Value;
 use std::alloc::{AllocError, Global};
 
-// The drafts of settings and of a context under them, whether all vocabularies are in their set, and of
-// each vocabulary whether both have it and whether it is in the set; whether both override a name.
-pub(super) fn settings(lines: &mut Lines, given: Given<'_>, name: &str) {
-    let (settings, text) = (given.settings, &mut lines.text);
-    let ctx = Context::<SerdeJson>::new(lines.alloc, settings);
-    let set = vocabularies_of(given.parent.get("vocabularies")).unwrap_or(VocabularySet::empty());
-    let is_all = set == VocabularySet::all();
-    write!(text, "{:?} {:?} {is_all}", settings.draft(), ctx.draft());
+// The draft of settings, whether they have each vocabulary, and whether they override a name.
+pub(super) fn settings(text: &mut Text, settings: &Settings, name: &str) {
+    write!(text, "{:?}", settings.draft());
     for vocabulary in &[Core, Applicator, Validation] {
-        let (has, also) = (
-            settings.has_vocabulary(*vocabulary),
-            ctx.has_vocabulary(*vocabulary),
-        );
-        write!(
-            text,
-            " {vocabulary:?} {has} {also} {}",
-            set.contains(*vocabulary)
-        );
+        write!(text, " {}", settings.has_vocabulary(*vocabulary));
     }
-    let (is_one, is_other) = (
-        settings.is_keyword_overridden(name),
-        ctx.is_keyword_overridden(name),
-    );
-    write!(text, ", {is_one} {is_other}");
+    write!(text, ", {}", settings.is_keyword_overridden(name));
 }
 
 // The location, the draft and the object layer of a context, of one without the layer, of two below

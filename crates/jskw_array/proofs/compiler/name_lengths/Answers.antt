@@ -1,4 +1,4 @@
-use Rattle.jskw_array.proofs.Lengths.{next_marked}
+use Rattle.jskw_array.proofs.LengthMarks.{next_marked}
 use Rattle.jskw_array.proofs.compiler.name_lengths.Goals as goal
 
 pub loop-name-preserved : goal.loop-name-preserved

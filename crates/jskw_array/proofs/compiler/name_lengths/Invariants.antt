@@ -1,5 +1,5 @@
 use Rattle.jskw_array.specs.Words.{members_view}
-use Rattle.jskw_array.proofs.Lengths.{AreMarked}
+use Rattle.jskw_array.proofs.LengthMarks.{AreMarked}
 use Rattle.jskw_array.proofs.compiler.name_lengths.Given as goal
 
 abbrev pub invariant-loop-name : goal.invariant-loop-name

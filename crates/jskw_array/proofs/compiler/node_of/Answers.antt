@@ -1,6 +1,6 @@
 use Rattle.std.proofs.Common.{ap}
 use Rattle.jskw_array.specs.Words.{keywords, keywords_of, marks_of, members_view, part_named, read_words, whole}
-use Rattle.jskw_leaf.proofs.Faults.{refused_part}
+use Rattle.jskw_leaf.proofs.PassedFaults.{refused_part}
 use Rattle.jskw_array.proofs.compiler.node_of.Goals as goal
 
 pub returns-in-Err : goal.returns-in-Err

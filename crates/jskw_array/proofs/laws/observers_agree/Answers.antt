@@ -1,6 +1,6 @@
 use Rattle.std.proofs.Common.{subst}
 use Rattle.jskw_array.specs.Words.{Appends, fail, path_of}
-use Rattle.jskw_array.proofs.Agreed.{agreed}
+use Rattle.jskw_array.proofs.ObserversAgree.{agreed}
 use Rattle.jskw_array.proofs.laws.observers_agree.Goals as goal
 
 pub returns-clause-appended : goal.returns-clause-appended

@@ -1,6 +1,6 @@
 use Rattle.std.proofs.Common.{◌≡◌, ◌∙◌, ap₂, subst, IfOk, arith}
 use Rattle.jskw_array.specs.Words.{fail, false_schema, node_at, path_of}
-use Rattle.jskw_array.proofs.Keywords.{refused_tree}
+use Rattle.jskw_array.proofs.WalksOverUnits.{refused_tree}
 use Rattle.jskw_array.proofs.node.evaluate_refusal.Goals as goal
 
 pub returns : goal.returns

@@ -1,5 +1,5 @@
 use Rattle.std.proofs.Common.{◌≡◌, get_or, subst, sym, arith}
-use Rattle.jskw_array.proofs.Begun.{begun_next}
+use Rattle.jskw_array.proofs.UnitsLeft.{begun_next}
 use Rattle.jskw_array.proofs.unit.begun_units.Goals as goal
 
 pub loop-unit-preserved : goal.loop-unit-preserved

@@ -1,6 +1,6 @@
 use Rattle.std.proofs.Common.{◌≡◌, true, subst, sym, arith}
 use Rattle.jskw_array.specs.Words.{Tree, is_in, meaning_holds, unit_meaning}
-use Rattle.jskw_array.proofs.Accepted.{accepted_end, accepted_next}
+use Rattle.jskw_array.proofs.AcceptedValues.{accepted_end, accepted_next}
 use Rattle.jskw_array.proofs.unit.quick_set_of.Goals as goal
 
 pub loop-unit-preserved : goal.loop-unit-preserved

@@ -1,4 +1,4 @@
-use Rattle.jskw_array.proofs.Accepted.{Accepted}
+use Rattle.jskw_array.proofs.AcceptedValues.{Accepted}
 use Rattle.jskw_array.proofs.unit.quick_set_of.Given as goal
 
 abbrev pub invariant-loop-unit : goal.invariant-loop-unit

@@ -1,6 +1,6 @@
 use Rattle.std.proofs.Common.{◌∙◌, ◌+◌, ◌||◌, drop, ap, sym}
 use Rattle.jskw_array.specs.Words.{all_hand_on, keywords_of}
-use Rattle.jskw_array.proofs.Keywords.{hand_on_at}
+use Rattle.jskw_array.proofs.WalksOverUnits.{hand_on_at}
 use Rattle.jskw_array.proofs.unit.some_unit_hands_on.Goals as goal
 
 pub returns-then-hands_on_required : goal.returns-then-hands_on_required

@@ -4,7 +4,7 @@ use Rattle.jskw_report.specs.Errors.{failures_of}
 use Rattle.jskw_report.specs.Fail.{fail, is_empty}
 use Rattle.jskw_c.specs.Asked.{verdict}
 use Rattle.jskw_c.specs.Line.{AreErrorLines}
-use Rattle.jskw_c.proofs.Askings.{reports_errors}
+use Rattle.jskw_c.proofs.ToldAnswers.{reports_errors}
 use Rattle.jskw_c.proofs.ask.errors_of.Goals as goal
 
 pub returns : goal.returns

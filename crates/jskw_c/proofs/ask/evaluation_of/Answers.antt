@@ -1,7 +1,7 @@
 use Rattle.std.proofs.Common.{◌∙◌, ap}
 use Rattle.jskw_value.specs.Serde.{value_tree}
 use Rattle.jskw_c.specs.Asked.{verdict}
-use Rattle.jskw_c.proofs.Askings.{reports_tree}
+use Rattle.jskw_c.proofs.ToldAnswers.{reports_tree}
 use Rattle.jskw_c.proofs.ask.evaluation_of.Goals as goal
 
 pub returns : goal.returns

@@ -4,7 +4,7 @@ use Rattle.jskw_report.specs.Errors.{failure_of}
 use Rattle.jskw_report.specs.Fail.{Failure, fail}
 use Rattle.jskw_report.specs.Observe.{IsFirst}
 use Rattle.jskw_report.specs.Paths.{path_of}
-use Rattle.jskw_c.proofs.Askings.{reports_first, reports_no_error}
+use Rattle.jskw_c.proofs.ToldAnswers.{reports_first, reports_no_error}
 use Rattle.jskw_c.proofs.ask.first_error_of.Goals as goal
 
 pub returns-in-Ok : goal.returns-in-Ok

@@ -4,7 +4,7 @@ use Rattle.jskw_value.specs.Serde.{value_tree}
 use Rattle.jskw_value.specs.Tree.{is_lawful}
 use Rattle.jskw_service.specs.Request.{value_of}
 use Rattle.jskw_c.specs.Asked.{verdict}
-use Rattle.jskw_c.proofs.Askings.{status_of_float, status_of_lawful}
+use Rattle.jskw_c.proofs.ToldAnswers.{status_of_float, status_of_lawful}
 use Rattle.jskw_c.proofs.ask.validity.Goals as goal
 
 pub returns-then-not-is_lawful : goal.returns-then-not-is_lawful

@@ -1,6 +1,6 @@
 use Rattle.std.proofs.Common.{List, ℕ, ◌+◌, ◌++◌, drop, ap, subst, arith}
 use Rattle.std.proofs.lemmas.List.{drop_all}
-use Rattle.jskw_report.proofs.Gathering.{drop_here}
+use Rattle.jskw_report.proofs.GatheredNodes.{drop_here}
 use Rattle.jskw_value.specs.Serde.{value_tree}
 use Rattle.jskw_report.specs.Errors.{failure_of, failures_of}
 use Rattle.jskw_c.specs.Line.{AreErrorLines}

@@ -1,7 +1,7 @@
 use Rattle.std.proofs.Common.{◌∙◌, false, subst, sym}
 use Rattle.jskw_report.specs.Observe.{Reports}
 use Rattle.jskw_report.specs.Paths.{path_of}
-use Rattle.jskw_report.proofs.Once.{fails_unless}
+use Rattle.jskw_report.proofs.FailsAtMostOnce.{fails_unless}
 use Rattle.jskw_report.proofs.assertion.report_assertion.Goals as goal
 
 pub returns-clause-reported : goal.returns-clause-reported

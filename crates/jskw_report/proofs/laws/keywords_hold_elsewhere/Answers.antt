@@ -1,4 +1,4 @@
-use Rattle.jskw_report.proofs.Elsewhere.{holds_elsewhere}
+use Rattle.jskw_report.proofs.HoldsElsewhere.{holds_elsewhere}
 use Rattle.jskw_report.proofs.laws.keywords_hold_elsewhere.Goals as goal
 
 pub returns : goal.returns

@@ -2,8 +2,8 @@ use Rattle.std.specs.Prelude.{◌≡◌, List, [], ◌∷◌, ◌↔◌, Bool, t
 use Rattle.std.proofs.Common.{refl, sym, ◌∙◌, ap}
 use Rattle.std.proofs.lemmas.Bool.{true≢false}
 use Rattle.jskw_report.specs.Fail.{is_empty, fail, keyword_fail}
-use Rattle.jskw_report.proofs.Fails.{holds_empty, keyword_empty}
-use Rattle.jskw_report.proofs.Valid.{tree_valid, unit_valid}
+use Rattle.jskw_report.proofs.HoldsIsNoFailure.{holds_empty, keyword_empty}
+use Rattle.jskw_report.proofs.EvaluationValidity.{tree_valid, unit_valid}
 use Rattle.jskw_report.proofs.laws.verdicts_agree.Goals as goal
 
 -- an empty list is the list of nothing

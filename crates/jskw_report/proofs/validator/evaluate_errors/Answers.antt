@@ -1,6 +1,6 @@
 use Rattle.std.proofs.Common.{◌∙◌, sym}
 use Rattle.jskw_report.specs.Errors.{failure_of}
-use Rattle.jskw_report.proofs.Units.{no_errors, some_errors}
+use Rattle.jskw_report.proofs.AssertionUnits.{no_errors, some_errors}
 use Rattle.jskw_report.proofs.validator.evaluate_errors.Goals as goal
 
 pub returns-then-is_empty-clause-unit : goal.returns-then-is_empty-clause-unit

@@ -1,7 +1,7 @@
 use Rattle.std.proofs.Common.{◌≡◌, ◌++◌, drop}
 use Rattle.jskw_report.specs.Errors.{failures_of}
 use Rattle.jskw_report.specs.EvaluationParts.{keywords_of}
-use Rattle.jskw_report.proofs.Units.{keywords}
+use Rattle.jskw_report.proofs.AssertionUnits.{keywords}
 use Rattle.jskw_report.proofs.validator.evaluate_errors.Given as goal
 
 -- the keywords so far, with those of the errors that are left

@@ -1,4 +1,4 @@
-use Rattle.jskw_report.proofs.Reporting.{reports_memory}
+use Rattle.jskw_report.proofs.ReportedFailures.{reports_memory}
 use Rattle.jskw_report.proofs.validator.report_error.Goals as goal
 
 pub returns-in_err-instance_path : goal.returns-in_err-instance_path

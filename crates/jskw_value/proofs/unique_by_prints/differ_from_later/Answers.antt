@@ -1,6 +1,6 @@
 use Rattle.std.proofs.Common.{◌≤◌, ◌<◌, length, arith}
 use Rattle.jskw_value.specs.Tree.{items}
-use Rattle.jskw_value.proofs.Prints.{all_new, next_new, next_other}
+use Rattle.jskw_value.proofs.SortedPrints.{all_new, next_new, next_other}
 use Rattle.jskw_value.proofs.unique_by_prints.differ_from_later.Goals as goal
 use Rattle.jskw_value.proofs.unique_by_prints.differ_from_later.Goals.{else-is_among-via-then-is_among+else-occurs_between, else-is_among-via-else-is_among}
 

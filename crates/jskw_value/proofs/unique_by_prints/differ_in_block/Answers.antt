@@ -1,6 +1,6 @@
 use Rattle.std.proofs.Common.{◌≤◌, ◌<◌, arith}
 use Rattle.jskw_value.specs.Tree.{items}
-use Rattle.jskw_value.proofs.Prints.{all_new, next_new, next_once, rising_new}
+use Rattle.jskw_value.proofs.SortedPrints.{all_new, next_new, next_once, rising_new}
 use Rattle.jskw_value.proofs.unique_by_prints.differ_in_block.Goals as goal
 use Rattle.jskw_value.proofs.unique_by_prints.differ_in_block.Goals.{else-is_repeated-via-then-is_repeated+else-occurs_between, else-is_repeated-via-else-is_repeated}
 

@@ -1,6 +1,6 @@
 use Rattle.std.proofs.Common.{◌+◌, ◌<◌, ◌∙◌, length, arith, length-set}
 use Rattle.jskw_value.specs.Tree.{items}
-use Rattle.jskw_value.proofs.Prints.{next_print}
+use Rattle.jskw_value.proofs.SortedPrints.{next_print}
 use Rattle.jskw_value.proofs.unique_by_prints.write_prints.Goals as goal
 
 pub loop-i-preserved : goal.loop-i-preserved

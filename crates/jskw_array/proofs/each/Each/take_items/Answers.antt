@@ -1,6 +1,6 @@
 use Rattle.std.proofs.Common.{arith}
 use Rattle.jskw_array.specs.Words.{items}
-use Rattle.jskw_array.proofs.Taken.{each_taken_next}
+use Rattle.jskw_array.proofs.ItemsTaken.{each_taken_next}
 use Rattle.jskw_array.proofs.each.Each.take_items.Goals as goal
 
 pub loop-index-preserved : goal.loop-index-preserved

@@ -6,9 +6,9 @@ use Rattle.jskw_array.proofs.items.inline.compile_inline.Goals as goal
 
 pub returns : goal.returns
 returns g c =
-    let spot = c.args.ctx.now in
-    let q = keyword_location spot.location Items in
+    let point = c.args.ctx.now in
+    let q = keyword_location point.location Items in
     let location = c.in_ok-location.ensures in
     let type_location = c.in_ok-type_location.ensures ∙ ap (λ n. member_location c.in_ok-location.location n) c.as_str-name.ensures ∙ ap (λ l. keyword_location l TypeKeyword) location in
-    inline_reads spot.setting q (view c.args.schema.now) c.only_type.result.now (validator_keyword c.typed_items.result) c.requires.only_type c.requires.stands c.only_type.ensures
+    inline_reads point.setting q (view c.args.schema.now) c.only_type.result.now (validator_keyword c.typed_items.result) c.requires.only_type c.requires.stands c.only_type.ensures
     (λ j named. placed_items j (c.typed_items.ensures j named) location type_location c.draft.ensures)

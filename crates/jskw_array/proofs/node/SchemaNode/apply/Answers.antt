@@ -2,7 +2,7 @@ use Rattle.std.proofs.Common.{◌≡◌, ◌∙◌, ap, subst, sym}
 use Rattle.std.proofs.lemmas.List.{take_rest}
 use Rattle.jskw_array.specs.Words.{BeginsWith, IsLeft, keywords_of, marked, schema_object, schema_of}
 use Rattle.jskw_array.specs.Node.{SchemaBegins}
-use Rattle.jskw_array.proofs.Begun.{behind_held}
+use Rattle.jskw_array.proofs.UnitsLeft.{behind_held}
 use Rattle.jskw_array.proofs.node.SchemaNode.apply.Goals as goal
 
 pub returns-then-contains-clause-units : goal.returns-then-contains-clause-units

@@ -1,6 +1,6 @@
 use Rattle.std.proofs.Common.{◌∙◌, ap, sym, arith}
 use Rattle.jskw_array.specs.Words.{is_fused_schema, keywords_in}
-use Rattle.jskw_array.proofs.Units.{begin_fused_first, shapes_begin}
+use Rattle.jskw_array.proofs.KeywordsOfUnits.{begin_fused_first, shapes_begin}
 use Rattle.jskw_array.proofs.node.SchemaNode.array_shape.Goals as goal
 
 pub returns-in-len1-up-clause-fused : goal.returns-in-len1-up-clause-fused

@@ -1,7 +1,7 @@
 use Rattle.std.proofs.Common.{◌∙◌, ◌++◌, ap, sym, append-nil}
 use Rattle.jskw_array.specs.Words.{failures_of, path_of}
-use Rattle.jskw_array.proofs.Accepted.{counted_within, no_errors}
-use Rattle.jskw_array.proofs.Keywords.{one_pair}
+use Rattle.jskw_array.proofs.AcceptedValues.{counted_within, no_errors}
+use Rattle.jskw_array.proofs.WalksOverUnits.{one_pair}
 use Rattle.jskw_array.proofs.node.SchemaNode.collect_errors.Goals as goal
 
 pub returns-then-accepts-clause-appended : goal.returns-then-accepts-clause-appended

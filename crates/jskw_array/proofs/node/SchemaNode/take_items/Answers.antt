@@ -1,7 +1,7 @@
 use Rattle.std.proofs.Common.{◌≡◌, ◌-◌, true, drop, subst, arith}
 use Rattle.jskw_array.specs.Words.{Tree, holds, is_in, items, list_all, take}
 use Rattle.jskw_number.specs.QuickSet.{leading}
-use Rattle.jskw_array.proofs.Taken.{leading_valid}
+use Rattle.jskw_array.proofs.ItemsTaken.{leading_valid}
 use Rattle.jskw_array.proofs.node.SchemaNode.take_items.Goals as goal
 
 pub returns-clause-valid : goal.returns-clause-valid

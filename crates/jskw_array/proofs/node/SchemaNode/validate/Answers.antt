@@ -1,5 +1,5 @@
 use Rattle.jskw_array.specs.Words.{path_of}
-use Rattle.jskw_array.proofs.Accepted.{counted_within, no_errors, one_needed}
+use Rattle.jskw_array.proofs.AcceptedValues.{counted_within, no_errors, one_needed}
 use Rattle.jskw_array.proofs.node.SchemaNode.validate.Goals as goal
 
 pub returns-then-accepts-clause-first : goal.returns-then-accepts-clause-first

@@ -1,6 +1,6 @@
 use Rattle.std.proofs.Common.{◌∙◌}
 use Rattle.jskw_value.specs.Tree.{array}
-use Rattle.jskw_array.proofs.Begun.{outline_with_arrays, outline_without_arrays}
+use Rattle.jskw_array.proofs.UnitsLeft.{outline_with_arrays, outline_without_arrays}
 use Rattle.jskw_array.proofs.outline.Outline.of.Goals as goal
 
 pub returns-then-has_arrays : goal.returns-then-has_arrays

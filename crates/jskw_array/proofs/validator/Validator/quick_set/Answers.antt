@@ -1,6 +1,6 @@
 use Rattle.jskw_number.proofs.QuickSets.{without_arrays}
 use Rattle.jskw_array.specs.Words.{validator_keyword}
-use Rattle.jskw_array.proofs.Accepted.{about_arrays}
+use Rattle.jskw_array.proofs.AcceptedValues.{about_arrays}
 use Rattle.jskw_array.proofs.validator.Validator.quick_set.Goals as goal
 
 pub returns-in_default : goal.returns-in_default

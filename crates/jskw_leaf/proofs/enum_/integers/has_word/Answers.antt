@@ -1,5 +1,5 @@
 use Rattle.std.proofs.Common.{◌∙◌}
-use Rattle.jskw_leaf.proofs.Tables.{searched_words}
+use Rattle.jskw_leaf.proofs.SortedTables.{searched_words}
 use Rattle.jskw_leaf.proofs.enum_.integers.has_word.Goals as goal
 
 pub returns : goal.returns

@@ -1,7 +1,7 @@
 use Rattle.std.proofs.Common.{rules, ◌∙◌}
 use Rattle.std.proofs.lemmas.Fn.{always_returns_same}
 use Rattle.jskw_leaf.specs.Options.{integer_against}
-use Rattle.jskw_leaf.proofs.Tables.{searched_integers}
+use Rattle.jskw_leaf.proofs.SortedTables.{searched_integers}
 use Rattle.jskw_leaf.proofs.enum_.integers.is_in_table.Goals as goal
 
 pub returns : goal.returns

@@ -2,7 +2,7 @@ use Rattle.std.proofs.Common.{rules, ◌∙◌}
 use Rattle.std.proofs.lemmas.List.{take_rest}
 use Rattle.std.proofs.lemmas.List.Sorted.{IsPartitionPoint-from_clause, IsPartitionedBy-ltb}
 use lib.Dec.{ltb}
-use Rattle.jskw_leaf.proofs.Values.{searched_values}
+use Rattle.jskw_leaf.proofs.OptionPrints.{searched_values}
 use Rattle.jskw_leaf.proofs.enum_.values.is_among.Goals as goal
 
 pub starts_with_equal-requires : goal.starts_with_equal-requires

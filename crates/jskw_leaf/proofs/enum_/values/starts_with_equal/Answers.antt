@@ -1,5 +1,5 @@
 use Rattle.std.proofs.Common.{arith, sym, ◌∙◌}
-use Rattle.jskw_leaf.proofs.Values.{run_over}
+use Rattle.jskw_leaf.proofs.OptionPrints.{run_over}
 use Rattle.jskw_leaf.proofs.enum_.values.starts_with_equal.Goals as goal
 
 pub returns-then-option-print : goal.returns-then-option-print

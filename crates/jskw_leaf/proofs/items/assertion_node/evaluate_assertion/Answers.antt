@@ -1,7 +1,7 @@
 use Rattle.std.proofs.Common.{◌≡◌, ◌∙◌, ap, ap₂, sym, subst, IfOk}
 use Rattle.jskw_report.specs.Observe.{failures_unless}
 use Rattle.jskw_report.specs.Evaluation.{node_at, of_errors}
-use Rattle.jskw_report.proofs.Once.{fails_unless}
+use Rattle.jskw_report.proofs.FailsAtMostOnce.{fails_unless}
 use Rattle.jskw_leaf.proofs.items.assertion_node.evaluate_assertion.Goals as goal
 
 pub returns : goal.returns

@@ -2,8 +2,8 @@ use Rattle.std.proofs.Common.{◌<◌, length, [], ◌∷◌, sym, ◌∙◌, ar
 use Rattle.std.proofs.lemmas.Bool.{not-true, not-false}
 use Rattle.std.proofs.lemmas.List.{get_or_read}
 use Rattle.jskw_report.specs.Paths.{path_of}
-use Rattle.jskw_report.proofs.Reporting.{reported_more, reported_nothing, reported_stopped}
-use Rattle.jskw_leaf.proofs.Lacking.{fails_there, name_fails}
+use Rattle.jskw_report.proofs.ReportedFailures.{reported_more, reported_nothing, reported_stopped}
+use Rattle.jskw_leaf.proofs.MissingNames.{fails_there, name_fails}
 use Rattle.jskw_leaf.proofs.required.missing.report_missing.Goals as goal
 use Rattle.jskw_leaf.proofs.required.missing.report_missing.Goals.{then-is_missing+in_ok-report_error, else-is_missing}
 

@@ -1,5 +1,5 @@
 use Rattle.std.proofs.Common.{◌≡◌, drop, length}
-use Rattle.jskw_report.proofs.Reporting.{Reported}
+use Rattle.jskw_report.proofs.ReportedFailures.{Reported}
 use Rattle.jskw_report.specs.Paths.{path_of}
 use Rattle.jskw_leaf.specs.Required.{required_fails}
 use Rattle.jskw_leaf.proofs.required.missing.report_missing.Given as goal

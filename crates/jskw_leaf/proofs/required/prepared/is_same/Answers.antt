@@ -1,7 +1,7 @@
 use Rattle.std.proofs.Common.{◌≤◌, length, sym, ap, ap₂, ◌∙◌, arith}
 use Rattle.std.specs.Int.{w32, to_le_bytes}
 use Rattle.std.specs.Str.{bytes_eq}
-use Rattle.jskw_leaf.proofs.Ends.{last_tell}
+use Rattle.jskw_leaf.proofs.TextEnds.{last_tell}
 use Rattle.jskw_leaf.proofs.required.prepared.is_same.Goals as goal
 
 pub returns-then-word : goal.returns-then-word

@@ -1,4 +1,4 @@
-use Rattle.jskw_report.proofs.Reporting.{appends_reported}
+use Rattle.jskw_report.proofs.ReportedFailures.{appends_reported}
 use Rattle.jskw_report.proofs.assertion.AnyValidate.collect_errors.Goals as goal
 
 pub returns-clause-appended : goal.returns-clause-appended

@@ -1,5 +1,5 @@
 use Rattle.jskw_report.specs.Paths.{path_of}
-use Rattle.jskw_report.proofs.Once.{fails_at_most_once}
+use Rattle.jskw_report.proofs.FailsAtMostOnce.{fails_at_most_once}
 use Rattle.jskw_report.proofs.assertion.AnyValidate.evaluate.Goals as goal
 
 pub returns-clause-gives : goal.returns-clause-gives

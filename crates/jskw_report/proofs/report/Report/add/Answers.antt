@@ -1,5 +1,5 @@
 use Rattle.std.proofs.Common.{alloc_error}
-use Rattle.jskw_report.proofs.Reporting.{reports_full}
+use Rattle.jskw_report.proofs.ReportedFailures.{reports_full}
 use Rattle.jskw_report.proofs.report.Report.add.Goals as goal
 
 pub returns-in_err-push-in-All : goal.returns-in_err-push-in-All

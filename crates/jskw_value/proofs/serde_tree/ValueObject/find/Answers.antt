@@ -1,4 +1,4 @@
-use Rattle.jskw_value.proofs.Serde.{found_of_object}
+use Rattle.jskw_value.proofs.SerdeTrees.{found_of_object}
 use Rattle.jskw_value.proofs.serde_tree.ValueObject.find.Goals as goal
 
 pub returns-clause-value : goal.returns-clause-value

@@ -1,6 +1,6 @@
 use Rattle.std.proofs.Common.{rules}
 use Rattle.std.proofs.lemmas.List.Sorted.{IsNonDecreasingBy-from_sort_by_key}
-use Rattle.jskw_leaf.proofs.Values.{are_values, no_value, printed_moved}
+use Rattle.jskw_leaf.proofs.OptionPrints.{are_values, no_value, printed_moved}
 use Rattle.jskw_leaf.proofs.enum_.values.SortedValuesOptionTable.new.Goals as goal
 
 pub invariant_of-result : goal.invariant_of-result

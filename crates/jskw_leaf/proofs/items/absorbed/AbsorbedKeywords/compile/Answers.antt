@@ -4,9 +4,9 @@ use Rattle.jskw_leaf.specs.Items.{absorbed_keywords, optional}
 use Rattle.jskw_report.specs.Keyword.{append_keywords, by_value, keyword}
 use Rattle.jskw_number.specs.Meaning.{max_items, min_items}
 use Rattle.serde_json.specs.View.{members_view}
-use Rattle.jskw_report.specs.Meaning.{placed}
+use Rattle.jskw_report.specs.Meaning.{as_keyword}
 use Rattle.jskw_leaf.specs.Meaning.{type_at}
-use Rattle.jskw_leaf.proofs.Faults.{handed_on}
+use Rattle.jskw_leaf.proofs.PassedFaults.{handed_on}
 use Rattle.jskw_leaf.proofs.FusedReading.{absorbed_made, absorbed_refused, absorbed_refused_next, fused_max, fused_min, fused_type}
 use Rattle.jskw_leaf.proofs.items.absorbed.AbsorbedKeywords.compile.Goals as goal
 
@@ -38,5 +38,5 @@ returns g c =
     let ms = members_view c.args.parent.now.entries in
     let bounds = append_keywords (optional min_items c.in_ok-min_items.min_items) (optional max_items c.in_ok-max_items.max_items) in
     absorbed_made s p ms (fused_type s ms c.requires) _ _ c.in_ok-min_items.ensures c.in_ok-max_items.ensures
-    ∙ ap (λ q. Ok (keyword q (placed (type_at Array by_value q)) bounds)) (sym c.in_ok-location.ensures) ∙ ap (λ a. Ok (keyword a.location (placed a) bounds)) (sym c.new.ensures)
+    ∙ ap (λ q. Ok (keyword q (as_keyword (type_at Array by_value q)) bounds)) (sym c.in_ok-location.ensures) ∙ ap (λ a. Ok (keyword a.location (as_keyword a) bounds)) (sym c.new.ensures)
     ∙ ap (λ a. Ok (absorbed_keywords a)) (sym c.in_ok-new.ensures.ok)

@@ -2,8 +2,8 @@ use Rattle.std.proofs.Common.{sym, subst}
 use Rattle.jskw_leaf.specs.Items.{Extends, optional}
 use Rattle.jskw_number.specs.Meaning.{max_items, min_items}
 use Rattle.jskw_report.specs.Evaluation.{units}
-use Rattle.jskw_report.proofs.Appended.{units_appended}
-use Rattle.jskw_leaf.proofs.Fused.{extends_before}
+use Rattle.jskw_report.proofs.AppendedKeywords.{units_appended}
+use Rattle.jskw_leaf.proofs.FusedErrors.{extends_before}
 use Rattle.jskw_leaf.proofs.items.absorbed.AbsorbedKeywords.evaluate_counts.Goals as goal
 
 pub returns-in_err-evaluate_bound : goal.returns-in_err-evaluate_bound

@@ -1,5 +1,5 @@
 use Rattle.jskw_report.specs.Paths.{path_of}
-use Rattle.jskw_leaf.proofs.Fused.{reported_most, stopped_at_least, stopped_at_type}
+use Rattle.jskw_leaf.proofs.FusedErrors.{reported_most, stopped_at_least, stopped_at_type}
 use Rattle.jskw_leaf.proofs.items.absorbed.AbsorbedKeywords.report_errors.Goals as goal
 
 pub returns-in_err-report_assertion : goal.returns-in_err-report_assertion

@@ -2,7 +2,7 @@ use Rattle.std.proofs.Common.{refl, arith}
 use Rattle.std.proofs.lemmas.Grind.{common_steps}
 use Rattle.jskw_value.specs.Tree.{items}
 use Rattle.jskw_report.specs.Paths.{path_of}
-use Rattle.jskw_leaf.proofs.Walks.{entered, type_begins, type_reported, type_stopped}
+use Rattle.jskw_leaf.proofs.TypeWalks.{entered, type_begins, type_reported, type_stopped}
 use Rattle.jskw_leaf.proofs.items.item_type.ItemsTypeValidatorValidate.report_errors.Goals as goal
 
 pub loop-index-init : goal.loop-index-init

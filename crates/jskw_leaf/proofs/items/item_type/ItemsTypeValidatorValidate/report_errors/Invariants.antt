@@ -1,5 +1,5 @@
 use Rattle.std.proofs.Common.{◌≡◌, ◌-◌, ◌≤◌, length, drop}
-use Rattle.jskw_report.proofs.Reporting.{Reported}
+use Rattle.jskw_report.proofs.ReportedFailures.{Reported}
 use Rattle.jskw_leaf.specs.Items.{bare_schema}
 use Rattle.jskw_report.specs.Fail.{each_item, fail}
 use Rattle.jskw_value.specs.Tree.{items}

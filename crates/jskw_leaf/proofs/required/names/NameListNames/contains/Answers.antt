@@ -1,4 +1,4 @@
-use Rattle.jskw_leaf.proofs.Marking.{table_tells}
+use Rattle.jskw_leaf.proofs.NameMarks.{table_tells}
 use Rattle.jskw_leaf.proofs.required.names.NameListNames.contains.Goals as goal
 use Rattle.std.proofs.Common.{◌∙◌}
 

@@ -1,0 +1,130 @@
+-- A walk that reports the errors of items or keywords one after another, and the applications that it takes.
+use Rattle.std.proofs.Common.{◌≡◌, ℕ, ◌+◌, ◌≤◌, List, [], ◌++◌, length, get_or, take, drop, sum_by, Bool, true, false, Result, Ok, Err, IsErrAnd, if◌then◌else◌, refl, sym, subst, ap, ◌∙◌, arith, ◌<◌}
+use Rattle.std.proofs.lemmas.Bool.{true≢false}
+use Rattle.jskw_array.specs.Words.{CountsUpTo, Each, Failure, Pointer, Reports, Rest, Schema, Schemas, TheUnit, Tree, all_applications, applications, each_holds, each_keyword, each_needed, each_pairs, fail, holds, is_empty, items, keywords_of, list_all, meaning_applications, meaning_fail, meaning_holds, needed, one_keyword, pairs, rest_keyword, schemas_of, sum_to_failure, unit_meaning, wants_all}
+use Rattle.jskw_report.specs.declared.error.Stop.{Stop}
+use Rattle.jskw_report.specs.declared.report.Report.{Report}
+use Rattle.jskw_report.proofs.HoldsIsNoFailure.{holds_empty}
+use Rattle.jskw_report.proofs.ReportedFailures.{Reported, none_found, reported_more, reported_stopped}
+use Rattle.jskw_array.proofs.AcceptedValues.{one_needed}
+use Rattle.jskw_array.proofs.WalksOverUnits.{needed_at, one_pair, pairs_at, unit_empty}
+use Rattle.jskw_array.proofs.ValidatorMeanings.{each_meets, each_needs, rest_meets, rest_needs}
+use Rattle.jskw_array.proofs.WalksOverItems.{each_needed_at, each_pairs_at, sum_at, until_at}
+use Rattle.jskw_array.proofs.ItemsTaken.{each_taken_needed, each_taken_pairs, taken_needed, taken_pairs}
+
+-- ---- the walk
+
+-- `left` of `all` is still to be reported, and the applications for it are within what the walk may take from `before` on
+pub record Walk {F Node Number Key : Type 0} (tree : Node → Tree) (old now : Report F Node Number Key) (left all : List Failure) (before ctx cost bound : ℕ) : Type 0 where
+  pub reported : Reported tree old now left all
+  pub from : before ≤ ctx
+  pub to : ctx + cost ≤ before + bound
+
+module _ {F Node Number Key : Type 0} (tree : Node → Tree) {old now : Report F Node Number Key} {left all : List Failure} {before ctx cost bound : ℕ} (first rest : List Failure)
+    (walk : Walk tree old now left all before ctx cost bound) (is : left ≡ first ++ rest) (here : Bool → ℕ) where
+  reported_here : Reported tree old now (first ++ rest) all
+  reported_here = subst (λ fs. Reported tree old now fs all) is walk.reported
+
+  counted_here : {next : ℕ} → CountsUpTo ctx next (here (wants_all now)) → CountsUpTo ctx next (here (wants_all old))
+  counted_here {next} counted = subst (λ w. CountsUpTo ctx next (here w)) walk.reported.same counted
+
+  -- the first part was reported, and more is wanted
+  pub walk_on : {new : Report F Node Number Key} {next : ℕ} (less : ℕ) → Reports tree now new first (Ok tt) → CountsUpTo ctx next (here (wants_all now)) → ((wants_all old ≡ false → first ≡ []) → here (wants_all old) + less ≤ cost)
+      → Walk tree old new rest all before next less bound
+  walk_on less reports counted within =
+      let c = counted_here counted in
+      let h = within (λ one. none_found tree first reports (walk.reported.same ∙ one)) in
+      record {
+        reported = reported_more tree first rest reported_here reports;
+        from = omega (arith, walk.from, c.from);
+        to = omega (arith, walk.to, c.to, h);
+      }
+
+  -- it stopped in the first part
+  pub walk_stopped : {new : Report F Node Number Key} (r : Result Unit Stop) (x : Stop) → IsErrAnd r (λ y. y ≡ x) → Reports tree now new first (Err x) → Reports tree old new all r
+  walk_stopped r x gives reports = reported_stopped tree first rest r x reported_here gives reports
+
+  pub walk_counted : {next : ℕ} → CountsUpTo ctx next (here (wants_all now)) → here (wants_all old) ≤ cost → CountsUpTo before next bound
+  walk_counted counted within =
+      let c = counted_here counted in
+      record { from = omega (arith, walk.from, c.from); to = omega (arith, walk.to, c.to, within) }
+
+-- ---- what it takes
+
+pub one_applied : (wanted : Bool) (s : Schema) (t : Tree) → 1 ≤ applications wanted s t
+one_applied true s t = one_pair s t
+one_applied false s t = one_needed s t
+
+-- for items by one schema
+abbrev pub items_applications : Bool → Schema → List Tree → ℕ
+items_applications true s ts = sum_by (pairs s) ts
+items_applications false s ts = sum_to_failure (holds s) (needed s) ts
+
+-- for each item by its schema
+abbrev pub each_applications : Bool → Schemas → List Tree → ℕ
+each_applications true ss ts = each_pairs ss ts
+each_applications false ss ts = each_needed ss ts
+
+pub rest_applied : {F Node Number Key : Type 0} (wanted : Bool) (v : Rest F Node Number Key) (t : Tree) → meaning_applications wanted (one_keyword (rest_keyword v)) t ≡ items_applications wanted v.node (drop v.start (items t))
+rest_applied true v t = rest_meets v t
+rest_applied false v t = rest_needs v t
+
+pub each_applied : {F Node Number Key : Type 0} (wanted : Bool) (v : Each F Node Number Key) (t : Tree) → meaning_applications wanted (one_keyword (each_keyword v)) t ≡ each_applications wanted (schemas_of v.nodes.items) (items t)
+each_applied true v t = each_meets v t
+each_applied false v t = each_needs v t
+
+-- the first items, which are valid, take an application each
+pub taken_applied : (wanted : Bool) (s : Schema) (n : ℕ) (ts : List Tree) → n ≤ length ts → list_all (holds s) (take n ts) ≡ true
+    → n + items_applications wanted s (drop n ts) ≤ items_applications wanted s ts
+taken_applied true s n ts within valid = taken_pairs s n ts within
+taken_applied false s n ts within valid = taken_needed s n ts within valid
+
+pub each_taken_applied : (wanted : Bool) (n : ℕ) (ss : List Schema) (ts : List Tree) → n ≤ length ss → n ≤ length ts → each_holds (schemas_of (take n ss)) ts ≡ true
+    → n + each_applications wanted (schemas_of (drop n ss)) (drop n ts) ≤ each_applications wanted (schemas_of ss) ts
+each_taken_applied true n ss ts schemas within valid = each_taken_pairs n ss ts schemas within
+each_taken_applied false n ss ts schemas within valid = each_taken_needed n ss ts schemas within valid
+
+-- where the first failure alone is wanted, a part of the walk that passed holds
+passed : (holds_here : Bool) (first : List Failure) → holds_here ≡ is_empty first → (false ≡ false → first ≡ []) → holds_here ≡ true
+passed holds_here first is none = is ∙ ap is_empty (none refl)
+
+-- with the part behind, or without it
+branch : (b : Bool) (here rest whole : ℕ) → whole ≡ here + (if b then rest else 0) → b ≡ true → here + rest ≤ whole
+branch true here rest whole is e = omega (arith, is)
+branch false here rest whole is e = absurd (true≢false (sym e))
+
+at_least : (b : Bool) (here rest whole : ℕ) → whole ≡ here + (if b then rest else 0) → here ≤ whole
+at_least true here rest whole is = omega (arith, is)
+at_least false here rest whole is = omega (arith, is)
+
+-- at an item
+module _ (ts : List Tree) (i : ℕ) (t : Tree) (within : i < length ts) (is : t ≡ get_or ts i t) (s : Schema) where
+  pub item_applied : (wanted : Bool) → applications wanted s t ≤ items_applications wanted s (drop i ts)
+  item_applied true = let e = sum_at ts i t within is (pairs s) in omega (arith, e)
+  item_applied false = at_least (holds s t) _ _ _ (until_at ts i t within is (holds s) (needed s))
+
+  pub item_passed : (wanted : Bool) (p : Pointer) → (wanted ≡ false → fail s t p ≡ []) → applications wanted s t + items_applications wanted s (drop (i + 1) ts) ≤ items_applications wanted s (drop i ts)
+  item_passed true p none = let e = sum_at ts i t within is (pairs s) in omega (arith, e)
+  item_passed false p none = branch (holds s t) _ _ _ (until_at ts i t within is (holds s) (needed s)) (passed (holds s t) (fail s t p) (holds_empty s t p) none)
+
+module _ (ss : List Schema) (ts : List Tree) (i : ℕ) (s : Schema) (t : Tree)
+    (schema_within : i < length ss) (within : i < length ts) (schema_is : s ≡ get_or ss i s) (is : t ≡ get_or ts i t) where
+  pub each_item_applied : (wanted : Bool) → applications wanted s t ≤ each_applications wanted (schemas_of (drop i ss)) (drop i ts)
+  each_item_applied true = let e = each_pairs_at ss ts i s t schema_within within schema_is is in omega (arith, e)
+  each_item_applied false = at_least (holds s t) _ _ _ (each_needed_at ss ts i s t schema_within within schema_is is)
+
+  pub each_item_passed : (wanted : Bool) (p : Pointer) → (wanted ≡ false → fail s t p ≡ [])
+      → applications wanted s t + each_applications wanted (schemas_of (drop (i + 1) ss)) (drop (i + 1) ts) ≤ each_applications wanted (schemas_of (drop i ss)) (drop i ts)
+  each_item_passed true p none = let e = each_pairs_at ss ts i s t schema_within within schema_is is in omega (arith, e)
+  each_item_passed false p none = branch (holds s t) _ _ _ (each_needed_at ss ts i s t schema_within within schema_is is) (passed (holds s t) (fail s t p) (holds_empty s t p) none)
+
+-- at a unit
+module _ {F Node Number Key : Type 0} (us : List (TheUnit F Node Number Key)) (i : ℕ) (u : TheUnit F Node Number Key) (within : i < length us) (is : u ≡ get_or us i u) (t : Tree) where
+  pub unit_applied : (wanted : Bool) → meaning_applications wanted (unit_meaning u) t ≤ all_applications wanted (keywords_of (drop i us)) t
+  unit_applied true = let e = pairs_at us i u within is t in omega (arith, e)
+  unit_applied false = at_least (meaning_holds (unit_meaning u) t) _ _ _ (needed_at us i u within is t)
+
+  pub unit_passed : (wanted : Bool) (p : Pointer) → (wanted ≡ false → meaning_fail (unit_meaning u) t p ≡ [])
+      → meaning_applications wanted (unit_meaning u) t + all_applications wanted (keywords_of (drop (i + 1) us)) t ≤ all_applications wanted (keywords_of (drop i us)) t
+  unit_passed true p none = let e = pairs_at us i u within is t in omega (arith, e)
+  unit_passed false p none = branch (meaning_holds (unit_meaning u) t) _ _ _ (needed_at us i u within is t) (passed (meaning_holds (unit_meaning u) t) (meaning_fail (unit_meaning u) t p) (unit_empty u t p) none)

@@ -1,0 +1,123 @@
+//! The rule by which `required` is handed on to the object layer: it depends on the keywords beside
+//! it.
+ghost use Rattle.std.specs.Prelude.{◌≡◌, not};
+ghost use Rattle.serde_json.specs.View.{view, members_view};
+ghost use Rattle.jskw_report.specs.Sibling.{has_few_members, has_items, is_absent, is_false};
+ghost use Rattle.jskw_report.specs.Sibling.{is_handed_on, is_object, member_passes};
+ghost use Rattle.jskw_report.specs.Sibling.{requires_one_of_properties, requires_two_of_properties};
+
+use jskw_report::context::member_of;
+use jskw_report::{Context, KeywordName, Vocabulary};
+use jskw_value::Json;
+use serde_json::{Map, Value};
+
+// With this many members of `properties` or more, two required names are not handed on.
+const HASHMAP_THRESHOLD: usize = 15;
+
+/// Returns whether the `required` of `parent` is active and is handed on to the object layer. Then
+/// [`compile`](super::compile) makes no validator of it, and does not check its value.
+///
+/// It is handed on if the context has an object layer, the applicator vocabulary is present,
+/// `parent` has no `patternProperties`, and one of these cases applies:
+///
+/// - `required` is an array of one item, `parent` has `properties`, and its `additionalProperties`
+///   is `false` and not overridden.
+/// - `required` is an array of two items, `properties` is an object of fewer than 15 members and
+///   not overridden, and `additionalProperties` is neither `false` nor an object, or is absent.
+///
+/// The items are counted as they are written: a repeated name counts twice.
+#[tactic(auto, unfolding(jskw_report::specs::Sibling::is_handed_on))]
+pub fn is_handed_on<F: Json>(ctx: &Context<'_, F>, parent: &Map<String, Value>) -> bool
+    ensures { result ≡ is_handed_on ctx.now.setting (members_view parent.now.entries) }
+{
+    KeywordName::Required.stands(ctx)
+        && ctx.object_layer()
+        && ctx.has_vocabulary(Vocabulary::Applicator)
+        && !has_member(parent, "patternProperties")
+        && (requires_one_of_properties(ctx, parent) || requires_two_of_properties(ctx, parent))
+}
+
+// Returns whether the first case of [`is_handed_on`] applies.
+fn requires_one_of_properties<F: Json>(ctx: &Context<'_, F>, parent: &Map<String, Value>) -> bool
+    ensures { result
+        ≡ requires_one_of_properties ctx.now.setting (members_view parent.now.entries) }
+{
+    has_items(parent, "required", 1)
+        && has_member(parent, "properties")
+        && has_false(parent, "additionalProperties")
+        && !ctx.is_keyword_overridden("additionalProperties")
+}
+
+// Returns whether the second case of [`is_handed_on`] applies.
+fn requires_two_of_properties<F: Json>(ctx: &Context<'_, F>, parent: &Map<String, Value>) -> bool
+    ensures { result
+        ≡ requires_two_of_properties ctx.now.setting (members_view parent.now.entries) }
+{
+    has_items(parent, "required", 2)
+        && has_small_object(parent, "properties")
+        && !ctx.is_keyword_overridden("properties")
+        && !has_false(parent, "additionalProperties")
+        && !has_object(parent, "additionalProperties")
+}
+
+// Returns whether the member `name` is an array of `count` items.
+fn has_items(parent: &Map<String, Value>, name: &str, count: usize) -> bool
+    ensures { result
+        ≡ member_passes (has_items count) name.now (members_view parent.now.entries) }
+{
+    match member_of(parent, name) {
+        Some(value) => is_array_of(value, count),
+        None => false,
+    }
+}
+
+// Returns whether the value is an array of `count` items.
+fn is_array_of(value: &Value, count: usize) -> bool
+    ensures { result ≡ has_items count (view value.now) }
+{
+    match value {
+        Value::Array(items) => items.len() == count,
+        _ => false,
+    }
+}
+
+// Returns whether `parent` has a member `name`.
+fn has_member(parent: &Map<String, Value>, name: &str) -> bool
+    ensures { result ≡ not (is_absent name.now (members_view parent.now.entries)) }
+{
+    member_of(parent, name).is_some()
+}
+
+// Returns whether the member `name` is `false`.
+fn has_false(parent: &Map<String, Value>, name: &str) -> bool
+    ensures { result ≡ member_passes is_false name.now (members_view parent.now.entries) }
+{
+    matches!(member_of(parent, name), Some(Value::Bool(false)))
+}
+
+// Returns whether the member `name` is an object.
+fn has_object(parent: &Map<String, Value>, name: &str) -> bool
+    ensures { result ≡ member_passes is_object name.now (members_view parent.now.entries) }
+{
+    matches!(member_of(parent, name), Some(Value::Object(_)))
+}
+
+// Returns whether the member `name` is an object of fewer than 15 members.
+fn has_small_object(parent: &Map<String, Value>, name: &str) -> bool
+    ensures { result ≡ member_passes has_few_members name.now (members_view parent.now.entries) }
+{
+    match member_of(parent, name) {
+        Some(value) => has_few_members(value),
+        None => false,
+    }
+}
+
+// Returns whether the value is an object of fewer than 15 members.
+fn has_few_members(value: &Value) -> bool
+    ensures { result ≡ has_few_members (view value.now) }
+{
+    match value {
+        Value::Object(members) => members.len() < HASHMAP_THRESHOLD,
+        _ => false,
+    }
+}
