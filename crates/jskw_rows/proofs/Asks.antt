@@ -1,6 +1,5 @@
 -- A node that counts how often it is asked, beside its tree.
 use Rattle.std.proofs.Common.{◌≡◌, List, [], ◌∷◌, map, Vec, Global, refl, ap, sym, subst, ◌∙◌, true, false, rules}
-use Rattle.std.specs.declared.cell.Cell.{Cell}
 use Rattle.std.proofs.lemmas.Grind.{common_steps}
 use Rattle.jskw_rows.specs.declared.asked.Asked.{Asked, Null, Array, the_lemmas}
 use Rattle.jskw_rows.specs.declared.asked.Asked.TheOpen.{Asked-F}

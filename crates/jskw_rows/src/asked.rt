@@ -6,7 +6,7 @@ ghost use Rattle.jskw_rows.specs.Asks.{asked_tree};
 use crate::answer::push_compiled;
 use crate::calls::{Arguments, Given};
 use crate::lines::Lines;
-use crate::text::{Made, Text};
+use crate::text::Made;
 use jskw_array::SchemaNode;
 use jskw_array::compiler::compile;
 use jskw_report::{Context, Fault, LazyLocation, ValidationContext};

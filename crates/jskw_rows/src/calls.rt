@@ -9,7 +9,7 @@ use crate::lines::Lines;
 use crate::members::{Members, items, known, one_of, settings_of, text};
 use crate::representations::decimals_of;
 use crate::tally::Tally;
-use crate::text::{Made, Text};
+use crate::text::Text;
 use jskw_report::Settings;
 use jskw_value::DecimalTree;
 use serde_json::Value;
@@ -173,7 +173,7 @@ fn answer_of_settings(lines: &mut Lines, name: &str, all: Arguments<'_>) {
 
 fn answer_given(lines: &mut Lines, given: Given<'_>, name: &str, all: Arguments<'_>) {
     match name {
-        "Settings" => reports::settings(&mut lines.text, given.settings, all.text(2)),
+        "Settings" => reports::settings(lines, given, all.text(2)),
         "Context" => reports::contexts(lines, given),
         "map_get_u64" => compiled::bound(lines, given, all.text(2)),
         "enum" => compiled::options(lines, given, all),

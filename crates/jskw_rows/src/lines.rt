@@ -5,7 +5,7 @@ use jskw_report::{
     Annotations, EnumOptions, EvaluationNode, Fault, Location, TypeKind, ValidationError,
     ValidationErrorKind,
 };
-use jskw_value::{Json, JsonType, JsonTypeSet, Node, SerdeJson};
+use jskw_value::{Json, JsonType, JsonTypeSet, SerdeJson};
 use serde_json::Value;
 use std::alloc::Global;
 

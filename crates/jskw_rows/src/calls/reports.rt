@@ -6,22 +6,40 @@ use jskw_report::Vocabulary::{Applicator, Core, Validation};
 use jskw_report::context::member_of;
 use jskw_report::{
     Annotations, CompileFault, Context, EnumOptions, ErrorDescription, EvaluationNode,
-    EvaluationResult, Fault, LazyLocation, Location, LocationSegment, Settings, ValidationContext,
-    ValidationError, ValidationErrorKind,
+    EvaluationResult, Fault, LazyLocation, Location, LocationSegment, ValidationContext,
+    ValidationError, ValidationErrorKind, VocabularySet,
 };
+use jskw_service::vocabularies_of;
 use jskw_value::{
     DecimalJson, Json, JsonType, JsonTypeSet, NotNullable, Nullability, Nullable, SerdeJson,
 };
 use serde_json::Value;
 use std::alloc::{AllocError, Global};
 
-// The draft of settings, whether they have each vocabulary, and whether they override a name.
-pub(super) fn settings(text: &mut Text, settings: &Settings, name: &str) {
-    write!(text, "{:?}", settings.draft());
+// The drafts of settings and of a context under them, whether all vocabularies are in their set, and of
+// each vocabulary whether both have it and whether it is in the set; whether both override a name.
+pub(super) fn settings(lines: &mut Lines, given: Given<'_>, name: &str) {
+    let (settings, text) = (given.settings, &mut lines.text);
+    let ctx = Context::<SerdeJson>::new(lines.alloc, settings);
+    let set = vocabularies_of(given.parent.get("vocabularies")).unwrap_or(VocabularySet::empty());
+    let is_all = set == VocabularySet::all();
+    write!(text, "{:?} {:?} {is_all}", settings.draft(), ctx.draft());
     for vocabulary in &[Core, Applicator, Validation] {
-        write!(text, " {}", settings.has_vocabulary(*vocabulary));
+        let (has, also) = (
+            settings.has_vocabulary(*vocabulary),
+            ctx.has_vocabulary(*vocabulary),
+        );
+        write!(
+            text,
+            " {vocabulary:?} {has} {also} {}",
+            set.contains(*vocabulary)
+        );
     }
-    write!(text, ", {}", settings.is_keyword_overridden(name));
+    let (is_one, is_other) = (
+        settings.is_keyword_overridden(name),
+        ctx.is_keyword_overridden(name),
+    );
+    write!(text, ", {is_one} {is_other}");
 }
 
 // The location, the draft and the object layer of a context, of one without the layer, of two below

@@ -88,12 +88,13 @@ fn push_member(text: &mut Text, member: Option<&DecimalTree>) {
 }
 
 // The names of an object's members, each followed by its member's text: in the order of its own walk,
-// and by place.
+// and by place; and whether it has no member.
 pub(super) fn walks(text: &mut Text, value: &Value) {
     if value.is_object() {
         push_members(text, value.walk());
         text.push(" ");
         push_members(text, Walk::by_place(value));
+        write!(text, " {}", Object::is_empty(value));
     }
 }
 
