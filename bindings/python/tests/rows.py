@@ -8,7 +8,7 @@ import pathlib
 import jskw
 from jskw.validators import DRAFTS, VOCABULARIES
 
-from .checks import check
+from checks import check
 
 ROWS = pathlib.Path(__file__).resolve().parents[2] / "rows.txt"
 NUMBERS = {str(number): name for name, number in DRAFTS.items()}

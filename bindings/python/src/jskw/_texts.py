@@ -3,16 +3,16 @@
 from __future__ import annotations
 
 import json
-import math
 import re
 from decimal import Decimal
-from typing import Any, Callable, NoReturn
+from typing import Any, NoReturn
 
 from .exceptions import NotJson
 
 DEPTH = 127
+ALLOWED = "which JSON allows and jskw does not"
 
-_TOKEN = re.compile(rb'"(?:[^"\\]|\\.)*"|-?(?:0|[1-9]\d*)(?:\.\d+)?(?:[eE][+-]?\d+)?|[][{}]', re.DOTALL)
+_TOKEN = re.compile(rb'"(?:[^"\\]|\\.)*"|[][{}]', re.DOTALL)
 
 
 def is_text(value: Any) -> bool:
@@ -83,46 +83,35 @@ def _check_names(value: dict[Any, Any]) -> None:
             raise TypeError(f"the name {name!r} of a member is no string")
 
 
-def refusal(what: str, value: Any, text: bytes, position: list[str]) -> NotJson:
-    """Returns the error of a value whose text is refused at a position: its offset, line and column."""
-    offset, line, column = map(int, position)
+def refusal(what: str, value: Any, text: bytes, lines: list[list[str]]) -> NotJson:
+    """Returns the error of a value whose text is refused: the line has the offset, line and column."""
+    if not lines:
+        return NotJson(what, f"has a number that is too large for a double, {ALLOWED}")
+    offset, line, column = map(int, lines[0][:3])
     reason = _reason(text, offset)
     return NotJson(what, reason, offset, line, column) if is_text(value) else NotJson(what, reason)
 
 
 def _reason(text: bytes, offset: int) -> str:
-    """Returns why a text is refused at an offset. JSON allows deeper texts, numbers of any size, and escapes that are
-    no characters."""
+    """Returns why a text is refused at an offset."""
     depth = 0
     for token in _TOKEN.finditer(text):
         word = token.group()
         depth += (word in (b"[", b"{")) - (word in (b"]", b"}"))
         if depth > DEPTH:
-            return f"nests more than {DEPTH} levels, which JSON allows and jskw does not"
-        if token.end() < offset:
-            continue
-        if word.startswith(b'"') and _refuses(word, lambda string: string.encode()):
-            return "has the escape of a lone surrogate, which JSON allows and jskw does not"
-        if word[:1] in b"-0123456789" and _refuses(word, lambda number: _finite(float(number))):
-            return f"has the number {word[:40].decode()}, which is beyond what jskw reads, though JSON allows it"
+            return f"nests more than {DEPTH} levels, {ALLOWED}"
+        if token.end() >= offset and word.startswith(b'"') and _has_lone_surrogate(word):
+            return f"has the escape of a lone surrogate, {ALLOWED}"
         if token.start() > offset:
             break
     return "is not JSON in UTF-8"
 
 
-def _refuses(word: bytes, use: Callable[[Any], object]) -> bool:
-    """Returns whether a token is JSON, and its value cannot be used."""
+def _has_lone_surrogate(word: bytes) -> bool:
     try:
-        value = json.loads(word)
-    except ValueError:
-        return False
-    try:
-        use(value)
-    except (ValueError, OverflowError):
+        json.loads(word).encode()
+    except UnicodeEncodeError:
         return True
+    except ValueError:
+        pass
     return False
-
-
-def _finite(number: float) -> None:
-    if not math.isfinite(number):
-        raise ValueError("not finite")

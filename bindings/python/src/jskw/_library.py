@@ -8,7 +8,6 @@ import pathlib
 from typing import Any
 
 VALID, INVALID, REFUSED, NOT_JSON, INEXACT, BAD_SCHEMA, BAD_SETTING, NO_SCHEMA, NO_MEMORY, TOO_SMALL = range(10)
-NO_LIMIT = 2**64 - 1
 
 # The interface that this module is written for, as the library's version begins with it.
 INTERFACE = "jskw 0.2."
@@ -31,7 +30,7 @@ def library_path() -> pathlib.Path:
     if "JSKW" in os.environ:
         return pathlib.Path(os.environ["JSKW"])
     package = pathlib.Path(__file__).resolve().parent
-    inside, beside = package / "libjskw.so.1", package.parents[1] / "out" / "libjskw.so"
+    inside, beside = package / "libjskw.so.1", package.parents[2] / "out" / "libjskw.so"
     for path in inside, beside:
         if path.exists():
             return path

@@ -172,7 +172,7 @@ def validation_errors(lines: list[list[str]], instance: Document, schema: Docume
     """Returns the error of each line: kind, instance location, keyword location, message, expected value."""
     failed: dict[tuple[str, str, str], dict[str, Any]] = {}
     errors = []
-    for kind, instance_location, keyword_location, message, expected in lines:
+    for kind, instance_location, keyword_location, message, expected, *_ in lines:
         key = kind, keyword_location, expected
         if key not in failed:
             failed[key] = _failed_keyword(*key, schema)
@@ -193,8 +193,8 @@ def _failed_keyword(kind: str, location: str, expected: str, schema: Document) -
 
 def schema_error(line: list[str], schema: Document) -> SchemaError:
     """Returns the error of the line of a refusal: kind, keyword location, message, expected value."""
-    kind, location, message, *expected = line
-    limit = json.loads(expected[0]) if expected and expected[0] else None
+    kind, location, message, expected, *_ = line
+    limit = json.loads(expected) if expected else None
     path, value = schema.at(location)
     return SchemaError(message, kind, path, validator_value=limit, instance=value, schema=schema.root, expected=limit)
 

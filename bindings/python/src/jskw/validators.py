@@ -9,7 +9,7 @@ from collections.abc import Iterable, Iterator
 from typing import Any, ClassVar, NoReturn, TypeVar
 
 from . import _library
-from ._library import NO_LIMIT, Owner, words
+from ._library import Owner, words
 from ._texts import is_text, refusal, text_of
 from .exceptions import (
     BadSetting,
@@ -111,7 +111,7 @@ class Validator:
         if status == _library.BAD_SCHEMA:
             raise schema_error(words(told)[0], self._document())
         if status == _library.NOT_JSON:
-            raise refusal("schema", schema, text, words(told)[0][-3:])
+            raise refusal("schema", schema, text, words(told))
         if status == _library.BAD_SETTING:
             raise BadSetting(f"overridden={self.overridden!r} is no list of names")
         if status != _library.VALID:
@@ -139,7 +139,7 @@ class Validator:
 
         This and the other calls raise NotJson, InexactNumber if the instance has such a number, ValueError if the
         validator is closed, and MemoryError."""
-        text, owner = text_of(instance, "instance"), self._owner()
+        text, owner = text_of(instance, "instance"), self._open().owner()
         status = owner.is_valid(text)
         if status > _library.INVALID:
             self._ask("jskw_first_error", instance, text)
@@ -152,9 +152,9 @@ class Validator:
 
     def iter_errors(self, instance: Any, limit: int | None = None) -> Iterator[ValidationError]:
         """Returns an iterator over the errors, or over the first `limit` of them, in the order of the keywords."""
-        if limit is not None and not (isinstance(limit, int) and 0 < limit <= NO_LIMIT):
+        if limit is not None and not (isinstance(limit, int) and 0 < limit < 2**64):
             raise BadSetting(f"limit={limit!r} is not None or from 1 to 2^64-1")
-        return iter(self._errors("jskw_errors", instance, NO_LIMIT if limit is None else limit))
+        return iter(self._errors("jskw_errors", instance, limit or 0))
 
     def evaluate(self, instance: Any) -> dict[str, Any]:
         """Returns the evaluation tree: `valid`, `keywordLocation`, `instanceLocation`, `annotation`, `errors` and
@@ -170,18 +170,18 @@ class Validator:
         value = Document(json.loads(text) if is_text(instance) else instance)
         return validation_errors(lines, value, self._document())
 
-    def _owner(self) -> Owner:
+    def _open(self) -> _Shared:
         shared = self._shared
         if shared is None:
             raise ValueError("the validator is closed")
-        return shared.owner()
+        return shared
 
     def _ask(self, name: str, instance: Any, text: bytes, *limit: int) -> str:
         """Returns what a call tells of an instance, if it is one that can be checked."""
-        owner = self._owner()
+        owner = self._open().owner()
         status, told = owner.call(name, text, owner.handle, text, len(text), *limit)
         if status == _library.NOT_JSON:
-            raise refusal("instance", instance, text, words(told)[0][-3:])
+            raise refusal("instance", instance, text, words(told))
         if status == _library.INEXACT:
             location = words(told)[0][0]
             raise InexactNumber(location, Document(json.loads(text) if is_text(instance) else instance).at(location)[0])
@@ -194,6 +194,7 @@ class Validator:
         self._shared = None
 
     def __enter__(self: _Self) -> _Self:
+        self._open()
         return self
 
     def __exit__(self, *_: object) -> None:
@@ -201,17 +202,14 @@ class Validator:
 
     def __copy__(self: _Self) -> _Self:
         copy = object.__new__(type(self))
-        copy.__dict__.update(self.__dict__)
-        if self._shared is not None:
-            copy._shared = _Shared(self._shared.another())
+        copy.__dict__.update(self.__dict__, _shared=_Shared(self._open().another()))
         return copy
 
     def __deepcopy__(self: _Self, memo: object) -> _Self:
         return self.__copy__()
 
     def __reduce__(self) -> Any:
-        if self._shared is None:
-            raise ValueError("the validator is closed")
+        self._open()
         return type(self), (self._text, self.draft, tuple(sorted(self.vocabularies)), self.overridden)
 
     def __repr__(self) -> str:
