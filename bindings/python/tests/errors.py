@@ -39,7 +39,7 @@ def attributes() -> None:
     check("the error's attributes", [getattr(error, name) for name in ATTRIBUTES], wanted)
     check("its text", str(error), "\"a b\" is a required property (instance '/0/0', schema '/items/prefixItems/0/required')")
     check("its name", repr(error), "<ValidationError: '\"a b\" is a required property'>")
-    value = [[{}]]
+    value: list[list[dict[str, int]]] = [[{}]]
     (error,) = jskw.Validator({"items": {"items": names}}).iter_errors(value)
     check("the value is the caller's own", error.instance is value[0][0], True)
     (error,) = jskw.Validator({"items": False}).iter_errors([1])

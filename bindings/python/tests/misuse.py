@@ -41,7 +41,8 @@ def an_error_in_a_worker() -> None:
 
 
 def a_copy_outlives_its_original() -> None:
-    for copied in copy.copy, copy.deepcopy, lambda validator: pickle.loads(pickle.dumps(validator)):
+    ways: list[Any] = [copy.copy, copy.deepcopy, lambda validator: pickle.loads(pickle.dumps(validator))]
+    for copied in ways:
         validator = jskw.Draft7Validator({"required": ["a"]}, overridden=["items"])
         other = copied(validator)
         validator.close()

@@ -60,11 +60,12 @@ def check_tree(got: Any, wanted: Any) -> None:
 
 def best() -> None:
     schema = {"items": {"type": "object", "required": ["a"]}, "maxItems": 1}
-    errors = list(jskw.Validator(schema).iter_errors([{}, 1]))
+    errors: Any = list(jskw.Validator(schema).iter_errors([{}, 1]))
     check("best_match", best_match(errors).validator, "maxItems")
     tree = ErrorTree(errors)
     check("ErrorTree", (tree.total_errors, sorted(tree), tree[0].errors["required"].path[0]), (3, [0, 1], 0))
-    check("relevance", jsonschema.exceptions.relevance(errors[0])[:2], (-len(errors[0].path), errors[0].path))
+    relevance: Any = jsonschema.exceptions.relevance(errors[0])
+    check("relevance", relevance[:2], (-len(errors[0].path), errors[0].path))
 
 
 def schema_of(rng: random.Random, name: str, depth: int) -> dict[str, Any]:

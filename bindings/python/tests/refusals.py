@@ -116,9 +116,9 @@ def drafts() -> None:
     check("another type", type(raised(lambda: jskw.validator_for({"$schema": 1}))), jskw.BadSetting)
     check("no JSON", type(raised(lambda: jskw.validator_for(b"{"))), jskw.NotJson)
     draft4 = {"$schema": "http://json-schema.org/draft-04/schema#", "minimum": 1, "exclusiveMinimum": True}
-    check("validate, valid", jskw.validate(2, draft4), None)
+    check("validate, valid", raised(lambda: jskw.validate(2, draft4)), None)
     check("validate, invalid", type(raised(lambda: jskw.validate(1, draft4))), jskw.ValidationError)
     check("validate, no schema", type(raised(lambda: jskw.validate(1, {"minItems": -1}))), jskw.SchemaError)
-    check("validate, a class", jskw.validate([1], {"items": [True]}, cls=jskw.Draft7Validator), None)
-    check("check_schema", jskw.Draft7Validator.check_schema({"minItems": 1}), None)
+    check("validate, a class", raised(lambda: jskw.validate([1], {"items": [True]}, cls=jskw.Draft7Validator)), None)
+    check("check_schema", raised(lambda: jskw.Draft7Validator.check_schema({"minItems": 1})), None)
     check("check_schema, wrong", type(raised(lambda: jskw.Draft7Validator.check_schema({"minItems": "1"}))), jskw.SchemaError)

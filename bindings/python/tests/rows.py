@@ -4,6 +4,7 @@ from __future__ import annotations
 
 import json
 import pathlib
+from typing import Any
 
 import jskw
 from jskw.validators import DRAFTS, VOCABULARIES
@@ -19,8 +20,10 @@ def outcome(draft: str, vocabularies: str, overridden: str, schema: str, instanc
     try:
         names = [name for name, bit in VOCABULARIES.items() if int(vocabularies) & bit]
         names += ["no such vocabulary"] * (int(vocabularies) > 7)
-        given = json.loads(overridden)
-        validator = jskw.Validator(schema.encode(), NUMBERS.get(draft, draft), names, given if isinstance(given, list) else 0)
+        given: Any = json.loads(overridden)
+        # an object would be taken for its names
+        given = given if isinstance(given, list) else None
+        validator = jskw.Validator(schema.encode(), NUMBERS.get(draft, draft), names, given)
         return answers(validator, instance.encode())
     except jskw.SchemaError as error:
         return "bad schema", f"{error.kind}|{error.instance_location}"

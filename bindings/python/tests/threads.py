@@ -84,14 +84,11 @@ def leaks_nothing() -> None:
     def ask() -> None:
         validator.is_valid(1)
 
-    def drop(held: list[jskw.Validator]) -> None:
-        held.clear()
-
     before = 0
     for turn in range(40):
         held = [jskw.Validator(schema)]
-        for call, arguments in (compile_and_drop, ()), (ask, ()), (drop, (held,)):
-            thread = threading.Thread(target=call, args=arguments)
+        for call in compile_and_drop, ask, held.clear:
+            thread = threading.Thread(target=call)
             thread.start()
             thread.join()
         gc.collect()
