@@ -37,6 +37,11 @@
 //! # Ok::<(), jskw::Error>(())
 //! ```
 #![warn(missing_debug_implementations)]
+#![deny(unsafe_op_in_unsafe_fn)]
+
+#[cfg(doctest)]
+#[doc = include_str!("../README.md")]
+struct ReadmeExamples;
 
 mod error;
 mod evaluation;
