@@ -16,17 +16,16 @@ def check(what: str, got: Any, wanted: Any) -> None:
         print(f"FAILED: {what}: {got!r}, wanted {wanted!r}")
 
 
-def raised(call: Callable[[], Any]) -> Any:
+def raised(call: Callable[..., Any], *given: Any, **settings: Any) -> Any:
     """Returns what a call raises."""
     try:
-        call()
+        call(*given, **settings)
     except Exception as error:
         return error
     return None
 
 
-def check_raises(what: str, kind: type[Exception], message: str, call: Callable[[], Any]) -> Any:
-    """Checks the type and the text of what a call raises, and returns it."""
-    error = raised(call)
-    check(what, (type(error), str(error)), (kind, message))
-    return error
+def check_raises(kind: type[Exception], message: str, call: Callable[..., Any], *given: Any, **settings: Any) -> None:
+    """Checks the type and the text of what a call raises."""
+    error = raised(call, *given, **settings)
+    check(f"{message!r} is raised", (type(error), str(error)), (kind, message))

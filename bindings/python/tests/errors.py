@@ -12,9 +12,9 @@ import jskw
 from checks import check
 
 ATTRIBUTES = [
-    "message", "validator", "validator_value", "instance", "schema", "path", "relative_path", "absolute_path", "schema_path",
-    "relative_schema_path", "absolute_schema_path", "json_path", "context", "cause", "parent", "kind", "expected",
-    "instance_location", "keyword_location",
+    "message", "validator", "validator_value", "instance", "schema", "path", "relative_path", "absolute_path",
+    "schema_path", "relative_schema_path", "absolute_schema_path", "json_path", "context", "cause", "parent", "kind",
+    "expected", "instance_location", "keyword_location",
 ]  # fmt: skip
 
 
@@ -37,7 +37,8 @@ def attributes() -> None:
         "/items/prefixItems/0/required",
     ]  # fmt: skip
     check("the error's attributes", [getattr(error, name) for name in ATTRIBUTES], wanted)
-    check("its text", str(error), "\"a b\" is a required property (instance '/0/0', schema '/items/prefixItems/0/required')")
+    text = "\"a b\" is a required property (instance '/0/0', schema '/items/prefixItems/0/required')"
+    check("its text", str(error), text)
     check("its name", repr(error), "<ValidationError: '\"a b\" is a required property'>")
     value: list[list[dict[str, int]]] = [[{}]]
     (error,) = jskw.Validator({"items": {"items": names}}).iter_errors(value)

@@ -14,7 +14,7 @@ from concurrent.futures import ProcessPoolExecutor
 from typing import Any
 
 import jskw
-from checks import check, check_raises, raised
+from checks import check, raised
 
 CLOSED = "the validator is closed"
 SOURCE = str(pathlib.Path(jskw.__file__).resolve().parents[1])
@@ -81,7 +81,7 @@ def after_close() -> None:
         "with": lambda: validator.__enter__(),
     }
     for name, call in calls.items():
-        check_raises(f"{name} after close", ValueError, CLOSED, call)
+        check(f"{name} after close", repr(raised(call)), repr(ValueError(CLOSED)))
     validator.close()
     check("its repr", repr(validator), "<Validator draft='2020-12' schema=true, closed>")
 
@@ -103,7 +103,8 @@ def without_a_library() -> None:
         command = [sys.executable, "-c", "import jskw"]
         done = subprocess.run(command, capture_output=True, text=True, env=environment, check=False)
         last = done.stderr.strip().split("\n")[-1]
-        check(f"without {path}", (done.returncode, last.startswith("ImportError: jskw: "), word in last), (1, True, True))
+        check(f"without {path}", (done.returncode, last.startswith("ImportError: jskw: ")), (1, True))
+        check(f"without {path}, why", word in last, True)
 
 
 def forgotten_arguments() -> None:

@@ -37,8 +37,9 @@ def outcome(draft: str, vocabularies: str, overridden: str, schema: str, instanc
 
 def answers(validator: jskw.Validator, instance: bytes) -> tuple[str, str]:
     """Returns the verdict and the errors, if all calls agree."""
-    valid, tree, errors = validator.is_valid(instance), validator.evaluate(instance), list(validator.iter_errors(instance))
-    first, limited = [], list(validator.iter_errors(bytearray(instance), limit=1))
+    valid, tree = validator.is_valid(instance), validator.evaluate(instance)
+    errors, limited = list(validator.iter_errors(instance)), list(validator.iter_errors(bytearray(instance), limit=1))
+    first = []
     try:
         validator.validate(memoryview(instance))
     except jskw.ValidationError as error:

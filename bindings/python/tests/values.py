@@ -5,6 +5,7 @@ from __future__ import annotations
 import enum
 from collections import OrderedDict
 from decimal import Decimal
+from typing import Any
 
 import jskw
 from checks import check, raised
@@ -17,7 +18,8 @@ class Color(enum.IntEnum):
 def run() -> None:
     text = b'{"a": [1, "x"]}'
     validator = jskw.Validator({"type": "object", "const": {"a": [1, "x"]}})
-    for value in text, bytearray(text), memoryview(text), memoryview(text + b"  ")[:-2], {"a": [1, "x"]}, {"a": (1, "x")}:
+    part = memoryview(text + b"  ")[:-2]
+    for value in text, bytearray(text), memoryview(text), part, {"a": [1, "x"]}, {"a": (1, "x")}:
         check(f"{value!r}", validator.is_valid(value), True)
     for value in {"a": [Color.RED, "x"]}, OrderedDict(a=[1, "x"]):
         check(f"{value!r}", validator.is_valid(value), True)
@@ -43,6 +45,12 @@ def fractions() -> None:
     check("a multiple", jskw.Validator({"multipleOf": 3}).is_valid(b"[12.0, 4]"), True)
     check("12.0 is a multiple of 3", jskw.Validator({"multipleOf": 3}).is_valid(Decimal("12.0")), True)
     check("12.5 is none", jskw.Validator({"multipleOf": 3}).is_valid(12.5), False)
-    for value, path in ({"a": [1e300]}, ["a", 0]), (2**64, []), (Decimal("1e-19"), []), ([0.1, 1.0000000000000002e-7], [1]):
-        error = raised(lambda value=value: jskw.Validator(True).is_valid(value))  # type: ignore[misc]
+    rows: list[tuple[Any, list[Any]]] = [
+        ({"a": [1e300]}, ["a", 0]),
+        (2**64, []),
+        (Decimal("1e-19"), []),
+        ([0.1, 1.0000000000000002e-7], [1]),
+    ]
+    for value, path in rows:
+        error = raised(jskw.Validator(True).is_valid, value)
         check(f"{value!r} is not exact", (type(error), list(getattr(error, "path", "?"))), (jskw.InexactNumber, path))

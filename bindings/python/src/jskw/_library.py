@@ -17,7 +17,7 @@ INTERFACE = "jskw 0.2."
 LONG = 2048
 
 # A thread keeps a buffer of up to so many bytes between calls.
-ROOM_KEPT = 1 << 20
+ROOM_KEPT = 1 << 16
 
 
 class Handle(ctypes.Structure):

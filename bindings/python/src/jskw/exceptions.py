@@ -157,14 +157,15 @@ class Document:
         if found is None:
             parent, _, word = pointer.rpartition("/")
             path, value = self.at(parent)
-            if isinstance(value, (list, tuple)):
-                index = int(word)
-                found = (*path, index), value[index]
-            else:
-                name = word.replace("~1", "/").replace("~0", "~")
-                # a keyword that fails need not be in the schema
-                found = (*path, name), value.get(name) if isinstance(value, dict) else None
-            self._found[pointer] = found
+            step: str | int = word.replace("~1", "/").replace("~0", "~")
+            below = None
+            # a keyword that fails need not be in the schema, and the caller may have changed its value meanwhile
+            if isinstance(value, dict):
+                below = value.get(step)
+            elif isinstance(value, (list, tuple)) and word.isdecimal():
+                step = int(word)
+                below = value[step] if step < len(value) else None
+            found = self._found[pointer] = (*path, step), below
         return found
 
 

@@ -97,10 +97,11 @@ class Validator:
     ) -> None:
         self._shared: _Shared | None = None
         self.draft = self.DRAFTS[-1] if draft is None else _one_of("draft", draft, self.DRAFTS)
-        self.vocabularies = frozenset(_one_of("vocabularies", name, VOCABULARIES) for name in _names("vocabularies", vocabularies))
+        names = _names("vocabularies", vocabularies)
+        self.vocabularies = frozenset(_one_of("vocabularies", name, VOCABULARIES) for name in names)
         self.overridden = tuple(_names("overridden", overridden))
         self._text = text_of(schema, "schema")
-        self._value = None if is_text(schema) else Document(schema)
+        self._document: Document | None = None
         self._shared = _Shared(self._compiled(schema))
 
     def _compiled(self, schema: Any) -> Owner:
@@ -109,7 +110,7 @@ class Validator:
         setting = DRAFTS[self.draft], vocabularies, names, len(names)
         status, told = owner.call("jskw_compile", text, *setting, text, len(text), owner.handle)
         if status == _library.BAD_SCHEMA:
-            raise schema_error(words(told)[0], self._document())
+            raise schema_error(words(told)[0], self._read_schema())
         if status == _library.NOT_JSON:
             raise refusal("schema", schema, text, words(told))
         if status == _library.BAD_SETTING:
@@ -120,13 +121,13 @@ class Validator:
 
     @property
     def schema(self) -> Any:
-        """The schema as a value."""
-        return self._document().root
+        """The schema as a value, read from its text."""
+        return self._read_schema().root
 
-    def _document(self) -> Document:
-        if self._value is None:
-            self._value = Document(json.loads(self._text))
-        return self._value
+    def _read_schema(self) -> Document:
+        if self._document is None:
+            self._document = Document(json.loads(self._text))
+        return self._document
 
     @classmethod
     def check_schema(cls, schema: Any, **settings: Any) -> None:
@@ -167,8 +168,7 @@ class Validator:
         lines = words(self._ask(name, instance, text, *limit))
         if not lines:
             return []
-        value = Document(json.loads(text) if is_text(instance) else instance)
-        return validation_errors(lines, value, self._document())
+        return validation_errors(lines, _document(instance, text), self._read_schema())
 
     def _open(self) -> _Shared:
         shared = self._shared
@@ -184,7 +184,7 @@ class Validator:
             raise refusal("instance", instance, text, words(told))
         if status == _library.INEXACT:
             location = words(told)[0][0]
-            raise InexactNumber(location, Document(json.loads(text) if is_text(instance) else instance).at(location)[0])
+            raise InexactNumber(location, _document(instance, text).at(location)[0])
         if status > _library.INVALID:
             _refuse(status)
         return told
@@ -290,6 +290,10 @@ def answer(request: bytes) -> tuple[int, str]:
     if status > _library.REFUSED:
         _refuse(status)
     return status, text
+
+
+def _document(instance: Any, text: bytes) -> Document:
+    return Document(json.loads(text) if is_text(instance) else instance)
 
 
 def _refuse(status: int) -> NoReturn:
