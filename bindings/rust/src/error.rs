@@ -262,7 +262,10 @@ impl std::error::Error for Error {
 
 /// Returns the errors of an instance that a text has, a line each.
 pub(crate) fn errors(text: &str, instance: &[u8]) -> Vec<ValidationError> {
-    let document = Document::new(if text.is_empty() { b"null" } else { instance });
+    if text.is_empty() {
+        return Vec::new();
+    }
+    let document = Document::new(instance);
     let error_of = |words: Vec<String>| {
         let word = |index: usize| words.get(index).map(String::as_str).unwrap_or_default();
         document.error(word(0), word(4), word(1), keyword_location(word(2)), word(3))

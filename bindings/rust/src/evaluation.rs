@@ -45,7 +45,7 @@ fn node(text: &str, value: Value) -> Option<EvaluationNode> {
         valid: matches!(members.get("valid")?.kind, Kind::Bool(true)),
         schema_location: string(members.remove("keywordLocation")?)?,
         instance_location: string(members.remove("instanceLocation")?)?,
-        annotation: annotation(text, members.remove("annotation")?)?,
+        annotation: annotation(text, members.get("annotation")?)?,
         errors: list(&mut members, "errors")?.into_iter().map(string).collect::<Option<_>>()?,
         children: list(&mut members, "details")?.into_iter().map(|below| node(text, below)).collect::<Option<_>>()?,
     })
@@ -65,12 +65,13 @@ fn string(value: Value) -> Option<String> {
     }
 }
 
-fn annotation(text: &str, value: Value) -> Option<Option<Annotation>> {
+/// Returns an annotation, or `None` for `null`; nothing if the value is neither.
+fn annotation(text: &str, value: &Value) -> Option<Option<Annotation>> {
     let index = |value: &Value| text[value.range.clone()].parse().ok();
     Some(match &value.kind {
         Kind::Null => None,
         Kind::Bool(is_true) => Some(Annotation::Bool(*is_true)),
         Kind::Array(items) => Some(Annotation::Indices(items.iter().map(index).collect::<Option<_>>()?)),
-        _ => Some(Annotation::Index(index(&value)?)),
+        _ => Some(Annotation::Index(index(value)?)),
     })
 }

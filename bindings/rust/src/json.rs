@@ -52,14 +52,14 @@ impl Reader<'_> {
             b'{' => self.object()?,
             b'[' => self.array()?,
             b'"' => Kind::String(self.string()?),
-            _ => self.word(),
+            _ => self.word()?,
         };
         Some(Value { range: start..self.at, kind })
     }
 
     /// Returns the next byte that is no space, and goes there.
     fn next(&mut self) -> Option<u8> {
-        let rest = &self.text.as_bytes()[self.at..];
+        let rest = self.text.as_bytes().get(self.at..)?;
         self.at += rest.iter().position(|byte| !b" \t\n\r".contains(byte))?;
         Some(self.text.as_bytes()[self.at])
     }
@@ -98,23 +98,23 @@ impl Reader<'_> {
     }
 
     /// Reads a number, or one of `true`, `false` and `null`.
-    fn word(&mut self) -> Kind {
-        let rest = &self.text[self.at..];
+    fn word(&mut self) -> Option<Kind> {
+        let rest = self.text.get(self.at..)?;
         let word = &rest[..rest.find([' ', '\t', '\n', '\r', ',', ']', '}']).unwrap_or(rest.len())];
         self.at += word.len();
-        match word {
+        Some(match word {
             "null" => Kind::Null,
             "true" => Kind::Bool(true),
             "false" => Kind::Bool(false),
             _ => Kind::Number,
-        }
+        })
     }
 
     fn string(&mut self) -> Option<String> {
         let mut string = String::new();
         self.at += 1;
         loop {
-            let rest = &self.text[self.at..];
+            let rest = self.text.get(self.at..)?;
             let plain = rest.find(['"', '\\'])?;
             string.push_str(&rest[..plain]);
             self.at += plain + 1;

@@ -37,7 +37,6 @@
 //! # Ok::<(), jskw::Error>(())
 //! ```
 #![warn(missing_debug_implementations)]
-#![deny(unsafe_op_in_unsafe_fn)]
 
 #[cfg(doctest)]
 #[doc = include_str!("../README.md")]
@@ -157,6 +156,10 @@ impl Validator {
     /// # Errors
     ///
     /// As [`Validator::is_valid`].
+    ///
+    /// # Panics
+    ///
+    /// If the library is not the one that `include/jskw.h` describes.
     pub fn evaluate(&self, instance: impl AsRef<[u8]>) -> Result<EvaluationNode, Error> {
         let text = self.report(Report::Evaluation, instance.as_ref())?;
         Ok(evaluation::tree(&text).expect("the library writes trees as its header says"))

@@ -174,7 +174,8 @@ fn asked(mut call: impl FnMut(*mut u8, usize, *mut usize) -> u32) -> Told {
 
 /// Returns the words of each line of a text, without their escapes.
 pub(crate) fn lines(text: &str) -> impl Iterator<Item = Vec<String>> + '_ {
-    text.lines().map(|line| line.split('\t').map(plain).collect())
+    // `str::lines` would take a carriage return away, which a name may end with
+    text.split_terminator('\n').map(|line| line.split('\t').map(plain).collect())
 }
 
 fn plain(word: &str) -> String {

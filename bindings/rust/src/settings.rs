@@ -49,18 +49,21 @@ impl Default for ValidationOptions {
 
 impl ValidationOptions {
     /// Sets the draft.
+    #[must_use]
     pub fn with_draft(mut self, draft: Draft) -> Self {
         self.draft = draft;
         self
     }
 
     /// Sets the vocabularies.
+    #[must_use]
     pub fn with_vocabularies(mut self, vocabularies: impl IntoIterator<Item = Vocabulary>) -> Self {
         self.vocabularies = vocabularies.into_iter().fold(0, |set, vocabulary| set | vocabulary as u32);
         self
     }
 
     /// Sets the names of keywords that are not to be asserted.
+    #[must_use]
     pub fn with_overridden(mut self, names: impl IntoIterator<Item = impl Into<String>>) -> Self {
         self.overridden = names.into_iter().map(Into::into).collect();
         self

@@ -72,6 +72,8 @@ fn places() {
         }
         other => panic!("{other:?}"),
     }
+    let named = Validator::new("true").and_then(|all| all.is_valid("{\"a\\r\":1e19999}"));
+    assert!(matches!(named, Err(Error::Inexact(location)) if location.to_string() == "/a\r"));
     let many = Validator::new(r#"{"items":false}"#).expect("a schema");
     let list = format!("[{}0]", "0,".repeat(9999));
     assert_eq!(many.iter_errors(&list).expect("an instance").count(), 10000);
