@@ -61,5 +61,6 @@ def files() -> None:
     refusal = "no_schema.json: -1 is less than the minimum of 0 (schema '/minItems')\n"
     check("no schema", asked("--schema", "no_schema.json"), (2, "", refusal))
     check("no option", asked()[0], 2)
+    check("no errors", asked(*schema, "--max-errors", "0")[0], 2)
     check("help", asked("--help")[0], 0)
     check("version", asked("--version")[1].startswith(f"jskw {jskw.__version__} (jskw "), True)

@@ -73,6 +73,9 @@ def texts() -> None:
     check("1e400 in a schema", (type(error), getattr(error, "reason", "")), (jskw.NotJson, wanted))
     error = raised(jskw.Validator(True).is_valid, b'{"a": [1, 1e400]}')
     check("1e400 in an instance", (type(error), list(getattr(error, "path", ""))), (jskw.InexactNumber, ["a", 1]))
+    error = raised(jskw.Validator(True).is_valid, b'{"a": [1, ' + b"1" * 5000 + b"]}")
+    check("5,000 digits", (type(error), list(getattr(error, "path", ""))), (jskw.InexactNumber, ["a", 1]))
+    check("no JSON behind it", type(raised(jskw.Validator(True).is_valid, b"[1e400,")), jskw.NotJson)
     error = raised(jskw.Validator(True).is_valid, b"[1,\n  ?]")
     check("a place", [getattr(error, name, None) for name in ("offset", "line", "column")], [6, 2, 3])
 
@@ -97,6 +100,11 @@ def values() -> None:
     ring.append(Decimal(1))
     check("a ring with a Decimal", type(raised(jskw.Validator(True).is_valid, ring)), jskw.NotJson)
     check("5,000 digits", type(raised(jskw.Validator(True).is_valid, 10**5000)), jskw.NotJson)
+    deep: Any = 1
+    for _ in range(500):
+        deep = [deep]
+    message = "the instance nests more than 127 levels, which JSON allows and jskw does not"
+    check_raises(jskw.NotJson, message, jskw.Validator(True).is_valid, deep)
 
 
 def drafts() -> None:
@@ -116,6 +124,7 @@ def drafts() -> None:
     check("another $schema", type(raised(jskw.validator_for, {"$schema": "x"})), jskw.BadSetting)
     check("another type", type(raised(jskw.validator_for, {"$schema": 1})), jskw.BadSetting)
     check("no JSON", type(raised(jskw.validator_for, b"{")), jskw.NotJson)
+    check("too deep", type(raised(jskw.validator_for, b"[" * 100_000)), jskw.NotJson)
     draft4 = {"$schema": "http://json-schema.org/draft-04/schema#", "minimum": 1, "exclusiveMinimum": True}
     check("validate, valid", raised(jskw.validate, 2, draft4), None)
     check("validate, invalid", type(raised(jskw.validate, 1, draft4)), jskw.ValidationError)

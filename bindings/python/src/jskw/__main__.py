@@ -17,7 +17,7 @@ def main(arguments: list[str] | None = None) -> int:
     )
     parser.add_argument("--schema", required=True, help="the file of the schema")
     parser.add_argument("--draft", choices=Validator.DRAFTS, help="the draft; unless given, the one that $schema names")
-    parser.add_argument("--max-errors", type=int, help="the number of errors that are printed of each file, at most")
+    parser.add_argument("--max-errors", type=_positive, help="how many errors are printed of each file, at most")
     parser.add_argument("--version", action="version", version=f"jskw {__version__} ({', '.join(version())})")
     parser.add_argument("files", nargs="*", metavar="FILE", default=["-"], help="a JSON document")
     given = parser.parse_args(arguments)
@@ -29,6 +29,12 @@ def main(arguments: list[str] | None = None) -> int:
         print(f"{given.schema}: {refusal}", file=sys.stderr)
         return 2
     return max(statuses)
+
+
+def _positive(text: str) -> int:
+    if not text.isdecimal() or int(text) == 0:
+        raise argparse.ArgumentTypeError(f"{text!r} is no number from 1 on")
+    return int(text)
 
 
 def _read(name: str) -> bytes:

@@ -168,7 +168,8 @@ class Validator:
         lines = words(self._ask(name, instance, text, *limit))
         if not lines:
             return []
-        return validation_errors(lines, _document(instance, text), self._read_schema())
+        document = Document(json.loads(text) if is_text(instance) else instance)
+        return validation_errors(lines, document, self._read_schema())
 
     def _open(self) -> _Shared:
         shared = self._shared
@@ -184,7 +185,9 @@ class Validator:
             raise refusal("instance", instance, text, words(told))
         if status == _library.INEXACT:
             location = words(told)[0][0]
-            raise InexactNumber(location, _document(instance, text).at(location)[0])
+            # the number may have more digits than Python reads
+            document = Document(json.loads(text, parse_int=str) if is_text(instance) else instance)
+            raise InexactNumber(location, document.at(location)[0])
         if status > _library.INVALID:
             _refuse(status)
         return told
@@ -262,7 +265,7 @@ def validator_for(schema: Any, default: type[Validator] | None = None) -> type[V
     2020-12. Raises BadSetting for another `$schema`, unless there is a default."""
     try:
         value = json.loads(text_of(schema, "schema")) if is_text(schema) else schema
-    except ValueError as error:
+    except (ValueError, RecursionError) as error:
         raise NotJson("schema", f"is not JSON: {error}") from error
     if not isinstance(value, dict) or "$schema" not in value:
         return default or Draft202012Validator
@@ -290,10 +293,6 @@ def answer(request: bytes) -> tuple[int, str]:
     if status > _library.REFUSED:
         _refuse(status)
     return status, text
-
-
-def _document(instance: Any, text: bytes) -> Document:
-    return Document(json.loads(text) if is_text(instance) else instance)
 
 
 def _refuse(status: int) -> NoReturn:
