@@ -20,7 +20,7 @@ use Rattle.jskw_c.specs.Evaluated.{evaluation_text}
 use Rattle.jskw_c.specs.Line.{AreErrorLines, words_line}
 use Rattle.jskw_c.specs.Replies.{Reads, Reports}
 use Rattle.jskw_c.specs.declared.ask.Told.{Told}
-use Rattle.jskw_c.specs.declared.status.TheConstants.{VALID, INVALID, NOT_JSON, FLOAT}
+use Rattle.jskw_c.specs.Status.{VALID, INVALID, NOT_JSON, FLOAT}
 
 -- ---- the status
 

@@ -14,7 +14,7 @@ use Rattle.jskw_c.specs.Evaluated.{evaluation_text}
 use Rattle.jskw_c.specs.Line.{AreErrorLines, words_line}
 use Rattle.jskw_c.specs.declared.ask.Report.{Report}
 use Rattle.jskw_c.specs.declared.ask.Report.TheVariants.{FirstError, Errors, Evaluation}
-use Rattle.jskw_c.specs.declared.status.TheConstants.{VALID, INVALID, NOT_JSON, FLOAT, NO_SCHEMA}
+use Rattle.jskw_c.specs.Status.{VALID, INVALID, NOT_JSON, FLOAT, NO_SCHEMA}
 
 -- what the bytes of an instance are
 pub data Instance : Type 0 where

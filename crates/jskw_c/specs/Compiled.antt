@@ -13,7 +13,7 @@ use Rattle.jskw_report.specs.declared.settings.VocabularySet.{VocabularySet}
 use Rattle.jskw_service.specs.Request.{overridden_of, setting_from, value_of}
 use Rattle.jskw_c.specs.Line.{IsRefusalLine}
 use Rattle.jskw_c.specs.Told.{Nothing, Tells}
-use Rattle.jskw_c.specs.declared.status.TheConstants.{VALID, NOT_JSON, BAD_SCHEMA, BAD_SETTING, NO_MEMORY}
+use Rattle.jskw_c.specs.Status.{VALID, NOT_JSON, BAD_SCHEMA, BAD_SETTING, NO_MEMORY}
 
 -- ---- the setting
 

@@ -4,4 +4,5 @@ pub mod Evaluated
 pub mod Line
 pub mod Replies
 pub mod Slot
+pub mod Status
 pub mod Told

@@ -9,7 +9,7 @@ use Rattle.jskw_c.specs.Compiled.{Fault, IsTextOf}
 use Rattle.jskw_c.specs.Compiled as compiled
 use Rattle.jskw_c.specs.Line.{words_line}
 use Rattle.jskw_c.specs.declared.ask.Told.{Told}
-use Rattle.jskw_c.specs.declared.status.TheConstants.{NOT_JSON, FLOAT}
+use Rattle.jskw_c.specs.Status.{NOT_JSON, FLOAT}
 
 -- this status and this text
 pub record IsTold (status : ℕ) (text : List ℕ) (told : Told) : Type 0 where

@@ -10,13 +10,13 @@
 //! leaves the handle and the buffer unchanged.
 #![tactic(auto)]
 
-ghost use Rattle.std.specs.Prelude.{◌≡◌, ◌⊎◌, codes, None};
+ghost use Rattle.std.specs.Prelude.{◌≡◌, codes, None};
 ghost use Rattle.jskw_service.specs.Answer.{output, verdict};
 ghost use Rattle.jskw_service.specs.Run.{status_of_verdict};
 ghost use Rattle.jskw_c.specs.Asked.{IsReport, Says, SaysErrors, SaysFirst, SaysTree};
 ghost use Rattle.jskw_c.specs.Asked.{instance_in, status_of};
 ghost use Rattle.jskw_c.specs.Compiled.{Compiles, compiled_of, setting_numbered};
-ghost use Rattle.jskw_c.specs.Told.{Gives, Tells};
+ghost use Rattle.jskw_c.specs.Told.{Gives, IsStatus, Tells};
 
 mod ask;
 mod compiled;
@@ -111,8 +111,7 @@ pub extern "C" fn jskw_compile(
 #[unsafe(no_mangle)]
 pub extern "C" fn jskw_is_valid(alloc: Global, handle: &mut SchemaHandle, instance: &[u8]) -> u32
     ensures kept { handle.new.schema ≡ handle.old.schema }
-    ensures status { (result ≡ status_of handle.old.schema (instance_in instance.now))
-        ⊎ (result ≡ NO_MEMORY) }
+    ensures status { IsStatus (status_of handle.old.schema (instance_in instance.now)) result }
 {
     let Some(schema) = handle.take(alloc) else {
         return NO_SCHEMA;

@@ -1,4 +1,4 @@
-//! The statuses that calls return. `include/jskw.h` has the same numbers.
+//! The statuses that calls return. `include/jskw.h` and `specs/Status.antt` have the same numbers.
 
 /// The instance is valid. For `jskw_compile`: the handle has the schema.
 pub(crate) const VALID: u32 = 0;
