@@ -8,15 +8,16 @@
  *   - No pointer is NULL, also if its size is 0. `bytes` and `size` are one block of that many bytes, at most
  *     PTRDIFF_MAX, which no one writes during the call.
  *   - A `buffer` has `buffer_size` bytes that can be written. It overlaps no other block, `length` or handle.
- *   - A jskw_schema begins as JSKW_SCHEMA_EMPTY. After that only these functions read or write it, one call at a time,
- *     on one thread, and it is not copied. Each thread compiles its own: that a handle can move to another thread, or
- *     that two calls can read one at once, is not proved.
+ *   - A jskw_schema begins as JSKW_SCHEMA_EMPTY. After that only these functions read or write it, and it is not copied:
+ *     jskw_share makes another handle of its schema. A handle is in one call at a time, also in one that only checks an
+ *     instance. It may pass to another thread, by a lock, by that thread's start or join, or by an atomic in sequential
+ *     order (memory_order_seq_cst). Two handles of one schema may be in calls at once, each on its own thread.
  *   - malloc, realloc and free are one allocator, with blocks aligned to 16 bytes as in any C library. No call is made
  *     in a signal handler, or in a forked child of a process with threads.
  *   - There is stack: 1 MB is enough for all JSON text, which nests at most 127 levels.
  *
- * No function keeps a pointer to `bytes` or `buffer`. None ends the process, prints, or waits. A schema that is not
- * freed is lost memory, and nothing else.
+ * No function keeps a pointer to `bytes` or `buffer`. None ends the process, prints, or waits. A handle that is not
+ * freed is lost memory, and nothing else; a schema is freed with the last of its handles.
  *
  * Texts. *length becomes the length of the text, also if the buffer is too small for it; then the buffer is unchanged,
  * and the call can be made again with a larger one. No text ends with a 0 byte. A text of lines has a line feed at the
@@ -35,7 +36,7 @@ extern "C" {
 #define JSKW_VERSION "0.1.0"
 
 enum {
-    JSKW_VALID = 0,       /* the instance is valid; of jskw_compile: the handle has the schema */
+    JSKW_VALID = 0,       /* the instance is valid; of jskw_compile and jskw_share: the handle has the schema */
     JSKW_INVALID = 1,     /* the instance has errors */
     JSKW_REFUSED = 2,     /* of jskw_answer: no verdict, and the text says why */
     JSKW_NOT_JSON = 3,    /* the schema or the instance is not JSON in UTF-8, or nests more than 127 levels */
@@ -67,6 +68,11 @@ uint32_t jskw_answer(const uint8_t *bytes, size_t size, uint8_t *buffer, size_t 
 uint32_t jskw_compile(uint32_t draft, uint32_t vocabularies, const uint8_t *overridden, size_t overridden_size,
                       const uint8_t *bytes, size_t size, jskw_schema *schema, uint8_t *buffer, size_t buffer_size,
                       size_t *length);
+
+/* Puts the schema of the handle `from` into the handle `to` too, without compiling it again, and frees the schema that
+ * `to` had. The two are different handles. JSKW_VALID; JSKW_NO_SCHEMA or JSKW_NO_MEMORY, and both are unchanged. It
+ * allocates 8 bytes. */
+uint32_t jskw_share(jskw_schema *from, jskw_schema *to);
 
 /* Whether an instance is valid: JSKW_VALID, JSKW_INVALID, JSKW_NOT_JSON, JSKW_FLOAT, JSKW_NO_SCHEMA, JSKW_NO_MEMORY. */
 uint32_t jskw_is_valid(jskw_schema *schema, const uint8_t *bytes, size_t size);

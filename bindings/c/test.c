@@ -276,6 +276,30 @@ static void row(char *line, unsigned long times[CALLS]) {
     free_asked(a);
 }
 
+/* A schema is shared: each handle has it, and keeps it when the others are freed. A handle is unchanged if there is no
+ * schema or no memory. */
+static void shares(void) {
+    jskw_schema first = JSKW_SCHEMA_EMPTY, second = JSKW_SCHEMA_EMPTY, third = JSKW_SCHEMA_EMPTY;
+    check("share, empty", jskw_share(&first, &second) == JSKW_NO_SCHEMA && !first.compiled && !second.compiled);
+    compile(&second, SCHEMA);
+    check("share, empty, to one that is not", jskw_share(&first, &second) == JSKW_NO_SCHEMA && has_schema(&second));
+    check("share", jskw_share(&second, &first) == JSKW_VALID && has_schema(&first) && has_schema(&second));
+    compile(&third, "false");
+    seen = 0, refused = 1, and_later = 1;
+    uint32_t told = jskw_share(&first, &third);
+    refused = 0;
+    check("share, memory refused", told == JSKW_NO_MEMORY && seen == 1 && has_schema(&first)
+        && jskw_is_valid(&third, BYTES("1")) == JSKW_INVALID);
+    check("share, in its place", jskw_share(&first, &third) == JSKW_VALID && has_schema(&third));
+    check("share, again", jskw_share(&first, &third) == JSKW_VALID && has_schema(&third));
+    jskw_free(&second);
+    check("share, the first freed", has_schema(&first) && has_schema(&third));
+    check("share, another compiled", compile(&first, "false") == JSKW_VALID && has_schema(&third));
+    jskw_free(&first);
+    check("share, the last", has_schema(&third));
+    jskw_free(&third);
+}
+
 /* A schema is freed without an allocation. */
 static void frees(void) {
     jskw_schema handle = JSKW_SCHEMA_EMPTY;
@@ -290,6 +314,7 @@ int main(int count, char **words) {
     unsigned long times[CALLS] = {0};
     readme();
     empty_handles();
+    shares();
     frees();
     FILE *file = count > 1 ? fopen(words[1], "r") : NULL;
     check("rows", file != NULL);

@@ -1,3 +1,6 @@
+mod CrossingLeaves
+mod CrossingSchemas
+mod CrossingValues
 mod Handles
 mod Lines
 mod Texts

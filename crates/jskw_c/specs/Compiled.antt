@@ -13,7 +13,7 @@ use Rattle.jskw_report.specs.declared.settings.VocabularySet.{VocabularySet}
 use Rattle.jskw_service.specs.Request.{overridden_of, setting_from, value_of}
 use Rattle.jskw_c.specs.Line.{IsRefusalLine}
 use Rattle.jskw_c.specs.Told.{Nothing, Tells}
-use Rattle.jskw_c.specs.Status.{VALID, NOT_JSON, BAD_SCHEMA, BAD_SETTING, NO_MEMORY}
+use Rattle.jskw_c.specs.Status.{VALID, NOT_JSON, BAD_SCHEMA, BAD_SETTING, NO_SCHEMA, NO_MEMORY}
 
 -- ---- the setting
 
@@ -81,3 +81,9 @@ Holds s result before after = ((result ≡ VALID) × (after ≡ Some s)) ⊎ ((r
 abbrev pub Compiles : Result Schema Fault → ℕ → Option Schema → Option Schema → List ℕ → List ℕ → ℕ → Type 0
 Compiles (Ok s) result before after old new count = Holds s result before after × Nothing old new count
 Compiles (Err f) result before after old new count = (after ≡ before) × Tells (IsTextOf f) result (status_of f) old new count
+
+-- ---- what sharing the schema of a handle does to another, which had a schema before or had none
+
+abbrev pub Shares : Option Schema → ℕ → Option Schema → Option Schema → Type 0
+Shares None result before after = (result ≡ NO_SCHEMA) × (after ≡ before)
+Shares (Some s) result before after = Holds s result before after

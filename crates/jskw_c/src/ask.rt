@@ -50,7 +50,7 @@ pub(crate) fn compile_schema(
     let ctx: Context<'_, SerdeJson> = Context::new(alloc, &settings);
     let ctx = ctx.with_object_layer(false);
     match compile(alloc, &ctx, &value) {
-        Ok(node) => Ok(Ok(Box::new(alloc, CompiledSchema::new(node))?)),
+        Ok(node) => Ok(Ok(CompiledSchema::new(alloc, node)?)),
         Err(CompileFault::Bad(error)) => Ok(Err(Told {
             status: BAD_SCHEMA,
             text: refusal_line(alloc, &error)?,

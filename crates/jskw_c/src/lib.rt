@@ -15,7 +15,7 @@ ghost use Rattle.jskw_service.specs.Answer.{output, verdict};
 ghost use Rattle.jskw_service.specs.Run.{status_of_verdict};
 ghost use Rattle.jskw_c.specs.Asked.{IsReport, Says, SaysErrors, SaysFirst, SaysTree};
 ghost use Rattle.jskw_c.specs.Asked.{instance_in, status_of};
-ghost use Rattle.jskw_c.specs.Compiled.{Compiles, compiled_of, setting_numbered};
+ghost use Rattle.jskw_c.specs.Compiled.{Compiles, Shares, compiled_of, setting_numbered};
 ghost use Rattle.jskw_c.specs.Told.{Gives, IsStatus, Tells};
 
 mod ask;
@@ -104,6 +104,29 @@ pub extern "C" fn jskw_compile(
         }
         Ok(Err(told)) => tell(told.status, told.text.as_slice(), buffer, length),
         Err(AllocError) => tell_no_memory(length),
+    }
+}
+
+/// Puts the schema of the first handle into the second too, without compiling it again, and frees
+/// the schema that the second had. If the first has none, the second is unchanged.
+#[unsafe(no_mangle)]
+pub extern "C" fn jskw_share(alloc: Global, from: &mut SchemaHandle, to: &mut SchemaHandle) -> u32
+    ensures kept { from.new.schema ≡ from.old.schema }
+    ensures shared { Shares from.old.schema result to.old.schema to.new.schema }
+{
+    match from.take(alloc) {
+        Some(schema) => {
+            let shared = schema.share(alloc);
+            from.put(alloc, schema);
+            match shared {
+                Ok(schema) => {
+                    to.put(alloc, schema);
+                    VALID
+                }
+                Err(AllocError) => NO_MEMORY,
+            }
+        }
+        None => NO_SCHEMA,
     }
 }
 

@@ -2,9 +2,10 @@
 use crate::handle::SchemaHandle;
 use crate::{
     jskw_answer, jskw_compile, jskw_errors, jskw_evaluate, jskw_first_error, jskw_free,
-    jskw_is_valid, jskw_version,
+    jskw_is_valid, jskw_share, jskw_version,
 };
 use std::alloc::{AllocError, Global};
+use std::mem;
 
 const SCHEMA: &[u8] = br#"{"required":["name","age"],"minProperties":2}"#;
 
@@ -33,7 +34,7 @@ const VERSION: &[u8] = b"jskw 0.1.0\nrattle logic dac8208d650f15bf\n";
 type Row = (&'static str, &'static [u8], usize, u32, &'static [u8]);
 
 // The calls over one handle, in order. At first it has no schema.
-const ROWS: [Row; 36] = [
+const ROWS: [Row; 39] = [
     ("version", b"", 64, 0, VERSION),
     ("answer", REQUEST, 64, 1, ANSWER),
     ("answer", REQUEST, 50, 1, ANSWER),
@@ -43,7 +44,10 @@ const ROWS: [Row; 36] = [
     ("first_error", b"1", 64, 7, b""),
     ("errors", b"1", 64, 7, b""),
     ("evaluate", b"1", 64, 7, b""),
+    ("share", b"", 0, 7, b""),
     ("compile", SCHEMA, 0, 0, b""),
+    ("share", b"", 0, 0, b""),
+    ("share", b"", 0, 0, b""),
     ("is_valid", br#"{"name":"Ada","age":36}"#, 0, 0, b""),
     ("is_valid", br#"{"age":36}"#, 0, 1, b""),
     ("is_valid", b"{", 0, 3, b""),
@@ -72,6 +76,15 @@ const ROWS: [Row; 36] = [
     ("errors", b"1", 0, 0, b""),
 ];
 
+// Shares the schema of the handle, frees it there, and leaves the other handle in its place.
+fn share_and_leave(alloc: Global, handle: &mut SchemaHandle) -> u32 {
+    let mut other = SchemaHandle::of(None);
+    let status = jskw_share(alloc, handle, &mut other);
+    jskw_free(alloc, handle);
+    mem::replace(handle, other).discard(alloc);
+    status
+}
+
 // Makes a call, and returns its status.
 fn make(
     alloc: Global,
@@ -84,6 +97,7 @@ fn make(
         "version" => return jskw_version(buffer, length),
         "answer" => return jskw_answer(alloc, input, buffer, length),
         "is_valid" => return jskw_is_valid(alloc, handle, input),
+        "share" => return share_and_leave(alloc, handle),
         "first_error" => return jskw_first_error(alloc, handle, input, buffer, length),
         "errors" => return jskw_errors(alloc, handle, input, buffer, length),
         "evaluate" => return jskw_evaluate(alloc, handle, input, buffer, length),
