@@ -1,4 +1,4 @@
--- A compiled schema over the values of `serde_json` may cross threads, and be read in several at once.
+-- A compiled schema over exact decimals may cross threads, and be read in several at once.
 use denote.RattleType.{RattleType}
 use denote.Struct.Field.{bool-field, usize-field}
 use denote.Param.Send.{IsSend, IsSync, plain_send, plain_sync}
@@ -9,12 +9,12 @@ use Rattle.std.specs.contracts.string.String as string
 use Rattle.std.specs.contracts.impls.GlobalAllocator.TheImpl.{ghosts}
 use Rattle.std.proofs.string.String.TheSendSync as string'
 use Rattle.std.below.std_heap.proofs.GlobalAllocator.TheSendSync.{the_frees}
-use Rattle.serde_json.specs.contracts.value.Value as value
-use Rattle.serde_json.specs.contracts.number.Number as number
-use Rattle.jskw_value.specs.contracts.serde_tree.SerdeJson as serde
-use Rattle.jskw_value.specs.contracts.serde_tree.ValueRooted.TheImpl as rooted
-use Rattle.jskw_value.specs.contracts.serde_tree.ValueObject.TheImpl as object
-use Rattle.jskw_value.specs.contracts.serde_tree.NumberJsonNumber.TheImpl as numbered
+use Rattle.jskw_value.specs.contracts.decimal.Decimal as decimal
+use Rattle.jskw_value.specs.contracts.decimal_tree.DecimalJson as json
+use Rattle.jskw_value.specs.contracts.decimal_tree.DecimalTree as tree
+use Rattle.jskw_value.specs.contracts.decimal_tree.DecimalTreeRooted.TheImpl as rooted
+use Rattle.jskw_value.specs.contracts.decimal_tree.DecimalTreeObject.TheImpl as object
+use Rattle.jskw_value.specs.contracts.decimal.DecimalJsonNumber.TheImpl as numbered
 use Rattle.jskw_report.proofs.paths.Location.TheSendSync as location
 use Rattle.jskw_number.proofs.quick_set.QuickSet.TheSendSync as quick
 use Rattle.jskw_leaf.specs.contracts.type_.NumberType as of_number
@@ -32,16 +32,16 @@ use Rattle.jskw_array.proofs.matching.ItemBounds.TheSendSync as bounds
 use Rattle.jskw_c.proofs.CrossingValues.{row_send, row_sync}
 use Rattle.jskw_c.proofs.CrossingLeaves.{leaf_send, leaf_sync}
 
--- the rows of `SerdeJson`, its values, numbers and names
+-- the rows of `DecimalJson`, its trees, numbers and names
 
 abbrev S : RattleType
-S = serde.the_row
+S = json.the_row
 
 abbrev V : RattleType
-V = value.the_row
+V = tree.the_row
 
 abbrev N : RattleType
-N = number.the_row
+N = decimal.the_row
 
 abbrev K : RattleType
 K = string.the_row heap.the_row ghosts

@@ -2,6 +2,7 @@ mod CrossingLeaves
 mod CrossingSchemas
 mod CrossingValues
 mod Handles
+mod Limits
 mod Lines
 mod Texts
 mod ToldAnswers

@@ -1,6 +1,7 @@
 pub mod Asked
 pub mod Compiled
 pub mod Evaluated
+pub mod Expected
 pub mod Line
 pub mod Replies
 pub mod Slot

@@ -13,9 +13,9 @@ INVALID = 1
 abbrev pub NOT_JSON : ℕ
 NOT_JSON = 3
 
--- the instance contains a float
-abbrev pub FLOAT : ℕ
-FLOAT = 4
+-- the instance contains a number that no decimal equals
+abbrev pub INEXACT : ℕ
+INEXACT = 4
 
 -- the schema does not compile
 abbrev pub BAD_SCHEMA : ℕ

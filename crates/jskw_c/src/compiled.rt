@@ -2,17 +2,17 @@
 ghost use Rattle.std.specs.Prelude.{◌≡◌, IfOk};
 
 use jskw_array::SchemaNode;
-use jskw_value::SerdeJson;
+use jskw_value::DecimalJson;
 use std::alloc::{AllocError, Global};
 use std::marker::Model;
 use std::sync::Arc;
 
-/// An owner of a compiled schema over the values of `serde_json`. A schema has any number of
+/// An owner of a compiled schema over exact decimals. A schema has any number of
 /// owners, in any threads, and is freed with the last. Contracts see an owner as the node of its
 /// schema.
 #[derive(Drop)]
 pub struct CompiledSchema {
-    node: Arc<SchemaNode<SerdeJson>>,
+    node: Arc<SchemaNode<DecimalJson>>,
 }
 
 impl Model for CompiledSchema {
@@ -31,7 +31,7 @@ impl CompiledSchema {
     /// Creates the first owner of the schema of a node, in a block of its own.
     pub fn new(
         alloc: Global,
-        node: SchemaNode<SerdeJson>,
+        node: SchemaNode<DecimalJson>,
     ) -> Result<Box<CompiledSchema>, AllocError>
         ensures { IfOk result (λ owner. owner.value ≡ node) }
     {
@@ -49,7 +49,7 @@ impl CompiledSchema {
     }
 
     /// Returns the node.
-    pub fn node(&self) -> &SchemaNode<SerdeJson>
+    pub fn node(&self) -> &SchemaNode<DecimalJson>
         ensures { result.now ≡ self.now }
     {
         &self.node

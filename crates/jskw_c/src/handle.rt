@@ -73,10 +73,4 @@ impl SchemaHandle {
         let handle = SchemaHandle::of(Some(schema));
         drop(mem::replace(self, handle).into_box(alloc));
     }
-
-    // Frees the schema, if there is one, and drops the handle.
-    #[cfg(test)]
-    pub(crate) fn discard(self, alloc: Global) {
-        drop(self.into_box(alloc));
-    }
 }
