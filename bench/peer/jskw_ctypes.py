@@ -1,4 +1,4 @@
-"""Times bindings/python/jskw.py: texts, as timing.py describes. PYTHONPATH names its folder, JSKW the library."""
+"""Times the package of bindings/python: texts, as timing.py describes. PYTHONPATH names its folder, JSKW the library."""
 
 import jskw
 from timing import answer_texts

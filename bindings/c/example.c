@@ -1,20 +1,26 @@
 /* Prints the errors of the JSON text in each line of standard input. After bindings/build, at the root:
  *     cc -O2 -Iinclude -o example bindings/c/example.c bindings/out/libjskw.a && echo '{"age":36}' | ./example */
+#define _POSIX_C_SOURCE 200809L
 #include <stdio.h>
 #include <stdlib.h>
 #include <string.h>
+#include <sys/types.h>
 
 #include "jskw.h"
 
-/* Calls jskw_errors with a buffer that is large enough. The caller frees the text. */
+/* The most errors of a line that are printed. */
+#define LIMIT 100
+
+/* Calls jskw_errors with a buffer that is large enough. The caller frees the text, which is NULL if there is none. */
 static uint32_t errors_of(jskw_schema *schema, const char *text, size_t size, char **errors, size_t *length) {
     size_t room = 4096;
     for (;;) {
-        char *buffer = malloc(room);
-        if (!buffer) return JSKW_NO_MEMORY;
-        uint32_t status = jskw_errors(schema, (const uint8_t *)text, size, (uint8_t *)buffer, room, length);
-        if (status != JSKW_TOO_SMALL) return *errors = buffer, status;
-        free(buffer);
+        *errors = malloc(room);
+        if (!*errors) return JSKW_NO_MEMORY;
+        uint32_t status =
+            jskw_errors(schema, (const uint8_t *)text, size, LIMIT, (uint8_t *)*errors, room, length);
+        if (status != JSKW_TOO_SMALL) return status;
+        free(*errors);
         room = *length;
     }
 }
@@ -26,16 +32,16 @@ int main(void) {
     size_t length;
     uint32_t status = jskw_compile(2020, JSKW_ALL, (const uint8_t *)"", 0, (const uint8_t *)text, strlen(text), &schema,
                                    (uint8_t *)refusal, sizeof refusal, &length);
-    if (status != JSKW_VALID) return fprintf(stderr, "no schema: status %u\n", (unsigned)status), 2;
-    char line[65536];
-    while (fgets(line, sizeof line, stdin)) {
-        char *errors = NULL;
-        status = errors_of(&schema, line, strlen(line), &errors, &length);
+    if (status != JSKW_VALID) return fprintf(stderr, "no schema: %s\n", jskw_status_name(status)), 2;
+    char *line = NULL, *errors = NULL;
+    size_t room = 0;
+    for (ssize_t size; (size = getline(&line, &room, stdin)) >= 0; free(errors)) {
+        status = errors_of(&schema, line, (size_t)size, &errors, &length);
         if (status == JSKW_VALID) puts("valid");
         else if (status == JSKW_INVALID) fwrite(errors, 1, length, stdout);
-        else printf("not checked: status %u\n", (unsigned)status);
-        free(errors);
+        else printf("not checked: %s\n", jskw_status_name(status));
     }
+    free(line);
     jskw_free(&schema);
     return 0;
 }

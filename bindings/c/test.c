@@ -1,5 +1,5 @@
-/* Tests jskw.h: the README's example, empty handles, and the rows of bindings/rows.txt; for each row each call with
- * buffers of every length from 0 to one too many, and with each of its allocations refused in turn. Each text and each
+/* Tests jskw.h: the README's example, lines, empty and shared handles, and the rows of bindings/rows.txt; for each row
+ * each call with buffers of every length from 0 to one too many, and with each of its allocations refused in turn. Each text and each
  * buffer is a block of its own, so that valgrind notices a byte beside it. The argument is rows.txt. The last line is
  * `N passed, M failed`. Link with
  * -Wl,--wrap=malloc,--wrap=realloc,--wrap=calloc,--wrap=aligned_alloc,--wrap=posix_memalign. */
@@ -85,8 +85,9 @@ static void free_asked(struct asked asked) {
 static const char *const SCHEMA = "{\"required\":[\"name\",\"age\"],\"minProperties\":2}";
 static const char *const INVALID = "{\"age\":36}";
 
-enum { VERSION, IS_VALID, FIRST_ERROR, ERRORS, EVALUATE, ANSWER, COMPILE, CALLS };
-static const char *const NAMES[] = {"version", "is_valid", "first_error", "errors", "evaluate", "answer", "compile"};
+enum { VERSION, IS_VALID, FIRST_ERROR, TWO_ERRORS, ERRORS, EVALUATE, ANSWER, COMPILE, CALLS };
+static const char *const NAMES[] = {"version", "is_valid", "first_error", "two errors", "errors", "evaluate", "answer",
+                                    "compile"};
 
 static uint32_t call(int which, struct asked a, jskw_schema *handle, uint8_t *buffer, size_t room, size_t *length) {
     const uint8_t *bytes = a.instance.bytes;
@@ -95,7 +96,8 @@ static uint32_t call(int which, struct asked a, jskw_schema *handle, uint8_t *bu
     case VERSION: return jskw_version(buffer, room, length);
     case IS_VALID: *length = 0; return jskw_is_valid(handle, bytes, size);
     case FIRST_ERROR: return jskw_first_error(handle, bytes, size, buffer, room, length);
-    case ERRORS: return jskw_errors(handle, bytes, size, buffer, room, length);
+    case ERRORS: return jskw_errors(handle, bytes, size, 0, buffer, room, length);
+    case TWO_ERRORS: return jskw_errors(handle, bytes, size, 2, buffer, room, length);
     case EVALUATE: return jskw_evaluate(handle, bytes, size, buffer, room, length);
     case ANSWER: return jskw_answer(a.request.bytes, a.request.size, buffer, room, length);
     default: return jskw_compile(a.draft, a.vocabularies, a.overridden.bytes, a.overridden.size, a.schema.bytes,
@@ -126,25 +128,108 @@ static jskw_schema handle_for(int which, struct asked a) {
     return handle;
 }
 
+/* Whether a call's status is the wanted one, and its text these bytes. */
+static int gives(uint32_t status, uint32_t wanted, const uint8_t *buffer, size_t length, const char *text) {
+    return status == wanted && length == strlen(text) && !memcmp(buffer, text, length);
+}
+
 static void readme(void) {
     uint8_t buffer[ROOM];
     size_t length;
     jskw_schema handle = JSKW_SCHEMA_EMPTY;
     check("compiles", compile(&handle, SCHEMA) == JSKW_VALID && has_schema(&handle));
-    const char *wanted = "minProperties\t\t/minProperties\t{\"age\":36} has less than 2 properties\n"
-                         "required\t\t/required\t\"name\" is a required property\n";
-    check("errors", jskw_errors(&handle, BYTES(INVALID), buffer, ROOM, &length) == JSKW_INVALID
-        && length == strlen(wanted) && !memcmp(buffer, wanted, length));
+    uint32_t status = jskw_errors(&handle, BYTES(INVALID), 0, buffer, ROOM, &length);
+    check("errors", gives(status, JSKW_INVALID, buffer, length,
+        "minProperties\t\t/minProperties\t{\"age\":36} has less than 2 properties\t2\n"
+        "required\t\t/required\t\"name\" is a required property\t\"name\"\n"));
     const char *request =
         "{\"schema\":{\"required\":[\"name\",\"age\"],\"minProperties\":2},\"instance\":{\"age\":36}}";
-    wanted = "minProperties\t\t/minProperties\nrequired\t\t/required\n";
-    check("answer", jskw_answer(BYTES(request), buffer, ROOM, &length) == JSKW_INVALID
-        && length == strlen(wanted) && !memcmp(buffer, wanted, length));
-    check("no text", jskw_is_valid(&handle, BYTES("\"\xff\"")) == JSKW_NOT_JSON);
-    wanted = "jskw " JSKW_VERSION "\n";
-    check("version", jskw_version(buffer, ROOM, &length) == JSKW_VALID && !memcmp(buffer, wanted, strlen(wanted)));
+    status = jskw_answer(BYTES(request), buffer, ROOM, &length);
+    check("answer", gives(status, JSKW_INVALID, buffer, length, "minProperties\t\t/minProperties\nrequired\t\t/required\n"));
+    status = jskw_answer(BYTES(""), buffer, ROOM, &length);
+    check("answer, no request", gives(status, JSKW_REFUSED, buffer, length, "refused: request\n"));
+    status = jskw_answer(BYTES("{\"schema\":true,\"instance\":0.5}"), buffer, ROOM, &length);
+    check("answer, a float", gives(status, JSKW_REFUSED, buffer, length, "refused: float\t\n"));
+    status = jskw_version(buffer, ROOM, &length);
+    const char *version = "jskw " JSKW_VERSION "\n";
+    check("version", status == JSKW_VALID && !memcmp(buffer, version, strlen(version)));
+    snprintf((char *)buffer, ROOM, "%d.%d.%d", JSKW_VERSION_MAJOR, JSKW_VERSION_MINOR, JSKW_VERSION_PATCH);
+    check("version in numbers", !strcmp((char *)buffer, JSKW_VERSION));
+    check("status names", !strcmp(jskw_status_name(JSKW_VALID), "JSKW_VALID") && !strcmp(jskw_status_name(10), "?")
+        && !strcmp(jskw_status_name(JSKW_INEXACT), "JSKW_INEXACT")
+        && !strcmp(jskw_status_name(JSKW_TOO_SMALL), "JSKW_TOO_SMALL"));
     jskw_free(&handle);
     check("freed", !handle.compiled);
+}
+
+/* What each keyword expected. */
+static void expected(void) {
+    static const char *const rows[][4] = {
+        {"2019", "{\"items\":[],\"additionalItems\":false}", "[1]", "0"},
+        {"2020", "{\"const\":{\"b\":[1,null],\"a\":\"\\t\\\\\"}}", "0.5", "{\"a\":\"\\\\t\\\\\\\\\",\"b\":[1,null]}"},
+        {"2020", "{\"enum\":[\"a\",-1]}", "0.5", "[\"a\",-1]"},
+        {"2020", "{\"exclusiveMaximum\":-9223372036854775808}", "0.5", "-9223372036854775808"},
+        {"2020", "{\"exclusiveMinimum\":18446744073709551615}", "0.5", "18446744073709551615"},
+        {"2020", "{\"maximum\":0}", "0.5", "0"},
+        {"2020", "{\"minimum\":-5}", "-5.5", "-5"},
+        {"2020", "{\"maxItems\":0}", "[1]", "0"},
+        {"2020", "{\"minItems\":18446744073709551615}", "[1]", "18446744073709551615"},
+        {"2020", "{\"maxProperties\":0}", "{\"a\":1}", "0"},
+        {"2020", "{\"minProperties\":2}", "{}", "2"},
+        {"2020", "{\"multipleOf\":7}", "0.5", "7"},
+        {"2020", "{\"required\":[\"\\t\\\"\"]}", "{}", "\"\\\\t\\\\\"\""},
+        {"2020", "{\"type\":\"integer\"}", "0.5", "\"integer\""},
+        {"2020", "{\"type\":[\"string\",\"object\",\"array\"]}", "0.5", "[\"array\",\"object\",\"string\"]"},
+        {"2020", "{\"type\":[]}", "0.5", "[]"},
+        {"2020", "{\"contains\":true}", "[]", ""},
+        {"2020", "{\"uniqueItems\":true}", "[1,1.0]", ""},
+        {"2020", "false", "1", ""},
+        {"2020", "{\"minItems\":-1}", NULL, "0"},
+        {"2020", "{\"multipleOf\":0}", NULL, "0"},
+        {"2020", "{\"required\":5}", NULL, "\"array\""},
+        {"2020", "{\"type\":5}", NULL, "[\"array\",\"string\"]"},
+        {"2020", "{\"type\":[\"foo\",\"string\"]}", NULL,
+         "[\"array\",\"boolean\",\"integer\",\"null\",\"number\",\"object\",\"string\"]"},
+        {"2020", "{\"type\":\"foo\"}", NULL, ""},
+    };
+    for (size_t i = 0; i < sizeof rows / sizeof *rows; i++) {
+        uint8_t buffer[ROOM];
+        size_t length;
+        jskw_schema handle = JSKW_SCHEMA_EMPTY;
+        uint32_t status = jskw_compile((uint32_t)atoi(rows[i][0]), JSKW_ALL, BYTES(""), BYTES(rows[i][1]), &handle, buffer, ROOM, &length);
+        if (rows[i][2]) status = jskw_first_error(&handle, BYTES(rows[i][2]), buffer, ROOM, &length);
+        buffer[length ? length - 1 : 0] = 0;
+        const char *last = strrchr((char *)buffer, '\t');
+        check(rows[i][1], status == (rows[i][2] ? (uint32_t)JSKW_INVALID : (uint32_t)JSKW_BAD_SCHEMA) && last && !strcmp(last + 1, rows[i][3]));
+        jskw_free(&handle);
+    }
+}
+
+/* Where texts stop being JSON: offset, line, column. */
+static void places(void) {
+    static const char *const rows[][2] = {
+        {"", "0\t1\t1\n"}, {"{", "1\t1\t2\n"}, {"[1,\n  2,,3]", "8\t2\t5\n"}, {"tru", "0\t1\t1\n"}, {"1 2", "2\t1\t3\n"},
+        {"[\"\xc3\xa9\" x]", "6\t1\t6\n"}, {"[\"\\ud800\"]", "1\t1\t2\n"}, {"[\"a\n\"]", "1\t1\t2\n"}, {"\"\xff\"", "1\t1\t2\n"},
+        {"[1]\n]", "4\t2\t1\n"}, {"{\"a\":1,}", "7\t1\t8\n"},
+    };
+    for (size_t i = 0; i < sizeof rows / sizeof *rows; i++) {
+        uint8_t buffer[ROOM];
+        size_t length;
+        jskw_schema handle = JSKW_SCHEMA_EMPTY;
+        uint32_t status = jskw_compile(7, JSKW_ALL, BYTES(""), BYTES(rows[i][0]), &handle, buffer, ROOM, &length);
+        check("place in a schema", gives(status, JSKW_NOT_JSON, buffer, length, rows[i][1]));
+        compile(&handle, "true");
+        status = jskw_errors(&handle, BYTES(rows[i][0]), 1, buffer, ROOM, &length);
+        check("place in an instance", gives(status, JSKW_NOT_JSON, buffer, length, rows[i][1])
+            && jskw_is_valid(&handle, BYTES(rows[i][0])) == JSKW_NOT_JSON);
+        if (memcmp(buffer, rows[i][1], length)) printf("  %s: %.*s", rows[i][0], (int)length, buffer);
+        jskw_free(&handle);
+    }
+    uint8_t buffer[ROOM];
+    size_t length;
+    jskw_schema handle = JSKW_SCHEMA_EMPTY;
+    uint32_t status = jskw_compile(7, JSKW_ALL, BYTES(""), BYTES("{\"minimum\":1e999}"), &handle, buffer, ROOM, &length);
+    check("no place in a schema", gives(status, JSKW_NOT_JSON, buffer, length, ""));
 }
 
 /* An empty handle gets a status from each call, and another schema takes its place after each. */
@@ -230,7 +315,26 @@ static void tell(char *told, const char *text, size_t size, int words) {
     told[at ? at - 1 : 0] = 0;
 }
 
-static const char *const RESULTS[] = {"valid", "invalid", "", "not JSON", "float", "bad schema", "bad setting"};
+static const char *const RESULTS[] = {"valid", "invalid", "", "not JSON", "inexact", "bad schema", "bad setting"};
+
+/* The length of the first lines of a text: of so many, or of all if there are fewer. */
+static size_t lines(const uint8_t *text, size_t size, uint64_t count) {
+    size_t at = 0;
+    for (; at < size && count > 0; at++) count -= text[at] == '\n';
+    return at;
+}
+
+/* Whether a limit on errors gives the first lines of the text that has them all. */
+static int limits(jskw_schema *handle, struct asked a, uint32_t wanted, const uint8_t *all, size_t size) {
+    uint8_t buffer[ROOM];
+    int holds = 1;
+    for (uint64_t limit = 1; limit < 8; limit++) {
+        size_t length;
+        uint32_t status = jskw_errors(handle, a.instance.bytes, a.instance.size, limit < 7 ? limit : UINT64_MAX, buffer, ROOM, &length);
+        holds &= status == wanted && length == lines(all, size, limit < 7 ? limit : UINT64_MAX) && !memcmp(buffer, all, length);
+    }
+    return holds;
+}
 
 /* Splits a line of rows.txt. */
 static void split(char *line, char *part[7]) {
@@ -254,9 +358,10 @@ static int says(struct asked a, const char *result, const char *wanted) {
         agree &= status == call(FIRST_ERROR, a, &handle, first, ROOM, &first_length);
         agree &= status == call(EVALUATE, a, &handle, tree, ROOM, &none);
         agree &= status == call(ERRORS, a, &handle, buffer, ROOM, &length);
-        agree &= first_length <= length && !memcmp(first, buffer, first_length) && (first_length > 0) == (length > 0);
+        agree &= first_length == lines(buffer, length, 1) && !memcmp(first, buffer, first_length);
+        agree &= limits(&handle, a, status, buffer, length);
     }
-    tell(told, (char *)buffer, length, status == JSKW_BAD_SCHEMA ? 2 : 3);
+    tell(told, (char *)buffer, status == JSKW_NOT_JSON ? 0 : length, status == JSKW_BAD_SCHEMA ? 2 : 3);
     jskw_free(&handle);
     return agree && status < 7 && !strcmp(RESULTS[status], result) && !strcmp(told, wanted);
 }
@@ -276,6 +381,30 @@ static void row(char *line, unsigned long times[CALLS]) {
     free_asked(a);
 }
 
+/* A schema is shared: each handle has it, and keeps it when the others are freed. A handle is unchanged if there is no
+ * schema or no memory. */
+static void shares(void) {
+    jskw_schema first = JSKW_SCHEMA_EMPTY, second = JSKW_SCHEMA_EMPTY, third = JSKW_SCHEMA_EMPTY;
+    check("share, empty", jskw_share(&first, &second) == JSKW_NO_SCHEMA && !first.compiled && !second.compiled);
+    compile(&second, SCHEMA);
+    check("share, empty, to one that is not", jskw_share(&first, &second) == JSKW_NO_SCHEMA && has_schema(&second));
+    check("share", jskw_share(&second, &first) == JSKW_VALID && has_schema(&first) && has_schema(&second));
+    compile(&third, "false");
+    seen = 0, refused = 1, and_later = 1;
+    uint32_t told = jskw_share(&first, &third);
+    refused = 0;
+    check("share, memory refused", told == JSKW_NO_MEMORY && seen == 1 && has_schema(&first)
+        && jskw_is_valid(&third, BYTES("1")) == JSKW_INVALID);
+    check("share, in its place", jskw_share(&first, &third) == JSKW_VALID && has_schema(&third));
+    check("share, again", jskw_share(&first, &third) == JSKW_VALID && has_schema(&third));
+    jskw_free(&second);
+    check("share, the first freed", has_schema(&first) && has_schema(&third));
+    check("share, another compiled", compile(&first, "false") == JSKW_VALID && has_schema(&third));
+    jskw_free(&first);
+    check("share, the last", has_schema(&third));
+    jskw_free(&third);
+}
+
 /* A schema is freed without an allocation. */
 static void frees(void) {
     jskw_schema handle = JSKW_SCHEMA_EMPTY;
@@ -289,7 +418,10 @@ static void frees(void) {
 int main(int count, char **words) {
     unsigned long times[CALLS] = {0};
     readme();
+    expected();
+    places();
     empty_handles();
+    shares();
     frees();
     FILE *file = count > 1 ? fopen(words[1], "r") : NULL;
     check("rows", file != NULL);

@@ -1,286 +1,206 @@
-//! The proved JSON Schema validator jskw, in process. Schemas and instances are the bytes of JSON texts.
+//! The proved JSON Schema validator jskw, in process: the value and array keywords of Drafts 4, 6, 7, 2019-09 and
+//! 2020-12. All other keywords are ignored. Schemas and instances are JSON texts, as `&str`, `&[u8]`, `String` or
+//! `Vec<u8>`.
 //!
 //! ```
-//! let validator = jskw::Validator::new(br#"{"required":["name","age"],"minProperties":2}"#)?;
-//! assert!(validator.is_valid(br#"{"name":"Ada","age":36}"#)?);
-//! for error in validator.iter_errors(br#"{"age":36}"#)? {
-//!     println!("{error} at {:?}", error.instance_path);
+//! use jskw::{ValidationErrorKind, Validator};
+//!
+//! let validator = Validator::new(r#"{"required": ["name", "age"], "minProperties": 2}"#)?;
+//! assert!(validator.is_valid(r#"{"name": "Ada", "age": 36}"#)?);
+//! for error in validator.iter_errors(r#"{"age": 36}"#)? {
+//!     println!("{error} (instance {}, schema {})", error.instance_path(), error.schema_path());
 //! }
+//! let missing = ValidationErrorKind::Required { property: "name".into() };
+//! assert!(validator.iter_errors(r#"{"age": 36}"#)?.any(|error| *error.kind() == missing));
 //! # Ok::<(), jskw::Error>(())
 //! ```
 //!
-//! Nothing compares the declarations below with the library's. Each comment on safety says why a call keeps to
-//! `include/jskw.h`.
+//! Numbers of an instance are exact: `0.1` is a tenth, and a number of more than 18 decimals or 64 bits is
+//! [`Error::Inexact`].
+//!
+//! ```
+//! let cents = jskw::Validator::new(r#"{"items": {"minimum": 0}, "uniqueItems": true}"#)?;
+//! assert!(!cents.is_valid("[12.50, 12.5]")?);
+//! assert!(matches!(cents.is_valid("[1e400]"), Err(jskw::Error::Inexact(at)) if at.to_string() == "/0"));
+//! # Ok::<(), jskw::Error>(())
+//! ```
+//!
+//! A [`Validator`] serves any number of threads at once, and a clone shares its schema.
+//!
+//! ```
+//! let validator = jskw::Validator::new(r#"{"type": "integer"}"#)?;
+//! std::thread::scope(|scope| {
+//!     for _ in 0..4 {
+//!         scope.spawn(|| assert_eq!(validator.is_valid("1"), Ok(true)));
+//!     }
+//! });
+//! # Ok::<(), jskw::Error>(())
+//! ```
+#![warn(missing_debug_implementations)]
 
-use std::cell::UnsafeCell;
-use std::ffi::c_void;
+#[cfg(doctest)]
+#[doc = include_str!("../README.md")]
+struct ReadmeExamples;
+
+mod error;
+mod evaluation;
+mod handles;
+mod json;
+mod library;
+mod settings;
+
+pub use error::{Error, JsonType, Location, PathSegment, Position, Text, ValidationError, ValidationErrorKind};
+pub use evaluation::{Annotation, EvaluationNode};
+pub use settings::{Draft, ValidationOptions, Vocabulary};
+
+use error::{errors, refusal};
+use handles::Handles;
+use library::{Report, INVALID, VALID};
 use std::fmt;
-use std::ptr::null_mut;
+use std::num::NonZeroU64;
+use std::sync::Arc;
 
-#[repr(C)]
-struct Handle {
-    compiled: *mut c_void,
-}
-
-type Ask = unsafe extern "C" fn(*mut Handle, *const u8, usize, *mut u8, usize, *mut usize) -> u32;
-
-extern "C" {
-    fn jskw_compile(
-        draft: u32,
-        vocabularies: u32,
-        overridden: *const u8,
-        overridden_size: usize,
-        bytes: *const u8,
-        size: usize,
-        schema: *mut Handle,
-        buffer: *mut u8,
-        buffer_size: usize,
-        length: *mut usize,
-    ) -> u32;
-    fn jskw_is_valid(schema: *mut Handle, bytes: *const u8, size: usize) -> u32;
-    fn jskw_first_error(s: *mut Handle, bytes: *const u8, size: usize, buffer: *mut u8, room: usize, length: *mut usize) -> u32;
-    fn jskw_errors(s: *mut Handle, bytes: *const u8, size: usize, buffer: *mut u8, room: usize, length: *mut usize) -> u32;
-    fn jskw_evaluate(s: *mut Handle, bytes: *const u8, size: usize, buffer: *mut u8, room: usize, length: *mut usize) -> u32;
-    fn jskw_free(schema: *mut Handle);
-}
-
-const VALID: u32 = 0;
-const INVALID: u32 = 1;
-const NOT_JSON: u32 = 3;
-const FLOAT: u32 = 4;
-const BAD_SCHEMA: u32 = 5;
-const BAD_SETTING: u32 = 6;
-const NO_MEMORY: u32 = 8;
-const TOO_SMALL: u32 = 9;
-
-/// A draft of JSON Schema.
-#[derive(Clone, Copy, Debug, Default, PartialEq, Eq)]
-pub enum Draft {
-    Draft4 = 4,
-    Draft6 = 6,
-    Draft7 = 7,
-    Draft201909 = 2019,
-    #[default]
-    Draft202012 = 2020,
-}
-
-/// An error of an instance, or the refusal of a schema. Locations are JSON pointers.
-#[derive(Clone, Debug, PartialEq, Eq)]
-pub struct ValidationError {
-    /// The keyword that failed.
-    pub keyword: String,
-    /// The instance location; empty for the refusal of a schema.
-    pub instance_path: String,
-    /// The keyword location.
-    pub schema_path: String,
-    /// A text for people.
-    pub message: String,
-}
-
-impl fmt::Display for ValidationError {
-    fn fmt(&self, f: &mut fmt::Formatter<'_>) -> fmt::Result {
-        f.write_str(&self.message)
-    }
-}
-
-impl std::error::Error for ValidationError {}
-
-/// Why there is no answer.
-#[derive(Clone, Debug, PartialEq, Eq)]
-pub enum Error {
-    /// The instance is invalid, and this is its first error. Only `validate` returns it.
-    Invalid(ValidationError),
-    /// The schema does not compile.
-    BadSchema(ValidationError),
-    /// There is no such draft or set of vocabularies, or the overridden names are no array of strings.
-    BadSetting,
-    /// The schema or the instance is not JSON in UTF-8, or nests more than 127 levels.
-    NotJson,
-    /// The instance contains a float, first at this location.
-    Float(String),
-    /// Memory ran out.
-    NoMemory,
-}
-
-impl fmt::Display for Error {
-    fn fmt(&self, f: &mut fmt::Formatter<'_>) -> fmt::Result {
-        match self {
-            Error::Invalid(error) | Error::BadSchema(error) => error.fmt(f),
-            Error::BadSetting => f.write_str("no such draft, vocabularies or overridden names"),
-            Error::NotJson => f.write_str("not JSON"),
-            Error::Float(location) => write!(f, "a float at {location:?}"),
-            Error::NoMemory => f.write_str("out of memory"),
-        }
-    }
-}
-
-impl std::error::Error for Error {}
-
-/// Settings of a schema: Draft 2020-12 with all vocabularies, unless they are set.
-#[derive(Clone, Debug)]
-pub struct ValidationOptions {
-    draft: u32,
-    vocabularies: u32,
-    overridden: Vec<u8>,
-}
-
-impl ValidationOptions {
-    /// Sets the draft.
-    pub fn with_draft(self, draft: Draft) -> Self {
-        self.with_draft_number(draft as u32)
-    }
-
-    /// Sets the draft by its number in `jskw.h`.
-    pub fn with_draft_number(mut self, draft: u32) -> Self {
-        self.draft = draft;
-        self
-    }
-
-    /// Sets the vocabularies by the sum of their numbers: 1 for core, 2 for applicator, 4 for validation.
-    pub fn with_vocabularies(mut self, vocabularies: u32) -> Self {
-        self.vocabularies = vocabularies;
-        self
-    }
-
-    /// Sets the overridden keywords, a JSON array of names.
-    pub fn with_overridden(mut self, names: &[u8]) -> Self {
-        self.overridden = names.to_vec();
-        self
-    }
-
-    /// Compiles a schema.
-    pub fn build(&self, schema: &[u8]) -> Result<Validator, Error> {
-        let validator = Validator { handle: UnsafeCell::new(Handle { compiled: null_mut() }) };
-        let (names, handle) = (&self.overridden, validator.handle.get());
-        // SAFETY: both texts are live slices, whose pointers are never null. The handle is empty and this call's own;
-        // the buffer is lent to the call alone.
-        let (status, text) = asked(|buffer, room, length| unsafe {
-            jskw_compile(
-                self.draft,
-                self.vocabularies,
-                names.as_ptr(),
-                names.len(),
-                schema.as_ptr(),
-                schema.len(),
-                handle,
-                buffer,
-                room,
-                length,
-            )
-        });
-        if status == BAD_SCHEMA {
-            let mut words = lines(&text).next().into_iter().flatten();
-            let mut next = || words.next().unwrap_or_default();
-            let (keyword, schema_path, message) = (next(), next(), next());
-            return Err(Error::BadSchema(ValidationError { keyword, instance_path: String::new(), schema_path, message }));
-        }
-        verdict(status, &text)?;
-        Ok(validator)
-    }
-}
-
-/// A compiled schema. It is neither `Send` nor `Sync`: that a handle may move to another thread is not proved.
+/// A compiled schema. Any number of threads may use it at once; a clone shares it.
+#[derive(Clone)]
 pub struct Validator {
-    handle: UnsafeCell<Handle>,
+    shared: Arc<Shared>,
+}
+
+struct Shared {
+    handles: Handles,
+    draft: Draft,
+    schema: String,
 }
 
 impl Validator {
     /// Compiles a schema of Draft 2020-12.
-    pub fn new(schema: &[u8]) -> Result<Validator, Error> {
+    ///
+    /// # Errors
+    ///
+    /// As [`ValidationOptions::build`].
+    pub fn new(schema: impl AsRef<[u8]>) -> Result<Validator, Error> {
         Validator::options().build(schema)
     }
 
     /// Returns settings, to be changed before a schema is compiled.
     pub fn options() -> ValidationOptions {
-        ValidationOptions { draft: Draft::default() as u32, vocabularies: 7, overridden: Vec::new() }
+        ValidationOptions::default()
+    }
+
+    fn of(handles: Handles, draft: Draft, schema: &[u8]) -> Validator {
+        let schema = String::from_utf8_lossy(schema).into_owned();
+        Validator { shared: Arc::new(Shared { handles, draft, schema }) }
+    }
+
+    /// Returns the draft.
+    pub fn draft(&self) -> Draft {
+        self.shared.draft
+    }
+
+    /// Returns the text of the schema.
+    pub fn schema(&self) -> &str {
+        &self.shared.schema
     }
 
     /// Returns whether the instance is valid.
-    pub fn is_valid(&self, instance: &[u8]) -> Result<bool, Error> {
-        // SAFETY: the slice is live. The library made the handle, and no other call has it: this type is not `Sync`,
-        // and no function of the library calls back.
-        match unsafe { jskw_is_valid(self.handle.get(), instance.as_ptr(), instance.len()) } {
-            FLOAT => self.ask(jskw_first_error, instance).map(|_| false),
-            status => verdict(status, ""),
+    ///
+    /// # Errors
+    ///
+    /// This and the other calls return [`Error::NotJson`], [`Error::Inexact`] or [`Error::NoMemory`].
+    pub fn is_valid(&self, instance: impl AsRef<[u8]>) -> Result<bool, Error> {
+        let instance = instance.as_ref();
+        match self.shared.handles.with(|handle| handle.is_valid(instance)) {
+            Ok(VALID) => Ok(true),
+            Ok(INVALID) => Ok(false),
+            // a report says where
+            Ok(_) => self.report(Report::FirstError, instance).map(|_| false),
+            Err(status) => Err(refusal(Text::Instance, status, "", instance)),
         }
     }
 
-    /// Returns the first error of the instance, if there is one, as `Error::Invalid`.
-    pub fn validate(&self, instance: &[u8]) -> Result<(), Error> {
-        match errors(&self.ask(jskw_first_error, instance)?).next() {
-            Some(error) => Err(Error::Invalid(error)),
-            None => Ok(()),
-        }
+    /// Returns the first error of the instance, if there is one, as [`Error::Invalid`].
+    ///
+    /// # Errors
+    ///
+    /// Also as [`Validator::is_valid`].
+    pub fn validate(&self, instance: impl AsRef<[u8]>) -> Result<(), Error> {
+        let instance = instance.as_ref();
+        let first = errors(&self.report(Report::FirstError, instance)?, instance).pop();
+        first.map_or(Ok(()), |error| Err(Error::Invalid(Box::new(error))))
     }
 
     /// Returns an iterator over the errors of the instance, in the order of the keywords.
-    pub fn iter_errors(&self, instance: &[u8]) -> Result<impl Iterator<Item = ValidationError>, Error> {
-        let found: Vec<ValidationError> = errors(&self.ask(jskw_errors, instance)?).collect();
-        Ok(found.into_iter())
+    ///
+    /// # Errors
+    ///
+    /// As [`Validator::is_valid`].
+    pub fn iter_errors(&self, instance: impl AsRef<[u8]>) -> Result<std::vec::IntoIter<ValidationError>, Error> {
+        self.errors(0, instance.as_ref())
     }
 
-    /// Returns the evaluation tree of the instance, as JSON.
-    pub fn evaluate(&self, instance: &[u8]) -> Result<String, Error> {
-        self.ask(jskw_evaluate, instance)
+    /// Returns an iterator over the first errors of the instance, at most `limit`; no more are looked for.
+    ///
+    /// # Errors
+    ///
+    /// As [`Validator::is_valid`].
+    pub fn iter_first_errors(
+        &self,
+        instance: impl AsRef<[u8]>,
+        limit: NonZeroU64,
+    ) -> Result<std::vec::IntoIter<ValidationError>, Error> {
+        self.errors(limit.get(), instance.as_ref())
     }
 
-    fn ask(&self, function: Ask, instance: &[u8]) -> Result<String, Error> {
-        // SAFETY: as in `is_valid`; the buffer is lent to the call alone.
-        let (status, text) = asked(|buffer, room, length| unsafe {
-            function(self.handle.get(), instance.as_ptr(), instance.len(), buffer, room, length)
-        });
-        verdict(status, &text)?;
-        Ok(text)
+    /// Returns the evaluation tree of the instance.
+    ///
+    /// # Errors
+    ///
+    /// As [`Validator::is_valid`].
+    ///
+    /// # Panics
+    ///
+    /// If the library is not the one that `include/jskw.h` describes.
+    pub fn evaluate(&self, instance: impl AsRef<[u8]>) -> Result<EvaluationNode, Error> {
+        let text = self.report(Report::Evaluation, instance.as_ref())?;
+        Ok(evaluation::tree(&text).expect("the library writes trees as its header says"))
     }
-}
 
-impl Drop for Validator {
-    fn drop(&mut self) {
-        // SAFETY: the library made the handle, and nothing uses it after this.
-        unsafe { jskw_free(self.handle.get()) }
+    fn errors(&self, limit: u64, instance: &[u8]) -> Result<std::vec::IntoIter<ValidationError>, Error> {
+        Ok(errors(&self.report(Report::Errors(limit), instance)?, instance).into_iter())
     }
-}
 
-// Makes a call with a buffer that is large enough, and returns its status and its text.
-fn asked(call: impl Fn(*mut u8, usize, *mut usize) -> u32) -> (u32, String) {
-    let mut buffer = vec![0; 1024];
-    loop {
-        let mut length = 0;
-        let status = call(buffer.as_mut_ptr(), buffer.len(), &mut length);
-        if status != TOO_SMALL {
-            return (status, String::from_utf8_lossy(&buffer[..length]).into_owned());
+    fn report(&self, report: Report, instance: &[u8]) -> Result<String, Error> {
+        match self.shared.handles.with(|handle| handle.report(report, instance)) {
+            Ok((VALID | INVALID, text)) => Ok(text),
+            Ok((status, text)) => Err(refusal(Text::Instance, status, &text, instance)),
+            Err(status) => Err(refusal(Text::Instance, status, "", instance)),
         }
-        buffer.resize(length, 0);
     }
 }
 
-// Returns whether the status says that the instance is valid, or why there is no verdict.
-fn verdict(status: u32, text: &str) -> Result<bool, Error> {
-    match status {
-        VALID => Ok(true),
-        INVALID => Ok(false),
-        NOT_JSON => Err(Error::NotJson),
-        FLOAT => Err(Error::Float(lines(text).next().and_then(|mut words| words.next()).unwrap_or_default())),
-        BAD_SETTING => Err(Error::BadSetting),
-        NO_MEMORY => Err(Error::NoMemory),
-        _ => unreachable!("jskw: status {status}"),
+impl fmt::Debug for Validator {
+    fn fmt(&self, f: &mut fmt::Formatter<'_>) -> fmt::Result {
+        f.debug_struct("Validator")
+            .field("draft", &self.draft())
+            .field("schema", &self.schema())
+            .finish_non_exhaustive()
     }
 }
 
-fn lines(text: &str) -> impl Iterator<Item = impl Iterator<Item = String> + '_> + '_ {
-    text.strip_suffix('\n').into_iter().flat_map(|text| text.split('\n')).map(|line| line.split('\t').map(plain))
+/// The versions of the library and of the logic that it is proved in.
+#[derive(Clone, Debug, PartialEq, Eq)]
+pub struct Version {
+    /// As `0.2.0`.
+    pub library: String,
+    /// As `rattle logic ..`; none if the library is not proved.
+    pub logic: Option<String>,
 }
 
-fn errors(text: &str) -> impl Iterator<Item = ValidationError> + '_ {
-    lines(text).map(|mut words| {
-        let mut next = || words.next().unwrap_or_default();
-        let (keyword, instance_path) = (next(), next());
-        ValidationError { keyword, instance_path, schema_path: next(), message: next() }
-    })
-}
-
-// Returns a word without its escapes.
-fn plain(word: &str) -> String {
-    let parts = word.split("\\\\").map(|part| part.replace("\\t", "\t").replace("\\n", "\n"));
-    parts.collect::<Vec<_>>().join("\\")
+/// Returns the versions of the library that is linked.
+pub fn version() -> Version {
+    let text = library::version();
+    let mut lines = text.lines();
+    let library = lines.next().unwrap_or_default();
+    let logic = lines.next().filter(|line| *line != "unproved").map(str::to_string);
+    Version { library: library.trim_start_matches("jskw ").to_string(), logic }
 }

@@ -1,4 +1,8 @@
+mod CrossingLeaves
+mod CrossingSchemas
+mod CrossingValues
 mod Handles
+mod Limits
 mod Lines
 mod Texts
 mod ToldAnswers

@@ -1,95 +1,68 @@
 -- What is told of an instance, case by case.
-use Rattle.std.proofs.Common.{◌≡◌, ◌∙◌, ℕ, List, [], ◌∷◌, true, false, true≢false, Option, Some, None, is_none, Ok, Err, refl, sym, ap, subst}
-use Rattle.serde_json.specs.Data.{Data}
-use Rattle.serde_json.specs.View.{view}
-use Rattle.serde_json.specs.declared.value.Value.{Value}
-use Rattle.jskw_value.specs.FirstFloat.{first_float}
+use Rattle.std.proofs.Common.{◌≡◌, ◌∙◌, ℕ, List, [], ◌∷◌, true, false, take, Option, Some, None, Result, Ok, Err, refl, sym, ap, subst}
 use Rattle.jskw_value.specs.Pointer.{Pointer}
-use Rattle.jskw_value.specs.Serde.{tree_of, value_tree}
-use Rattle.jskw_value.specs.Tree.{Tree, is_lawful}
-use Rattle.jskw_value.proofs.FirstFloat.{none_where_lawful}
+use Rattle.jskw_value.specs.Tree.{Tree}
+use Rattle.jskw_text.specs.Reading.{reading}
+use Rattle.jskw_text.specs.ReadFault.{IsBrokenAt}
 use Rattle.jskw_report.specs.Evaluation.{Evaluation, is_valid, tree}
 use Rattle.jskw_report.specs.Fail.{Failure, fail, is_empty}
 use Rattle.jskw_report.specs.Holds.{holds}
 use Rattle.jskw_report.specs.Keyword.{Schema}
 use Rattle.jskw_report.proofs.HoldsIsNoFailure.{holds_empty}
 use Rattle.jskw_report.proofs.EvaluationValidity.{tree_valid}
-use Rattle.jskw_service.specs.Request.{value_of}
-use Rattle.jskw_c.specs.Asked.{lawful, judged, instance_of, instance_in, verdict, status_of, SaysErrors, SaysFirst, SaysTree, first_of}
+use Rattle.jskw_c.specs.Asked.{IsReportOf, SaysErrors, SaysFirst, SaysTree, limited, status_of, status_of_read, verdict}
 use Rattle.jskw_c.specs.Evaluated.{evaluation_text}
-use Rattle.jskw_c.specs.Line.{AreErrorLines, words_line}
-use Rattle.jskw_c.specs.Replies.{Reads, Reports}
+use Rattle.jskw_c.specs.Line.{AreErrorLines, IsPlaceLine, words_line}
+use Rattle.jskw_c.specs.Replies.{IsTold, Reports, ReportsOf}
+use Rattle.jskw_c.specs.Status.{VALID, INVALID, NOT_JSON, INEXACT}
 use Rattle.jskw_c.specs.declared.ask.Told.{Told}
-use Rattle.jskw_c.specs.declared.status.TheConstants.{VALID, INVALID, NOT_JSON, FLOAT}
 
--- ---- the status
+-- ---- an instance in bytes
 
-float_in : (s : Schema) (t : Tree) (o : Option Pointer) → is_none o ≡ false → FLOAT ≡ status_of (Some s) (judged t o)
-float_in s t (Some p) e = refl
-float_in s t None e = absurd (true≢false e)
+-- what was read, its status and its text
+reports_read : (Says : Schema → Tree → List ℕ → Type 0) (s : Schema) (bytes : List ℕ) (r : Option (Result Tree Pointer)) (told : Told)
+    → reading bytes ≡ r → told.status ≡ status_of_read s r → IsReportOf Says s bytes r told.text.items → ReportsOf Says s bytes told
+reports_read Says s bytes r told read st text =
+    record { status_is = st ∙ ap (status_of_read s) (sym read); text_is = subst (λ o. IsReportOf Says s bytes o told.text.items) (sym read) text }
 
-lawful_in : (s : Schema) (t : Tree) (o : Option Pointer) → is_none o ≡ true → verdict (holds s t) ≡ status_of (Some s) (judged t o)
-lawful_in s t None e = refl
-lawful_in s t (Some p) e = absurd (true≢false (sym e))
+-- a tree
+pub reports_tree_of : (Says : Schema → Tree → List ℕ → Type 0) (s : Schema) (bytes : List ℕ) (t : Tree) (told : Told)
+    → reading bytes ≡ Some (Ok t) → Reports Says s t told → ReportsOf Says s bytes told
+reports_tree_of Says s bytes t told read reports = reports_read Says s bytes (Some (Ok t)) told read reports.status_is reports.text_is
 
--- of bytes that are not JSON
-pub status_of_no_json : (s : Schema) (bytes : List ℕ) → None ≡ value_of bytes → NOT_JSON ≡ status_of (Some s) (instance_in bytes)
-status_of_no_json s bytes read = ap (λ o. status_of (Some s) (instance_of o)) read
+-- no JSON
+pub reports_no_json : (Says : Schema → Tree → List ℕ → Type 0) (s : Schema) (bytes : List ℕ) (told : Told)
+    → reading bytes ≡ None → IsTold NOT_JSON (IsPlaceLine bytes) told → ReportsOf Says s bytes told
+reports_no_json Says s bytes told read place = reports_read Says s bytes None told read place.status_is place.text_is
 
--- of a value with a float
-pub status_of_float : (s : Schema) (bytes : List ℕ) (d : Data) → Some d ≡ value_of bytes → is_lawful (tree_of d) ≡ false → FLOAT ≡ status_of (Some s) (instance_in bytes)
-status_of_float s bytes d read unlawful =
-    float_in s (tree_of d) (first_float (tree_of d)) (none_where_lawful (tree_of d) ∙ unlawful) ∙ ap (λ o. status_of (Some s) (instance_of o)) read
+-- a number that is not exact
+pub reports_inexact : (Says : Schema → Tree → List ℕ → Type 0) (s : Schema) (bytes : List ℕ) (p : Pointer) (told : Told)
+    → reading bytes ≡ Some (Err p) → told.status ≡ INEXACT → told.text.items ≡ words_line (p ∷ []) → ReportsOf Says s bytes told
+reports_inexact Says s bytes p told read st text = reports_read Says s bytes (Some (Err p)) told read st text
 
--- of a value with none
-pub status_of_lawful : (s : Schema) (bytes : List ℕ) (d : Data) → Some d ≡ value_of bytes → is_lawful (tree_of d) ≡ true
-    → verdict (holds s (tree_of d)) ≡ status_of (Some s) (instance_in bytes)
-status_of_lawful s bytes d read is =
-    lawful_in s (tree_of d) (first_float (tree_of d)) (none_where_lawful (tree_of d) ∙ is) ∙ ap (λ o. status_of (Some s) (instance_of o)) read
+-- ---- a tree
 
--- ---- what is read
-
--- bytes that are not JSON
-pub reads_no_json : (bytes : List ℕ) (told : Told) → None ≡ value_of bytes → told.status ≡ NOT_JSON → told.text.items ≡ [] → Reads (Err told) (instance_in bytes)
-reads_no_json bytes told read st text = subst (λ o. Reads (Err told) (instance_of o)) read (record { status_is = st; text_is = text })
-
--- a value with a float
-pub reads_float : (bytes : List ℕ) (d : Data) (p : Pointer) (told : Told) → Some d ≡ value_of bytes → Some p ≡ first_float (tree_of d) → told.status ≡ FLOAT
-    → told.text.items ≡ words_line (p ∷ []) → Reads (Err told) (instance_in bytes)
-reads_float bytes d p told read found st text =
-    subst (λ o. Reads (Err told) (instance_of o)) read (subst (λ q. Reads (Err told) (judged (tree_of d) q)) found (record { status_is = st; text_is = text }))
-
--- a value with none
-pub reads_lawful : (bytes : List ℕ) (v : Value) → Some (view v) ≡ value_of bytes → None ≡ first_float (value_tree v) → Reads (Ok v) (instance_in bytes)
-reads_lawful bytes v read none =
-    let is : is_lawful (value_tree v) ≡ true = sym (none_where_lawful (value_tree v)) ∙ ap is_none (sym none) in
-    subst (λ o. Reads (Ok v) (instance_of o)) read (subst (λ q. Reads (Ok v) (judged (value_tree v) q)) none (refl, is))
-
--- ---- reports
-
--- all errors
-pub reports_errors : (s : Schema) (t : Tree) (told : Told) (fs : List Failure) → fs ≡ fail s t []
-    → told.status ≡ verdict (is_empty fs) → AreErrorLines fs told.text.items → Reports SaysErrors (Some s) (lawful t) told
-reports_errors s t told fs all st text =
-    let same : is_empty fs ≡ holds s t = ap is_empty all ∙ sym (holds_empty s t []) in
-    record { status_is = st ∙ ap verdict same; text_is = subst (λ gs. AreErrorLines gs told.text.items) all text }
+-- the first so many errors
+pub reports_errors : (limit : ℕ) (s : Schema) (t : Tree) (told : Told) → told.status ≡ verdict (is_empty (fail s t []))
+    → AreErrorLines (limited limit (fail s t [])) told.text.items → Reports (SaysErrors limit) s t told
+reports_errors limit s t told st text = record { status_is = st ∙ ap verdict (sym (holds_empty s t [])); text_is = text }
 
 -- the first error
 pub reports_first : (s : Schema) (t : Tree) (told : Told) (f : Failure) (rest : List Failure)
-    → fail s t [] ≡ f ∷ rest → told.status ≡ INVALID → AreErrorLines (f ∷ []) told.text.items → Reports SaysFirst (Some s) (lawful t) told
+    → fail s t [] ≡ f ∷ rest → told.status ≡ INVALID → AreErrorLines (f ∷ []) told.text.items → Reports SaysFirst s t told
 reports_first s t told f rest all st text =
     let same : holds s t ≡ false = holds_empty s t [] ∙ ap is_empty all in
-    record { status_is = st ∙ ap verdict (sym same); text_is = subst (λ gs. AreErrorLines (first_of gs) told.text.items) (sym all) text }
+    record { status_is = st ∙ ap verdict (sym same); text_is = subst (λ gs. AreErrorLines (take 1 gs) told.text.items) (sym all) text }
 
 -- no error
-pub reports_no_error : (s : Schema) (t : Tree) (told : Told) → fail s t [] ≡ [] → told.status ≡ VALID → told.text.items ≡ [] → Reports SaysFirst (Some s) (lawful t) told
+pub reports_no_error : (s : Schema) (t : Tree) (told : Told) → fail s t [] ≡ [] → told.status ≡ VALID → told.text.items ≡ [] → Reports SaysFirst s t told
 reports_no_error s t told none st text =
     let same : holds s t ≡ true = holds_empty s t [] ∙ ap is_empty none in
-    record { status_is = st ∙ ap verdict (sym same); text_is = subst (λ gs. AreErrorLines (first_of gs) told.text.items) (sym none) text }
+    record { status_is = st ∙ ap verdict (sym same); text_is = subst (λ gs. AreErrorLines (take 1 gs) told.text.items) (sym none) text }
 
 -- the evaluation tree
 pub reports_tree : (s : Schema) (t : Tree) (told : Told) (e : Evaluation) → e ≡ tree s t []
-    → told.status ≡ verdict (is_valid e) → told.text.items ≡ evaluation_text e → Reports SaysTree (Some s) (lawful t) told
+    → told.status ≡ verdict (is_valid e) → told.text.items ≡ evaluation_text e → Reports SaysTree s t told
 reports_tree s t told e is st text =
     let same : is_valid e ≡ holds s t = ap is_valid is ∙ tree_valid s t [] in
     record { status_is = st ∙ ap verdict same; text_is = text ∙ ap evaluation_text is }

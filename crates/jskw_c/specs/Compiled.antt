@@ -1,6 +1,9 @@
 -- What a schema in bytes compiles to, under a setting that numbers name.
 use Rattle.std.specs.Prelude.{◌≡◌, ◌⊎◌, ◌/◌, ◌%◌, ℕ, List, [], Bool, false, eqb, leb, length, if◌then◌else◌, Option, None, Some, Result, Ok, Err, option_and_then}
 use Rattle.serde_json.specs.Data.{Data}
+use Rattle.jskw_value.specs.Pointer.{Pointer}
+use Rattle.jskw_value.specs.Tree.{Tree}
+use Rattle.jskw_text.specs.Reading.{reading}
 use Rattle.jskw_report.specs.Keyword.{Schema}
 use Rattle.jskw_report.specs.KeywordValue.{Refusal}
 use Rattle.jskw_report.specs.Read.{Reading, read}
@@ -11,9 +14,9 @@ use Rattle.jskw_report.specs.declared.settings.Vocabulary.{Vocabulary}
 use Rattle.jskw_report.specs.declared.settings.Vocabulary.TheVariants.{Core, Applicator, Validation}
 use Rattle.jskw_report.specs.declared.settings.VocabularySet.{VocabularySet}
 use Rattle.jskw_service.specs.Request.{overridden_of, setting_from, value_of}
-use Rattle.jskw_c.specs.Line.{IsRefusalLine}
+use Rattle.jskw_c.specs.Line.{IsPlaceLine, IsRefusalLine}
 use Rattle.jskw_c.specs.Told.{Nothing, Tells}
-use Rattle.jskw_c.specs.declared.status.TheConstants.{VALID, NOT_JSON, BAD_SCHEMA, BAD_SETTING, NO_MEMORY}
+use Rattle.jskw_c.specs.Status.{VALID, NOT_JSON, BAD_SCHEMA, BAD_SETTING, NO_SCHEMA, NO_MEMORY}
 
 -- ---- the setting
 
@@ -47,30 +50,38 @@ setting_numbered draft vocabularies overridden = setting_from (draft_numbered dr
 
 pub data Fault : Type 0 where
   bad_setting : Fault
-  not_json : Fault
+  -- the bytes
+  not_json : List ℕ → Fault
   bad_schema : Refusal → Fault
 
 abbrev pub compiled_as : Reading → Result Schema Fault
 compiled_as (Ok s) = Ok s
 compiled_as (Err e) = Err (bad_schema e)
 
-abbrev pub compiled_from : Setting → Option Data → Result Schema Fault
-compiled_from s None = Err not_json
-compiled_from s (Some d) = compiled_as (read d (with_object_layer false s) [])
+abbrev pub compiled_from : Setting → List ℕ → Option Data → Result Schema Fault
+compiled_from s bytes None = Err (not_json bytes)
+compiled_from s bytes (Some d) = compiled_as (read d (with_object_layer false s) [])
 
 abbrev pub compiled_of : Option Setting → List ℕ → Result Schema Fault
 compiled_of None bytes = Err bad_setting
-compiled_of (Some s) bytes = compiled_from s (value_of bytes)
+compiled_of (Some s) bytes = compiled_from s bytes (value_of bytes)
 
 abbrev pub status_of : Fault → ℕ
 status_of bad_setting = BAD_SETTING
-status_of not_json = NOT_JSON
+status_of (not_json bytes) = NOT_JSON
 status_of (bad_schema e) = BAD_SCHEMA
 
--- a refusal has a text, and nothing else has one
+-- where the reader of instances finds no JSON either, the line of a place; it takes numbers that `serde_json` does not, such
+-- as `1e999`, and then there is no text
+abbrev pub IsPlaceOf : List ℕ → Option (Result Tree Pointer) → List ℕ → Type 0
+IsPlaceOf bytes None text = IsPlaceLine bytes text
+IsPlaceOf bytes (Some r) text = text ≡ []
+
+-- a refusal has its line, and a setting no text
 abbrev pub IsTextOf : Fault → List ℕ → Type 0
+IsTextOf bad_setting text = text ≡ []
+IsTextOf (not_json bytes) text = IsPlaceOf bytes (reading bytes) text
 IsTextOf (bad_schema e) text = IsRefusalLine e text
-IsTextOf f text = text ≡ []
 
 -- ---- what a compile does to the handle, which had a schema before or had none, and to the buffer
 
@@ -81,3 +92,9 @@ Holds s result before after = ((result ≡ VALID) × (after ≡ Some s)) ⊎ ((r
 abbrev pub Compiles : Result Schema Fault → ℕ → Option Schema → Option Schema → List ℕ → List ℕ → ℕ → Type 0
 Compiles (Ok s) result before after old new count = Holds s result before after × Nothing old new count
 Compiles (Err f) result before after old new count = (after ≡ before) × Tells (IsTextOf f) result (status_of f) old new count
+
+-- ---- what sharing the schema of a handle does to another, which had a schema before or had none
+
+abbrev pub Shares : Option Schema → ℕ → Option Schema → Option Schema → Type 0
+Shares None result before after = (result ≡ NO_SCHEMA) × (after ≡ before)
+Shares (Some s) result before after = Holds s result before after

@@ -1,7 +1,9 @@
 pub mod Asked
 pub mod Compiled
 pub mod Evaluated
+pub mod Expected
 pub mod Line
 pub mod Replies
 pub mod Slot
+pub mod Status
 pub mod Told

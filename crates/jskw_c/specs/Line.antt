@@ -1,9 +1,11 @@
 -- Lines of words, with a tab between two words and a line feed at the end.
-use Rattle.std.specs.Prelude.{◌≡◌, ℕ, List, [], ◌∷◌, ◌++◌, codes, eqb, flat_map, map, if◌then◌else◌}
+use Rattle.std.specs.Prelude.{◌≡◌, ◌≤◌, ℕ, List, [], ◌∷◌, ◌++◌, codes, decimal, eqb, flat_map, length, map, if◌then◌else◌}
+use Rattle.jskw_text.specs.Position.{line_at, column_at}
 use Rattle.jskw_report.specs.Fail.{Failure}
 use Rattle.jskw_report.specs.KeywordValue.{Refusal}
 use Rattle.jskw_report.specs.Kind.{keyword_of}
 use Rattle.jskw_service.specs.Answer.{line}
+use Rattle.jskw_c.specs.Expected.{IsExpected}
 
 -- a byte of a word: a tab, a line feed or a backslash is two bytes, so that a line has as many words as were written
 abbrev pub escaped_byte : ℕ → List ℕ
@@ -21,15 +23,26 @@ escaped = flat_map escaped_byte
 abbrev pub words_line : List (List ℕ) → List ℕ
 words_line words = line (map escaped words)
 
--- the line of an error: its keyword, instance location, keyword location and message
-abbrev pub error_line : Failure → List ℕ → List ℕ
-error_line f message = words_line (keyword_of f.kind ∷ f.instance_location ∷ f.keyword_location ∷ message ∷ [])
+-- the line of a place in a text: the offset in bytes, the line and the column
+abbrev pub place_line : ℕ → List ℕ → List ℕ
+place_line offset bytes = line (decimal offset ∷ decimal (line_at offset bytes) ∷ decimal (column_at offset bytes) ∷ [])
 
--- the text has the line of each error, in order, each with some message
+-- the text is the line of a place in the bytes, or at their end
+abbrev pub IsPlaceLine : List ℕ → List ℕ → Type 0
+IsPlaceLine bytes text = (offset : ℕ) × (offset ≤ length bytes) × (text ≡ place_line offset bytes)
+
+-- the text is the line of an error: its keyword, instance location, keyword location, some message, and what was
+-- expected
+abbrev pub IsErrorLine : Failure → List ℕ → Type 0
+IsErrorLine f text = (message : List ℕ) × (expected : List ℕ) × IsExpected f.kind expected
+    × (text ≡ words_line (keyword_of f.kind ∷ f.instance_location ∷ f.keyword_location ∷ message ∷ expected ∷ []))
+
+-- the text has the line of each error, in order
 abbrev pub AreErrorLines : List Failure → List ℕ → Type 0
 AreErrorLines [] text = text ≡ []
-AreErrorLines (f ∷ fs) text = (message : List ℕ) × (rest : List ℕ) × (text ≡ error_line f message ++ rest) × AreErrorLines fs rest
+AreErrorLines (f ∷ fs) text = (first : List ℕ) × (rest : List ℕ) × (text ≡ first ++ rest) × IsErrorLine f first × AreErrorLines fs rest
 
--- the text is the line of a refusal: its keyword, keyword location and some message
+-- the text is the line of a refusal: its keyword, keyword location, some message, and what was expected
 abbrev pub IsRefusalLine : Refusal → List ℕ → Type 0
-IsRefusalLine e text = (message : List ℕ) × (text ≡ words_line (keyword_of e.kind ∷ e.location ∷ message ∷ []))
+IsRefusalLine e text = (message : List ℕ) × (expected : List ℕ) × IsExpected e.kind expected
+    × (text ≡ words_line (keyword_of e.kind ∷ e.location ∷ message ∷ expected ∷ []))

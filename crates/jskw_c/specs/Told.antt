@@ -1,6 +1,6 @@
 -- What a call leaves in the buffer of its caller.
 use Rattle.std.specs.Prelude.{◌≡◌, ◌≤◌, ◌<◌, ◌⊎◌, ℕ, List, ◌++◌, length, drop}
-use Rattle.jskw_c.specs.declared.status.TheConstants.{NO_MEMORY, TOO_SMALL}
+use Rattle.jskw_c.specs.Status.{NO_MEMORY, TOO_SMALL}
 
 -- the text is at the head of the buffer, and the rest of the buffer is unchanged
 pub record Puts (text before after : List ℕ) (count : ℕ) : Type 0 where
@@ -36,3 +36,7 @@ pub record GivesSuch (IsText : List ℕ → Type 0) (result status : ℕ) (befor
 -- the status and such a text, or that memory ran out
 abbrev pub Tells : (List ℕ → Type 0) → ℕ → ℕ → List ℕ → List ℕ → ℕ → Type 0
 Tells IsText result status before after count = GivesSuch IsText result status before after count ⊎ RunsOut result before after count
+
+-- the status, or that memory ran out
+abbrev pub IsStatus : ℕ → ℕ → Type 0
+IsStatus status result = (result ≡ status) ⊎ (result ≡ NO_MEMORY)

@@ -1,25 +1,29 @@
 //! What exports do with bytes: compiles schemas and checks instances.
-ghost use Rattle.std.specs.Prelude.{◌≡◌, [], IfOk, IsTrue, Some};
-ghost use Rattle.jskw_value.specs.Serde.{value_tree};
-ghost use Rattle.jskw_value.specs.Tree.{is_lawful};
+#![tactic(auto, using(jskw_value::proofs::DecimalTrees::lawful_tree))]
+
+ghost use Rattle.std.specs.Prelude.{◌≡◌, ◌≤◌, [], IfOk, Some, length};
+ghost use Rattle.jskw_value.specs.DecimalTree.{decimal_tree};
+ghost use Rattle.jskw_text.specs.Reading.{reading};
 ghost use Rattle.jskw_report.specs.Errors.{failures_of};
 ghost use Rattle.jskw_report.specs.Fail.{is_empty};
-ghost use Rattle.jskw_c.specs.Asked.{Says, SaysErrors, SaysFirst, SaysTree, instance_in, lawful};
+ghost use Rattle.jskw_c.specs.Asked.{Says, SaysErrors, SaysFirst, SaysTree, limited};
 ghost use Rattle.jskw_c.specs.Asked.{status_of, verdict};
-ghost use Rattle.jskw_c.specs.Compiled.{compiled_of, setting_numbered};
-ghost use Rattle.jskw_c.specs.Replies.{CompilesTo, Reads, Reports};
+ghost use Rattle.jskw_c.specs.Compiled.{IsPlaceOf, compiled_of, setting_numbered};
+ghost use Rattle.jskw_c.specs.Line.{IsPlaceLine};
+ghost use Rattle.jskw_c.specs.Replies.{CompilesTo, IsTold, Reports, ReportsOf};
+ghost use Rattle.jskw_c.specs.Status as status;
 
 use crate::compiled::CompiledSchema;
 use crate::evaluation::tree_text;
-use crate::line::{error_line, error_lines, refusal_line, word_line};
+use crate::line::{error_line, error_lines, place_line, refusal_line, word_line};
 use crate::settings::settings_numbered;
-use crate::status::{BAD_SCHEMA, BAD_SETTING, FLOAT, INVALID, NOT_JSON, VALID};
+use crate::status::{BAD_SCHEMA, BAD_SETTING, INEXACT, INVALID, NOT_JSON, VALID};
 use jskw_array::SchemaNode;
 use jskw_array::compiler::compile;
 use jskw_report::{CompileFault, Context, Fault, LazyLocation, ValidationContext, ValidationError};
 use jskw_service::read_value;
-use jskw_value::{Node, SerdeJson};
-use serde_json::Value;
+use jskw_text::{ReadFault, read_bytes};
+use jskw_value::{DecimalJson, DecimalTree};
 use std::alloc::{AllocError, Global};
 
 /// A status and a text.
@@ -45,18 +49,41 @@ pub(crate) fn compile_schema(
         return Ok(Err(status_alone(alloc, BAD_SETTING)));
     };
     let Some(value) = read_value(alloc, schema)? else {
-        return Ok(Err(status_alone(alloc, NOT_JSON)));
+        return Ok(Err(no_json(alloc, schema)?));
     };
-    let ctx: Context<'_, SerdeJson> = Context::new(alloc, &settings);
+    let ctx: Context<'_, DecimalJson> = Context::new(alloc, &settings);
     let ctx = ctx.with_object_layer(false);
     match compile(alloc, &ctx, &value) {
-        Ok(node) => Ok(Ok(Box::new(alloc, CompiledSchema::new(node))?)),
+        Ok(node) => Ok(Ok(CompiledSchema::new(alloc, node)?)),
         Err(CompileFault::Bad(error)) => Ok(Err(Told {
             status: BAD_SCHEMA,
             text: refusal_line(alloc, &error)?,
         })),
         Err(CompileFault::Memory(error)) => Err(error),
     }
+}
+
+// Returns what is told of a schema that is not JSON: its place, if the reader of instances finds one.
+// That reader takes a number such as `1e999`, which no schema may have.
+fn no_json(alloc: Global, schema: &[u8]) -> Result<Told, AllocError>
+    ensures { IfOk result (IsTold status.NOT_JSON (IsPlaceOf schema.now (reading schema.now))) }
+{
+    match read_bytes(alloc, schema) {
+        Err(ReadFault::NotJson(offset)) => no_json_at(alloc, schema, offset),
+        Err(ReadFault::Memory(error)) => Err(error),
+        Ok(_) | Err(ReadFault::Inexact(_)) => Ok(status_alone(alloc, NOT_JSON)),
+    }
+}
+
+// Returns what is told of bytes that stop being JSON at this offset.
+fn no_json_at(alloc: Global, bytes: &[u8], offset: usize) -> Result<Told, AllocError>
+    requires { offset ≤ length bytes.now }
+    ensures { IfOk result (IsTold status.NOT_JSON (IsPlaceLine bytes.now)) }
+{
+    Ok(Told {
+        status: NOT_JSON,
+        text: place_line(alloc, bytes, offset)?,
+    })
 }
 
 // Returns a status with no text.
@@ -78,8 +105,8 @@ fn verdict(is_valid: bool) -> u32
 }
 
 // Returns the status of an instance that has these errors.
-fn status_of_errors(errors: &[ValidationError<'_, SerdeJson>]) -> u32
-    ensures { result ≡ verdict (is_empty (failures_of value_tree errors.now)) }
+fn status_of_errors(errors: &[ValidationError<'_, DecimalJson>]) -> u32
+    ensures { result ≡ verdict (is_empty (failures_of decimal_tree errors.now)) }
 {
     match errors {
         [] => VALID,
@@ -90,33 +117,16 @@ fn status_of_errors(errors: &[ValidationError<'_, SerdeJson>]) -> u32
 // Returns the status of the instance of these bytes.
 pub(crate) fn validity(
     alloc: Global,
-    schema: &SchemaNode<SerdeJson>,
+    schema: &SchemaNode<DecimalJson>,
     instance: &[u8],
 ) -> Result<u32, AllocError>
-    ensures { IfOk result (λ status. status ≡ status_of (Some schema.now) (instance_in instance.now)) }
+    ensures { IfOk result (λ status. status ≡ status_of (Some schema.now) instance.now) }
 {
-    let Some(value) = read_value(alloc, instance)? else {
-        return Ok(NOT_JSON);
-    };
-    if !value.is_lawful() {
-        return Ok(FLOAT);
-    }
-    Ok(verdict(schema.is_valid(&value, &mut ValidationContext::new())))
-}
-
-// Returns the value of these bytes, or what is told of bytes that are not JSON or contain a float.
-fn read_instance(alloc: Global, bytes: &[u8]) -> Result<Result<Value, Told>, AllocError>
-    ensures { IfOk result (λ read. Reads read (instance_in bytes.now)) }
-{
-    let Some(value) = read_value(alloc, bytes)? else {
-        return Ok(Err(status_alone(alloc, NOT_JSON)));
-    };
-    match value.first_unlawful(alloc)? {
-        Some(location) => Ok(Err(Told {
-            status: FLOAT,
-            text: word_line(alloc, location.as_str())?,
-        })),
-        None => Ok(Ok(value)),
+    match read_bytes(alloc, instance) {
+        Ok(tree) => Ok(verdict(schema.is_valid(&tree, &mut ValidationContext::new()))),
+        Err(ReadFault::NotJson(_)) => Ok(NOT_JSON),
+        Err(ReadFault::Inexact(_)) => Ok(INEXACT),
+        Err(ReadFault::Memory(error)) => Err(error),
     }
 }
 
@@ -124,7 +134,8 @@ fn read_instance(alloc: Global, bytes: &[u8]) -> Result<Result<Value, Told>, All
 #[derive(Clone, Copy)]
 pub(crate) enum Report {
     FirstError,
-    Errors,
+    // At most so many errors, or all for 0.
+    Errors(u64),
     Evaluation,
 }
 
@@ -132,65 +143,79 @@ pub(crate) enum Report {
 pub(crate) fn report_of(
     alloc: Global,
     report: Report,
-    schema: &SchemaNode<SerdeJson>,
+    schema: &SchemaNode<DecimalJson>,
     instance: &[u8],
 ) -> Result<Told, AllocError>
-    ensures { IfOk result
-        (λ told. Reports (Says report) (Some schema.now) (instance_in instance.now) told) }
+    ensures { IfOk result (ReportsOf (Says report) schema.now instance.now) }
 {
-    match read_instance(alloc, instance)? {
-        Ok(value) => report_on(alloc, report, schema, &value),
-        Err(told) => Ok(told),
+    match read_bytes(alloc, instance) {
+        Ok(tree) => report_on(alloc, report, schema, &tree),
+        Err(ReadFault::NotJson(offset)) => no_json_at(alloc, instance, offset),
+        Err(ReadFault::Inexact(location)) => Ok(Told {
+            status: INEXACT,
+            text: word_line(alloc, location.as_str())?,
+        }),
+        Err(ReadFault::Memory(error)) => Err(error),
     }
 }
 
-// Returns the report on an instance, which must contain no float.
+// Returns the report on an instance.
 fn report_on(
     alloc: Global,
     report: Report,
-    schema: &SchemaNode<SerdeJson>,
-    instance: &Value,
+    schema: &SchemaNode<DecimalJson>,
+    instance: &DecimalTree,
 ) -> Result<Told, AllocError>
-    requires { IsTrue (is_lawful (value_tree instance.now)) }
-    ensures { IfOk result
-        (λ told. Reports (Says report) (Some schema.now) (lawful (value_tree instance.now)) told) }
+    ensures { IfOk result (Reports (Says report) schema.now (decimal_tree instance.now)) }
 {
     match report {
         Report::FirstError => first_error_of(alloc, schema, instance),
-        Report::Errors => errors_of(alloc, schema, instance),
+        Report::Errors(limit) => errors_of(alloc, limit, schema, instance),
         Report::Evaluation => evaluation_of(alloc, schema, instance),
     }
 }
 
-// Returns a line for each error of the instance, which must contain no float.
+// Returns a line for each of the first `limit` errors of the instance, or for each error if `limit`
+// is 0.
 fn errors_of(
     alloc: Global,
-    schema: &SchemaNode<SerdeJson>,
-    instance: &Value,
+    limit: u64,
+    schema: &SchemaNode<DecimalJson>,
+    instance: &DecimalTree,
 ) -> Result<Told, AllocError>
-    requires { IsTrue (is_lawful (value_tree instance.now)) }
-    ensures { IfOk result
-        (λ told. Reports SaysErrors (Some schema.now) (lawful (value_tree instance.now)) told) }
+    ensures { IfOk result (Reports (SaysErrors limit) schema.now (decimal_tree instance.now)) }
 {
     let mut errors = Vec::new(alloc);
     let mut location = LazyLocation::new(alloc);
     let mut ctx = ValidationContext::new();
     schema.collect_errors(instance, &mut location, &mut ctx, &mut errors)?;
+    let errors = errors.as_slice();
     Ok(Told {
-        status: status_of_errors(errors.as_slice()),
-        text: error_lines(alloc, errors.as_slice())?,
+        status: status_of_errors(errors),
+        text: error_lines(alloc, first_errors(errors, limit))?,
     })
 }
 
-// Returns the line of the first error of the instance, which must contain no float.
+// Returns the first `limit` errors, or all if `limit` is 0.
+fn first_errors<'e, 'i>(
+    errors: &'e [ValidationError<'i, DecimalJson>],
+    limit: u64,
+) -> &'e [ValidationError<'i, DecimalJson>]
+    ensures { result.now ≡ limited limit errors.now }
+{
+    if limit == 0 || errors.len() as u64 <= limit {
+        return errors;
+    }
+    &errors[..limit as usize]
+}
+
+// Returns the line of the first error of the instance.
 fn first_error_of(
     alloc: Global,
-    schema: &SchemaNode<SerdeJson>,
-    instance: &Value,
+    schema: &SchemaNode<DecimalJson>,
+    instance: &DecimalTree,
 ) -> Result<Told, AllocError>
-    requires { IsTrue (is_lawful (value_tree instance.now)) }
-    ensures { IfOk result
-        (λ told. Reports SaysFirst (Some schema.now) (lawful (value_tree instance.now)) told) }
+    ensures { IfOk result (Reports SaysFirst schema.now (decimal_tree instance.now)) }
 {
     let mut location = LazyLocation::new(alloc);
     match schema.validate(instance, &mut location, &mut ValidationContext::new()) {
@@ -203,15 +228,13 @@ fn first_error_of(
     }
 }
 
-// Returns the evaluation tree of the instance, which must contain no float.
+// Returns the evaluation tree of the instance.
 fn evaluation_of(
     alloc: Global,
-    schema: &SchemaNode<SerdeJson>,
-    instance: &Value,
+    schema: &SchemaNode<DecimalJson>,
+    instance: &DecimalTree,
 ) -> Result<Told, AllocError>
-    requires { IsTrue (is_lawful (value_tree instance.now)) }
-    ensures { IfOk result
-        (λ told. Reports SaysTree (Some schema.now) (lawful (value_tree instance.now)) told) }
+    ensures { IfOk result (Reports SaysTree schema.now (decimal_tree instance.now)) }
 {
     let tree = schema.evaluate_instance(alloc, instance, &mut ValidationContext::new())?;
     Ok(Told {

@@ -1,15 +1,14 @@
 //! Evaluation trees as JSON.
-ghost use Rattle.std.specs.Prelude.{◌≡◌, ◌++◌, IfOk, OnOk, decimal, false};
-ghost use Rattle.json.specs.Print.{quoted};
+ghost use Rattle.std.specs.Prelude.{◌≡◌, ◌++◌, IfOk, OnOk, false};
 ghost use Rattle.jskw_report.specs.Evaluation.{annotation_at, evaluations, instance_location_at, is_valid};
 ghost use Rattle.jskw_report.specs.Evaluation.{keyword_location_at, keywords_at};
 ghost use Rattle.jskw_report.specs.EvaluationParts.{keywords_of};
-ghost use Rattle.jskw_c.specs.Evaluated.{annotation_text, boolean_text, comma_if};
+ghost use Rattle.jskw_c.specs.Evaluated.{annotation_text};
 ghost use Rattle.jskw_c.specs.Evaluated.{evaluation_text, evaluations_text, numbers_text};
 ghost use Rattle.jskw_c.specs.Evaluated.{errors_text, place_text, strings_text, unit_text, verdict_text};
 
+use crate::json_parts::{push_boolean, push_comma, push_number, push_string, push_text};
 use jskw_report::{Annotations, ErrorDescription, EvaluationNode};
-use serde_json::Value;
 use std::alloc::{AllocError, Global};
 
 // Returns the tree as a JSON object.
@@ -143,46 +142,4 @@ fn push_keywords(
         later = true;
     }
     Ok(())
-}
-
-// Appends a comma, if an item is before.
-fn push_comma(text: &mut Vec<u8>, later: bool) -> Result<(), AllocError>
-    ensures { OnOk result (text.new.items ≡ text.old.items ++ comma_if later) }
-{
-    if later {
-        push_text(text, b",")?;
-    }
-    Ok(())
-}
-
-fn push_boolean(text: &mut Vec<u8>, value: bool) -> Result<(), AllocError>
-    ensures { OnOk result (text.new.items ≡ text.old.items ++ boolean_text value) }
-{
-    if value {
-        push_text(text, b"true")
-    } else {
-        push_text(text, b"false")
-    }
-}
-
-fn push_number(alloc: Global, text: &mut Vec<u8>, number: usize) -> Result<(), AllocError>
-    ensures { OnOk result (text.new.items ≡ text.old.items ++ decimal number) }
-{
-    let digits = format!(in alloc; "{number}")?;
-    text.extend_from_slice(digits.as_bytes())
-}
-
-// Appends a string in quotes.
-fn push_string(alloc: Global, text: &mut Vec<u8>, value: &str) -> Result<(), AllocError>
-    ensures { OnOk result (text.new.items ≡ text.old.items ++ quoted value.now) }
-{
-    let value = Value::String(String::from_str(alloc, value)?);
-    let quoted = value.to_string(alloc)?;
-    text.extend_from_slice(quoted.as_bytes())
-}
-
-fn push_text(text: &mut Vec<u8>, part: &[u8]) -> Result<(), AllocError>
-    ensures { OnOk result (text.new.items ≡ text.old.items ++ part.now) }
-{
-    text.extend_from_slice(part)
 }

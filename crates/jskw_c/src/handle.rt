@@ -12,11 +12,12 @@ use std::marker::Model;
 use std::mem;
 use std::ptr::null_mut;
 
-/// A compiled schema, or none if the pointer is null. A caller in C keeps it, and neither follows
-/// nor copies the pointer.
+/// An owner of a compiled schema, or none if the pointer is null. A caller in C keeps it, and
+/// neither follows nor copies the pointer. It may pass the handle to another thread.
 ///
-/// A call takes the schema out of the handle and puts it back, because a pointer that owns memory
-/// cannot be read behind a `&`. So a handle is in one call at a time.
+/// A call takes the owner out of the handle and puts it back, because a pointer that owns memory
+/// cannot be read behind a `&`. So a handle is in one call at a time. Two handles of one schema can
+/// be in calls at once.
 #[repr(C)]
 pub struct SchemaHandle {
     at: *mut u8,
@@ -26,6 +27,12 @@ pub struct SchemaHandle {
 impl Model for SchemaHandle {
     ghost also_owns = { λ h. slot_owns the_row h.at h.schema };
 }
+
+// What it owns, an `Arc` of plain data in a block of the heap, is no thread's own.
+unsafe impl Send for SchemaHandle {}
+
+// Does nothing. A call demands the proof that a `T` may pass to another thread.
+fn assert_send<T: Send>() {}
 
 impl SchemaHandle {
     // Returns the handle with this schema. Proved by hand, because it makes a pointer.
@@ -62,13 +69,8 @@ impl SchemaHandle {
     pub fn put(&mut self, alloc: Global, schema: Box<CompiledSchema>)
         ensures { self.new.schema ≡ Some schema.value }
     {
+        assert_send::<SchemaHandle>();
         let handle = SchemaHandle::of(Some(schema));
         drop(mem::replace(self, handle).into_box(alloc));
-    }
-
-    // Frees the schema, if there is one, and drops the handle.
-    #[cfg(test)]
-    pub(crate) fn discard(self, alloc: Global) {
-        drop(self.into_box(alloc));
     }
 }

@@ -6,28 +6,32 @@
 //! head of the buffer, and its length to `length`. If the text is longer than the buffer, it
 //! returns `TOO_SMALL`, leaves the buffer unchanged, and writes to `length` what is needed.
 //!
+//! An instance is JSON text, whose numbers are exact decimals. If it is not JSON, the status is
+//! `NOT_JSON`, and the text is the line of the place where it breaks: offset, line and column. If it
+//! contains a number that no decimal equals, the status is `INEXACT`, and the text is the line of its
+//! location.
+//!
 //! If memory runs out, every function but `jskw_version` and `jskw_free` returns `NO_MEMORY` and
 //! leaves the handle and the buffer unchanged.
 #![tactic(auto)]
 
-ghost use Rattle.std.specs.Prelude.{◌≡◌, ◌⊎◌, codes, None};
+ghost use Rattle.std.specs.Prelude.{◌≡◌, codes, None};
 ghost use Rattle.jskw_service.specs.Answer.{output, verdict};
 ghost use Rattle.jskw_service.specs.Run.{status_of_verdict};
-ghost use Rattle.jskw_c.specs.Asked.{IsReport, Says, SaysErrors, SaysFirst, SaysTree};
-ghost use Rattle.jskw_c.specs.Asked.{instance_in, status_of};
-ghost use Rattle.jskw_c.specs.Compiled.{Compiles, compiled_of, setting_numbered};
-ghost use Rattle.jskw_c.specs.Told.{Gives, Tells};
+ghost use Rattle.jskw_c.specs.Asked.{IsReport, Says, SaysErrors, SaysFirst, SaysTree, status_of};
+ghost use Rattle.jskw_c.specs.Compiled.{Compiles, Shares, compiled_of, setting_numbered};
+ghost use Rattle.jskw_c.specs.Told.{Gives, IsStatus, Tells};
 
 mod ask;
 mod compiled;
 mod evaluation;
+mod expected;
 mod handle;
+mod json_parts;
 mod line;
 mod settings;
 mod status;
 mod tell;
-#[cfg(test)]
-mod tests;
 
 use crate::ask::{Report, compile_schema, report_of, validity};
 use crate::handle::SchemaHandle;
@@ -39,12 +43,12 @@ use std::alloc::{AllocError, Global};
 /// Writes the version of this library and that of the logic that it is proved in, a line each.
 #[unsafe(no_mangle)]
 pub extern "C" fn jskw_version(buffer: &mut [u8], length: &mut usize) -> u32
-    ensures { Gives result 0 (codes "jskw 0.1.0\nrattle logic dac8208d650f15bf\n") buffer.old buffer.new
+    ensures { Gives result 0 (codes "jskw 0.2.0\nrattle logic dac8208d650f15bf\n") buffer.old buffer.new
         length.new }
 {
     tell(
         VALID,
-        b"jskw 0.1.0\nrattle logic dac8208d650f15bf\n",
+        b"jskw 0.2.0\nrattle logic dac8208d650f15bf\n",
         buffer,
         length,
     )
@@ -80,7 +84,8 @@ fn exit_status(verdict: Verdict) -> u32
 
 /// Compiles a schema, puts it into the handle, and frees the schema that the handle had. If the
 /// schema is not compiled, the handle is unchanged. If it is refused, the text is the line of the
-/// refusal: its keyword, keyword location and message.
+/// refusal: its keyword, keyword location and message, and what was expected, as JSON. If it is not
+/// JSON, the text is the line of the place, if the reader of instances finds one.
 #[unsafe(no_mangle)]
 pub extern "C" fn jskw_compile(
     alloc: Global,
@@ -107,12 +112,34 @@ pub extern "C" fn jskw_compile(
     }
 }
 
+/// Puts the schema of the first handle into the second too, without compiling it again, and frees
+/// the schema that the second had. If the first has none, the second is unchanged.
+#[unsafe(no_mangle)]
+pub extern "C" fn jskw_share(alloc: Global, from: &mut SchemaHandle, to: &mut SchemaHandle) -> u32
+    ensures kept { from.new.schema ≡ from.old.schema }
+    ensures shared { Shares from.old.schema result to.old.schema to.new.schema }
+{
+    match from.take(alloc) {
+        Some(schema) => {
+            let shared = schema.share(alloc);
+            from.put(alloc, schema);
+            match shared {
+                Ok(schema) => {
+                    to.put(alloc, schema);
+                    VALID
+                }
+                Err(AllocError) => NO_MEMORY,
+            }
+        }
+        None => NO_SCHEMA,
+    }
+}
+
 /// Returns whether the instance is valid.
 #[unsafe(no_mangle)]
 pub extern "C" fn jskw_is_valid(alloc: Global, handle: &mut SchemaHandle, instance: &[u8]) -> u32
     ensures kept { handle.new.schema ≡ handle.old.schema }
-    ensures status { (result ≡ status_of handle.old.schema (instance_in instance.now))
-        ⊎ (result ≡ NO_MEMORY) }
+    ensures status { IsStatus (status_of handle.old.schema instance.now) result }
 {
     let Some(schema) = handle.take(alloc) else {
         return NO_SCHEMA;
@@ -135,9 +162,8 @@ fn tell_report(
     length: &mut usize,
 ) -> u32
     ensures kept { handle.new.schema ≡ handle.old.schema }
-    ensures told { Tells (IsReport (Says report) handle.old.schema (instance_in instance.now))
-        result (status_of handle.old.schema (instance_in instance.now)) buffer.old buffer.new
-        length.new }
+    ensures told { Tells (IsReport (Says report) handle.old.schema instance.now) result
+        (status_of handle.old.schema instance.now) buffer.old buffer.new length.new }
 {
     let Some(schema) = handle.take(alloc) else {
         return tell(NO_SCHEMA, &[], buffer, length);
@@ -151,7 +177,7 @@ fn tell_report(
 }
 
 /// Writes the line of the first error of the instance: its keyword, instance location, keyword
-/// location and message. If the instance contains a float, the line is the location of the first.
+/// location and message, and what was expected, as JSON.
 #[unsafe(no_mangle)]
 pub extern "C" fn jskw_first_error(
     alloc: Global,
@@ -161,33 +187,38 @@ pub extern "C" fn jskw_first_error(
     length: &mut usize,
 ) -> u32
     ensures kept { handle.new.schema ≡ handle.old.schema }
-    ensures told { Tells (IsReport SaysFirst handle.old.schema (instance_in instance.now)) result
-        (status_of handle.old.schema (instance_in instance.now)) buffer.old buffer.new
-        length.new }
+    ensures told { Tells (IsReport SaysFirst handle.old.schema instance.now) result
+        (status_of handle.old.schema instance.now) buffer.old buffer.new length.new }
 {
     tell_report(alloc, Report::FirstError, handle, instance, buffer, length)
 }
 
-/// Writes the lines of all errors of the instance, in order. If the instance contains a float, the
-/// line is the location of the first.
+/// Writes the lines of the errors of the instance, in order: of the first `limit`, or of all if
+/// `limit` is 0.
 #[unsafe(no_mangle)]
 pub extern "C" fn jskw_errors(
     alloc: Global,
     handle: &mut SchemaHandle,
     instance: &[u8],
+    limit: u64,
     buffer: &mut [u8],
     length: &mut usize,
 ) -> u32
     ensures kept { handle.new.schema ≡ handle.old.schema }
-    ensures told { Tells (IsReport SaysErrors handle.old.schema (instance_in instance.now)) result
-        (status_of handle.old.schema (instance_in instance.now)) buffer.old buffer.new
-        length.new }
+    ensures told { Tells (IsReport (SaysErrors limit) handle.old.schema instance.now) result
+        (status_of handle.old.schema instance.now) buffer.old buffer.new length.new }
 {
-    tell_report(alloc, Report::Errors, handle, instance, buffer, length)
+    tell_report(
+        alloc,
+        Report::Errors(limit),
+        handle,
+        instance,
+        buffer,
+        length,
+    )
 }
 
-/// Writes the evaluation tree of the instance as JSON. If the instance contains a float, the text is
-/// a line with the location of the first.
+/// Writes the evaluation tree of the instance as JSON.
 #[unsafe(no_mangle)]
 pub extern "C" fn jskw_evaluate(
     alloc: Global,
@@ -197,9 +228,8 @@ pub extern "C" fn jskw_evaluate(
     length: &mut usize,
 ) -> u32
     ensures kept { handle.new.schema ≡ handle.old.schema }
-    ensures told { Tells (IsReport SaysTree handle.old.schema (instance_in instance.now)) result
-        (status_of handle.old.schema (instance_in instance.now)) buffer.old buffer.new
-        length.new }
+    ensures told { Tells (IsReport SaysTree handle.old.schema instance.now) result
+        (status_of handle.old.schema instance.now) buffer.old buffer.new length.new }
 {
     tell_report(alloc, Report::Evaluation, handle, instance, buffer, length)
 }

@@ -1,12 +1,15 @@
 //! Lines of words, with a tab between two words and a line feed at the end.
-ghost use Rattle.std.specs.Prelude.{◌≡◌, ◌++◌, [], ◌∷◌, ℕ, List, IfOk, OnOk};
-ghost use Rattle.jskw_value.specs.Serde.{value_tree};
+ghost use Rattle.std.specs.Prelude.{◌≡◌, ◌≤◌, ◌++◌, [], ◌∷◌, ℕ, List, IfOk, OnOk, length};
+ghost use Rattle.jskw_value.specs.DecimalTree.{decimal_tree};
 ghost use Rattle.jskw_report.specs.Compile.{refusal_of};
 ghost use Rattle.jskw_report.specs.Errors.{failure_of, failures_of};
-ghost use Rattle.jskw_c.specs.Line.{AreErrorLines, IsRefusalLine, error_line, escaped, words_line};
+ghost use Rattle.jskw_c.specs.Line.{AreErrorLines, IsErrorLine, IsRefusalLine, escaped};
+ghost use Rattle.jskw_c.specs.Line.{place_line, words_line};
 
+use crate::expected::expected_text;
 use jskw_report::ValidationError;
-use jskw_value::SerdeJson;
+use jskw_text::position_of;
+use jskw_value::{DecimalJson, SerdeJson};
 use std::alloc::{AllocError, Global};
 
 // Appends a word. A tab, a line feed and a backslash are written as `\t`, `\n` and `\\`.
@@ -25,10 +28,10 @@ fn push_word(text: &mut Vec<u8>, word: &[u8]) -> Result<(), AllocError>
 }
 
 // Appends a word and a byte.
-fn push_word_and(text: &mut Vec<u8>, word: &str, byte: u8) -> Result<(), AllocError>
+fn push_word_and(text: &mut Vec<u8>, word: &[u8], byte: u8) -> Result<(), AllocError>
     ensures { OnOk result (text.new.items ≡ text.old.items ++ (escaped word.now ++ byte ∷ [])) }
 {
-    push_word(text, word.as_bytes())?;
+    push_word(text, word)?;
     text.push(byte)?;
     Ok(())
 }
@@ -38,11 +41,23 @@ pub(crate) fn word_line(alloc: Global, word: &str) -> Result<Vec<u8>, AllocError
     ensures { IfOk result (λ text. text.items ≡ words_line (word.now ∷ [])) }
 {
     let mut text = Vec::new(alloc);
-    push_word_and(&mut text, word, b'\n')?;
+    push_word_and(&mut text, word.as_bytes(), b'\n')?;
     Ok(text)
 }
 
-// Returns the line of a compile error: its keyword, keyword location and message.
+// Returns the line of a place in a text: the offset in bytes, which must be at most the length, the
+// line and the column.
+pub(crate) fn place_line(alloc: Global, text: &[u8], offset: usize) -> Result<Vec<u8>, AllocError>
+    requires { offset ≤ length text.now }
+    ensures { IfOk result (λ line. line.items ≡ place_line offset text.now) }
+{
+    let position = position_of(text, offset);
+    let line = format!(in alloc; "{offset}\t{}\t{}\n", position.line, position.column)?;
+    Ok(line.into_bytes())
+}
+
+// Returns the line of a compile error: its keyword, keyword location and message, and what was
+// expected.
 pub(crate) fn refusal_line(
     alloc: Global,
     error: &ValidationError<'_, SerdeJson>,
@@ -50,36 +65,41 @@ pub(crate) fn refusal_line(
     ensures { IfOk result (λ text. IsRefusalLine (refusal_of error.now) text.items) }
 {
     let message = error.message(alloc)?;
+    let expected = expected_text(alloc, error.kind())?;
     let mut text = Vec::new(alloc);
-    push_word_and(&mut text, error.kind().keyword(), b'\t')?;
-    push_word_and(&mut text, error.schema_path().as_str(), b'\t')?;
-    push_word_and(&mut text, message.as_str(), b'\n')?;
+    push_word_and(&mut text, error.kind().keyword().as_bytes(), b'\t')?;
+    push_word_and(&mut text, error.schema_path().as_str().as_bytes(), b'\t')?;
+    push_word_and(&mut text, message.as_bytes(), b'\t')?;
+    push_word_and(&mut text, expected.as_slice(), b'\n')?;
     Ok(text)
 }
 
-// Appends the line of an error: its keyword, instance location, keyword location and message.
+// Appends the line of an error: its keyword, instance location, keyword location and message, and
+// what was expected.
 fn push_error(
     alloc: Global,
     text: &mut Vec<u8>,
-    error: &ValidationError<'_, SerdeJson>,
+    error: &ValidationError<'_, DecimalJson>,
 ) -> Result<(), AllocError>
-    ensures { OnOk result ((message : List ℕ) × (text.new.items
-        ≡ text.old.items ++ error_line (failure_of value_tree error.now) message)) }
+    ensures { OnOk result ((line : List ℕ) × IsErrorLine (failure_of decimal_tree error.now) line
+        × (text.new.items ≡ text.old.items ++ line)) }
 {
     let message = error.message(alloc)?;
-    push_word_and(text, error.kind().keyword(), b'\t')?;
-    push_word_and(text, error.instance_path().as_str(), b'\t')?;
-    push_word_and(text, error.schema_path().as_str(), b'\t')?;
-    push_word_and(text, message.as_str(), b'\n')
+    let expected = expected_text(alloc, error.kind())?;
+    push_word_and(text, error.kind().keyword().as_bytes(), b'\t')?;
+    push_word_and(text, error.instance_path().as_str().as_bytes(), b'\t')?;
+    push_word_and(text, error.schema_path().as_str().as_bytes(), b'\t')?;
+    push_word_and(text, message.as_bytes(), b'\t')?;
+    push_word_and(text, expected.as_slice(), b'\n')
 }
 
 // Returns the line of each error.
 pub(crate) fn error_lines(
     alloc: Global,
-    errors: &[ValidationError<'_, SerdeJson>],
+    errors: &[ValidationError<'_, DecimalJson>],
 ) -> Result<Vec<u8>, AllocError>
     ensures { IfOk result
-        (λ text. AreErrorLines (failures_of value_tree errors.now) text.items) }
+        (λ text. AreErrorLines (failures_of decimal_tree errors.now) text.items) }
 {
     let mut text = Vec::new(alloc);
     for error in errors {
@@ -91,10 +111,10 @@ pub(crate) fn error_lines(
 // Returns the line of one error.
 pub(crate) fn error_line(
     alloc: Global,
-    error: &ValidationError<'_, SerdeJson>,
+    error: &ValidationError<'_, DecimalJson>,
 ) -> Result<Vec<u8>, AllocError>
     ensures { IfOk result
-        (λ text. AreErrorLines (failure_of value_tree error.now ∷ []) text.items) }
+        (λ text. AreErrorLines (failure_of decimal_tree error.now ∷ []) text.items) }
 {
     let mut text = Vec::new(alloc);
     push_error(alloc, &mut text, error)?;

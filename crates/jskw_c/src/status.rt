@@ -1,4 +1,4 @@
-//! The statuses that calls return. `include/jskw.h` has the same numbers.
+//! The statuses that calls return. `include/jskw.h` and `specs/Status.antt` have the same numbers.
 
 /// The instance is valid. For `jskw_compile`: the handle has the schema.
 pub(crate) const VALID: u32 = 0;
@@ -8,8 +8,8 @@ pub(crate) const INVALID: u32 = 1;
 pub(crate) const REFUSED: u32 = 2;
 /// The schema or the instance is not JSON.
 pub(crate) const NOT_JSON: u32 = 3;
-/// The instance contains a float.
-pub(crate) const FLOAT: u32 = 4;
+/// The instance contains a number that no decimal equals.
+pub(crate) const INEXACT: u32 = 4;
 /// The schema does not compile.
 pub(crate) const BAD_SCHEMA: u32 = 5;
 /// There is no such draft or set of vocabularies, or the overridden names are not an array of

@@ -1,5 +1,6 @@
 //! Texts in the buffer of a caller.
 ghost use Rattle.std.specs.Prelude.{◌≡◌};
+ghost use Rattle.jskw_c.specs.Status as status;
 ghost use Rattle.jskw_c.specs.Told.{Gives, RunsOut};
 
 use crate::status::{NO_MEMORY, TOO_SMALL};
@@ -20,7 +21,7 @@ pub(crate) fn tell(status: u32, text: &[u8], buffer: &mut [u8], length: &mut usi
 
 // Tells that memory ran out.
 pub(crate) fn tell_no_memory(length: &mut usize) -> u32
-    ensures status { result ≡ NO_MEMORY }
+    ensures status { result ≡ status.NO_MEMORY }
     ensures length { length.new ≡ 0 }
 {
     *length = 0;

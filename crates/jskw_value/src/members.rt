@@ -104,8 +104,9 @@ impl<V> MemberList<V> {
         }
     }
 
-    // Creates the list of these pairs, which are sorted and have distinct names.
-    pub(crate) fn of_sorted(pairs: Vec<Member<V>>) -> MemberList<V>
+    /// Creates the list of these pairs, which must be sorted by the bytes of their names, with no
+    /// name twice. Allocates nothing.
+    pub fn of_sorted(pairs: Vec<Member<V>>) -> MemberList<V>
         requires { AreSorted (names pairs.items) }
         ensures { result ≡ pairs.items }
     {

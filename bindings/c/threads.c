@@ -1,0 +1,139 @@
+/* Tests that threads share schemas: eight threads ask handles of their own, each made by jskw_share, of which the main
+ * thread frees its own before they begin; two others compile, share and free all the while. Every answer is compared.
+ *
+ *     threads ROUNDS         so many rounds in each thread; under valgrind's helgrind 50 are enough
+ *     threads SECONDS s      as many rounds as each does in so many seconds
+ *     threads SECONDS rate   the calls of jskw_is_valid in a second by 1, 2 and 4 threads: the most of several turns
+ *
+ * The last line is `N passed, M failed`. */
+#include <pthread.h>
+#include <stdio.h>
+#include <stdlib.h>
+#include <string.h>
+#include <time.h>
+
+#include "jskw.h"
+
+#define BYTES(text) (const uint8_t *)(text), strlen(text)
+#define MEMBER "{\"required\":[\"name\",\"age\"],\"minProperties\":2}"
+#define LIST "{\"items\":{\"type\":\"integer\",\"minimum\":0},\"uniqueItems\":true,\"enum\":[[1,2,3,4,5],[7]]}"
+
+enum { ASKERS = 8, COMPILERS = 2, THREADS = ASKERS + COMPILERS };
+
+struct job {
+    pthread_t thread;
+    jskw_schema member, list;
+    long rounds, wrong, done;
+    double seconds;
+};
+
+static double now(void) {
+    struct timespec time;
+    clock_gettime(CLOCK_MONOTONIC, &time);
+    return (double)time.tv_sec + (double)time.tv_nsec / 1e9;
+}
+
+static uint32_t compile(jskw_schema *handle, const char *schema) {
+    uint8_t buffer[1];
+    size_t length;
+    return jskw_compile(2020, JSKW_ALL, BYTES(""), BYTES(schema), handle, buffer, 0, &length);
+}
+
+/* Whether there is a round left to do. */
+static int goes_on(struct job *job, double begun) {
+    job->done++;
+    return job->seconds > 0 ? now() - begun < job->seconds : job->done <= job->rounds;
+}
+
+static void *ask(void *of) {
+    static const char wanted[] = "minProperties\t\t/minProperties\t{\"age\":36} has less than 2 properties\t2\n";
+    struct job *job = of;
+    uint8_t buffer[1024];
+    size_t length;
+    for (double begun = now(); goes_on(job, begun);) {
+        job->wrong += jskw_is_valid(&job->member, BYTES("{\"name\":\"Ada\",\"age\":36}")) != JSKW_VALID;
+        job->wrong += jskw_errors(&job->member, BYTES("{\"age\":36}"), 1, buffer, sizeof buffer, &length) != JSKW_INVALID
+            || length != strlen(wanted) || memcmp(buffer, wanted, length);
+        job->wrong += jskw_is_valid(&job->list, BYTES("[1,2,3.0,4,5]")) != JSKW_VALID;
+        job->wrong += jskw_evaluate(&job->list, BYTES("[1.5]"), buffer, sizeof buffer, &length) != JSKW_INVALID;
+        jskw_schema another = JSKW_SCHEMA_EMPTY;
+        job->wrong += jskw_share(&job->list, &another) != JSKW_VALID;
+        job->wrong += jskw_is_valid(&another, BYTES("[1,2,1]")) != JSKW_INVALID;
+        jskw_free(&another);
+    }
+    jskw_free(&job->member);
+    jskw_free(&job->list);
+    return NULL;
+}
+
+static void *make(void *of) {
+    struct job *job = of;
+    for (double begun = now(); goes_on(job, begun);) {
+        jskw_schema another = JSKW_SCHEMA_EMPTY;
+        job->wrong += compile(&another, MEMBER) != JSKW_VALID || jskw_share(&another, &job->member) != JSKW_VALID;
+        job->wrong += compile(&another, "false") != JSKW_VALID;
+        job->wrong += jskw_is_valid(&another, BYTES("1")) != JSKW_INVALID;
+        job->wrong += jskw_is_valid(&job->member, BYTES("{\"age\":36,\"name\":1}")) != JSKW_VALID;
+        jskw_free(&another);
+    }
+    jskw_free(&job->member);
+    jskw_free(&job->list);
+    return NULL;
+}
+
+static void *count(void *of) {
+    struct job *job = of;
+    job->done = 0;
+    for (double begun = now(); now() - begun < job->seconds; job->done += 1000)
+        for (int i = 0; i < 1000; i++)
+            job->wrong += jskw_is_valid(&job->member, BYTES("{\"name\":\"Ada\",\"age\":36}")) != JSKW_VALID;
+    jskw_free(&job->member);
+    return NULL;
+}
+
+/* Runs so many jobs and adds up the wrong answers. */
+static long run(struct job *jobs, int threads, void *(*first)(void *), void *(*others)(void *)) {
+    long wrong = 0;
+    for (int i = 0; i < threads; i++)
+        if (pthread_create(&jobs[i].thread, NULL, i < ASKERS ? first : others, &jobs[i])) return 1;
+    for (int i = 0; i < threads; i++) wrong += pthread_join(jobs[i].thread, NULL) != 0 || jobs[i].wrong != 0;
+    return wrong;
+}
+
+static long rates(jskw_schema *member, double seconds) {
+    long wrong = 0;
+    double most[5] = {0};
+    for (int turn = 0; turn < 5; turn++)
+        for (int threads = 1; threads <= 4; threads *= 2) {
+            struct job jobs[4] = {0};
+            double rate = 0;
+            for (int i = 0; i < threads; i++) {
+                jobs[i].seconds = seconds / 15;
+                wrong += jskw_share(member, &jobs[i].member) != JSKW_VALID;
+            }
+            wrong += run(jobs, threads, count, count);
+            for (int i = 0; i < threads; i++) rate += (double)jobs[i].done / jobs[i].seconds;
+            if (rate > most[threads]) most[threads] = rate;
+        }
+    printf("calls in a second: %.0f by 1 thread, %.2f times that by 2, %.2f by 4\n", most[1], most[2] / most[1],
+           most[4] / most[1]);
+    return wrong;
+}
+
+int main(int words, char **word) {
+    struct job jobs[THREADS] = {0};
+    jskw_schema member = JSKW_SCHEMA_EMPTY, list = JSKW_SCHEMA_EMPTY;
+    long wrong = compile(&member, MEMBER) != JSKW_VALID || compile(&list, LIST) != JSKW_VALID;
+    int measures = words > 2 && !strcmp(word[2], "rate");
+    if (measures) wrong += rates(&member, atof(word[1]));
+    for (int i = 0; i < THREADS; i++) {
+        wrong += jskw_share(&member, &jobs[i].member) != JSKW_VALID || jskw_share(&list, &jobs[i].list) != JSKW_VALID;
+        jobs[i].rounds = words == 2 ? atol(word[1]) : 1000;
+        jobs[i].seconds = words > 2 && !measures ? atof(word[1]) : 0;
+    }
+    jskw_free(&member);
+    jskw_free(&list);
+    wrong += run(jobs, THREADS, ask, make);
+    printf("%d passed, %d failed\n", !wrong, wrong != 0);
+    return wrong != 0;
+}

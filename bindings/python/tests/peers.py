@@ -1,0 +1,92 @@
+"""Errors beside those of the package `jsonschema`, if it is installed: the same attributes but for messages, and its
+`best_match` and `ErrorTree` take ours."""
+
+from __future__ import annotations
+
+import random
+from typing import Any
+
+import jskw
+from checks import check
+
+try:
+    import jsonschema
+    from jsonschema.exceptions import ErrorTree, best_match, relevance
+except ModuleNotFoundError:
+    jsonschema = None  # type: ignore[assignment]
+
+ATTRIBUTES = [
+    "validator", "validator_value", "instance", "schema", "path", "relative_path", "absolute_path", "schema_path",
+    "relative_schema_path", "absolute_schema_path", "json_path", "context", "cause", "parent",
+]  # fmt: skip
+
+CLASSES = ["Draft4Validator", "Draft6Validator", "Draft7Validator", "Draft201909Validator", "Draft202012Validator"]
+KEYWORDS: list[dict[str, Any]] = [
+    {"type": "integer"}, {"type": "number"}, {"type": ["string", "null"]}, {"type": "object"}, {"type": "array"},
+    {"enum": [1, "a", None, [1], {"a": 1}]}, {"const": 2}, {"const": {"a": [1]}}, {"minimum": 2}, {"maximum": 3},
+    {"exclusiveMinimum": 2}, {"exclusiveMaximum": 3}, {"multipleOf": 2}, {"minItems": 1}, {"maxItems": 1},
+    {"minProperties": 1}, {"maxProperties": 1}, {"uniqueItems": True}, {"required": ["a", "b"]}, {"required": ["a"]},
+]  # fmt: skip
+
+
+def run() -> None:
+    if jsonschema is None:
+        print("the package `jsonschema` is not installed: errors are not compared with its errors")
+        return
+    rng = random.Random(7)
+    for name in CLASSES:
+        for _ in range(60):
+            schema, value = schema_of(rng, name, 3), value_of(rng, 3)
+            ours, theirs = getattr(jskw, name)(schema), getattr(jsonschema, name)(schema)
+            got, wanted = list(ours.iter_errors(value)), list(theirs.iter_errors(value))
+            check(f"{name} {schema} {value}", seen(got), seen(wanted))
+            check(f"{name} {schema} {value}, verdict", ours.is_valid(value), not wanted)
+            check_tree(got, wanted)
+    best()
+
+
+def seen(errors: Any) -> list[str]:
+    return sorted(str([(name, getattr(error, name)) for name in ATTRIBUTES]) for error in errors)
+
+
+def check_tree(got: Any, wanted: Any) -> None:
+    """Both trees have the same errors, and the best error of both lists is as good."""
+    ours, theirs = ErrorTree(got), ErrorTree(wanted)
+    check("a tree of errors", (len(ours), sorted(map(str, ours))), (len(theirs), sorted(map(str, theirs))))
+    if wanted:
+        # of equally good ones it takes the first, and the orders differ
+        check("the best error", relevance(best_match(got)), relevance(best_match(wanted)))
+
+
+def best() -> None:
+    schema = {"items": {"type": "object", "required": ["a"]}, "maxItems": 1}
+    errors: Any = list(jskw.Validator(schema).iter_errors([{}, 1]))
+    check("best_match", best_match(errors).validator, "maxItems")
+    tree = ErrorTree(errors)
+    check("ErrorTree", (tree.total_errors, sorted(tree), tree[0].errors["required"].path[0]), (3, [0, 1], 0))
+
+
+def schema_of(rng: random.Random, name: str, depth: int) -> dict[str, Any]:
+    """Returns a schema of keywords that both packages read alike."""
+    schema: dict[str, Any] = {}
+    for keyword in rng.sample(KEYWORDS, rng.randrange(1, 4)):
+        if name != "Draft4Validator" or not {"const", "exclusiveMinimum", "exclusiveMaximum"} & set(keyword):
+            schema.update(keyword)
+    if depth and rng.random() < 0.6:
+        below = [schema_of(rng, name, depth - 1) for _ in range(2)]
+        if name == "Draft202012Validator":
+            schema.update({"prefixItems": below, "items": schema_of(rng, name, depth - 1)})
+        else:
+            schema.update({"items": below, "additionalItems": schema_of(rng, name, depth - 1)})
+    elif depth and rng.random() < 0.6:
+        schema["items"] = schema_of(rng, name, depth - 1)
+    return schema
+
+
+def value_of(rng: random.Random, depth: int) -> Any:
+    plain = [None, True, False, 0, 1, 2, 3, 4, -1, "a", "", 2**40]
+    if not depth or rng.random() < 0.3:
+        return rng.choice(plain)
+    if rng.random() < 0.6:
+        return [value_of(rng, depth - 1) for _ in range(rng.randrange(4))]
+    return {name: value_of(rng, depth - 1) for name in rng.sample("abc", rng.randrange(3))}

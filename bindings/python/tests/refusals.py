@@ -1,0 +1,134 @@
+"""What is refused, with the words that say why."""
+
+from __future__ import annotations
+
+from decimal import Decimal
+from typing import Any, Callable
+
+import jskw
+from checks import check, check_raises, raised
+
+NOT_JSON = "is not JSON in UTF-8"
+CALLS: list[tuple[str, Callable[..., Any]]] = [("instance", jskw.Validator(True).is_valid), ("schema", jskw.Validator)]
+
+
+def run() -> None:
+    settings()
+    texts()
+    values()
+    drafts()
+
+
+def settings() -> None:
+    names = "'4', '6', '7', '2019-09', '2020-12'"
+    rows: list[tuple[dict[str, Any], str]] = [
+        ({"draft": 7}, f"draft=7 is not one of {names}"),
+        ({"draft": "3"}, f"draft='3' is not one of {names}"),
+        ({"draft": ["7"]}, f"draft=['7'] is not one of {names}"),
+        ({"vocabularies": ["core", "f"]}, "vocabularies='f' is not one of 'core', 'applicator', 'validation'"),
+        ({"vocabularies": "core"}, "vocabularies='core' is not a list of names"),
+        ({"vocabularies": 7}, "vocabularies=7 is not a list of names"),
+        ({"overridden": "items"}, "overridden='items' is not a list of names"),
+        ({"overridden": [1]}, "overridden: 1 is not a name"),
+    ]
+    for given, message in rows:
+        check_raises(jskw.BadSetting, message, jskw.Validator, True, **given)
+    check_raises(jskw.BadSetting, "draft='6' is not one of '7'", jskw.Draft7Validator, True, "6")
+    for limit in 0, -1, 2**64, "1", 1.5:
+        message = f"limit={limit!r} is not None or from 1 to 2^64-1"
+        check_raises(jskw.BadSetting, message, jskw.Validator(True).iter_errors, 1, limit)
+
+
+def texts() -> None:
+    """What JSON does not have, and what it has and is refused: each says which, where, and in which text."""
+    deep = "nests more than 127 levels, which JSON allows and jskw does not"
+    surrogate = "has the escape of a lone surrogate, which JSON allows and jskw does not"
+    rows = [
+        (b"", NOT_JSON, 1),
+        (b"{", NOT_JSON, 1),
+        (b"[1,\n 2,\n x]", NOT_JSON, 3),
+        (b'{"a": 1,}', NOT_JSON, 1),
+        (b"NaN", NOT_JSON, 1),
+        (b"[01]", NOT_JSON, 1),
+        (b'"\xff"', NOT_JSON, 1),
+        (b'"\x00"', NOT_JSON, 1),
+        (b"\xef\xbb\xbf1", NOT_JSON, 1),
+        (b"1 2", NOT_JSON, 1),
+        (b"[" * 128 + b"]" * 128, deep, 1),
+        (b"[" * 1_000_000, deep, 1),
+        (b"\n" + b'{"a":' * 127 + b"[]" + b"}" * 127, deep, 2),
+        (b'["\\ud800"]', surrogate, 1),
+        (b'["ok",\n "\\udc00x"]', surrogate, 2),
+        (b'{"\\ud83d\\ude00": "\\ud800\\u0061"}', surrogate, 1),
+    ]
+    for text, reason, line in rows:
+        for what, call in CALLS:
+            error = raised(call, text)
+            got = [getattr(error, name, None) for name in ("text", "reason", "line")]
+            check(f"{what} {text[:40]!r}", (type(error), got), (jskw.NotJson, [what, reason, line]))
+            check("its text", str(error).startswith(f"the {what} {reason} at line {line}, column "), True)
+    check("127 levels", jskw.Validator(True).is_valid(b"[" * 127 + b"]" * 127), True)
+    error = raised(jskw.Validator, b'{"minimum": 1e400}')
+    wanted = "has a number that is too large for a double, which JSON allows and jskw does not"
+    check("1e400 in a schema", (type(error), getattr(error, "reason", "")), (jskw.NotJson, wanted))
+    error = raised(jskw.Validator(True).is_valid, b'{"a": [1, 1e400]}')
+    check("1e400 in an instance", (type(error), list(getattr(error, "path", ""))), (jskw.InexactNumber, ["a", 1]))
+    error = raised(jskw.Validator(True).is_valid, b'{"a": [1, ' + b"1" * 5000 + b"]}")
+    check("5,000 digits", (type(error), list(getattr(error, "path", ""))), (jskw.InexactNumber, ["a", 1]))
+    check("no JSON behind it", type(raised(jskw.Validator(True).is_valid, b"[1e400,")), jskw.NotJson)
+    error = raised(jskw.Validator(True).is_valid, b"[1,\n  ?]")
+    check("a place", [getattr(error, name, None) for name in ("offset", "line", "column")], [6, 2, 3])
+
+
+def values() -> None:
+    rows: list[tuple[Any, str]] = [
+        ({1: 2}, "is not JSON: the name 1 of a member is no string"),
+        ({"a": [{None: 1}]}, "is not JSON: the name None of a member is no string"),
+        ({"a": Decimal(1), True: 1}, "is not JSON: the name True of a member is no string"),
+        (float("nan"), "is not JSON: Out of range float values are not JSON compliant"),
+        ([Decimal("Infinity")], "is not JSON: the Decimal Infinity is no number"),
+        ({"a": {1}}, "is not JSON: set is no type of JSON"),
+        ([b"a"], "is not JSON: bytes is no type of JSON"),
+        ("\ud800", "has the escape of a lone surrogate, which JSON allows and jskw does not"),
+    ]
+    for value, reason in rows:
+        for what, call in CALLS:
+            check_raises(jskw.NotJson, f"the {what} {reason}", call, value)
+    ring: list[Any] = []
+    ring += [ring, ring]
+    check("a ring", type(raised(jskw.Validator(True).is_valid, ring)), jskw.NotJson)
+    ring.append(Decimal(1))
+    check("a ring with a Decimal", type(raised(jskw.Validator(True).is_valid, ring)), jskw.NotJson)
+    check("5,000 digits", type(raised(jskw.Validator(True).is_valid, 10**5000)), jskw.NotJson)
+    deep: Any = 1
+    for _ in range(500):
+        deep = [deep]
+    message = "the instance nests more than 127 levels, which JSON allows and jskw does not"
+    check_raises(jskw.NotJson, message, jskw.Validator(True).is_valid, deep)
+
+
+def drafts() -> None:
+    classes = {
+        "http://json-schema.org/draft-04/schema#": jskw.Draft4Validator,
+        "http://json-schema.org/draft-06/schema": jskw.Draft6Validator,
+        "http://json-schema.org/draft-07/schema#": jskw.Draft7Validator,
+        "https://json-schema.org/draft/2019-09/schema": jskw.Draft201909Validator,
+        "https://json-schema.org/draft/2020-12/schema": jskw.Draft202012Validator,
+    }
+    for name, wanted in classes.items():
+        check(name, jskw.validator_for({"$schema": name}), wanted)
+        check(f"{name}, its draft", wanted(True).draft, wanted.DRAFTS[0])
+    check("no $schema", jskw.validator_for({}), jskw.Draft202012Validator)
+    check("a boolean", jskw.validator_for(b"true", jskw.Draft7Validator), jskw.Draft7Validator)
+    check("a default", jskw.validator_for({"$schema": "x"}, jskw.Draft7Validator), jskw.Draft7Validator)
+    check("another $schema", type(raised(jskw.validator_for, {"$schema": "x"})), jskw.BadSetting)
+    check("another type", type(raised(jskw.validator_for, {"$schema": 1})), jskw.BadSetting)
+    check("no JSON", type(raised(jskw.validator_for, b"{")), jskw.NotJson)
+    check("too deep", type(raised(jskw.validator_for, b"[" * 100_000)), jskw.NotJson)
+    draft4 = {"$schema": "http://json-schema.org/draft-04/schema#", "minimum": 1, "exclusiveMinimum": True}
+    check("validate, valid", raised(jskw.validate, 2, draft4), None)
+    check("validate, invalid", type(raised(jskw.validate, 1, draft4)), jskw.ValidationError)
+    check("validate, no schema", type(raised(jskw.validate, 1, {"minItems": -1})), jskw.SchemaError)
+    check("validate, a class", raised(jskw.validate, [1], {"items": [True]}, cls=jskw.Draft7Validator), None)
+    check("check_schema", raised(jskw.Draft7Validator.check_schema, {"minItems": 1}), None)
+    check("check_schema, wrong", type(raised(jskw.Draft7Validator.check_schema, {"minItems": "1"})), jskw.SchemaError)

@@ -1,0 +1,60 @@
+"""The rows of bindings/rows.txt: each call agrees with the others, and gives what the row says."""
+
+from __future__ import annotations
+
+import json
+import pathlib
+from typing import Any
+
+import jskw
+from jskw.validators import DRAFTS, VOCABULARIES
+
+from checks import check
+
+ROWS = pathlib.Path(__file__).resolve().parents[2] / "rows.txt"
+NUMBERS = {str(number): name for name, number in DRAFTS.items()}
+
+
+def outcome(draft: str, vocabularies: str, overridden: str, schema: str, instance: str) -> tuple[str, str]:
+    """Returns the result of a row and what it tells."""
+    try:
+        names = [name for name, bit in VOCABULARIES.items() if int(vocabularies) & bit]
+        names += ["no such vocabulary"] * (int(vocabularies) > 7)
+        given: Any = json.loads(overridden)
+        # an object would be taken for its names
+        given = given if isinstance(given, list) else None
+        validator = jskw.Validator(schema.encode(), NUMBERS.get(draft, draft), names, given)
+        return answers(validator, instance.encode())
+    except jskw.SchemaError as error:
+        return "bad schema", f"{error.kind}|{error.instance_location}"
+    except jskw.InexactNumber as error:
+        return "inexact", error.instance_location
+    except jskw.NotJson:
+        return "not JSON", ""
+    except jskw.BadSetting:
+        return "bad setting", ""
+
+
+def answers(validator: jskw.Validator, instance: bytes) -> tuple[str, str]:
+    """Returns the verdict and the errors, if all calls agree."""
+    valid, tree = validator.is_valid(instance), validator.evaluate(instance)
+    errors, limited = list(validator.iter_errors(instance)), list(validator.iter_errors(bytearray(instance), limit=1))
+    first = []
+    try:
+        validator.validate(memoryview(instance))
+    except jskw.ValidationError as error:
+        first = [error]
+    if not valid == tree["valid"] == (not errors) or not told(errors[:1]) == told(first) == told(limited):
+        return "the calls disagree", ""
+    return "valid" if valid else "invalid", told(errors)
+
+
+def told(errors: list[jskw.ValidationError]) -> str:
+    return " ".join(f"{e.kind}|{e.instance_location}|{e.keyword_location}" for e in errors)
+
+
+def run() -> None:
+    for line in ROWS.read_text(encoding="utf-8").split("\n"):
+        if line and not line.startswith("#"):
+            *given, result, says = line.split("\t")
+            check(line, outcome(*given), (result, says))

@@ -1,0 +1,56 @@
+"""Schemas and instances as values and as texts."""
+
+from __future__ import annotations
+
+import enum
+from collections import OrderedDict
+from decimal import Decimal
+from typing import Any
+
+import jskw
+from checks import check, raised
+
+
+class Color(enum.IntEnum):
+    RED = 1
+
+
+def run() -> None:
+    text = b'{"a": [1, "x"]}'
+    validator = jskw.Validator({"type": "object", "const": {"a": [1, "x"]}})
+    part = memoryview(text + b"  ")[:-2]
+    for value in text, bytearray(text), memoryview(text), part, {"a": [1, "x"]}, {"a": (1, "x")}:
+        check(f"{value!r}", validator.is_valid(value), True)
+    for value in {"a": [Color.RED, "x"]}, OrderedDict(a=[1, "x"]):
+        check(f"{value!r}", validator.is_valid(value), True)
+    check("a str is a value", jskw.Validator({"type": "string"}).is_valid('{"a": 1}'), True)
+    for schema in b'{"type": "null"}', bytearray(b'{"type": "null"}'), memoryview(b'{"type": "null"}'):
+        check(f"the schema {schema!r}", jskw.Validator(schema).is_valid(None), True)
+        check("its value", jskw.Validator(schema).schema, {"type": "null"})
+    fractions()
+
+
+def fractions() -> None:
+    cents = jskw.Validator({"items": {"minimum": 0, "type": "number"}, "uniqueItems": True})
+    check("floats", cents.is_valid([12.5, 0.1, 1e-5]), True)
+    check("Decimals", cents.is_valid([Decimal("12.50"), Decimal("0.1"), Decimal("1E+2")]), True)
+    check("equal as numbers", cents.is_valid([Decimal("12.50"), 12.5]), False)
+    check("as the text has it", cents.is_valid([0.1 + 0.2, 0.3]), True)
+    check("below", [list(e.path) for e in cents.iter_errors([Decimal("-0.01"), 1])], [[0]])
+    (error,) = cents.iter_errors([Decimal("-0.01"), 1])
+    check("the Decimal itself", (error.instance, type(error.instance)), (Decimal("-0.01"), Decimal))
+    for draft, wanted in ("4", False), ("2020-12", True):
+        whole = jskw.Validator({"type": "integer"}, draft)
+        check(f"1.0 in Draft {draft}", (whole.is_valid(1.0), whole.is_valid(b"1.0")), (wanted, wanted))
+    check("a multiple", jskw.Validator({"multipleOf": 3}).is_valid(b"[12.0, 4]"), True)
+    check("12.0 is a multiple of 3", jskw.Validator({"multipleOf": 3}).is_valid(Decimal("12.0")), True)
+    check("12.5 is none", jskw.Validator({"multipleOf": 3}).is_valid(12.5), False)
+    rows: list[tuple[Any, list[Any]]] = [
+        ({"a": [1e300]}, ["a", 0]),
+        (2**64, []),
+        (Decimal("1e-19"), []),
+        ([0.1, 1.0000000000000002e-7], [1]),
+    ]
+    for value, path in rows:
+        error = raised(jskw.Validator(True).is_valid, value)
+        check(f"{value!r} is not exact", (type(error), list(getattr(error, "path", "?"))), (jskw.InexactNumber, path))

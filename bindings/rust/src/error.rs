@@ -1,0 +1,419 @@
+//! Errors as data.
+
+use crate::json::{read, Kind, Value};
+use crate::library::{lines, BAD_SCHEMA, INEXACT, NOT_JSON, NO_MEMORY};
+use std::fmt;
+use std::ops::Range;
+use std::sync::Arc;
+
+/// A type of JSON Schema.
+#[derive(Clone, Copy, Debug, PartialEq, Eq, Hash)]
+pub enum JsonType {
+    Array,
+    Boolean,
+    Integer,
+    Null,
+    Number,
+    Object,
+    String,
+}
+
+/// What failed, and what was expected. Limits are whole numbers from -2^63 to 2^64-1.
+#[derive(Clone, Debug, PartialEq, Eq)]
+#[non_exhaustive]
+pub enum ValidationErrorKind {
+    /// The array has more items than `items` has schemas, and `additionalItems` is `false`.
+    AdditionalItems {
+        limit: u64,
+    },
+    /// A value of a schema cannot be compiled: a number that is not whole, or an unknown name of a type.
+    CompileError,
+    /// The value is not the constant, a JSON text.
+    Constant {
+        expected_value: String,
+    },
+    /// Too few or too many items match; the schema path says which bound.
+    Contains,
+    /// The value is none of the options, a JSON array.
+    Enum {
+        options: String,
+    },
+    ExclusiveMaximum {
+        limit: i128,
+    },
+    ExclusiveMinimum {
+        limit: i128,
+    },
+    /// The schema is `false`.
+    FalseSchema,
+    MaxItems {
+        limit: u64,
+    },
+    Maximum {
+        limit: i128,
+    },
+    MaxProperties {
+        limit: u64,
+    },
+    MinItems {
+        limit: u64,
+    },
+    Minimum {
+        limit: i128,
+    },
+    MinProperties {
+        limit: u64,
+    },
+    MultipleOf {
+        multiple_of: u64,
+    },
+    /// The object has no member of this name.
+    Required {
+        property: String,
+    },
+    /// The value is of none of these types.
+    Type {
+        types: Vec<JsonType>,
+    },
+    UniqueItems,
+    /// A kind that a later library has, by its name.
+    Other {
+        keyword: String,
+    },
+}
+
+impl ValidationErrorKind {
+    /// Returns the keyword that failed; `falseSchema` and `compileError` are none.
+    pub fn keyword(&self) -> &str {
+        match self {
+            Self::AdditionalItems { .. } => "additionalItems",
+            Self::CompileError => "compileError",
+            Self::Constant { .. } => "const",
+            Self::Contains => "contains",
+            Self::Enum { .. } => "enum",
+            Self::ExclusiveMaximum { .. } => "exclusiveMaximum",
+            Self::ExclusiveMinimum { .. } => "exclusiveMinimum",
+            Self::FalseSchema => "falseSchema",
+            Self::MaxItems { .. } => "maxItems",
+            Self::Maximum { .. } => "maximum",
+            Self::MaxProperties { .. } => "maxProperties",
+            Self::MinItems { .. } => "minItems",
+            Self::Minimum { .. } => "minimum",
+            Self::MinProperties { .. } => "minProperties",
+            Self::MultipleOf { .. } => "multipleOf",
+            Self::Required { .. } => "required",
+            Self::Type { .. } => "type",
+            Self::UniqueItems => "uniqueItems",
+            Self::Other { keyword } => keyword,
+        }
+    }
+}
+
+/// A step of a location: to a member by its name, or to an item by its index.
+#[derive(Clone, Debug, PartialEq, Eq, Hash)]
+pub enum PathSegment {
+    Property(String),
+    Index(usize),
+}
+
+/// A location in an instance or a schema. It is displayed as a JSON pointer.
+#[derive(Clone, Debug, Default, PartialEq, Eq, Hash)]
+pub struct Location {
+    segments: Vec<PathSegment>,
+}
+
+impl Location {
+    /// Returns the steps from the root.
+    pub fn segments(&self) -> &[PathSegment] {
+        &self.segments
+    }
+}
+
+impl fmt::Display for Location {
+    fn fmt(&self, f: &mut fmt::Formatter<'_>) -> fmt::Result {
+        self.segments.iter().try_for_each(|segment| match segment {
+            PathSegment::Property(name) => write!(f, "/{}", name.replace('~', "~0").replace('/', "~1")),
+            PathSegment::Index(index) => write!(f, "/{index}"),
+        })
+    }
+}
+
+/// An error of an instance, or of a schema as the instance of JSON Schema's rules for schemas. It is displayed as its
+/// message, a text for people, which may change.
+#[derive(Clone, PartialEq, Eq)]
+pub struct ValidationError {
+    kind: ValidationErrorKind,
+    instance_path: Location,
+    schema_path: Location,
+    message: String,
+    text: Arc<str>,
+    range: Range<usize>,
+}
+
+impl ValidationError {
+    /// Returns what failed.
+    pub fn kind(&self) -> &ValidationErrorKind {
+        &self.kind
+    }
+
+    /// Returns the location of the value at fault. (Of [`Error::Schema`]: in the schema.)
+    pub fn instance_path(&self) -> &Location {
+        &self.instance_path
+    }
+
+    /// Returns the location of the keyword in the schema. (Of [`Error::Schema`]: empty, since no meta-schema is read.)
+    pub fn schema_path(&self) -> &Location {
+        &self.schema_path
+    }
+
+    /// Returns the JSON text of the value at fault.
+    pub fn instance(&self) -> &str {
+        &self.text[self.range.clone()]
+    }
+}
+
+impl fmt::Debug for ValidationError {
+    fn fmt(&self, f: &mut fmt::Formatter<'_>) -> fmt::Result {
+        // not the instance, which may be long
+        f.debug_struct("ValidationError")
+            .field("kind", &self.kind)
+            .field("instance_path", &self.instance_path.to_string())
+            .field("schema_path", &self.schema_path.to_string())
+            .field("message", &self.message)
+            .finish_non_exhaustive()
+    }
+}
+
+impl fmt::Display for ValidationError {
+    fn fmt(&self, f: &mut fmt::Formatter<'_>) -> fmt::Result {
+        f.write_str(&self.message)
+    }
+}
+
+impl std::error::Error for ValidationError {}
+
+/// Which text an error is about.
+#[derive(Clone, Copy, Debug, PartialEq, Eq, Hash)]
+pub enum Text {
+    Schema,
+    Instance,
+}
+
+/// Where a text stops being JSON.
+#[derive(Clone, Copy, Debug, PartialEq, Eq, Hash)]
+pub struct Position {
+    /// The offset in bytes, from 0 on.
+    pub offset: usize,
+    /// The line, from 1 on.
+    pub line: usize,
+    /// The column in characters, from 1 on.
+    pub column: usize,
+}
+
+/// Why there is no verdict, or why `validate` found an instance invalid.
+#[derive(Clone, Debug, PartialEq, Eq)]
+#[non_exhaustive]
+pub enum Error {
+    /// The instance is invalid, and this is its first error. Only [`crate::Validator::validate`] returns it.
+    Invalid(Box<ValidationError>),
+    /// The schema does not compile.
+    Schema(Box<ValidationError>),
+    /// The text is not JSON in UTF-8, or nests more than 127 levels, or has an escape of a lone surrogate. Without a
+    /// position it is a schema with a number that is too large for a double.
+    NotJson { text: Text, position: Option<Position> },
+    /// The instance has a number that is no exact decimal c / 10^k with c from -2^63 to 2^64-1 and k from 0 to 18,
+    /// first at this location.
+    Inexact(Location),
+    /// Memory ran out.
+    NoMemory,
+    /// The library returned a status that this crate does not know.
+    Status(u32),
+}
+
+impl fmt::Display for Error {
+    fn fmt(&self, f: &mut fmt::Formatter<'_>) -> fmt::Result {
+        match self {
+            Error::Invalid(error) => write!(f, "{error} (instance {:?})", error.instance_path.to_string()),
+            Error::Schema(error) => write!(f, "{error} (schema {:?})", error.instance_path.to_string()),
+            Error::NotJson { text, position } => {
+                let name = if *text == Text::Schema { "schema" } else { "instance" };
+                match position {
+                    Some(Position { line, column, .. }) => {
+                        write!(f, "the {name} is not JSON at line {line}, column {column}")
+                    }
+                    None => write!(f, "the {name} has a number that is too large for a double"),
+                }
+            }
+            Error::Inexact(location) => write!(f, "the number at {:?} is not exact", location.to_string()),
+            Error::NoMemory => f.write_str("out of memory"),
+            Error::Status(status) => write!(f, "the library returned the unknown status {status}"),
+        }
+    }
+}
+
+impl std::error::Error for Error {
+    fn source(&self) -> Option<&(dyn std::error::Error + 'static)> {
+        match self {
+            Error::Invalid(error) | Error::Schema(error) => Some(&**error),
+            _ => None,
+        }
+    }
+}
+
+/// Returns the errors of an instance that a text has, a line each.
+pub(crate) fn errors(text: &str, instance: &[u8]) -> Vec<ValidationError> {
+    if text.is_empty() {
+        return Vec::new();
+    }
+    let document = Document::new(instance);
+    let error_of = |words: Vec<String>| {
+        let word = |index: usize| words.get(index).map(String::as_str).unwrap_or_default();
+        document.error(word(0), word(4), word(1), keyword_location(word(2)), word(3))
+    };
+    lines(text).map(error_of).collect()
+}
+
+/// Returns why there is no verdict.
+pub(crate) fn refusal(text: Text, status: u32, told: &str, given: &[u8]) -> Error {
+    let words = lines(told).next().unwrap_or_default();
+    let word = |index: usize| words.get(index).map(String::as_str).unwrap_or_default();
+    let number = |index: usize| word(index).parse::<usize>().ok();
+    match status {
+        BAD_SCHEMA => {
+            let error = Document::new(given).error(word(0), word(3), word(1), Location::default(), word(2));
+            Error::Schema(Box::new(error))
+        }
+        NOT_JSON => {
+            let place = (number(0), number(1), number(2));
+            let position = match place {
+                (Some(offset), Some(line), Some(column)) => Some(Position { offset, line, column }),
+                _ => None,
+            };
+            Error::NotJson { text, position }
+        }
+        INEXACT => Error::Inexact(Document::new(given).find(word(0)).0),
+        NO_MEMORY => Error::NoMemory,
+        other => Error::Status(other),
+    }
+}
+
+/// A JSON text, read once for all errors of a call.
+struct Document {
+    text: Arc<str>,
+    root: Option<Value>,
+}
+
+impl Document {
+    fn new(text: &[u8]) -> Document {
+        let text: Arc<str> = String::from_utf8_lossy(text).into();
+        Document { root: read(&text), text }
+    }
+
+    fn error(&self, keyword: &str, expected: &str, at: &str, schema_path: Location, message: &str) -> ValidationError {
+        let (instance_path, range) = self.find(at);
+        ValidationError {
+            kind: kind(keyword, expected),
+            instance_path,
+            schema_path,
+            message: message.to_string(),
+            text: Arc::clone(&self.text),
+            range,
+        }
+    }
+
+    /// Returns the steps of a JSON pointer, and the place of the value there.
+    fn find(&self, pointer: &str) -> (Location, Range<usize>) {
+        let (mut segments, mut value) = (Vec::new(), self.root.as_ref());
+        for word in pointer.split('/').skip(1) {
+            let name = unescaped(word);
+            value = match value.map(|value| &value.kind) {
+                Some(Kind::Array(items)) => {
+                    let index = name.parse().unwrap_or(usize::MAX);
+                    segments.push(PathSegment::Index(index));
+                    items.get(index)
+                }
+                Some(Kind::Object(members)) => {
+                    let member = members.get(&name);
+                    segments.push(PathSegment::Property(name));
+                    member
+                }
+                _ => {
+                    segments.push(PathSegment::Property(name));
+                    None
+                }
+            };
+        }
+        (Location { segments }, value.map_or(0..0, |value| value.range.clone()))
+    }
+}
+
+/// Returns the location of a keyword. Digits are an index, since no keyword's name is made of them.
+fn keyword_location(pointer: &str) -> Location {
+    let segment = |word: &str| match word.parse() {
+        Ok(index) => PathSegment::Index(index),
+        Err(_) => PathSegment::Property(unescaped(word)),
+    };
+    Location { segments: pointer.split('/').skip(1).map(segment).collect() }
+}
+
+fn unescaped(word: &str) -> String {
+    word.replace("~1", "/").replace("~0", "~")
+}
+
+/// Returns the kind of an error by its keyword and the JSON text of the expected value.
+fn kind(keyword: &str, expected: &str) -> ValidationErrorKind {
+    use ValidationErrorKind as Kinds;
+    let other = || Kinds::Other { keyword: keyword.to_string() };
+    let size = |kind: fn(u64) -> Kinds| expected.parse().map_or_else(|_| other(), kind);
+    let limit = |kind: fn(i128) -> Kinds| expected.parse().map_or_else(|_| other(), kind);
+    match keyword {
+        "additionalItems" => size(|limit| Kinds::AdditionalItems { limit }),
+        "compileError" => Kinds::CompileError,
+        "const" => Kinds::Constant { expected_value: expected.to_string() },
+        "contains" => Kinds::Contains,
+        "enum" => Kinds::Enum { options: expected.to_string() },
+        "exclusiveMaximum" => limit(|limit| Kinds::ExclusiveMaximum { limit }),
+        "exclusiveMinimum" => limit(|limit| Kinds::ExclusiveMinimum { limit }),
+        "falseSchema" => Kinds::FalseSchema,
+        "maxItems" => size(|limit| Kinds::MaxItems { limit }),
+        "maximum" => limit(|limit| Kinds::Maximum { limit }),
+        "maxProperties" => size(|limit| Kinds::MaxProperties { limit }),
+        "minItems" => size(|limit| Kinds::MinItems { limit }),
+        "minimum" => limit(|limit| Kinds::Minimum { limit }),
+        "minProperties" => size(|limit| Kinds::MinProperties { limit }),
+        "multipleOf" => size(|multiple_of| Kinds::MultipleOf { multiple_of }),
+        "required" => match read(expected).map(|value| value.kind) {
+            Some(Kind::String(property)) => Kinds::Required { property },
+            _ => other(),
+        },
+        "type" => types(expected).map_or_else(other, |types| Kinds::Type { types }),
+        "uniqueItems" => Kinds::UniqueItems,
+        _ => other(),
+    }
+}
+
+/// Returns the types of the JSON text of a name, or of an array of names.
+fn types(text: &str) -> Option<Vec<JsonType>> {
+    let name = |value: Value| match value.kind {
+        Kind::String(name) => type_named(&name),
+        _ => None,
+    };
+    let value = read(text)?;
+    match value.kind {
+        Kind::Array(items) => items.into_iter().map(name).collect(),
+        _ => name(value).map(|name| vec![name]),
+    }
+}
+
+fn type_named(name: &str) -> Option<JsonType> {
+    Some(match name {
+        "array" => JsonType::Array,
+        "boolean" => JsonType::Boolean,
+        "integer" => JsonType::Integer,
+        "null" => JsonType::Null,
+        "number" => JsonType::Number,
+        "object" => JsonType::Object,
+        "string" => JsonType::String,
+        _ => return None,
+    })
+}

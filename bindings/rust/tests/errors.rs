@@ -1,0 +1,136 @@
+//! Errors and evaluation trees as data.
+use jskw::{
+    Annotation, Draft, Error, JsonType, PathSegment, Position, Text, ValidationError, ValidationErrorKind, Validator,
+};
+use ValidationErrorKind as Kind;
+
+fn only_error(draft: Draft, schema: &str, instance: &str) -> ValidationError {
+    let validator = Validator::options().with_draft(draft).build(schema).expect("a schema");
+    let mut errors = validator.iter_errors(instance).expect("an instance");
+    let first = errors.next().expect("an error");
+    assert_eq!(errors.next(), None, "{schema} {instance}");
+    first
+}
+
+#[test]
+fn kinds() {
+    let text = str::to_string;
+    let rows = [
+        (r#"{"type":"array"}"#, "1", Kind::Type { types: vec![JsonType::Array] }),
+        (
+            r#"{"type":["string","boolean","number","object","null"]}"#,
+            "[]",
+            Kind::Type {
+                types: vec![JsonType::Boolean, JsonType::Null, JsonType::Number, JsonType::Object, JsonType::String],
+            },
+        ),
+        (r#"{"type":"integer"}"#, "0.5", Kind::Type { types: vec![JsonType::Integer] }),
+        (
+            r#"{"const":{"b":[1,"x\t"],"a":0}}"#,
+            "1",
+            Kind::Constant { expected_value: text(r#"{"a":0,"b":[1,"x\t"]}"#) },
+        ),
+        (r#"{"enum":[1,"b"]}"#, "2", Kind::Enum { options: text(r#"[1,"b"]"#) }),
+        (r#"{"minimum":3}"#, "2.99", Kind::Minimum { limit: 3 }),
+        (r#"{"maximum":-9223372036854775808}"#, "0", Kind::Maximum { limit: i64::MIN.into() }),
+        (r#"{"exclusiveMinimum":18446744073709551615}"#, "0", Kind::ExclusiveMinimum { limit: u64::MAX.into() }),
+        (r#"{"exclusiveMaximum":2}"#, "2.0", Kind::ExclusiveMaximum { limit: 2 }),
+        (r#"{"multipleOf":2}"#, "3", Kind::MultipleOf { multiple_of: 2 }),
+        (r#"{"minItems":2}"#, "[1]", Kind::MinItems { limit: 2 }),
+        (r#"{"maxItems":0}"#, "[1]", Kind::MaxItems { limit: 0 }),
+        (r#"{"minProperties":2}"#, "{}", Kind::MinProperties { limit: 2 }),
+        (r#"{"maxProperties":0}"#, r#"{"a":1}"#, Kind::MaxProperties { limit: 0 }),
+        (r#"{"required":["a\t\"\u00e9\ud83d\ude00\\"]}"#, "{}", Kind::Required { property: text("a\t\"é😀\\") }),
+        (r#"{"uniqueItems":true}"#, "[1,1.0]", Kind::UniqueItems),
+        (r#"{"contains":false}"#, "[1]", Kind::Contains),
+        ("false", "1", Kind::FalseSchema),
+    ];
+    for (schema, instance, kind) in rows {
+        assert_eq!(*only_error(Draft::Draft202012, schema, instance).kind(), kind);
+    }
+    let beyond = only_error(Draft::Draft7, r#"{"items":[true],"additionalItems":false}"#, "[1,2]");
+    assert_eq!(*beyond.kind(), Kind::AdditionalItems { limit: 1 });
+}
+
+#[test]
+fn places() {
+    let schema = r#"{"items":{"prefixItems":[true,{"type":"null"}]}}"#;
+    let error = only_error(Draft::Draft202012, schema, " [ [], [ {\"]\" : 1} , [ 5 , \"a\\\"]\" ] ] ] ");
+    assert_eq!(error.instance_path().segments(), [PathSegment::Index(1), PathSegment::Index(1)]);
+    assert_eq!((error.instance_path().to_string(), error.instance()), ("/1/1".into(), r#"[ 5 , "a\"]" ]"#));
+    let steps = ["items", "prefixItems", "", "type"].map(|name| PathSegment::Property(name.into()));
+    let mut wanted = steps.to_vec();
+    wanted[2] = PathSegment::Index(1);
+    assert_eq!(error.schema_path().segments(), wanted);
+    assert!(format!("{error:?}").contains("kind: Type { types: [Null] }"));
+    let float = Validator::new("true").and_then(|all| all.is_valid(r#"{"0":{"a\tb\\n/~":[1, 1e-19]}}"#));
+    match float {
+        Err(Error::Inexact(location)) => {
+            assert_eq!(location.segments()[0], PathSegment::Property("0".into()));
+            assert_eq!(location.segments()[2], PathSegment::Index(1));
+            assert_eq!(location.to_string(), "/0/a\tb\\n~1~0/1");
+        }
+        other => panic!("{other:?}"),
+    }
+    let named = Validator::new("true").and_then(|all| all.is_valid("{\"a\\r\":1e19999}"));
+    assert!(matches!(named, Err(Error::Inexact(location)) if location.to_string() == "/a\r"));
+    let many = Validator::new(r#"{"items":false}"#).expect("a schema");
+    let list = format!("[{}0]", "0,".repeat(9999));
+    assert_eq!(many.iter_errors(&list).expect("an instance").count(), 10000);
+}
+
+#[test]
+fn refusals() {
+    let all = Validator::new("true").expect("a schema");
+    let position = Some(Position { offset: 6, line: 2, column: 3 });
+    assert_eq!(all.is_valid("[1,\n  ?]"), Err(Error::NotJson { text: Text::Instance, position }));
+    assert_eq!(all.validate("[1,\n  ?]"), Err(Error::NotJson { text: Text::Instance, position }));
+    assert_eq!(Validator::new("[1,\n  ?]").err(), Some(Error::NotJson { text: Text::Schema, position }));
+    let too_large = Validator::new(r#"{"minimum":1e999}"#).err();
+    assert_eq!(too_large, Some(Error::NotJson { text: Text::Schema, position: None }));
+    match Validator::new(r#"{"items":{"minItems":-1}}"#).unwrap_err() {
+        Error::Schema(error) => {
+            assert_eq!(*error.kind(), Kind::Minimum { limit: 0 });
+            assert_eq!((error.instance_path().to_string(), error.instance()), ("/items/minItems".into(), "-1"));
+        }
+        other => panic!("{other:?}"),
+    }
+    match Validator::new(r#"{"type":"foo"}"#).unwrap_err() {
+        Error::Schema(error) => assert_eq!((error.kind().keyword(), error.instance()), ("compileError", "\"foo\"")),
+        other => panic!("{other:?}"),
+    }
+    let error: Box<dyn std::error::Error + Send + Sync> = Box::new(all.is_valid("").unwrap_err());
+    assert_eq!(error.to_string(), "the instance is not JSON at line 1, column 1");
+}
+
+#[test]
+fn trees() -> Result<(), Error> {
+    let validator =
+        Validator::new(r#"{"contains":{"minimum":10},"minContains":1,"maxContains":2,"items":{"type":"number"}}"#)?;
+    let tree = validator.evaluate("[5, 10, 25.5]")?;
+    assert_eq!((tree.valid, tree.schema_location.as_str(), tree.children.len()), (true, "", 2));
+    let annotations: Vec<_> = tree.children.iter().map(|child| child.annotation.clone()).collect();
+    assert_eq!(annotations, [Some(Annotation::Bool(true)), Some(Annotation::Indices(vec![1, 2]))]);
+    let matching = &tree.children[1].children[0];
+    assert_eq!((matching.instance_location.as_str(), matching.schema_location.as_str()), ("/1", "/contains"));
+    let tree = Validator::new(r#"{"prefixItems":[true,{"type":"null"}],"required":["a"]}"#)?.evaluate("[1,2,3]")?;
+    assert_eq!((tree.valid, &tree.children[0].annotation), (false, &Some(Annotation::Index(1))));
+    let deep = format!("{}1{}", "[".repeat(120), "]".repeat(120));
+    let schema = format!("{}{{\"type\":\"null\"}}{}", "{\"items\":".repeat(120), "}".repeat(120));
+    let tree = Validator::new(schema)?.evaluate(deep)?;
+    let mut node = &tree;
+    while let Some(below) = node.children.first() {
+        node = below;
+    }
+    assert_eq!((node.valid, node.errors.clone()), (false, vec!["type".to_string()]));
+    Ok(())
+}
+
+#[test]
+fn own_words() {
+    let validator =
+        Validator::options().with_overridden(["type", "a\"\\\n"]).build(r#"{"type":"null"}"#).expect("a schema");
+    assert_eq!(validator.is_valid("1"), Ok(true));
+    assert_eq!(format!("{validator:?}"), r#"Validator { draft: Draft202012, schema: "{\"type\":\"null\"}", .. }"#);
+    assert!(jskw::version().library.starts_with("0.2."));
+}

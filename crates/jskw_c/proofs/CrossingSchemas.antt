@@ -1,0 +1,72 @@
+-- A compiled schema over exact decimals may cross threads, and be read in several at once.
+use denote.RattleType.{RattleType}
+use denote.Struct.Field.{bool-field, usize-field}
+use denote.Param.Send.{IsSend, IsSync, plain_send, plain_sync}
+use denote.Param.SendFields.{as_row_send, as_row_sync}
+use Rattle.std.proofs.Crossing as std
+use Rattle.std.specs.contracts.alloc.Global as heap
+use Rattle.std.specs.contracts.string.String as string
+use Rattle.std.specs.contracts.impls.GlobalAllocator.TheImpl.{ghosts}
+use Rattle.std.proofs.string.String.TheSendSync as string'
+use Rattle.std.below.std_heap.proofs.GlobalAllocator.TheSendSync.{the_frees}
+use Rattle.jskw_value.specs.contracts.decimal.Decimal as decimal
+use Rattle.jskw_value.specs.contracts.decimal_tree.DecimalJson as json
+use Rattle.jskw_value.specs.contracts.decimal_tree.DecimalTree as tree
+use Rattle.jskw_value.specs.contracts.decimal_tree.DecimalTreeRooted.TheImpl as rooted
+use Rattle.jskw_value.specs.contracts.decimal_tree.DecimalTreeObject.TheImpl as object
+use Rattle.jskw_value.specs.contracts.decimal.DecimalJsonNumber.TheImpl as numbered
+use Rattle.jskw_report.proofs.paths.Location.TheSendSync as location
+use Rattle.jskw_number.proofs.quick_set.QuickSet.TheSendSync as quick
+use Rattle.jskw_leaf.specs.contracts.type_.NumberType as of_number
+use Rattle.jskw_leaf.specs.contracts.type_.StringType as of_string
+use Rattle.jskw_leaf.specs.contracts.type_.BooleanType as of_boolean
+use Rattle.jskw_leaf.specs.contracts.type_.IntegerType as of_integer
+use Rattle.jskw_leaf.specs.contracts.legacy.type_draft_4.IntegerType as of_integer_4
+use Rattle.jskw_leaf.proofs.items.item_type.ItemsTypeValidator.TheSendSync as item_type
+use Rattle.jskw_leaf.proofs.items.absorbed.AbsorbedKeywords.TheSendSync as absorbed
+use Rattle.jskw_array.specs.contracts.node.SchemaNode as node
+use Rattle.jskw_array.proofs.node.SchemaNode.TheLaws.TheKnot as knot
+use Rattle.jskw_array.proofs.unit.BegunUnits.TheSendSync as begun
+use Rattle.jskw_array.proofs.additional_items.AdditionalItemsBooleanValidator.TheSendSync as additional
+use Rattle.jskw_array.proofs.matching.ItemBounds.TheSendSync as bounds
+use Rattle.jskw_c.proofs.CrossingValues.{row_send, row_sync}
+use Rattle.jskw_c.proofs.CrossingLeaves.{leaf_send, leaf_sync}
+
+-- the rows of `DecimalJson`, its trees, numbers and names
+
+abbrev S : RattleType
+S = json.the_row
+
+abbrev V : RattleType
+V = tree.the_row
+
+abbrev N : RattleType
+N = decimal.the_row
+
+abbrev K : RattleType
+K = string.the_row heap.the_row ghosts
+
+name_send : IsSend K
+name_send = string'.the_send heap.the_row ghosts std.send the_frees
+
+name_sync : IsSync K
+name_sync = string'.the_sync heap.the_row ghosts std.sync
+
+abbrev pub schema_row : RattleType
+schema_row = node.the_row S V N K rooted.ghosts object.ghosts numbered.ghosts
+
+pub schema_send : IsSend schema_row
+schema_send = knot.send-SchemaNode S V N K rooted.ghosts object.ghosts numbered.ghosts
+    (row_send location.the_send) (as_row_send bool-field (plain_send _ _ _ _ _)) quick.the_send begun.the_send std.Vec-send std.Box-send
+    (leaf_send S V N K rooted.ghosts object.ghosts numbered.ghosts name_send)
+    (item_type.the_send of_number.the_row S V N K) (item_type.the_send of_string.the_row S V N K) (item_type.the_send of_boolean.the_row S V N K)
+    (item_type.the_send of_integer.the_row S V N K) (item_type.the_send of_integer_4.the_row S V N K)
+    additional.the_send absorbed.the_send bounds.the_send (as_row_send usize-field (plain_send _ _ _ _ _))
+
+pub schema_sync : IsSync schema_row
+schema_sync = knot.sync-SchemaNode S V N K rooted.ghosts object.ghosts numbered.ghosts
+    (row_sync location.the_sync) (as_row_sync bool-field (plain_sync _ _ _ _ _)) quick.the_sync begun.the_sync std.Vec-sync std.Box-sync
+    (leaf_sync S V N K rooted.ghosts object.ghosts numbered.ghosts name_sync)
+    (item_type.the_sync of_number.the_row S V N K) (item_type.the_sync of_string.the_row S V N K) (item_type.the_sync of_boolean.the_row S V N K)
+    (item_type.the_sync of_integer.the_row S V N K) (item_type.the_sync of_integer_4.the_row S V N K)
+    additional.the_sync absorbed.the_sync bounds.the_sync (as_row_sync usize-field (plain_sync _ _ _ _ _))

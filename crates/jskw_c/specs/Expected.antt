@@ -1,0 +1,58 @@
+-- What a keyword expected, as JSON without spaces.
+use Rattle.std.specs.Prelude.{◌≡◌, ℕ, ℤ, List, [], ◌∷◌, ◌++◌, false, codes, decimal, filter, map}
+use Rattle.std.specs.Fmt.{signed_decimal}
+use Rattle.json.specs.Print.{quoted}
+use Rattle.serde_json.specs.Data.{Data}
+use Rattle.serde_json.specs.Written.{compact_text, has_float}
+use Rattle.jskw_value.specs.Types.{contains, type_name}
+use Rattle.jskw_value.specs.declared.types.JsonType.{JsonType}
+use Rattle.jskw_value.specs.declared.types.JsonType.TheVariants.{Array, Boolean, Integer, Null, Number, Object, String}
+use Rattle.jskw_value.specs.declared.types.JsonTypeSet.{JsonTypeSet}
+use Rattle.jskw_report.specs.Kind.{ErrorKind, EnumOptions}
+use Rattle.jskw_report.specs.Kind as kind
+use Rattle.jskw_report.specs.declared.error.TypeKind.{TypeKind}
+use Rattle.jskw_report.specs.declared.error.TypeKind.TheVariants.{Single, Multiple}
+use Rattle.jskw_c.specs.Evaluated.{strings_text}
+
+-- the types, in alphabetical order
+abbrev pub all_types : List JsonType
+all_types = Array ∷ Boolean ∷ Integer ∷ Null ∷ Number ∷ Object ∷ String ∷ []
+
+-- an array of the names of types
+abbrev pub names_text : List JsonType → List ℕ
+names_text types = codes "[" ++ (strings_text false (map type_name types) ++ codes "]")
+
+-- the name of the one type, or an array of the names of several
+abbrev pub types_text : TypeKind → List ℕ
+types_text (Single j) = quoted (type_name j)
+types_text (Multiple s) = names_text (filter (contains s) all_types)
+
+-- a value of the schema. One with a float has no text here; the schemas that compile expect none
+abbrev pub IsCompact : Data → List ℕ → Type 0
+IsCompact d text = has_float d ≡ false → text ≡ compact_text d
+
+-- the options of `enum`, or the names that `type` takes
+abbrev pub AreOptions : EnumOptions → List ℕ → Type 0
+AreOptions (kind.Listed d) text = IsCompact d text
+AreOptions kind.TypeNames text = text ≡ names_text all_types
+
+-- the limit, divisor, constant, options or name, or the type or types; nothing where the kind has none of these
+abbrev pub IsExpected : ErrorKind → List ℕ → Type 0
+IsExpected (kind.AdditionalItems n) text = text ≡ decimal n
+IsExpected (kind.CompileError m) text = text ≡ []
+IsExpected (kind.Constant d) text = IsCompact d text
+IsExpected kind.Contains text = text ≡ []
+IsExpected (kind.Enum o) text = AreOptions o text
+IsExpected (kind.ExclusiveMaximum z) text = text ≡ signed_decimal z
+IsExpected (kind.ExclusiveMinimum z) text = text ≡ signed_decimal z
+IsExpected kind.FalseSchema text = text ≡ []
+IsExpected (kind.MaxItems n) text = text ≡ decimal n
+IsExpected (kind.Maximum z) text = text ≡ signed_decimal z
+IsExpected (kind.MaxProperties n) text = text ≡ decimal n
+IsExpected (kind.MinItems n) text = text ≡ decimal n
+IsExpected (kind.Minimum z) text = text ≡ signed_decimal z
+IsExpected (kind.MinProperties n) text = text ≡ decimal n
+IsExpected (kind.MultipleOf n) text = text ≡ decimal n
+IsExpected (kind.Required name) text = text ≡ quoted name
+IsExpected (kind.WrongType k) text = text ≡ types_text k
+IsExpected kind.UniqueItems text = text ≡ []

@@ -1,0 +1,150 @@
+//! What a keyword expected, as JSON.
+ghost use Rattle.std.specs.Prelude.{◌≡◌, ◌++◌, IfOk, OnOk, decimal, false, filter, map};
+ghost use Rattle.std.specs.Fmt.{signed_decimal};
+ghost use Rattle.jskw_value.specs.Types.{contains, type_name};
+ghost use Rattle.jskw_report.specs.Errors.{kind_of, options_of};
+ghost use Rattle.json.specs.Print.{quoted};
+ghost use Rattle.jskw_c.specs.Evaluated.{strings_text};
+ghost use Rattle.jskw_c.specs.Expected.{AreOptions, IsExpected, all_types, names_text, types_text};
+
+use crate::json_parts::{push_comma, push_string, push_text};
+use jskw_report::{EnumOptions, TypeKind, ValidationErrorKind};
+use jskw_value::types::{JsonType, JsonTypeSet};
+use std::alloc::{AllocError, Global};
+
+// The order in which the types of a set are written.
+const TYPES: [JsonType; 7] = [
+    JsonType::Array,
+    JsonType::Boolean,
+    JsonType::Integer,
+    JsonType::Null,
+    JsonType::Number,
+    JsonType::Object,
+    JsonType::String,
+];
+
+// Returns what the keyword expected, as compact JSON: the limit, divisor, constant, options or name,
+// or the type or types. For a kind that has none of these the text is empty.
+pub(crate) fn expected_text(
+    alloc: Global,
+    kind: &ValidationErrorKind<'_>,
+) -> Result<Vec<u8>, AllocError>
+    ensures { IfOk result (λ text. IsExpected (kind_of kind.now) text.items) }
+{
+    match kind {
+        ValidationErrorKind::AdditionalItems { limit } => size_text(alloc, *limit as u64),
+        ValidationErrorKind::Constant { expected_value } => expected_value.to_vec(alloc),
+        ValidationErrorKind::Enum { options } => options_text(alloc, options),
+        ValidationErrorKind::MaxItems { limit }
+        | ValidationErrorKind::MaxProperties { limit }
+        | ValidationErrorKind::MinItems { limit }
+        | ValidationErrorKind::MinProperties { limit } => size_text(alloc, *limit),
+        ValidationErrorKind::ExclusiveMaximum { limit }
+        | ValidationErrorKind::ExclusiveMinimum { limit }
+        | ValidationErrorKind::Maximum { limit }
+        | ValidationErrorKind::Minimum { limit } => limit_text(alloc, *limit),
+        ValidationErrorKind::MultipleOf { multiple_of } => size_text(alloc, *multiple_of),
+        ValidationErrorKind::Required { property } => string_text(alloc, property),
+        ValidationErrorKind::WrongType { kind } => types_text(alloc, *kind),
+        ValidationErrorKind::CompileError { .. }
+        | ValidationErrorKind::Contains
+        | ValidationErrorKind::FalseSchema
+        | ValidationErrorKind::UniqueItems => Ok(Vec::new(alloc)),
+    }
+}
+
+// Returns a bound on a size, or a divisor.
+fn size_text(alloc: Global, size: u64) -> Result<Vec<u8>, AllocError>
+    ensures { IfOk result (λ text. text.items ≡ decimal size) }
+{
+    Ok(format!(in alloc; "{size}")?.into_bytes())
+}
+
+// Returns a limit on numbers.
+fn limit_text(alloc: Global, limit: i128) -> Result<Vec<u8>, AllocError>
+    ensures { IfOk result (λ text. text.items ≡ signed_decimal limit) }
+{
+    Ok(format!(in alloc; "{limit}")?.into_bytes())
+}
+
+// Returns the array of `enum`, or that of the names of all types.
+fn options_text(alloc: Global, options: &EnumOptions<'_>) -> Result<Vec<u8>, AllocError>
+    ensures { IfOk result (λ text. AreOptions (options_of options.now) text.items) }
+{
+    match options {
+        EnumOptions::Listed(value) => value.to_vec(alloc),
+        EnumOptions::TypeNames => {
+            let types = JsonTypeSet::empty()
+                .insert(JsonType::Array)
+                .insert(JsonType::Boolean)
+                .insert(JsonType::Integer)
+                .insert(JsonType::Null)
+                .insert(JsonType::Number)
+                .insert(JsonType::Object)
+                .insert(JsonType::String);
+            names_text(alloc, types)
+        }
+    }
+}
+
+// Returns the name of the type, or an array of names.
+fn types_text(alloc: Global, kind: TypeKind) -> Result<Vec<u8>, AllocError>
+    ensures { IfOk result (λ text. text.items ≡ types_text kind) }
+{
+    match kind {
+        TypeKind::Single(json_type) => string_text(alloc, type_name(json_type)),
+        TypeKind::Multiple(types) => names_text(alloc, types),
+    }
+}
+
+// Returns the array of the names of the types.
+#[tactic(auto, unfolding(crate::specs::Expected::names_text))]
+fn names_text(alloc: Global, types: JsonTypeSet) -> Result<Vec<u8>, AllocError>
+    ensures { IfOk result (λ text. text.items ≡ names_text (filter (contains types) all_types)) }
+{
+    let mut text = Vec::new(alloc);
+    push_text(&mut text, b"[")?;
+    push_names(alloc, &mut text, types)?;
+    push_text(&mut text, b"]")?;
+    Ok(text)
+}
+
+// Appends the names of the types, as the items of an array.
+fn push_names(alloc: Global, text: &mut Vec<u8>, types: JsonTypeSet) -> Result<(), AllocError>
+    ensures { OnOk result (text.new.items ≡ text.old.items
+        ++ strings_text false (map type_name (filter (contains types) all_types))) }
+{
+    let mut later = false;
+    for json_type in TYPES {
+        if types.contains(json_type) {
+            push_comma(text, later)?;
+            push_string(alloc, text, type_name(json_type))?;
+            later = true;
+        }
+    }
+    Ok(())
+}
+
+// Returns the name of the type.
+fn type_name(json_type: JsonType) -> &'static str
+    ensures { result.now ≡ type_name json_type }
+{
+    match json_type {
+        JsonType::Array => "array",
+        JsonType::Boolean => "boolean",
+        JsonType::Integer => "integer",
+        JsonType::Null => "null",
+        JsonType::Number => "number",
+        JsonType::Object => "object",
+        JsonType::String => "string",
+    }
+}
+
+// Returns a string in quotes.
+fn string_text(alloc: Global, value: &str) -> Result<Vec<u8>, AllocError>
+    ensures { IfOk result (λ text. text.items ≡ quoted value.now) }
+{
+    let mut text = Vec::new(alloc);
+    push_string(alloc, &mut text, value)?;
+    Ok(text)
+}

@@ -1,0 +1,36 @@
+use Rattle.std.proofs.Common.{◌≡◌, ℕ, ◌+◌, ◌*◌, ◌≤◌, length, map}
+use Rattle.json.specs.Json.{items, members, value, parse_map}
+use Rattle.jskw_value.specs.Tree.{no_members}
+use Rattle.jskw_text.specs.Entries.{entry_tree, members_from_entries}
+use Rattle.jskw_text.specs.Reading.{on_found, items_of, members_of}
+use Rattle.jskw_text.proofs.Reading.{items_before}
+use Rattle.jskw_text.proofs.tree.+read.Given as goal
+
+abbrev pub decreases-read : goal.decreases-read
+decreases-read l = 2 * l.depth
+
+abbrev pub decreases-read_items : goal.decreases-read_items
+decreases-read_items l = 2 * l.depth + 1
+
+abbrev pub decreases-read_members : goal.decreases-read_members
+decreases-read_members l = 2 * l.depth + 1
+
+abbrev pub invariant-read_items-items : goal.invariant-read_items-items
+invariant-read_items-items l =
+    (n : ℕ) × (length l.reader ≤ n)
+    × (parse_map (items_of 0) (items (value l.depth) (length l.initial.reader) l.initial.reader)
+    ≡ parse_map (on_found (items_before l.found.items)) (parse_map (items_of (length l.found.items)) (items (value l.depth) n l.reader)))
+    × (length l.reader ≤ length l.initial.reader)
+
+abbrev pub decreases-read_items-items : goal.decreases-read_items-items
+decreases-read_items-items l = length l.reader
+
+abbrev pub invariant-read_members-members : goal.invariant-read_members-members
+invariant-read_members-members l =
+    (n : ℕ) × (length l.reader ≤ n)
+    × (parse_map (members_of no_members) (members (value l.depth) (length l.initial.reader) l.initial.reader)
+    ≡ parse_map (members_of (members_from_entries (map entry_tree l.found.entries))) (members (value l.depth) n l.reader))
+    × (length l.reader ≤ length l.initial.reader)
+
+abbrev pub decreases-read_members-members : goal.decreases-read_members-members
+decreases-read_members-members l = length l.reader

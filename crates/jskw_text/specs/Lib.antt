@@ -1,0 +1,8 @@
+pub mod Entries
+pub mod Laws
+pub mod NumberText
+pub mod Position
+pub mod ReadFault
+pub mod Reading
+pub mod Stop
+pub mod Tens

@@ -1,0 +1,19 @@
+-- What a fault says of the bytes.
+use Rattle.std.specs.Prelude.{◌≡◌, ◌≤◌, ℕ, List, length, None, Some, Err, false, string_bytes, ⊤}
+use Rattle.std.specs.Str.{is_utf8, IsValidUpTo}
+use Rattle.jskw_text.specs.Reading.{reading}
+use Rattle.jskw_text.specs.declared.fault.ReadFault.{ReadFault}
+use Rattle.jskw_text.specs.declared.fault.ReadFault.TheVariants.{NotJson, Inexact, Memory}
+
+-- the bytes are no JSON text, and the offset is none behind them; if they are not UTF-8, it is the length of the longest
+-- beginning that is
+pub record IsBrokenAt (bytes : List ℕ) (offset : ℕ) : Type 0 where
+  pub unread : reading bytes ≡ None
+  pub within : offset ≤ length bytes
+  pub utf8 : is_utf8 bytes ≡ false → IsValidUpTo bytes offset
+
+-- the bytes are no JSON text; or they are, and the location is that of their first number that is no decimal
+abbrev pub IsFaultOf : List ℕ → ReadFault → Type 0
+IsFaultOf bytes (NotJson offset) = IsBrokenAt bytes offset
+IsFaultOf bytes (Inexact l) = reading bytes ≡ Some (Err (string_bytes l))
+IsFaultOf bytes (Memory e) = ⊤

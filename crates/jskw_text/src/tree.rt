@@ -1,0 +1,246 @@
+//! The tree of decimals that a JSON text denotes.
+ghost use Rattle.std.specs.Prelude.{◌≡◌, ◌<◌, Some, Ok, IfOk, IfErr, OnOk, IsTrue, IsSome, ◌↔◌, length, map, string_bytes};
+ghost use Rattle.std.specs.Str.{is_utf8};
+ghost use Rattle.json.specs.Json.{value, items, members, parse_map};
+ghost use Rattle.jskw_value.specs.DecimalTree.{decimal_tree, items_from, entry_tree as member_tree};
+ghost use Rattle.jskw_value.specs.FirstFloat.{below_index, below_name};
+ghost use Rattle.jskw_value.specs.Tree.{no_members};
+ghost use Rattle.jskw_text.specs.Entries.{entry_tree, members_from_entries};
+ghost use Rattle.jskw_text.specs.ReadFault.{IsFaultOf};
+ghost use Rattle.jskw_text.specs.Stop.{IsStopOf, Explains, IsOutside};
+ghost use Rattle.jskw_text.specs.Reading.{document, reading, tree_of, items_of, members_of};
+
+use crate::broken::offset_of_break;
+use crate::fault::{ReadFault, Stop};
+use crate::number::parse_decimal;
+use jskw_value::members::{Member, MemberList};
+use jskw_value::pointer::{push_index, push_name};
+use jskw_value::{DecimalTree, Members};
+use json::{Reader, Scratch, Token};
+use std::alloc::{AllocError, Global};
+use std::collections::BTreeMap;
+
+// How deep arrays and objects may nest.
+pub(crate) const MAX_DEPTH: usize = 127;
+
+/// Reads the tree that bytes denote as JSON text.
+///
+/// # Errors
+///
+/// [`ReadFault::NotJson`] if the bytes are not JSON, [`ReadFault::Inexact`] if they are and a number
+/// has a value that no decimal has. The numbers of a member whose name comes again count, too.
+pub fn read_bytes(alloc: Global, bytes: &[u8]) -> Result<DecimalTree, ReadFault>
+    ensures tree { IfOk result (λ tree. reading bytes.now ≡ Some (Ok (decimal_tree tree))) }
+    ensures fault { IfErr result (IsFaultOf bytes.now) }
+{
+    match simdutf8::compat::from_utf8(bytes) {
+        Ok(text) => read_text(alloc, text),
+        Err(e) => Err(ReadFault::NotJson(e.valid_up_to())),
+    }
+}
+
+// Reads the tree that a text denotes.
+fn read_text(alloc: Global, text: &str) -> Result<DecimalTree, ReadFault>
+    requires { IsTrue (is_utf8 text.now) }
+    ensures tree { IfOk result (λ tree. reading text.now ≡ Some (Ok (decimal_tree tree))) }
+    ensures fault { IfErr result (IsFaultOf text.now) }
+{
+    let mut scratch = Scratch::new(alloc);
+    match read_all(alloc, text, &mut scratch) {
+        Ok(tree) => Ok(tree),
+        Err(stop) => Err(fault_of(text, &mut scratch, stop)?),
+    }
+}
+
+// Returns the fault of a text that was read up to a stop. Behind an inexact number nothing was read.
+#[cold]
+#[inline(never)]
+fn fault_of(text: &str, scratch: &mut Scratch, stop: Stop) -> Result<ReadFault, AllocError>
+    requires utf8 { IsTrue (is_utf8 text.now) }
+    requires stop { IsStopOf text.now stop }
+    ensures { IfOk result (IsFaultOf text.now) }
+{
+    match stop {
+        Stop::Memory(e) => Ok(ReadFault::Memory(e)),
+        Stop::Broken => Ok(ReadFault::NotJson(offset_of_break(text, scratch)?)),
+        Stop::Inexact(location) => {
+            if is_json(text, scratch)? {
+                Ok(ReadFault::Inexact(location))
+            } else {
+                Ok(ReadFault::NotJson(offset_of_break(text, scratch)?))
+            }
+        }
+    }
+}
+
+// Returns whether a text is JSON.
+#[cold]
+fn is_json(text: &str, scratch: &mut Scratch) -> Result<bool, AllocError>
+    ensures { IfOk result (λ valid. IsTrue valid ↔ IsSome (document text.now)) }
+{
+    let mut reader = Reader::new(text, scratch)?;
+    Ok(reader.skip_value(MAX_DEPTH).is_ok() && reader.next().is_none())
+}
+
+// Reads the tree that a text denotes, up to the first stop.
+fn read_all(alloc: Global, text: &str, scratch: &mut Scratch) -> Result<DecimalTree, Stop>
+    requires { IsTrue (is_utf8 text.now) }
+    ensures tree { IfOk result (λ tree. reading text.now ≡ Some (Ok (decimal_tree tree))) }
+    ensures stop { IfErr result (IsStopOf text.now) }
+{
+    let mut reader = Reader::new(text, scratch)?;
+    let tree = read(alloc, &mut reader, MAX_DEPTH)?;
+    if reader.next().is_some() {
+        return Err(Stop::Broken);
+    }
+    Ok(tree)
+}
+
+// Reads the tree of the next value.
+#[cycle(read)]
+#[inline(always)]
+fn read(alloc: Global, reader: &mut Reader<'_>, depth: usize) -> Result<DecimalTree, Stop>
+    ensures ok { IfOk result (λ tree. parse_map tree_of (value depth reader.old)
+        ≡ Some (Ok (decimal_tree tree), reader.new)) }
+    ensures shorter { OnOk result (length reader.new < length reader.old) }
+    ensures err { IfErr result (λ e. Explains e (parse_map tree_of (value depth reader.old))) }
+{
+    let token = reader.next().ok_or(Stop::Broken)?;
+    match token {
+        Token::String(text) => Ok(DecimalTree::Text(String::from_str(alloc, text)?)),
+        Token::Number(text) => match parse_decimal(text) {
+            Some(decimal) => Ok(DecimalTree::Number(decimal)),
+            None => Err(Stop::Inexact(String::new(alloc))),
+        },
+        Token::Bool(boolean) => Ok(DecimalTree::Bool(boolean)),
+        Token::Null => Ok(DecimalTree::Null),
+        Token::EndObject | Token::EndArray | Token::Key(_) | Token::Bad => Err(Stop::Broken),
+        Token::BeginArray => {
+            if depth == 0 {
+                return Err(Stop::Broken);
+            }
+            Ok(DecimalTree::Array(read_items(alloc, reader, depth - 1)?))
+        }
+        Token::BeginObject => {
+            if depth == 0 {
+                return Err(Stop::Broken);
+            }
+            let found = read_members(alloc, reader, depth - 1)?;
+            Ok(DecimalTree::Object(listed(alloc, found)?))
+        }
+    }
+}
+
+// Reads the trees of the items up to the end of an array.
+#[cycle(read)]
+#[inline(never)]
+fn read_items(
+    alloc: Global,
+    reader: &mut Reader<'_>,
+    depth: usize,
+) -> Result<Vec<DecimalTree>, Stop>
+    ensures ok { IfOk result
+        (λ v. parse_map (items_of 0) (items (value depth) (length reader.old) reader.old)
+        ≡ Some (Ok (items_from (map decimal_tree v.items)), reader.new)) }
+    ensures shorter { OnOk result (length reader.new < length reader.old) }
+    ensures err { IfErr result (λ e. Explains e
+        (parse_map (items_of 0) (items (value depth) (length reader.old) reader.old))) }
+{
+    let mut found = Vec::new(alloc);
+    'items: while !reader.take_end_array() {
+        let item = match read(alloc, reader, depth) {
+            Ok(item) => item,
+            Err(stop) => return Err(in_item(alloc, found.len(), stop)),
+        };
+        found.push(item)?;
+    }
+    Ok(found)
+}
+
+// Reads the names and trees of the members up to the end of an object.
+#[cycle(read)]
+#[inline(never)]
+fn read_members(
+    alloc: Global,
+    reader: &mut Reader<'_>,
+    depth: usize,
+) -> Result<BTreeMap<String, DecimalTree>, Stop>
+    ensures ok { IfOk result (λ m. parse_map (members_of no_members)
+        (members (value depth) (length reader.old) reader.old)
+        ≡ Some (Ok (members_from_entries (map entry_tree m.entries)), reader.new)) }
+    ensures shorter { OnOk result (length reader.new < length reader.old) }
+    ensures err { IfErr result (λ e. Explains e (parse_map (members_of no_members)
+        (members (value depth) (length reader.old) reader.old))) }
+{
+    let mut found = BTreeMap::new(alloc);
+    'members: while let Some(name) = reader.next_key()? {
+        let key = String::from_str(alloc, name)?;
+        let member = match read(alloc, reader, depth) {
+            Ok(member) => member,
+            Err(stop) => return Err(in_member(alloc, key.as_str(), stop)),
+        };
+        drop(found.insert(key, member)?);
+    }
+    Ok(found)
+}
+
+// Returns the members of a map as a sorted list.
+fn listed(alloc: Global, found: BTreeMap<String, DecimalTree>) -> Result<Members, AllocError>
+    ensures { IfOk result (λ ms. map member_tree ms ≡ map entry_tree found.entries) }
+{
+    let mut list = Vec::with_capacity(alloc, found.len())?;
+    for (name, value) in found {
+        list.push(Member { name, value })?;
+    }
+    Ok(MemberList::of_sorted(list))
+}
+
+// Returns a stop in an item as one of its array.
+#[cold]
+fn in_item(alloc: Global, index: usize, stop: Stop) -> Stop
+    ensures { IsOutside (below_index index) stop result }
+{
+    match stop {
+        Stop::Inexact(below) => match below_item(alloc, index, below) {
+            Ok(location) => Stop::Inexact(location),
+            Err(e) => Stop::Memory(e),
+        },
+        _ => stop,
+    }
+}
+
+// Returns a stop in a member as one of its object.
+#[cold]
+fn in_member(alloc: Global, name: &str, stop: Stop) -> Stop
+    ensures { IsOutside (below_name name.now) stop result }
+{
+    match stop {
+        Stop::Inexact(below) => match below_member(alloc, name, below) {
+            Ok(location) => Stop::Inexact(location),
+            Err(e) => Stop::Memory(e),
+        },
+        _ => stop,
+    }
+}
+
+// Returns a location in an item, relative to its array.
+fn below_item(alloc: Global, index: usize, below: String) -> Result<String, AllocError>
+    ensures { IfOk result (λ location. string_bytes location
+        ≡ below_index index (string_bytes below)) }
+{
+    let mut location = String::new(alloc);
+    push_index(&mut location, index)?;
+    location.push_str(below.as_str())?;
+    Ok(location)
+}
+
+// Returns a location in a member, relative to its object.
+fn below_member(alloc: Global, name: &str, below: String) -> Result<String, AllocError>
+    ensures { IfOk result (λ location. string_bytes location
+        ≡ below_name name.now (string_bytes below)) }
+{
+    let mut location = String::new(alloc);
+    push_name(&mut location, name)?;
+    location.push_str(below.as_str())?;
+    Ok(location)
+}
