@@ -1,6 +1,7 @@
 -- Whether a member of a schema is checked, and why not.
-use Rattle.std.specs.Prelude.{ℕ, List, [], find, Bool, true, false, not, ◌&&◌, ◌||◌, codes, bytes_eq, Option, Some, None, is_some, if◌then◌else◌}
+use Rattle.std.specs.Prelude.{ℕ, List, find, Bool, true, false, not, ◌&&◌, ◌||◌, codes, bytes_eq, Option, Some, None, is_some, if◌then◌else◌}
 use Rattle.serde_json.specs.Data.{Data, array, object, Members}
+use Rattle.jskw_value.specs.Pointer.{Pointer}
 use Rattle.jskw_report.specs.Read.{read_word, part, min_contains, max_contains}
 use Rattle.jskw_report.specs.Setting.{Setting, has_vocabulary, stands, keywords, name_of, is_after_draft_4, is_after_draft_7}
 use Rattle.jskw_report.specs.Sibling.{is_true, is_false, has_keyword, is_handed_on}
@@ -41,9 +42,9 @@ is_items_value (array ds) = true
 is_items_value (object ms) = true
 is_items_value d = is_false d
 
--- the keyword of this value asserts something: it is read, or it makes the limit beside it exclusive
-abbrev pub is_asserted : KeywordName → Setting → Members → Data → Bool
-is_asserted w s ms d = is_some (read_word w s [] ms (Some (part d))) || (is_part_of_limit w s ms && is_true d)
+-- the keyword of this value, of a schema at p, asserts something: it is read, or it makes the limit beside it exclusive
+abbrev pub is_asserted : KeywordName → Setting → Pointer → Members → Data → Bool
+is_asserted w s p ms d = is_some (read_word w s p ms (Some (part d))) || (is_part_of_limit w s ms && is_true d)
 
 -- the keyword of this value accepts everything, by the standard: `uniqueItems` of `false` (Validation 6.4.3), `items` and
 -- `additionalItems` of `true` (Core 4.3.2), and a part of a limit that is `false` (Draft 4 Validation 5.1.2, 5.1.3)
@@ -59,8 +60,8 @@ idle_reason word.Required s ms = if is_handed_on s ms then Delegated else Inacti
 idle_reason w s ms = Inactive
 
 -- why the keyword of this value is unchecked, if it is
-abbrev pub keyword_reason : KeywordName → Setting → Members → Data → Option Reason
-keyword_reason w s ms d = if is_asserted w s ms d || asks_for_nothing w s ms d then None else Some (idle_reason w s ms)
+abbrev pub keyword_reason : KeywordName → Setting → Pointer → Members → Data → Option Reason
+keyword_reason w s p ms d = if is_asserted w s p ms d || asks_for_nothing w s ms d then None else Some (idle_reason w s ms)
 
 -- ---- other names
 
@@ -80,6 +81,6 @@ name_reason s ms name = if is_bound name then (if are_bounds_read s ms then None
 -- ---- a member
 
 -- why the member of this name, or keyword, and value is unchecked, if it is
-abbrev pub member_reason : Option KeywordName → Setting → Members → List ℕ → Data → Option Reason
-member_reason (Some w) s ms name d = keyword_reason w s ms d
-member_reason None s ms name d = name_reason s ms name
+abbrev pub member_reason : Option KeywordName → Setting → Pointer → Members → List ℕ → Data → Option Reason
+member_reason (Some w) s p ms name d = keyword_reason w s p ms d
+member_reason None s p ms name d = name_reason s ms name

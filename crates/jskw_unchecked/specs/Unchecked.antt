@@ -23,7 +23,7 @@ told q None below = below
 -- where its keyword applies subschemas
 abbrev pub unchecked_member : List ℕ → Data → Members → Setting → Pointer → List UncheckedMember → List UncheckedMember
 unchecked_member k d ms s p below =
-    told (member_location p k) (member_reason (keyword_named k) s ms k d) (if has_subschemas (keyword_named k) then below else [])
+    told (member_location p k) (member_reason (keyword_named k) s p ms k d) (if has_subschemas (keyword_named k) then below else [])
 
 abbrev mutual
   -- the unchecked members of the schema d at p, in the order in which they stand; a boolean has none

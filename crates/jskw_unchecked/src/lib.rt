@@ -11,6 +11,7 @@
 //! A call that returns a `Result` with `AllocError` fails only if memory runs out.
 #![tactic(auto)]
 
+pub mod laws;
 pub mod member;
 mod names;
 pub mod reason;

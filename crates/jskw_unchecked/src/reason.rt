@@ -1,5 +1,5 @@
 //! Why a member of a schema is not checked.
-ghost use Rattle.std.specs.Prelude.{◌≡◌, [], Some, is_some};
+ghost use Rattle.std.specs.Prelude.{◌≡◌, Some, is_some};
 ghost use Rattle.serde_json.specs.Find.{get_member};
 ghost use Rattle.serde_json.specs.View.{view, members_view};
 ghost use Rattle.jskw_report.specs.Read.{asserted, part, read_word};
@@ -56,8 +56,8 @@ pub(crate) fn member_reason<F: Json>(
     name: &str,
     value: &Value,
 ) -> Option<Reason>
-    ensures { result ≡ member_reason keyword ctx.now.setting (members_view parent.now.entries)
-        name.now (view value.now) }
+    ensures { let point = ctx.now in result ≡ member_reason keyword point.setting point.location
+        (members_view parent.now.entries) name.now (view value.now) }
 {
     match keyword {
         Some(keyword) => keyword_reason(ctx, parent, keyword, value),
@@ -72,8 +72,8 @@ fn keyword_reason<F: Json>(
     keyword: KeywordName,
     value: &Value,
 ) -> Option<Reason>
-    ensures { result ≡ keyword_reason keyword ctx.now.setting (members_view parent.now.entries)
-        (view value.now) }
+    ensures { let point = ctx.now in result ≡ keyword_reason keyword point.setting point.location
+        (members_view parent.now.entries) (view value.now) }
 {
     if is_asserted(ctx, parent, keyword, value) || asks_for_nothing(ctx, parent, keyword, value) {
         return None;
@@ -89,8 +89,8 @@ fn is_asserted<F: Json>(
     keyword: KeywordName,
     value: &Value,
 ) -> bool
-    ensures { result ≡ is_asserted keyword ctx.now.setting (members_view parent.now.entries)
-        (view value.now) }
+    ensures { let point = ctx.now in result ≡ is_asserted keyword point.setting point.location
+        (members_view parent.now.entries) (view value.now) }
 {
     is_read(ctx, parent, keyword, value)
         || (is_part_of_limit(ctx, parent, keyword) && is_true(value))
@@ -104,8 +104,8 @@ fn is_read<F: Json>(
     keyword: KeywordName,
     value: &Value,
 ) -> bool
-    ensures { result ≡ is_some (read_word keyword ctx.now.setting []
-        (members_view parent.now.entries) (Some (part (view value.now)))) }
+    ensures { let point = ctx.now in result ≡ is_some (read_word keyword point.setting
+        point.location (members_view parent.now.entries) (Some (part (view value.now)))) }
 {
     keyword.stands(ctx) && asserts(ctx, parent, keyword, value)
 }
@@ -118,8 +118,8 @@ fn asserts<F: Json>(
     keyword: KeywordName,
     value: &Value,
 ) -> bool
-    ensures { result ≡ is_some (asserted keyword ctx.now.setting []
-        (members_view parent.now.entries) (part (view value.now))) }
+    ensures { let point = ctx.now in result ≡ is_some (asserted keyword point.setting
+        point.location (members_view parent.now.entries) (part (view value.now))) }
 {
     match keyword {
         KeywordName::Items => is_items_value(value),

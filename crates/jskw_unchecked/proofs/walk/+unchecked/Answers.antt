@@ -1,7 +1,7 @@
 use Rattle.std.proofs.Common.{rules, ◌≡◌, ◌++◌, arith}
-use Rattle.serde_json.specs.View.{view}
+use Rattle.serde_json.specs.View.{view, items_view}
 use Rattle.jskw_value.specs.Pointer.{item_location}
-use Rattle.jskw_unchecked.specs.Unchecked.{unchecked}
+use Rattle.jskw_unchecked.specs.Unchecked.{unchecked, unchecked_each}
 use Rattle.jskw_unchecked.proofs.Items.{item_depth, next_schema}
 use Rattle.jskw_unchecked.proofs.walk.+unchecked.Goals as goal
 
@@ -18,4 +18,5 @@ push_each-loop-index-preserved g t c =
     let vs = c.args.schemas.now.items in
     let v = c.schema-item.result in
     let more : c.push_schema.new.list.items ≡ l.list.items ++ unchecked (view v) s (item_location p l.index) = search (rules, c.in_ok-push_schema.ensures, c.in_ok-item.ensures) in
-    next_schema l.list.items c.push_schema.new.list.items _ s p vs l.index v (search rules) (search rules) more l.invariant
+    let all = c.args.list.now.items ++ unchecked_each (items_view vs) s p 0 in
+    next_schema l.list.items c.push_schema.new.list.items all s p vs l.index v (search rules) (search rules) more l.invariant
