@@ -280,6 +280,9 @@ def calls():
         ("first_unlawful, arrays so deep", DEPTHS, "first_unlawful", lambda n: nested(n, 1)),
         ("message of an error, of an instance", THOUSANDS, "message", lambda n: [{"id": i} for i in range(n)]),
         ("Settings::new, overridden names", THOUSANDS, "settings", names),
+        ("unchecked, names that are no keywords", THOUSANDS, "unchecked", members),
+        ("unchecked, an array of schemas", THOUSANDS, "unchecked", lambda n: {"items": [{"minimum": i} for i in range(n)]}),
+        ("unchecked, schemas so deep", DEPTHS, "unchecked", lambda n: nested_schema(n)[0]),
         ("reading, integers", THOUSANDS, "read", lambda n: list(range(n))),
     ]
 

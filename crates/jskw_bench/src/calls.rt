@@ -2,7 +2,10 @@
 use crate::observers::compiled;
 use crate::timing::{Instance, Timing, fastest, instances, time_test};
 use jskw_array::SchemaNode;
-use jskw_report::{Draft, Fault, LazyLocation, Settings, ValidationContext, VocabularySet};
+use jskw_report::{
+    Context, Draft, Fault, LazyLocation, Settings, ValidationContext, VocabularySet,
+};
+use jskw_unchecked::unchecked;
 use jskw_value::{DecimalTree, Member, Members, Node, SerdeJson};
 use serde_json::Value;
 use std::alloc::{AllocError, Global};
@@ -26,6 +29,7 @@ pub(crate) fn time_call(
     match call {
         "first_unlawful" => return Ok(Some(time(rt, span, || has_no_float(alloc, &value))?)),
         "message" => return time_message(rt, span, text),
+        "unchecked" => return Ok(Some(time(rt, span, || lists_unchecked(alloc, &value))?)),
         "from_value" => return Ok(Some(time(rt, span, || has_decimals(alloc, &value))?)),
         _ => {}
     }
@@ -84,6 +88,13 @@ fn count_accepted<F: Fn() -> bool>(calls: usize, call: &F) -> usize
 // Returns whether no float is found in the value.
 fn has_no_float(alloc: Global, value: &Value) -> bool {
     matches!(value.first_unlawful(alloc), Ok(None))
+}
+
+// Returns whether there is memory to list what is not checked of a schema.
+fn lists_unchecked(alloc: Global, schema: &Value) -> bool {
+    let settings = Settings::new(Draft::Draft202012, VocabularySet::all(), Vec::new(alloc));
+    let ctx: Context<SerdeJson> = Context::new(alloc, &settings);
+    unchecked(alloc, &ctx, schema).is_ok()
 }
 
 // Times an error of the text's value under the schema `false`, and its message, which has the value.

@@ -119,7 +119,14 @@ fn print_row(
 fn is_call(word: &str) -> bool {
     matches!(
         word,
-        "read" | "first_unlawful" | "message" | "insert" | "from_pairs" | "from_value" | "settings"
+        "read"
+            | "first_unlawful"
+            | "message"
+            | "insert"
+            | "from_pairs"
+            | "from_value"
+            | "settings"
+            | "unchecked"
     )
 }
 

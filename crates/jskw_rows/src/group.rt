@@ -3,7 +3,7 @@ use crate::made::array_of;
 use crate::members::{Members, is_true, items, known, one_of, settings_of, text, wanted};
 use crate::row::{self, Subject};
 use crate::tally::Tally;
-use crate::{calls, requests};
+use crate::{calls, requests, unchecked};
 use jskw_leaf::is_leaf;
 use jskw_report::{Context, KeywordName, Settings};
 use jskw_value::SerdeJson;
@@ -11,7 +11,7 @@ use serde_json::Value;
 use std::alloc::Global;
 
 const GROUP: &str =
-    "description drafts vocabularies overridden objectLayer schema fused handsOnRequired refused tests";
+    "description drafts vocabularies overridden objectLayer schema fused handsOnRequired refused unchecked tests";
 
 const MAKER: &str = "count front choices back crowded again last";
 
@@ -29,7 +29,7 @@ pub(crate) fn check(tally: &mut Tally, group: &Value) {
         return calls::check(tally, group);
     }
     if let Some(group) = known(tally, group, GROUP) {
-        one_of(tally, group, "refused tests");
+        one_of(tally, group, "refused unchecked tests");
         check_drafts(tally, group);
     }
 }
@@ -79,6 +79,9 @@ fn check_tests(tally: &mut Tally, subject: Subject<'_>) {
     if subject.group.contains_key("refused") {
         tally.take_name(subject.draft, "refused");
         row::check(tally, subject, subject.group, &Value::Null);
+    }
+    if let Some(list) = subject.group.get("unchecked") {
+        unchecked::check(tally, subject, list);
     }
     for test in items(tally, subject.group, "tests") {
         if let Some(test) = known(tally, test, TEST) {

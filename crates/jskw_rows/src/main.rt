@@ -17,6 +17,7 @@ mod requests;
 mod row;
 mod tally;
 mod text;
+mod unchecked;
 mod wanted;
 mod whole;
 

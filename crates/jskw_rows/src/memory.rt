@@ -10,14 +10,16 @@ mod printed;
 
 use crate::members::settings_of;
 use crate::text::{Made, Text};
-use jskw_report::Settings;
+use crate::unchecked::push_members;
+use jskw_report::{Context, Settings};
 use jskw_service::read_value;
+use jskw_unchecked::unchecked;
 use jskw_value::{
     Decimal, DecimalJson, DecimalTree, InsertFault, Member, Members, Node, RepeatedName, SerdeJson,
 };
 use observers::compile_and_ask;
 use printed::Printer;
-use serde_json::Value;
+use serde_json::{Map, Value};
 use std::alloc::Global;
 
 /// Prints the name of a line and makes its calls. Returns whether it says what to do.
@@ -49,6 +51,9 @@ fn make_calls(to: &mut Printer<'_>, arguments: &[Value]) {
         ("value", [value]) => ask_value(to, value),
         ("insert", [Value::Array(names), Value::String(name)]) => insert(to, names, name),
         ("from_pairs", [Value::Array(names)]) => from_pairs(to, names),
+        ("unchecked", [Value::String(draft), Value::Object(group), schema]) => {
+            ask_unchecked(to, draft, group, schema);
+        }
         _ => make_calls_of_schema(to, arguments),
     }
 }
@@ -60,6 +65,26 @@ fn make_calls_of_schema(to: &mut Printer<'_>, arguments: &[Value]) {
     match &settings_of(to.alloc(), group, draft) {
         Ok(Some(settings)) => ask_schema(to, settings, schema, instance),
         _ => to.check(false),
+    }
+}
+
+// Asks which members of a schema are unchecked.
+fn ask_unchecked(to: &mut Printer<'_>, draft: &str, group: &Map<String, Value>, schema: &Value) {
+    match &settings_of(to.alloc(), group, draft) {
+        Ok(Some(settings)) => print_unchecked(to, settings, schema),
+        _ => to.check(false),
+    }
+}
+
+fn print_unchecked(to: &mut Printer<'_>, settings: &Settings, schema: &Value) {
+    let ctx: Context<SerdeJson> = Context::new(to.alloc(), settings);
+    to.announce("unchecked", true);
+    let list = unchecked(to.alloc(), &ctx, schema);
+    to.tell(list.is_err());
+    if list.is_ok() {
+        let mut text = Text::new(to.alloc());
+        push_members(&mut text, &list);
+        to.print_lines(text.as_str());
     }
 }
 

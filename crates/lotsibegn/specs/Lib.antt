@@ -18,6 +18,8 @@ pub use Rattle.jskw_report.specs.Compile.{Makes, refusal_of}
 pub use Rattle.jskw_report.specs.Keyword.{Schema, hands_on_required, schema_location}
 pub use Rattle.jskw_report.specs.Read.{read}
 pub use Rattle.jskw_report.specs.Setting.{Setting, all_vocabularies, stands, with_object_layer}
+-- what a schema says that is not checked
+pub use Rattle.jskw_unchecked.specs.Unchecked.{unchecked}
 -- the modules
 pub use Rattle.jskw_value.specs.Decimal
 pub use Rattle.jskw_value.specs.DecimalTree
@@ -47,3 +49,6 @@ pub use Rattle.jskw_report.specs.Paths
 pub use Rattle.jskw_report.specs.Read
 pub use Rattle.jskw_report.specs.Setting
 pub use Rattle.jskw_report.specs.Sibling
+pub use Rattle.jskw_unchecked.specs.Covered
+pub use Rattle.jskw_unchecked.specs.Reason
+pub use Rattle.jskw_unchecked.specs.Unchecked

@@ -8,6 +8,8 @@
 //!
 //! - **Compile a schema**: [`compile`] returns a [`SchemaNode`] or a [`CompileFault`]. It takes a
 //!   [`Context`] over [`Settings`]: a [`Draft`], a [`VocabularySet`] and overridden keywords.
+//! - **Ask what is not checked**: [`unchecked`] lists what a schema says that no validator asserts,
+//!   each an [`UncheckedMember`] with a [`Reason`].
 //! - **Validate an instance**: the calls of [`SchemaNode`], with a [`LazyLocation`] and a
 //!   [`ValidationContext`]. They require an instance without floats, as [`Node::is_lawful`] checks.
 //! - **Errors**: a [`ValidationError`] has a [`ValidationErrorKind`], two [`Location`]s and a
@@ -39,6 +41,8 @@ pub use jskw_report::{
     EvaluationNode, Fault, KeywordName, LazyLocation, Location, Settings, TypeKind,
     ValidationContext, ValidationError, ValidationErrorKind, Vocabulary, VocabularySet,
 };
+pub use jskw_unchecked;
+pub use jskw_unchecked::{Reason, UncheckedMember, unchecked};
 pub use jskw_value;
 pub use jskw_value::{
     Array, Decimal, DecimalJson, InsertFault, Json, JsonNumber, JsonType, JsonTypeSet, Member,

@@ -1,0 +1,4 @@
+pub mod Names
+pub mod Reason
+pub mod Unchecked
+pub mod Covered

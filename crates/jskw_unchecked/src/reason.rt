@@ -1,0 +1,261 @@
+//! Why a member of a schema is not checked.
+ghost use Rattle.std.specs.Prelude.{◌≡◌, Some, is_some};
+ghost use Rattle.serde_json.specs.Find.{get_member};
+ghost use Rattle.serde_json.specs.View.{view, members_view};
+ghost use Rattle.jskw_report.specs.Read.{asserted, part, read_word};
+ghost use Rattle.jskw_report.specs.Setting.{name_of};
+ghost use Rattle.jskw_report.specs.Sibling.{is_array, is_false, is_true, member_passes};
+ghost use Rattle.jskw_unchecked.specs.Reason.{are_bounds_read, asks_for_nothing, idle_reason};
+ghost use Rattle.jskw_unchecked.specs.Reason.{is_active, is_asserted, is_bound, is_items_value};
+ghost use Rattle.jskw_unchecked.specs.Reason.{is_part_of_limit, keyword_reason};
+ghost use Rattle.jskw_unchecked.specs.Reason.{member_reason, name_reason, word_of};
+
+use crate::names::{is_after_draft_7, is_annotation, is_not_implemented};
+use jskw_leaf::required;
+use jskw_report::context::member_of;
+use jskw_report::{Context, Draft, KeywordName, Vocabulary};
+use jskw_value::Json;
+use serde_json::{Map, Value};
+
+/// Why a member of a schema is not checked.
+#[derive(Clone, Copy, Debug, PartialEq, Eq)]
+pub enum Reason {
+    /// The draft has a keyword of this name that asserts or applies something, and this library
+    /// does not have it: `properties`, `$ref`, `pattern`.
+    NotImplemented,
+    /// The draft has no keyword of this name: a misspelt `minimun`.
+    Unknown,
+    /// A keyword of this library that asserts nothing as it stands: the draft does not have it, its
+    /// vocabulary is absent, its name is overridden, the keyword that it goes with is absent or not
+    /// active (`minContains` without `contains`), or it passes over such a value (`"items": "x"`).
+    Inactive,
+    /// A `required` that is left to an object layer.
+    Delegated,
+}
+
+impl Reason {
+    /// Returns the name of the reason: `notImplemented`, `unknown`, `inactive` or `delegated`.
+    pub fn as_str(self) -> &'static str
+        ensures { result.now ≡ word_of self }
+    {
+        match self {
+            Reason::NotImplemented => "notImplemented",
+            Reason::Unknown => "unknown",
+            Reason::Inactive => "inactive",
+            Reason::Delegated => "delegated",
+        }
+    }
+}
+
+// Returns why a member of `parent` is not checked, or `None` if it is checked or is an annotation.
+// `keyword` is the keyword of this library that has its name.
+pub(crate) fn member_reason<F: Json>(
+    ctx: &Context<'_, F>,
+    parent: &Map<String, Value>,
+    keyword: Option<KeywordName>,
+    name: &str,
+    value: &Value,
+) -> Option<Reason>
+    ensures { let point = ctx.now in result ≡ member_reason keyword point.setting point.location
+        (members_view parent.now.entries) name.now (view value.now) }
+{
+    match keyword {
+        Some(keyword) => keyword_reason(ctx, parent, keyword, value),
+        None => name_reason(ctx, parent, name),
+    }
+}
+
+// Returns why a keyword of this library is not checked.
+fn keyword_reason<F: Json>(
+    ctx: &Context<'_, F>,
+    parent: &Map<String, Value>,
+    keyword: KeywordName,
+    value: &Value,
+) -> Option<Reason>
+    ensures { let point = ctx.now in result ≡ keyword_reason keyword point.setting point.location
+        (members_view parent.now.entries) (view value.now) }
+{
+    if is_asserted(ctx, parent, keyword, value) || asks_for_nothing(ctx, parent, keyword, value) {
+        return None;
+    }
+    Some(idle_reason(ctx, parent, keyword))
+}
+
+// Returns whether the keyword asserts something: it is read, or it makes the limit beside it
+// exclusive.
+fn is_asserted<F: Json>(
+    ctx: &Context<'_, F>,
+    parent: &Map<String, Value>,
+    keyword: KeywordName,
+    value: &Value,
+) -> bool
+    ensures { let point = ctx.now in result ≡ is_asserted keyword point.setting point.location
+        (members_view parent.now.entries) (view value.now) }
+{
+    is_read(ctx, parent, keyword, value)
+        || (is_part_of_limit(ctx, parent, keyword) && is_true(value))
+}
+
+// Returns whether a keyword of the schema is read from this one.
+#[tactic(auto, unfolding(jskw_report::specs::Read::read_word))]
+fn is_read<F: Json>(
+    ctx: &Context<'_, F>,
+    parent: &Map<String, Value>,
+    keyword: KeywordName,
+    value: &Value,
+) -> bool
+    ensures { let point = ctx.now in result ≡ is_some (read_word keyword point.setting
+        point.location (members_view parent.now.entries) (Some (part (view value.now)))) }
+{
+    keyword.stands(ctx) && asserts(ctx, parent, keyword, value)
+}
+
+// Returns whether an active keyword asserts something.
+#[tactic(auto, unfolding(jskw_report::specs::Read::asserted))]
+fn asserts<F: Json>(
+    ctx: &Context<'_, F>,
+    parent: &Map<String, Value>,
+    keyword: KeywordName,
+    value: &Value,
+) -> bool
+    ensures { let point = ctx.now in result ≡ is_some (asserted keyword point.setting
+        point.location (members_view parent.now.entries) (part (view value.now))) }
+{
+    match keyword {
+        KeywordName::Items => is_items_value(value),
+        KeywordName::AdditionalItems => has_array(parent, "items") && !is_true(value),
+        KeywordName::UniqueItems => is_true(value),
+        KeywordName::Required => !required::is_handed_on(ctx, parent),
+        _ => true,
+    }
+}
+
+// Returns whether `items` of this value asserts something: it is an array, an object or `false`.
+fn is_items_value(value: &Value) -> bool
+    ensures { result ≡ is_items_value (view value.now) }
+{
+    matches!(
+        value,
+        Value::Array(_) | Value::Object(_) | Value::Bool(false)
+    )
+}
+
+// Returns whether the keyword is the part of an active limit of Draft 4 that makes it exclusive.
+fn is_part_of_limit<F: Json>(
+    ctx: &Context<'_, F>,
+    parent: &Map<String, Value>,
+    keyword: KeywordName,
+) -> bool
+    ensures { result
+        ≡ is_part_of_limit keyword ctx.now.setting (members_view parent.now.entries) }
+{
+    let limit = match keyword {
+        KeywordName::ExclusiveMinimum => KeywordName::Minimum,
+        KeywordName::ExclusiveMaximum => KeywordName::Maximum,
+        _ => return false,
+    };
+    ctx.draft() == Draft::Draft4 && is_active(ctx, parent, limit)
+}
+
+// Returns whether the keyword of this value accepts everything, by the standard.
+fn asks_for_nothing<F: Json>(
+    ctx: &Context<'_, F>,
+    parent: &Map<String, Value>,
+    keyword: KeywordName,
+    value: &Value,
+) -> bool
+    ensures { result ≡ asks_for_nothing keyword ctx.now.setting
+        (members_view parent.now.entries) (view value.now) }
+{
+    match keyword {
+        KeywordName::UniqueItems => keyword.stands(ctx) && is_false(value),
+        KeywordName::Items | KeywordName::AdditionalItems => keyword.stands(ctx) && is_true(value),
+        _ => is_part_of_limit(ctx, parent, keyword) && is_false(value),
+    }
+}
+
+// Returns why a keyword that asserts nothing is not checked.
+fn idle_reason<F: Json>(
+    ctx: &Context<'_, F>,
+    parent: &Map<String, Value>,
+    keyword: KeywordName,
+) -> Reason
+    ensures { result ≡ idle_reason keyword ctx.now.setting (members_view parent.now.entries) }
+{
+    match keyword {
+        KeywordName::Required if required::is_handed_on(ctx, parent) => Reason::Delegated,
+        _ => Reason::Inactive,
+    }
+}
+
+// Returns why a member is not checked whose name is no keyword of this library by itself.
+fn name_reason<F: Json>(
+    ctx: &Context<'_, F>,
+    parent: &Map<String, Value>,
+    name: &str,
+) -> Option<Reason>
+    ensures { result
+        ≡ name_reason ctx.now.setting (members_view parent.now.entries) name.now }
+{
+    if is_bound(name) {
+        if are_bounds_read(ctx, parent) {
+            None
+        } else {
+            Some(Reason::Inactive)
+        }
+    } else if is_annotation(ctx.draft(), name) {
+        None
+    } else if is_not_implemented(ctx.draft(), name) {
+        Some(Reason::NotImplemented)
+    } else {
+        Some(Reason::Unknown)
+    }
+}
+
+// Returns whether the name is `minContains` or `maxContains`.
+fn is_bound(name: &str) -> bool
+    ensures { result ≡ is_bound name.now }
+{
+    name == "minContains" || name == "maxContains"
+}
+
+// Returns whether an active `contains` reads the bounds beside it.
+fn are_bounds_read<F: Json>(ctx: &Context<'_, F>, parent: &Map<String, Value>) -> bool
+    ensures { result ≡ are_bounds_read ctx.now.setting (members_view parent.now.entries) }
+{
+    is_after_draft_7(ctx.draft())
+        && ctx.has_vocabulary(Vocabulary::Validation)
+        && is_active(ctx, parent, KeywordName::Contains)
+}
+
+// Returns whether the keyword is there and active.
+fn is_active<F: Json>(
+    ctx: &Context<'_, F>,
+    parent: &Map<String, Value>,
+    keyword: KeywordName,
+) -> bool
+    ensures { result ≡ is_active ctx.now.setting (members_view parent.now.entries) keyword }
+{
+    member_of(parent, keyword.as_str()).is_some() && keyword.stands(ctx)
+}
+
+// Returns whether the member `name` is an array.
+fn has_array(parent: &Map<String, Value>, name: &str) -> bool
+    ensures { result ≡ member_passes is_array name.now (members_view parent.now.entries) }
+{
+    matches!(member_of(parent, name), Some(Value::Array(_)))
+}
+
+// Returns whether the value is `true`.
+fn is_true(value: &Value) -> bool
+    ensures { result ≡ is_true (view value.now) }
+{
+    matches!(value, Value::Bool(true))
+}
+
+// Returns whether the value is `false`.
+fn is_false(value: &Value) -> bool
+    ensures { result ≡ is_false (view value.now) }
+{
+    matches!(value, Value::Bool(false))
+}
