@@ -7,7 +7,7 @@ use Rattle.std.proofs.Common.{refl}
 use Rattle.jskw_report.specs.declared.settings.Draft.TheVariants.{Draft4, Draft7}
 use Rattle.jskw_report.specs.Evaluation.{Evaluation, flag, index, indices, of_errors}
 use Rattle.jskw_report.specs.Read.{asserted, read_word}
-use Rattle.jskw_rows.proofs.Worked.{Row, row, Right, num, str, yes, no, arr, is, obj, under, latest, ev, evaluated}
+use Rattle.jskw_worked.proofs.Worked.{Row, row, Right, num, str, yes, no, arr, is, obj, under, latest, ev, evaluated}
 
 -- ---- evaluation trees
 
@@ -22,6 +22,9 @@ evaluations_trees =
     -- a bounded contains tells the matches: {"contains":{"type":"string"},"minContains":0} on [1,"a"]
     row (evaluated latest (obj (is "contains" (obj (is "type" (str "string") ∷ [])) ∷ is "minContains" (num 0) ∷ [])) (arr (num 1 ∷ str "a" ∷ [])))
     (Some (ev true "" "" None [] (ev true "/contains" "" (Some (indices (1 ∷ []))) [] (ev true "/contains" "/1" None [] (ev true "/contains/type" "/1" None [] [] ∷ []) ∷ []) ∷ []))) ∷
+    -- a contains with an upper bound tells the matches: {"contains":{"type":"string"},"maxContains":1} on ["a"]
+    row (evaluated latest (obj (is "contains" (obj (is "type" (str "string") ∷ [])) ∷ is "maxContains" (num 1) ∷ [])) (arr (str "a" ∷ [])))
+    (Some (ev true "" "" None [] (ev true "/contains" "" (Some (indices (0 ∷ []))) [] (ev true "/contains" "/0" None [] (ev true "/contains/type" "/0" None [] [] ∷ []) ∷ []) ∷ []))) ∷
     -- a bounded contains that fails tells its error alone: {"contains":{"type":"string"},"maxContains":1} on ["a","b"]
     row (evaluated latest (obj (is "contains" (obj (is "type" (str "string") ∷ [])) ∷ is "maxContains" (num 1) ∷ [])) (arr (str "a" ∷ str "b" ∷ [])))
     (Some (ev false "" "" None [] (ev false "/contains" "" None ("contains" ∷ []) [] ∷ []))) ∷

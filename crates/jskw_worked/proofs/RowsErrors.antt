@@ -11,7 +11,7 @@ use Rattle.jskw_report.specs.declared.error.TypeKind.TheVariants.{Single}
 use Rattle.jskw_report.specs.Kind.{AdditionalItems, Constant, Contains, Enum, Listed, ExclusiveMaximum, ExclusiveMinimum, FalseSchema, MaxItems, Maximum, MaxProperties, MinItems, Minimum, MinProperties, MultipleOf, Required, WrongType, UniqueItems}
 use Rattle.jskw_report.specs.Read.{asserted, read_word}
 use Rattle.jskw_report.specs.Sibling.{is_handed_on}
-use Rattle.jskw_rows.proofs.Worked.{Row, row, Right, Answer, num, minus, str, yes, no, arr, is, obj, decimal_tree, under, latest, with, applicator_only, validation_only, without, error, valid, errors, on, on_tree}
+use Rattle.jskw_worked.proofs.Worked.{Row, row, Right, Answer, num, minus, str, yes, no, arr, is, obj, decimal_tree, under, latest, with, applicator_only, validation_only, without, error, valid, errors, on, on_tree}
 
 -- ---- schemas and `type`
 

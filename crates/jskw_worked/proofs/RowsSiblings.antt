@@ -11,7 +11,7 @@ use Rattle.jskw_report.specs.KeywordValue.{of_type}
 use Rattle.jskw_report.specs.Read.{Asserts, asserted, read_word}
 use Rattle.jskw_report.specs.Setting.{no_vocabulary, with_object_layer}
 use Rattle.jskw_report.specs.Sibling.{is_handed_on, is_fused}
-use Rattle.jskw_rows.proofs.Worked.{Row, row, Right, Answer, num, minus, str, yes, no, arr, is, obj, obj_of, under, latest, with, applicator_only, validation_only, without, hands_on, asserted_in, fused, compile, refusal}
+use Rattle.jskw_worked.proofs.Worked.{Row, row, Right, Answer, num, minus, str, yes, no, arr, is, obj, obj_of, under, latest, with, applicator_only, validation_only, without, hands_on, asserted_in, fused, compile, refusal}
 use Rattle.jskw_report.specs.declared.keyword.KeywordName.TheVariants as word
 
 -- ---- what is handed on

@@ -9,7 +9,7 @@ use Rattle.jskw_report.specs.declared.settings.Draft.TheVariants.{Draft4, Draft7
 use Rattle.jskw_report.specs.KeywordValue.{of_type, of_types, not_whole, unknown_type}
 use Rattle.jskw_report.specs.Kind.{Enum, ExclusiveMinimum, Minimum, TypeNames}
 use Rattle.jskw_report.specs.Read.{asserted, read_word}
-use Rattle.jskw_rows.proofs.Worked.{Row, row, Right, Answer, num, minus, a_float, str, yes, arr, is, obj, under, latest, refusal, compile}
+use Rattle.jskw_worked.proofs.Worked.{Row, row, Right, Answer, num, minus, a_float, str, yes, arr, is, obj, under, latest, refusal, compile}
 
 -- ---- refusals
 

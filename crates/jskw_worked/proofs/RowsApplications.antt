@@ -5,7 +5,7 @@ use Rattle.std.specs.Prelude.{List, Option, ℕ, [], ◌∷◌, Some}
 use Rattle.std.proofs.Common.{refl}
 use Rattle.jskw_report.specs.declared.settings.Draft.TheVariants.{Draft7}
 use Rattle.jskw_report.specs.Read.{asserted, read_word}
-use Rattle.jskw_rows.proofs.Worked.{Row, row, Right, num, str, yes, no, arr, is, obj, under, latest, without, pairs_on, pairs_by_depth, needed_on}
+use Rattle.jskw_worked.proofs.Worked.{Row, row, Right, num, str, yes, no, arr, is, obj, under, latest, without, pairs_on, pairs_by_depth, needed_on}
 
 -- ---- pairs
 
