@@ -1,7 +1,1 @@
 pub mod Asks
-pub mod RowsApplications
-pub mod RowsErrors
-pub mod RowsEvaluation
-pub mod RowsRefusals
-pub mod RowsSiblings
-pub mod Worked
