@@ -4,6 +4,7 @@ from __future__ import annotations
 
 import doctest
 import inspect
+import json
 import pathlib
 import re
 
@@ -26,5 +27,6 @@ def run() -> None:
     check("the library's version", jskw.version()[0], f"jskw {jskw.__version__}")
     for name in jskw.__all__:
         check(f"{name} has a docstring", bool(inspect.getdoc(getattr(jskw, name))), True)
-    request = b'{"schema":{"required":["name","age"],"minProperties":2},"instance":{"age":36}}'
-    check("answer", jskw.answer(request), (1, "minProperties\t\t/minProperties\nrequired\t\t/required\n"))
+    request = {"schema": {"required": ["name", "age"], "minProperties": 2}, "instance": {"age": 36}}
+    for given in request, json.dumps(request).encode():
+        check("answer", jskw.answer(given), (1, "minProperties\t\t/minProperties\nrequired\t\t/required\n"))

@@ -137,7 +137,7 @@ def times() -> None:
     validator = jskw.Validator({"items": {"type": "string"}})
     for instance in list(range(4000)), json.dumps(list(range(4000))).encode():
         taken = []
-        for _ in range(5):
+        for _ in range(15):
             before = time.process_time()
             paths = [list(error.path) for error in validator.iter_errors(instance)]
             taken.append(time.process_time() - before)

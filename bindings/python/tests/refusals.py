@@ -54,6 +54,8 @@ def texts() -> None:
         (b'"\x00"', NOT_JSON, 1),
         (b"\xef\xbb\xbf1", NOT_JSON, 1),
         (b"1 2", NOT_JSON, 1),
+        (b'"' + b"[" * 200, NOT_JSON, 1),
+        (b'["\\', NOT_JSON, 1),
         (b"[" * 128 + b"]" * 128, deep, 1),
         (b"[" * 1_000_000, deep, 1),
         (b"\n" + b'{"a":' * 127 + b"[]" + b"}" * 127, deep, 2),

@@ -12,7 +12,8 @@ from .exceptions import NotJson
 DEPTH = 127
 ALLOWED = "which JSON allows and jskw does not"
 
-_TOKEN = re.compile(rb'"(?:[^"\\]|\\.)*"|[][{}]', re.DOTALL)
+# a string, which may lack its end, or a bracket
+_TOKEN = re.compile(rb'"(?:[^"\\]|\\.)*"?|[][{}]', re.DOTALL)
 
 
 def is_text(value: Any) -> bool:

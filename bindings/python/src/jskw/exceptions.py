@@ -111,8 +111,8 @@ class SchemaError(_Error):
 
 class NotJson(ValueError):
     """A text that is not JSON in UTF-8, or nests more than 127 levels, or has what is refused though JSON allows it;
-    `reason` says which. `text` is "schema" or "instance"; `offset` counts bytes from 0, `line` and `column` from 1;
-    they are None for a Python value that is not JSON."""
+    `reason` says which. `text` is "schema", "instance" or "request". `offset` counts bytes from 0, `line` and `column`
+    count from 1; they are None for a value of Python."""
 
     def __init__(
         self, text: str, reason: str, offset: int | None = None, line: int | None = None, column: int | None = None

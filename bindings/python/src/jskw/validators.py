@@ -287,9 +287,10 @@ def version() -> list[str]:
     return Owner().call("jskw_version", b"")[1].split("\n")[:2]
 
 
-def answer(request: bytes) -> tuple[int, str]:
-    """Returns the exit status and the output of the program `jskw` for a request."""
-    status, text = Owner().call("jskw_answer", request, request, len(request))
+def answer(request: Any) -> tuple[int, str]:
+    """Returns the exit status and the output of the program `jskw` for a request, a value or a text."""
+    given = text_of(request, "request")
+    status, text = Owner().call("jskw_answer", given, given, len(given))
     if status > _library.REFUSED:
         _refuse(status)
     return status, text
