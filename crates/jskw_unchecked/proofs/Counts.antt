@@ -65,7 +65,7 @@ both_bounds false false false = refl
 abbrev pub is_exclusive : Setting → Members → List ℕ → Bool
 is_exclusive s ms name = not (is_after_draft_4 s.draft) && member_passes is_true name ms
 
--- whether the keyword w, where it is read, asserts the member that is told by the test: it has one argument, the names
+-- whether the keyword w, where it is read, asserts the member whose name passes the test
 abbrev pub asserts_name : KeywordName → Setting → Members → (List ℕ → Bool) → Bool
 asserts_name word.Minimum s ms is = is (name_of word.Minimum) || (is (name_of word.ExclusiveMinimum) && is_exclusive s ms (name_of word.ExclusiveMinimum))
 asserts_name word.Maximum s ms is = is (name_of word.Maximum) || (is (name_of word.ExclusiveMaximum) && is_exclusive s ms (name_of word.ExclusiveMaximum))

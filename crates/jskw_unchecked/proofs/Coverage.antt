@@ -27,7 +27,7 @@ use Rattle.jskw_unchecked.proofs.Counts.{IfAsserts, NotExclusive, counted_named,
 use Rattle.jskw_unchecked.specs.Covered.{AllCover, AreCovered, CoverEach, Covers, EmptyListCovers, IsCovered, KeywordCovers, accepts_everything, count_at}
 use Rattle.jskw_unchecked.specs.Names.{is_annotation, is_not_implemented}
 use Rattle.jskw_unchecked.specs.Reason.{are_bounds_read, asks_for_nothing, is_active, is_asserted, is_bound, is_part_of_limit, keyword_named, keyword_reason, member_reason, name_reason}
-use Rattle.jskw_unchecked.specs.Unchecked.{has_subschemas, told, unchecked, unchecked_among, unchecked_each, unchecked_in, unchecked_member}
+use Rattle.jskw_unchecked.specs.Unchecked.{has_subschemas, listed, unchecked, unchecked_among, unchecked_each, unchecked_in, unchecked_member}
 use Rattle.jskw_unchecked.specs.declared.member.UncheckedMember.{UncheckedMember}
 use Rattle.jskw_unchecked.specs.declared.reason.Reason.{Reason}
 use Rattle.jskw_unchecked.specs.declared.reason.Reason.TheVariants.{NotImplemented, Unknown, Inactive}
@@ -54,10 +54,10 @@ nothing : {A : Type 0} (xs ys : List A) → xs ++ ys ≡ [] → (xs ≡ []) × (
 nothing [] ys e = (refl, e)
 nothing (x ∷ xs) ys e = cc
 
--- nothing is told of a member that has no reason, and none stand below it
-told_nothing : (q : Pointer) (r : Option Reason) (below : List UncheckedMember) → told q r below ≡ [] → (r ≡ None) × (below ≡ [])
-told_nothing q None below e = (refl, e)
-told_nothing q (Some r) below e = cc
+-- nothing is listed of a member that has no reason, and none stand below it
+listed_nothing : (q : Pointer) (r : Option Reason) (below : List UncheckedMember) → listed q r below ≡ [] → (r ≡ None) × (below ≡ [])
+listed_nothing q None below e = (refl, e)
+listed_nothing q (Some r) below e = cc
 
 -- every member of an object
 of_member : (ms all : Members) (s : Setting) (p : Pointer) (name : List ℕ) (d : Data) → unchecked_among ms all s p ≡ [] → get_member name ms ≡ Some d
@@ -247,7 +247,7 @@ module _ (s : Setting) (p : Pointer) (ms : Members) where
 
     -- all members, where nothing is unchecked
     pub all_covered : unchecked_among ms ms s p ≡ [] → AreCovered s p ms ks
-    all_covered none name d at = of_reason (keyword_named name) name d refl at (told_nothing _ _ _ (of_member ms ms s p name d none at)).0
+    all_covered none name d at = of_reason (keyword_named name) name d refl at (listed_nothing _ _ _ (of_member ms ms s p name d none at)).0
 
 -- ---- subschemas
 
@@ -276,7 +276,7 @@ module _ (s : Setting) (p : Pointer) (ms : Members) (good : MembersCover ms) (no
   none_below : (w : KeywordName) (d : Data) → get_member (name_of w) ms ≡ Some d → has_subschemas (keyword_named (name_of w)) ≡ true → unchecked_in d s (keyword_location p w) ≡ []
   none_below w d at h =
       sym (ap (λ b. if b then unchecked_in d s (keyword_location p w) else []) h)
-      ∙ (told_nothing _ _ _ (of_member ms ms s p (name_of w) d none at)).1
+      ∙ (listed_nothing _ _ _ (of_member ms ms s p (name_of w) d none at)).1
 
   -- a subschema covers the value of its keyword
   one_below : (w : KeywordName) (d : Data) (sub : Schema) → get_member (name_of w) ms ≡ Some d → has_subschemas (keyword_named (name_of w)) ≡ true → read d s (keyword_location p w) ≡ Ok sub → Covers sub s d

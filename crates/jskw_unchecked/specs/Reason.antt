@@ -1,6 +1,6 @@
 -- Whether a member of a schema is checked, and why not.
 use Rattle.std.specs.Prelude.{ℕ, List, find, Bool, true, false, not, ◌&&◌, ◌||◌, codes, bytes_eq, Option, Some, None, is_some, if◌then◌else◌}
-use Rattle.serde_json.specs.Data.{Data, array, object, Members}
+use Rattle.serde_json.specs.Data.{Data, Members}
 use Rattle.jskw_value.specs.Pointer.{Pointer}
 use Rattle.jskw_report.specs.Read.{read_word, part, min_contains, max_contains}
 use Rattle.jskw_report.specs.Setting.{Setting, has_vocabulary, stands, keywords, name_of, is_after_draft_4, is_after_draft_7}
@@ -35,12 +35,6 @@ abbrev pub is_part_of_limit : KeywordName → Setting → Members → Bool
 is_part_of_limit word.ExclusiveMinimum s ms = not (is_after_draft_4 s.draft) && is_active s ms word.Minimum
 is_part_of_limit word.ExclusiveMaximum s ms = not (is_after_draft_4 s.draft) && is_active s ms word.Maximum
 is_part_of_limit w s ms = false
-
--- a value of `items` that asserts something: an array of schemas, a schema that is an object, or `false`
-abbrev pub is_items_value : Data → Bool
-is_items_value (array ds) = true
-is_items_value (object ms) = true
-is_items_value d = is_false d
 
 -- the keyword of this value, of a schema at p, asserts something: it is read, or it makes the limit beside it exclusive
 abbrev pub is_asserted : KeywordName → Setting → Pointer → Members → Data → Bool

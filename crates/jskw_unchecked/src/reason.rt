@@ -1,16 +1,15 @@
 //! Why a member of a schema is not checked.
 ghost use Rattle.std.specs.Prelude.{◌≡◌, Some, is_some};
-ghost use Rattle.serde_json.specs.Find.{get_member};
 ghost use Rattle.serde_json.specs.View.{view, members_view};
 ghost use Rattle.jskw_report.specs.Read.{asserted, part, read_word};
-ghost use Rattle.jskw_report.specs.Setting.{name_of};
 ghost use Rattle.jskw_report.specs.Sibling.{is_array, is_false, is_true, member_passes};
 ghost use Rattle.jskw_unchecked.specs.Reason.{are_bounds_read, asks_for_nothing, idle_reason};
-ghost use Rattle.jskw_unchecked.specs.Reason.{is_active, is_asserted, is_bound, is_items_value};
-ghost use Rattle.jskw_unchecked.specs.Reason.{is_part_of_limit, keyword_reason};
-ghost use Rattle.jskw_unchecked.specs.Reason.{member_reason, name_reason, word_of};
+ghost use Rattle.jskw_unchecked.specs.Reason.{is_active, is_asserted, is_bound, is_part_of_limit};
+ghost use Rattle.jskw_unchecked.specs.Reason.{keyword_reason, member_reason, name_reason};
+ghost use Rattle.jskw_unchecked.specs.Reason.{word_of};
 
 use crate::names::{is_after_draft_7, is_annotation, is_not_implemented};
+use jskw_leaf::items::fusion::is_items_schema;
 use jskw_leaf::required;
 use jskw_report::context::member_of;
 use jskw_report::{Context, Draft, KeywordName, Vocabulary};
@@ -122,22 +121,12 @@ fn asserts<F: Json>(
         point.location (members_view parent.now.entries) (part (view value.now))) }
 {
     match keyword {
-        KeywordName::Items => is_items_value(value),
+        KeywordName::Items => value.is_array() || is_items_schema(value),
         KeywordName::AdditionalItems => has_array(parent, "items") && !is_true(value),
         KeywordName::UniqueItems => is_true(value),
         KeywordName::Required => !required::is_handed_on(ctx, parent),
         _ => true,
     }
-}
-
-// Returns whether `items` of this value asserts something: it is an array, an object or `false`.
-fn is_items_value(value: &Value) -> bool
-    ensures { result ≡ is_items_value (view value.now) }
-{
-    matches!(
-        value,
-        Value::Array(_) | Value::Object(_) | Value::Bool(false)
-    )
 }
 
 // Returns whether the keyword is the part of an active limit of Draft 4 that makes it exclusive.

@@ -3,8 +3,8 @@ ghost use Rattle.std.specs.Prelude.{◌≡◌, ◌++◌, ◌∷◌, [], IfOk};
 ghost use Rattle.serde_json.specs.View.{view, items_view, members_view};
 ghost use Rattle.jskw_value.specs.Pointer.{member_location};
 ghost use Rattle.jskw_unchecked.specs.Reason.{keyword_named, member_reason};
-ghost use Rattle.jskw_unchecked.specs.Unchecked.{has_subschemas, told, unchecked};
-ghost use Rattle.jskw_unchecked.specs.Unchecked.{unchecked_among, unchecked_each, unchecked_in};
+ghost use Rattle.jskw_unchecked.specs.Unchecked.{has_subschemas, unchecked, unchecked_among};
+ghost use Rattle.jskw_unchecked.specs.Unchecked.{unchecked_each, unchecked_in};
 ghost use Rattle.jskw_unchecked.specs.Unchecked.{unchecked_member};
 
 use crate::member::UncheckedMember;
