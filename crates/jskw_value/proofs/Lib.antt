@@ -7,6 +7,7 @@ pub mod DistinctNames
 pub mod Equal
 pub mod Fingerprints
 pub mod FirstFloat
+pub mod Keys
 pub mod Lawful
 pub mod Lists
 pub mod Lookups

@@ -1,4 +1,4 @@
--- What sorted fingerprints of whole items tell of the items.
+-- What sorted keys of items tell of the items.
 use Rattle.std.proofs.Common.{◌≡◌, ℕ, ◌+◌, ◌-◌, ◌<◌, ◌≤◌, ◌==◌, min, List, length, get_or, set, Bool, ◌&&◌, true, false, Some, slice_get, Result, Ok, Err, refl, ap, subst, ◌∙◌, inl, inr, ◌⊎◌, arith}
 use Rattle.std.proofs.Math.Bool.{and_comm}
 use Rattle.std.proofs.lemmas.Bool.{and_from, and_parts, both_ways, cases_lt, false_from_ne_true}
@@ -12,43 +12,44 @@ use Rattle.std.specs.List.{IsDistinct}
 use Rattle.std.specs.List.Sorted.{IsBinarySearchResult, IsNonDecreasing, IsPermutation, IsSorted, IsStrictlyIncreasing}
 use Rattle.std.specs.Ordering.{nat_cmp}
 use Rattle.std.specs.Result.{is_ok}
+use Rattle.jskw_value.specs.Doubt.{is_distinct_for, key}
 use Rattle.jskw_value.specs.Equality.{equal}
-use Rattle.jskw_value.specs.Fingerprint.{print, is_distinct_within, unlimited}
+use Rattle.jskw_value.specs.Sketch.{is_marked}
 use Rattle.jskw_value.specs.Tree.{Tree}
-use Rattle.jskw_value.specs.Unique.{AreNewIn, ArePrintsFrom, AreSortedPrints, IsNewAt, IsNotAmong, IsOnceAtMost, IsUniqueIn}
+use Rattle.jskw_value.specs.Unique.{AreKeysFrom, AreMarked, AreNewIn, AreSortedKeys, IsNewAt, IsNotAmong, IsOnceAtMost, IsUniqueIn}
 use Rattle.jskw_value.proofs.BlockSearch.{below, one_tree}
-use Rattle.jskw_value.proofs.Fingerprints.{equal_print}
+use Rattle.jskw_value.proofs.Keys.{equal_key}
 
 -- ---- as they are written
 
 -- none yet
-pub no_print : (seed start : ℕ) (ps : List ℕ) (ts : List Tree) → ArePrintsFrom seed start 0 ps ts
-no_print seed start ps ts = record { each = λ i t h e. absurd (omega (arith, h)); distinct = λ i t h e. absurd (omega (arith, h)) }
+pub no_key : (seed : ℕ) (marks : List ℕ) (start : ℕ) (ps : List ℕ) (ts : List Tree) → AreKeysFrom seed marks start 0 ps ts
+no_key seed marks start ps ts = record { each = λ i t h e. absurd (omega (arith, h)); distinct = λ i t h e. absurd (omega (arith, h)) }
 
 -- one more
-pub next_print : (seed start n p : ℕ) (ps : List ℕ) (ts : List Tree) (t : Tree) → p ≡ print seed unlimited t → n < length ps
-    → start + n < length ts → t ≡ get_or ts (start + n) t → is_distinct_within unlimited t ≡ true → ArePrintsFrom seed start n ps ts
-    → ArePrintsFrom seed start (n + 1) (set ps n p) ts
-next_print seed start n p ps ts t same h k e d known = record { each = λ i x l a. each i x a (below i n l); distinct = λ i x l a. distinct i x a (below i n l) }
+pub next_key : (seed : ℕ) (marks : List ℕ) (start n p : ℕ) (ps : List ℕ) (ts : List Tree) (t : Tree) → p ≡ key seed marks t → n < length ps
+    → start + n < length ts → t ≡ get_or ts (start + n) t → is_distinct_for marks t ≡ true → AreKeysFrom seed marks start n ps ts
+    → AreKeysFrom seed marks start (n + 1) (set ps n p) ts
+next_key seed marks start n p ps ts t same h k e d known = record { each = λ i x l a. each i x a (below i n l); distinct = λ i x l a. distinct i x a (below i n l) }
   where
     at : slice_get ts (start + n) ≡ Some t
     at = slice_get_read ts (length ts) (start + n) t refl k e
 
-    each : (i : ℕ) (x : Tree) → slice_get ts (start + i) ≡ Some x → (i ≡ n) ⊎ (i < n) → get_or (set ps n p) i 0 ≡ print seed unlimited x
+    each : (i : ℕ) (x : Tree) → slice_get ts (start + i) ≡ Some x → (i ≡ n) ⊎ (i < n) → get_or (set ps n p) i 0 ≡ key seed marks x
     each i x a (inl q) =
         ap (λ j. get_or (set ps n p) j 0) q ∙ get_or-set_same ps n p 0 h ∙ same
-        ∙ ap (print seed unlimited) (one_tree ts (start + n) (start + i) t x at (ap (λ j. start + j) q) a)
+        ∙ ap (key seed marks) (one_tree ts (start + n) (start + i) t x at (ap (λ j. start + j) q) a)
     each i x a (inr q) = get_or-set_other ps n i p 0 (λ w. omega (arith, q, w)) ∙ known.each i x q a
 
-    distinct : (i : ℕ) (x : Tree) → slice_get ts (start + i) ≡ Some x → (i ≡ n) ⊎ (i < n) → is_distinct_within unlimited x ≡ true
-    distinct i x a (inl q) = subst (λ z. is_distinct_within unlimited z ≡ true) (one_tree ts (start + n) (start + i) t x at (ap (λ j. start + j) q) a) d
+    distinct : (i : ℕ) (x : Tree) → slice_get ts (start + i) ≡ Some x → (i ≡ n) ⊎ (i < n) → is_distinct_for marks x ≡ true
+    distinct i x a (inl q) = subst (λ z. is_distinct_for marks z ≡ true) (one_tree ts (start + n) (start + i) t x at (ap (λ j. start + j) q) a) d
     distinct i x a (inr q) = known.distinct i x q a
 
 -- sorted
-pub sorted_prints : (seed start : ℕ) (ps qs : List ℕ) (ts : List Tree) → ArePrintsFrom seed start (length ps) ps ts
-    → IsPermutation ps qs → IsSorted nat_cmp qs → AreSortedPrints seed start qs ts
-sorted_prints seed start ps qs ts known m s =
-    record { in_order = ps; are_prints = known; permutation = m; sorted = IsNonDecreasingBy-from_sort (λ x. x) qs s }
+pub sorted_keys : (seed : ℕ) (marks : List ℕ) (start : ℕ) (ps qs : List ℕ) (ts : List Tree) → AreKeysFrom seed marks start (length ps) ps ts
+    → IsPermutation ps qs → IsSorted nat_cmp qs → AreSortedKeys seed marks start qs ts
+sorted_keys seed marks start ps qs ts known m s =
+    record { in_order = ps; are_keys = known; permutation = m; sorted = IsNonDecreasingBy-from_sort (λ x. x) qs s }
 
 -- ---- a number among sorted ones
 
@@ -110,14 +111,19 @@ once_before p xs ys m once i j l h f g =
     distinct : IsDistinct both xs
     distinct = IsDistinct-IsPermutation both flips ys xs (IsPermutation-sym xs ys m) (IsDistinct-from_apart both ys apart)
 
--- ---- items by their fingerprints
+-- it isn't marked, where all of them are
+pub not_marked : (xs sketch : List ℕ) (x : ℕ) → AreMarked (length xs) xs sketch → is_marked sketch x ≡ false → IsNotAmong x xs
+not_marked xs sketch x marked e i h f =
+    both_ways (is_marked sketch x) e (subst (λ y. is_marked sketch y ≡ true) f (marked i h))
 
--- the fingerprint of an item, as it was written
-written : (seed start : ℕ) (ps : List ℕ) (ts : List Tree) (known : AreSortedPrints seed start ps ts) (i : ℕ) (t : Tree) → start ≤ i
+-- ---- items by their keys
+
+-- the key of an item, as it was written
+written : (seed : ℕ) (marks : List ℕ) (start : ℕ) (ps : List ℕ) (ts : List Tree) (known : AreSortedKeys seed marks start ps ts) (i : ℕ) (t : Tree) → start ≤ i
     → i < start + length ps → slice_get ts i ≡ Some t
-    → (i - start < length known.in_order) × (get_or known.in_order (i - start) 0 ≡ print seed unlimited t) × (is_distinct_within unlimited t ≡ true)
-written seed start ps ts known i t l h e =
-    (within, known.are_prints.each (i - start) t within here, known.are_prints.distinct (i - start) t within here)
+    → (i - start < length known.in_order) × (get_or known.in_order (i - start) 0 ≡ key seed marks t) × (is_distinct_for marks t ≡ true)
+written seed marks start ps ts known i t l h e =
+    (within, known.are_keys.each (i - start) t within here, known.are_keys.distinct (i - start) t within here)
   where
     within : i - start < length known.in_order
     within = let n = length_permutation known.in_order ps known.permutation in omega (arith, n, l, h)
@@ -128,30 +134,30 @@ written seed start ps ts known i t l h e =
     here : slice_get ts (start + (i - start)) ≡ Some t
     here = subst (λ j. slice_get ts j ≡ Some t) place e
 
--- two items with a fingerprint that stands there once at most
-differ_once : (seed start : ℕ) (ps : List ℕ) (ts : List Tree) → AreSortedPrints seed start ps ts → (i j : ℕ) (t u : Tree) → start ≤ i
-    → i < j → j < start + length ps → slice_get ts i ≡ Some t → slice_get ts j ≡ Some u → IsOnceAtMost (print seed unlimited u) ps
+-- two items with a key that stands there once at most
+differ_once : (seed : ℕ) (marks : List ℕ) (start : ℕ) (ps : List ℕ) (ts : List Tree) → AreSortedKeys seed marks start ps ts → (i j : ℕ) (t u : Tree) → start ≤ i
+    → i < j → j < start + length ps → slice_get ts i ≡ Some t → slice_get ts j ≡ Some u → IsOnceAtMost (key seed marks u) ps
     → equal t u ≡ false
-differ_once seed start ps ts known i j t u l h m e f once = false_from_ne_true (equal t u) (λ w.
-    once_before (print seed unlimited u) known.in_order ps known.permutation once (i - start) (j - start) (omega (arith, l, h)) there.0
-    (here.1 ∙ equal_print seed unlimited t u here.2 there.2 w) there.1)
+differ_once seed marks start ps ts known i j t u l h m e f once = false_from_ne_true (equal t u) (λ w.
+    once_before (key seed marks u) known.in_order ps known.permutation once (i - start) (j - start) (omega (arith, l, h)) there.0
+    (here.1 ∙ equal_key seed marks t u here.2 there.2 w) there.1)
   where
-    here : (i - start < length known.in_order) × (get_or known.in_order (i - start) 0 ≡ print seed unlimited t) × (is_distinct_within unlimited t ≡ true)
-    here = written seed start ps ts known i t l (omega (arith, h, m)) e
+    here : (i - start < length known.in_order) × (get_or known.in_order (i - start) 0 ≡ key seed marks t) × (is_distinct_for marks t ≡ true)
+    here = written seed marks start ps ts known i t l (omega (arith, h, m)) e
 
-    there : (j - start < length known.in_order) × (get_or known.in_order (j - start) 0 ≡ print seed unlimited u) × (is_distinct_within unlimited u ≡ true)
-    there = written seed start ps ts known j u (omega (arith, l, h)) m f
+    there : (j - start < length known.in_order) × (get_or known.in_order (j - start) 0 ≡ key seed marks u) × (is_distinct_for marks u ≡ true)
+    there = written seed marks start ps ts known j u (omega (arith, l, h)) m f
 
--- an item with a fingerprint that isn't there
-differ_other : (seed start : ℕ) (ps : List ℕ) (ts : List Tree) → AreSortedPrints seed start ps ts → (i : ℕ) (t u : Tree) → start ≤ i
-    → i < start + length ps → slice_get ts i ≡ Some t → is_distinct_within unlimited u ≡ true → IsNotAmong (print seed unlimited u) ps
+-- an item with a key that isn't there
+differ_other : (seed : ℕ) (marks : List ℕ) (start : ℕ) (ps : List ℕ) (ts : List Tree) → AreSortedKeys seed marks start ps ts → (i : ℕ) (t u : Tree) → start ≤ i
+    → i < start + length ps → slice_get ts i ≡ Some t → is_distinct_for marks u ≡ true → IsNotAmong (key seed marks u) ps
     → equal t u ≡ false
-differ_other seed start ps ts known i t u l h e d none = false_from_ne_true (equal t u) (λ w.
-    not_before (print seed unlimited u) known.in_order ps known.permutation none (i - start) here.0
-    (here.1 ∙ equal_print seed unlimited t u here.2 d w))
+differ_other seed marks start ps ts known i t u l h e d none = false_from_ne_true (equal t u) (λ w.
+    not_before (key seed marks u) known.in_order ps known.permutation none (i - start) here.0
+    (here.1 ∙ equal_key seed marks t u here.2 d w))
   where
-    here : (i - start < length known.in_order) × (get_or known.in_order (i - start) 0 ≡ print seed unlimited t) × (is_distinct_within unlimited t ≡ true)
-    here = written seed start ps ts known i t l h e
+    here : (i - start < length known.in_order) × (get_or known.in_order (i - start) 0 ≡ key seed marks t) × (is_distinct_for marks t ≡ true)
+    here = written seed marks start ps ts known i t l h e
 
 -- ---- item by item
 
@@ -172,25 +178,25 @@ next_new start end low n stop ts l new known = record { differ = λ i j t u a b 
 pub all_new : (start end low n m : ℕ) (ts : List Tree) → m ≤ n → AreNewIn start end low n ts → AreNewIn start end low m ts
 all_new start end low n m ts l known = record { differ = λ i j t u a b c d e f g. known.differ i j t u a b c d (omega (arith, e, l)) f g }
 
--- since its fingerprint is there once at most
-pub next_once : (seed start end n p : ℕ) (ps : List ℕ) (ts : List Tree) (t : Tree) → AreSortedPrints seed start ps ts
-    → end ≡ start + length ps → n < end → end ≤ length ts → t ≡ get_or ts n t → p ≡ print seed unlimited t → IsOnceAtMost p ps
+-- since its key is there once at most
+pub next_once : (seed : ℕ) (marks : List ℕ) (start end n p : ℕ) (ps : List ℕ) (ts : List Tree) (t : Tree) → AreSortedKeys seed marks start ps ts
+    → end ≡ start + length ps → n < end → end ≤ length ts → t ≡ get_or ts n t → p ≡ key seed marks t → IsOnceAtMost p ps
     → AreNewIn start end start n ts → AreNewIn start end start (n + 1) ts
-next_once seed start end n p ps ts t known whole h k e same once before =
+next_once seed marks start end n p ps ts t known whole h k e same once before =
     next_new start end start n n ts (omega arith) (record { differs = λ i x y l m a b. differs i x y l m a b }) before
   where
     at : slice_get ts n ≡ Some t
     at = slice_get_read ts (length ts) n t refl (omega (arith, h, k)) e
 
     differs : (i : ℕ) (x y : Tree) → start ≤ i → i < n → slice_get ts i ≡ Some x → slice_get ts n ≡ Some y → equal x y ≡ false
-    differs i x y l m a b = differ_once seed start ps ts known i n x y l m (omega (arith, h, whole)) a b
-        (subst (λ q. IsOnceAtMost q ps) (same ∙ ap (print seed unlimited) (one_tree ts n n t y at refl b)) once)
+    differs i x y l m a b = differ_once seed marks start ps ts known i n x y l m (omega (arith, h, whole)) a b
+        (subst (λ q. IsOnceAtMost q ps) (same ∙ ap (key seed marks) (one_tree ts n n t y at refl b)) once)
 
--- since its fingerprint isn't there
-pub next_other : (seed start end n p : ℕ) (ps : List ℕ) (ts : List Tree) (t : Tree) → AreSortedPrints seed start ps ts
-    → end ≡ start + length ps → n < length ts → t ≡ get_or ts n t → p ≡ print seed unlimited t
-    → is_distinct_within unlimited t ≡ true → IsNotAmong p ps → AreNewIn start end end n ts → AreNewIn start end end (n + 1) ts
-next_other seed start end n p ps ts t known whole k e same d none before =
+-- since its key isn't there
+pub next_other : (seed : ℕ) (marks : List ℕ) (start end n p : ℕ) (ps : List ℕ) (ts : List Tree) (t : Tree) → AreSortedKeys seed marks start ps ts
+    → end ≡ start + length ps → n < length ts → t ≡ get_or ts n t → p ≡ key seed marks t
+    → is_distinct_for marks t ≡ true → IsNotAmong p ps → AreNewIn start end end n ts → AreNewIn start end end (n + 1) ts
+next_other seed marks start end n p ps ts t known whole k e same d none before =
     next_new start end end n end ts (omega arith) (record { differs = λ i x y l m a b. differs i x y l m a b }) before
   where
     at : slice_get ts n ≡ Some t
@@ -198,14 +204,14 @@ next_other seed start end n p ps ts t known whole k e same d none before =
 
     differs : (i : ℕ) (x y : Tree) → start ≤ i → i < end → slice_get ts i ≡ Some x → slice_get ts n ≡ Some y → equal x y ≡ false
     differs i x y l m a b = subst (λ z. equal x z ≡ false) (one_tree ts n n t y at refl b)
-        (differ_other seed start ps ts known i x t l (omega (arith, m, whole)) a d (subst (λ q. IsNotAmong q ps) same none))
+        (differ_other seed marks start ps ts known i x t l (omega (arith, m, whole)) a d (subst (λ q. IsNotAmong q ps) same none))
 
--- all at once, where no fingerprint is there twice
-pub rising_new : (seed start end : ℕ) (ps : List ℕ) (ts : List Tree) → AreSortedPrints seed start ps ts → end ≡ start + length ps
+-- all at once, where no key is there twice
+pub rising_new : (seed : ℕ) (marks : List ℕ) (start end : ℕ) (ps : List ℕ) (ts : List Tree) → AreSortedKeys seed marks start ps ts → end ≡ start + length ps
     → IsStrictlyIncreasing ps → AreNewIn start end start end ts
-rising_new seed start end ps ts known whole rises = record {
+rising_new seed marks start end ps ts known whole rises = record {
   differ = λ i j t u a b c d e f g.
-      differ_once seed start ps ts known i j t u a c (omega (arith, e, whole)) f g (rising_once (print seed unlimited u) ps known.sorted rises);
+      differ_once seed marks start ps ts known i j t u a c (omega (arith, e, whole)) f g (rising_once (key seed marks u) ps known.sorted rises);
 }
 
 -- ---- block by block

@@ -1,6 +1,7 @@
 pub mod formers
 pub mod Decimal
 pub mod DecimalTree
+pub mod Doubt
 pub mod Equality
 pub mod Fingerprint
 pub mod FirstFloat

@@ -1,8 +1,9 @@
 -- Words of the search for equal items.
 use Rattle.std.specs.Prelude.{◌≡◌, ℕ, ◌+◌, ◌<◌, ◌≤◌, List, length, true, false, Some, slice_get, slice_index}
 use Rattle.std.specs.List.Sorted.{IsNonDecreasing, IsPermutation}
+use Rattle.jskw_value.specs.Doubt.{is_distinct_for, key}
 use Rattle.jskw_value.specs.Equality.{equal}
-use Rattle.jskw_value.specs.Fingerprint.{print, is_distinct_within, unlimited}
+use Rattle.jskw_value.specs.Fingerprint.{print, is_distinct_within}
 use Rattle.jskw_value.specs.Sketch.{is_marked}
 use Rattle.jskw_value.specs.Tree.{Tree}
 
@@ -23,24 +24,28 @@ pub record IsToldOf (start end budget n : ℕ) (sketch : List ℕ) (ts : List Tr
   -- none of those of the block is equal to a later one
   pub differ : (i j : ℕ) (t u : Tree) → start ≤ i → i < end → i < j → j < n → slice_get ts i ≡ Some t → slice_get ts j ≡ Some u → equal t u ≡ false
 
--- ---- by sorted fingerprints
+-- ---- by sorted keys
 
 -- none of the items from `low` up to `high` is equal to one before it of those from `start` up to `end`
 pub record AreNewIn (start end low high : ℕ) (ts : List Tree) : Type 0 where
   pub differ : (i j : ℕ) (t u : Tree) → start ≤ i → i < end → i < j → low ≤ j → j < high → slice_get ts i ≡ Some t → slice_get ts j ≡ Some u → equal t u ≡ false
 
--- the first n numbers are the fingerprints of the whole items from `start` on, under a seed
-pub record ArePrintsFrom (seed start n : ℕ) (prints : List ℕ) (ts : List Tree) : Type 0 where
-  pub each : (i : ℕ) (t : Tree) → i < n → slice_get ts (start + i) ≡ Some t → slice_index prints i ≡ print seed unlimited t
-  -- no object in these items has a name twice
-  pub distinct : (i : ℕ) (t : Tree) → i < n → slice_get ts (start + i) ≡ Some t → is_distinct_within unlimited t ≡ true
+-- the first n numbers are the keys of the items from `start` on, under a seed, by marks of what is in doubt
+pub record AreKeysFrom (seed : ℕ) (marks : List ℕ) (start n : ℕ) (keys : List ℕ) (ts : List Tree) : Type 0 where
+  pub each : (i : ℕ) (t : Tree) → i < n → slice_get ts (start + i) ≡ Some t → slice_index keys i ≡ key seed marks t
+  -- no object that a key looks at has a name twice
+  pub distinct : (i : ℕ) (t : Tree) → i < n → slice_get ts (start + i) ≡ Some t → is_distinct_for marks t ≡ true
 
--- the numbers are the fingerprints of as many whole items from `start` on, under a seed, in ascending order
-pub record AreSortedPrints (seed start : ℕ) (prints : List ℕ) (ts : List Tree) : Type 0 where
+-- the numbers are the keys of as many items from `start` on, under a seed, in ascending order
+pub record AreSortedKeys (seed : ℕ) (marks : List ℕ) (start : ℕ) (keys : List ℕ) (ts : List Tree) : Type 0 where
   pub in_order : List ℕ
-  pub are_prints : ArePrintsFrom seed start (length in_order) in_order ts
-  pub permutation : IsPermutation in_order prints
-  pub sorted : IsNonDecreasing prints
+  pub are_keys : AreKeysFrom seed marks start (length in_order) in_order ts
+  pub permutation : IsPermutation in_order keys
+  pub sorted : IsNonDecreasing keys
+
+-- each of the first n numbers is marked in a sketch
+abbrev pub AreMarked : ℕ → List ℕ → List ℕ → Type 0
+AreMarked n keys sketch = (i : ℕ) → i < n → is_marked sketch (slice_index keys i) ≡ true
 
 -- p is none of the numbers
 abbrev pub IsNotAmong : ℕ → List ℕ → Type 0

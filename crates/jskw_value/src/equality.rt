@@ -10,24 +10,28 @@ ghost use Rattle.jskw_value.specs.Tree.{as_number, is_array, is_object, items, m
 ghost use Rattle.jskw_value.specs.Walk.{left};
 
 use crate::json::{Array, JsonNumber, Node, Object};
+use crate::meter::{Meter, visits_of};
 use crate::walk::Walk;
 
-// Returns whether two nodes are equal. In line, so that the loops over items and members compare
+// How many items are compared in the time of two members, which two walks find.
+const VISITS_A_MEMBER: usize = 4;
+
+// Returns whether two nodes are equal. What it visits is counted. In line, so that the loops over items and members compare
 // scalars without a call.
 #[inline(always)]
 #[cycle(equal)]
 #[tactic(auto, using(crate::proofs::Equal::by_level))]
-pub(crate) fn equal_nodes<N: Node, M: Node>(left: &N, right: &M) -> bool
+pub(crate) fn equal_nodes<N: Node, M: Node, C: Meter>(left: &N, right: &M, meter: &mut C) -> bool
     ensures { result ≡ equal (N.tree left.now) (M.tree right.now) }
 {
     if let Some(number) = left.as_number() {
         equals_number(number, right)
     } else if left.is_array() {
-        right.is_array() && equal_arrays(left, right)
+        right.is_array() && equal_arrays(left, right, meter)
     } else if left.is_object() {
-        right.is_object() && equal_objects(left, right)
+        right.is_object() && equal_objects(left, right, meter)
     } else {
-        equal_leaves(left, right)
+        equal_leaves(left, right, meter)
     }
 }
 
@@ -36,7 +40,7 @@ pub(crate) fn equal_nodes<N: Node, M: Node>(left: &N, right: &M) -> bool
 #[inline(never)]
 #[cycle(equal)]
 #[tactic(auto, using(crate::proofs::Equal::by_index))]
-fn equal_arrays<N: Node, M: Node>(left: &N, right: &M) -> bool
+fn equal_arrays<N: Node, M: Node, C: Meter>(left: &N, right: &M, meter: &mut C) -> bool
     requires left { IsTrue (is_array (N.tree left.now)) }
     requires right { IsTrue (is_array (M.tree right.now)) }
     ensures { result ≡ pointwise equal (items (N.tree left.now)) (items (M.tree right.now)) }
@@ -46,7 +50,8 @@ fn equal_arrays<N: Node, M: Node>(left: &N, right: &M) -> bool
         return false;
     }
     for i in 0..count {
-        if !equal_nodes(left.item(i), right.item(i)) {
+        meter.count(1);
+        if !equal_nodes(left.item(i), right.item(i), meter) {
             return false;
         }
     }
@@ -58,7 +63,7 @@ fn equal_arrays<N: Node, M: Node>(left: &N, right: &M) -> bool
 #[inline(never)]
 #[cycle(equal)]
 #[tactic(auto, using(crate::proofs::Depth::height_below, crate::proofs::Equal::all_members))]
-fn equal_objects<N: Node, M: Node>(left: &N, right: &M) -> bool
+fn equal_objects<N: Node, M: Node, C: Meter>(left: &N, right: &M, meter: &mut C) -> bool
     requires left { IsTrue (is_object (N.tree left.now)) }
     requires right { IsTrue (is_object (M.tree right.now)) }
     ensures left { IsDistinct bytes_eq (names (N.tree left.now)) }
@@ -72,7 +77,9 @@ fn equal_objects<N: Node, M: Node>(left: &N, right: &M) -> bool
     }
     let mut others = right.walk();
     for (name, member) in left.walk() {
-        if !equals_found(member, next_or_find(right, &mut others, name)) {
+        meter.count(VISITS_A_MEMBER);
+        meter.count(visits_of(name));
+        if !equals_found(member, next_or_find(right, &mut others, name), meter) {
             return false;
         }
     }
@@ -81,12 +88,12 @@ fn equal_objects<N: Node, M: Node>(left: &N, right: &M) -> bool
 
 // Returns whether a value was found and is equal to the member.
 #[cycle(equal)]
-fn equals_found<N: Node, M: Node>(member: &N, found: Option<&M>) -> bool
+fn equals_found<N: Node, M: Node, C: Meter>(member: &N, found: Option<&M>, meter: &mut C) -> bool
     ensures { let other = option_map (λ x. M.tree x.now) found.entry in
         result ≡ option_map_or (equal (N.tree member.now)) other false }
 {
     match found {
-        Some(other) => equal_nodes(member, other),
+        Some(other) => equal_nodes(member, other, meter),
         None => false,
     }
 }
@@ -110,13 +117,14 @@ fn next_or_find<'a, M: Node>(object: &'a M, walk: &mut Walk<'a, M>, name: &str) 
 
 // Returns whether two nodes are equal, the left of which is a string, a boolean or null.
 #[inline(always)]
-fn equal_leaves<N: Node, M: Node>(left: &N, right: &M) -> bool
+fn equal_leaves<N: Node, M: Node, C: Meter>(left: &N, right: &M, meter: &mut C) -> bool
     requires number { as_number (N.tree left.now) ≡ None }
     requires array { is_array (N.tree left.now) ≡ false }
     requires object { is_object (N.tree left.now) ≡ false }
     ensures { result ≡ equal (N.tree left.now) (M.tree right.now) }
 {
     if let Some(a) = left.as_string() {
+        meter.count(visits_of(a));
         return match right.as_string() {
             Some(b) => a == b,
             None => false,

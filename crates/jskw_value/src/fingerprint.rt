@@ -1,6 +1,17 @@
 //! Fingerprints of nodes: under one seed, equal nodes have the same fingerprint, and most different
 //! nodes have different ones. A budget limits how much of a node a fingerprint depends on; that of
 //! [`of_whole`] depends on the whole node.
+//!
+//! Members come in any order, so an object's fingerprint is a sum over them, and a budget gives each
+//! the same share or does not reach any. Items come in one order and are mixed one after the other,
+//! but get the same share too: what the first ones leave over would go to the depth of one item. The
+//! share is at most half of the budget, so that the time is in proportion to it.
+//!
+//! The mixing (`stir`) takes two words at once by two products of 128 bits, each folded, so that no
+//! word can be solved for; a sum of such values has no such strength. Objects that collide under a
+//! known seed are found in seconds, so a seed that someone may know is only for what is checked
+//! again, and the seed goes into each value before anything is added up. Numbers and short texts come
+//! first and have no frame, since most items are one or the other.
 ghost use Rattle.std.specs.Prelude.{◌≡◌, ℕ, ◌≤◌, ◌<◌, ◌+◌, ◌-◌, ◌*◌, ◌/◌, ◌%◌, ◌^◌, length, take};
 ghost use Rattle.std.specs.Prelude.{None, IsTrue};
 ghost use Rattle.std.specs.Int.Bits.{bit_xor};

@@ -20,6 +20,7 @@ use crate::decimal::Decimal;
 use crate::equality::equal_nodes;
 use crate::first_float::location_of_float;
 use crate::json_text::write_node;
+use crate::meter::Unmetered;
 use crate::types::JsonType;
 use crate::unique_items::has_unique_items;
 use crate::walk::Walk;
@@ -251,7 +252,7 @@ pub trait Node: Array + Object {
     final fn equals(&self, other: &Self) -> bool
         ensures { result ≡ equal (Self.tree self.now) (Self.tree other.now) }
     {
-        equal_nodes(self, other)
+        equal_nodes(self, other, &mut Unmetered)
     }
 
     /// Returns whether the node and a value of `serde_json` are equal in the sense of
@@ -259,7 +260,7 @@ pub trait Node: Array + Object {
     final fn equals_value(&self, other: &Value) -> bool
         ensures { result ≡ equal (value_tree other.now) (Self.tree self.now) }
     {
-        equal_nodes(other, self)
+        equal_nodes(other, self, &mut Unmetered)
     }
 
     /// Appends the compact JSON text of the value to `out`. A decimal of scale k is written with k

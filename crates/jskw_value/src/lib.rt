@@ -14,6 +14,7 @@
 
 pub mod decimal;
 pub mod decimal_tree;
+mod doubt;
 mod equality;
 pub mod fingerprint;
 mod first_float;
@@ -21,6 +22,7 @@ pub mod json;
 mod json_text;
 pub mod laws;
 pub mod members;
+mod meter;
 pub mod names;
 pub mod nullability;
 pub mod pointer;

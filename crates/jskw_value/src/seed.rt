@@ -1,4 +1,8 @@
 //! Seeds for the fingerprints of whole nodes, taken from what the nodes hold.
+ghost use Rattle.std.specs.Prelude.{◌≡◌, ◌≤◌, ◌^◌, length, IsTrue};
+ghost use Rattle.jskw_value.specs.Tree.{is_array, items};
+
+use crate::doubt::print_of_undoubted;
 use crate::fingerprint::{of_whole, of_whole_text, stir};
 use crate::json::{Array, Node, Object};
 
@@ -9,6 +13,12 @@ struct State {
     first: u64,
     second: u64,
 }
+
+// The hash of nothing.
+const START: State = State {
+    first: 7046029254386353131,
+    second: 14029467366897019727,
+};
 
 impl State {
     // Returns the hash with two words mixed in.
@@ -29,11 +39,25 @@ impl State {
 /// is: it decides how long a search for equal items takes, and never what it finds. Takes time in
 /// proportion to the size of the node and allocates nothing.
 pub fn seed_of<N: Node>(node: &N) -> u64 {
-    let start = State {
-        first: 7046029254386353131,
-        second: 14029467366897019727,
-    };
-    with_node(start, node).first
+    with_node(START, node).first
+}
+
+// Returns such a seed for the items of an array. It depends on everything in the items in doubt, and
+// on the fingerprints of the beginnings of the others.
+pub(crate) fn seed_of_items<N: Node>(array: &N, doubtful: &[u64]) -> u64
+    requires array { IsTrue (is_array (N.tree array.now)) }
+    requires few_marks { length doubtful.now ≤ 2 ^ 32 }
+{
+    let count = Array::len(array);
+    let mut state = START.with(4, count as u64);
+    for i in 0..count {
+        let item = array.item(i);
+        state = match print_of_undoubted(item, doubtful) {
+            Some(print) => state.with(print, 9),
+            None => with_node(state, item),
+        };
+    }
+    state.first
 }
 
 // Returns the hash with the whole node mixed in: the number of items and each item of an array, the

@@ -1,5 +1,14 @@
-//! A sketch of fingerprints: a fingerprint that is not marked in it was never inserted; one that is
-//! marked may have been.
+//! A sketch of fingerprints: one that is not marked in it was never inserted, one that is marked may
+//! have been. It lets `uniqueItems` see that an item is new without memory and without a list of the
+//! items so far: it is an array on the stack, and an item costs three words of it, however many there
+//! are. So it says nothing about which item is the earlier one: whoever finds a mark compares.
+//!
+//! A fingerprint sets the same five bits in three words, which is as good as three times as many bits
+//! of one word and takes less time than other bits in each. The words come from the high ends of its
+//! halves, the bits from the low ends, so that they do not depend on each other. With two fingerprints
+//! for each word, one in 150,000 looks marked and is not (one in 40,000 in the smallest sketch); with
+//! four of them, one in 800. Fingerprints under a known seed can be searched for to crowd a few words,
+//! so what a mark costs is limited where it is looked at, and not here.
 ghost use Rattle.std.specs.Prelude.{ℕ, ◌≡◌, ◌≤◌, ◌<◌, ◌^◌, length, true};
 ghost use Rattle.jskw_value.specs.Sketch.{place, marks, is_set, is_marked};
 

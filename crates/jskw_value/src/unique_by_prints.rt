@@ -1,127 +1,242 @@
-//! Uniqueness of items by the fingerprints of whole items, for items that differ only deep inside
-//! or near their ends, where fingerprints of their beginnings are equal. The seed is the array's
-//! own, so that items which were made to have the same fingerprint under another seed have
-//! different ones.
-ghost use Rattle.std.specs.Prelude.{◌≡◌, ◌≤◌, ◌<◌, ◌+◌, ◌^◌, length, true, false, IsTrue};
+//! Uniqueness of items by sorted fingerprints, for items that differ only deep inside or near their
+//! ends, where fingerprints of their beginnings are equal. An item that is in doubt has the
+//! fingerprint of all of it, any other one that of its beginning. The seed is 0 at first; if items
+//! differ that have the same fingerprint under it, it is the array's own, so that items which were
+//! made to have one fingerprint under a known seed have different ones.
+ghost use Rattle.std.specs.Prelude.{◌≡◌, ◌≤◌, ◌<◌, ◌+◌, ◌^◌, length, true, false};
+ghost use Rattle.std.specs.Prelude.{IsTrue, IfSome, Some};
 ghost use Rattle.std.specs.List.Sorted.{IsNonDecreasing, IsStrictlyIncreasing};
 ghost use Rattle.jskw_value.specs.Equality.{unique};
 ghost use Rattle.jskw_value.specs.Tree.{is_array, items};
-ghost use Rattle.jskw_value.specs.Unique.{AreNewIn, ArePrintsFrom, AreSortedPrints, IsNotAmong};
-ghost use Rattle.jskw_value.specs.Unique.{IsOnceAtMost, IsUniqueIn};
+ghost use Rattle.jskw_value.specs.Unique.{AreKeysFrom, AreMarked, AreNewIn, AreSortedKeys};
+ghost use Rattle.jskw_value.specs.Unique.{IsNotAmong, IsOnceAtMost, IsUniqueIn};
 
-use crate::fingerprint::of_whole;
+use crate::doubt::key;
 use crate::json::{Array, Node};
-use crate::seed::seed_of;
-use crate::unique_items::occurs_between;
+use crate::meter::Allowance;
+use crate::seed::seed_of_items;
+use crate::sketch::{is_marked, mark};
+use crate::unique_items::{are_unique_by_pairs, differs_from};
 
-// Returns whether no two items of the array are equal, block by block: the sorted fingerprints of a
-// block are compared with those of all later items. Never inlined, so that a caller's frame does
-// not contain the fingerprints.
-#[inline(never)]
-#[tactic(auto, using(crate::proofs::BlockSearch::last_block, crate::proofs::BlockSearch::one_block, crate::proofs::SortedPrints::no_block))]
-pub(crate) fn are_unique_by_prints<const SIZE: usize, N: Node>(array: &N) -> bool
+// How many visits for each item comparisons may take under the seed 0.
+const VISITS_AN_ITEM: usize = 4;
+
+// Returns whether no two items of the array are equal. `doubtful` are marks of the beginnings of the
+// items in doubt; without marks all items are.
+pub(crate) fn are_unique_by_prints<const WORDS: usize, const SIZE: usize, N: Node>(
+    array: &N,
+    doubtful: &[u64],
+) -> bool
     requires array { IsTrue (is_array (N.tree array.now)) }
+    requires few_marks { length doubtful.now ≤ 2 ^ 32 }
+    requires words { 0 < WORDS }
+    requires few_words { WORDS ≤ 2 ^ 32 }
     requires filled { 0 < SIZE }
     requires short { SIZE ≤ 2 ^ 32 }
     ensures { result ≡ unique (items (N.tree array.now)) }
 {
-    let seed = seed_of(array);
-    let mut prints = [0u64; SIZE];
+    let visits = Array::len(array).saturating_mul(VISITS_AN_ITEM);
+    if let Some(told) = are_unique_under::<WORDS, SIZE, N>(array, doubtful, 0, visits) {
+        return told;
+    }
+    let seed = seed_of_items(array, doubtful);
+    match are_unique_under::<WORDS, SIZE, N>(array, doubtful, seed, usize::MAX) {
+        Some(told) => told,
+        None => are_unique_by_pairs(array),
+    }
+}
+
+// Returns the same by fingerprints under a seed, block by block: the sorted fingerprints of a block
+// are compared with those of all later items. `None` if comparing items with the same fingerprint
+// takes more than so many visits. Never inlined, so that a caller's frame does not contain the
+// fingerprints.
+#[inline(never)]
+#[tactic(auto, using(crate::proofs::BlockSearch::last_block, crate::proofs::BlockSearch::one_block, crate::proofs::SortedPrints::no_block))]
+fn are_unique_under<const WORDS: usize, const SIZE: usize, N: Node>(
+    array: &N,
+    doubtful: &[u64],
+    seed: u64,
+    visits: usize,
+) -> Option<bool>
+    requires array { IsTrue (is_array (N.tree array.now)) }
+    requires few_marks { length doubtful.now ≤ 2 ^ 32 }
+    requires words { 0 < WORDS }
+    requires few_words { WORDS ≤ 2 ^ 32 }
+    requires filled { 0 < SIZE }
+    requires short { SIZE ≤ 2 ^ 32 }
+    ensures { IfSome result (λ answer. answer ≡ unique (items (N.tree array.now))) }
+{
+    let mut allowance = Allowance::new(visits);
+    let mut keys = [0u64; SIZE];
     let count = Array::len(array);
     let mut start = 0;
     while SIZE < count - start {
-        if !is_block_unique(array, &mut prints, seed, start, start + SIZE) {
-            return false;
+        let end = start + SIZE;
+        if !is_block_unique::<WORDS, N>(
+            array,
+            doubtful,
+            &mut keys,
+            seed,
+            start,
+            end,
+            &mut allowance,
+        )? {
+            return Some(false);
         }
-        start += SIZE;
+        start = end;
     }
-    is_block_unique(array, &mut prints[..count - start], seed, start, count)
+    let last = &mut keys[..count - start];
+    is_block_unique::<WORDS, N>(array, doubtful, last, seed, start, count, &mut allowance)
 }
 
-// Returns whether no item from one index up to another is equal to a later one. `prints` must have
+// Returns whether no item from one index up to another is equal to a later one. `keys` must have
 // room for the fingerprints of all of them.
-#[tactic(auto, using(crate::proofs::SortedPrints::sorted_prints, crate::proofs::SortedPrints::unique_block))]
-fn is_block_unique<N: Node>(
+#[tactic(auto, using(crate::proofs::SortedPrints::sorted_keys, crate::proofs::SortedPrints::unique_block, crate::proofs::SortedPrints::none_new))]
+fn is_block_unique<const WORDS: usize, N: Node>(
     array: &N,
-    prints: &mut [u64],
+    doubtful: &[u64],
+    keys: &mut [u64],
     seed: u64,
     start: usize,
     end: usize,
-) -> bool
+    allowance: &mut Allowance,
+) -> Option<bool>
     requires array { IsTrue (is_array (N.tree array.now)) }
-    requires room { end ≡ start + length prints.old }
+    requires few_marks { length doubtful.now ≤ 2 ^ 32 }
+    requires words { 0 < WORDS }
+    requires few_words { WORDS ≤ 2 ^ 32 }
+    requires room { end ≡ start + length keys.old }
     requires end { end ≤ length (items (N.tree array.now)) }
-    ensures length { length prints.new ≡ length prints.old }
-    ensures unique { result ≡ true → IsUniqueIn start end (items (N.tree array.now)) }
-    ensures twice { result ≡ false → unique (items (N.tree array.now)) ≡ false }
+    ensures length { length keys.new ≡ length keys.old }
+    ensures unique { result ≡ Some true → IsUniqueIn start end (items (N.tree array.now)) }
+    ensures twice { result ≡ Some false → unique (items (N.tree array.now)) ≡ false }
 {
-    write_prints(array, prints, seed, start, end);
-    prints.sort_unstable();
-    differ_in_block(array, prints, seed, start, end)
-        && differ_from_later(array, prints, seed, start, end)
+    write_keys(array, doubtful, keys, seed, start, end);
+    keys.sort_unstable();
+    if !differ_in_block(array, doubtful, keys, seed, start, end, allowance)? {
+        return Some(false);
+    }
+    if end == Array::len(array) {
+        return Some(true);
+    }
+    differ_from_later::<WORDS, N>(array, doubtful, keys, seed, start, end, allowance)
 }
 
-// Writes the fingerprints of the whole items from one index up to another.
-#[tactic(auto, using(crate::proofs::SortedPrints::no_print))]
-fn write_prints<N: Node>(array: &N, prints: &mut [u64], seed: u64, start: usize, end: usize)
+// Writes the fingerprints of the items from one index up to another.
+#[tactic(auto, using(crate::proofs::SortedPrints::no_key))]
+fn write_keys<N: Node>(
+    array: &N,
+    doubtful: &[u64],
+    keys: &mut [u64],
+    seed: u64,
+    start: usize,
+    end: usize,
+)
     requires array { IsTrue (is_array (N.tree array.now)) }
-    requires room { end ≡ start + length prints.old }
+    requires few_marks { length doubtful.now ≤ 2 ^ 32 }
+    requires room { end ≡ start + length keys.old }
     requires end { end ≤ length (items (N.tree array.now)) }
-    ensures length { length prints.new ≡ length prints.old }
-    ensures prints { ArePrintsFrom seed start (length prints.new) prints.new (items (N.tree array.now)) }
+    ensures length { length keys.new ≡ length keys.old }
+    ensures keys { AreKeysFrom seed doubtful.now start (length keys.new) keys.new
+        (items (N.tree array.now)) }
 {
-    for (i, print) in prints.iter_mut().enumerate() {
-        *print = of_whole(array.item(start + i), seed);
+    for (i, next) in keys.iter_mut().enumerate() {
+        *next = key(array.item(start + i), doubtful, seed);
     }
 }
 
 // Returns whether no two of the items with these fingerprints are equal. Usually no two
 // fingerprints are equal.
 #[tactic(auto, using(crate::proofs::SortedPrints::none_new))]
-fn differ_in_block<N: Node>(array: &N, prints: &[u64], seed: u64, start: usize, end: usize) -> bool
-    requires array { IsTrue (is_array (N.tree array.now)) }
-    requires room { end ≡ start + length prints.now }
-    requires end { end ≤ length (items (N.tree array.now)) }
-    requires prints { AreSortedPrints seed start prints.now (items (N.tree array.now)) }
-    ensures new { result ≡ true → AreNewIn start end start end (items (N.tree array.now)) }
-    ensures twice { result ≡ false → unique (items (N.tree array.now)) ≡ false }
-{
-    if rises(prints) {
-        return true;
-    }
-    for i in start..end {
-        if is_repeated(prints, of_whole(array.item(i), seed))
-            && occurs_between(array, start, i, i)
-        {
-            return false;
-        }
-    }
-    true
-}
-
-// Returns whether no item after those with these fingerprints is equal to one of them.
-#[tactic(auto, using(crate::proofs::SortedPrints::none_new))]
-fn differ_from_later<N: Node>(
+fn differ_in_block<N: Node>(
     array: &N,
-    prints: &[u64],
+    doubtful: &[u64],
+    keys: &[u64],
     seed: u64,
     start: usize,
     end: usize,
-) -> bool
+    allowance: &mut Allowance,
+) -> Option<bool>
     requires array { IsTrue (is_array (N.tree array.now)) }
-    requires room { end ≡ start + length prints.now }
+    requires few_marks { length doubtful.now ≤ 2 ^ 32 }
+    requires room { end ≡ start + length keys.now }
     requires end { end ≤ length (items (N.tree array.now)) }
-    requires prints { AreSortedPrints seed start prints.now (items (N.tree array.now)) }
-    ensures new { result ≡ true → let all = items (N.tree array.now) in
-        AreNewIn start end end (length all) all }
-    ensures twice { result ≡ false → unique (items (N.tree array.now)) ≡ false }
+    requires keys { AreSortedKeys seed doubtful.now start keys.now (items (N.tree array.now)) }
+    ensures new { result ≡ Some true → AreNewIn start end start end (items (N.tree array.now)) }
+    ensures twice { result ≡ Some false → unique (items (N.tree array.now)) ≡ false }
 {
-    for i in end..Array::len(array) {
-        if is_among(prints, of_whole(array.item(i), seed)) && occurs_between(array, start, end, i) {
-            return false;
+    if rises(keys) {
+        return Some(true);
+    }
+    for i in start..end {
+        if is_repeated(keys, key(array.item(i), doubtful, seed))
+            && !differs_from(array, start, i, i, allowance)?
+        {
+            return Some(false);
         }
     }
-    true
+    Some(true)
+}
+
+// Returns whether no item after those with these fingerprints is equal to one of them. A sketch
+// tells for most items faster than a search that they are not. Never inlined, so that a caller's
+// frame does not contain the sketch.
+#[inline(never)]
+#[tactic(auto, using(crate::proofs::SortedPrints::none_new))]
+fn differ_from_later<const WORDS: usize, N: Node>(
+    array: &N,
+    doubtful: &[u64],
+    keys: &[u64],
+    seed: u64,
+    start: usize,
+    end: usize,
+    allowance: &mut Allowance,
+) -> Option<bool>
+    requires array { IsTrue (is_array (N.tree array.now)) }
+    requires few_marks { length doubtful.now ≤ 2 ^ 32 }
+    requires words { 0 < WORDS }
+    requires few_words { WORDS ≤ 2 ^ 32 }
+    requires room { end ≡ start + length keys.now }
+    requires end { end ≤ length (items (N.tree array.now)) }
+    requires keys { AreSortedKeys seed doubtful.now start keys.now (items (N.tree array.now)) }
+    ensures new { result ≡ Some true → let all = items (N.tree array.now) in
+        AreNewIn start end end (length all) all }
+    ensures twice { result ≡ Some false → unique (items (N.tree array.now)) ≡ false }
+{
+    let mut sketch = [0u64; WORDS];
+    mark_all(&mut sketch, keys);
+    for i in end..Array::len(array) {
+        if may_be_among(&sketch, keys, key(array.item(i), doubtful, seed))
+            && !differs_from(array, start, end, i, allowance)?
+        {
+            return Some(false);
+        }
+    }
+    Some(true)
+}
+
+// Marks the fingerprints.
+fn mark_all(sketch: &mut [u64], keys: &[u64])
+    requires words { 0 < length sketch.old }
+    requires few_words { length sketch.old ≤ 2 ^ 32 }
+    ensures length { length sketch.new ≡ length sketch.old }
+    ensures marked { AreMarked (length keys.now) keys.now sketch.new }
+{
+    for i in 0..keys.len() {
+        mark(sketch, keys[i]);
+    }
+}
+
+// Returns whether a number is in a sorted list, all of which is marked in the sketch.
+#[tactic(auto, using(crate::proofs::SortedPrints::not_marked))]
+fn may_be_among(sketch: &[u64], sorted: &[u64], number: u64) -> bool
+    requires words { 0 < length sketch.now }
+    requires few_words { length sketch.now ≤ 2 ^ 32 }
+    requires marked { AreMarked (length sorted.now) sorted.now sketch.now }
+    requires sorted { IsNonDecreasing sorted.now }
+    ensures { result ≡ false → IsNotAmong number sorted.now }
+{
+    is_marked(sketch, number) && is_among(sorted, number)
 }
 
 // Returns whether each number is less than the next.

@@ -8,9 +8,11 @@ ghost use Rattle.jskw_value.specs.Number.{u64_of, whole};
 ghost use Rattle.jskw_value.specs.Tree.{as_number, is_array, items};
 ghost use Rattle.jskw_value.specs.Unique.{IsNewAt, IsToldOf, IsUniqueIn};
 
+use crate::doubt::{is_within, mark_doubtful, may_go_on};
 use crate::equality::equal_nodes;
 use crate::fingerprint::fingerprint;
 use crate::json::{Array, JsonNumber, Node};
+use crate::meter::{Allowance, Meter, Unmetered};
 use crate::sketch::{is_marked, mark};
 use crate::unique_by_prints::are_unique_by_prints;
 
@@ -27,24 +29,19 @@ const LARGE: usize = 6144;
 // The number of words for arrays with more items than the other sketches take at a time.
 const HUGE: usize = 32768;
 
-// How many fingerprints are sorted at a time if too many items look equal in the sketch: those of
-// all items, and in the longest arrays as many as the sketch has words.
+// How many fingerprints are sorted at a time if the sketch is given up: those of all items, and in
+// the longest arrays as many as the sketch has words.
 const SMALL_PRINTS: usize = 2 * SMALL;
 
 const MEDIUM_PRINTS: usize = 2 * MEDIUM;
 
 const LARGE_PRINTS: usize = 2 * LARGE;
 
-// The sketch is given up if more than this many items look equal to an earlier one and aren't. Of
-// items whose fingerprints differ, about one in a hundred thousand does.
-const DOUBTS: usize = 8;
+// The comparisons of items that look equal may take so many visits, and so many more for each item,
+// before it is asked whether fingerprints of whole items cost less.
+const FIRST_VISITS: usize = 1024;
 
-// In a long array, one more such item is allowed for every 16,384 items.
-const ITEMS_A_DOUBT: usize = 16384;
-
-// The seed of the fingerprints in a sketch. It may be known, since a sketch that says too little
-// is given up.
-const UNSEEDED: u64 = 0;
+const VISITS_AN_ITEM: usize = 8;
 
 // Returns whether no two items of the array are equal. The first item is compared with all others
 // before a sketch is begun, so that equal items at the beginning are found at once.
@@ -55,42 +52,77 @@ pub(crate) fn has_unique_items<N: Node>(array: &N) -> bool
 {
     let count = Array::len(array);
     if count <= FEW {
-        return are_few_unique(array);
+        return are_unique_by_pairs(array);
     }
     if occurs_from(array, 1, array.item(0)) {
         return false;
     }
     if count <= 2 * SMALL {
-        are_many_unique::<SMALL, SMALL_PRINTS, N>(array)
+        are_many_unique::<SMALL, SMALL, SMALL_PRINTS, N>(array)
     } else if count <= 2 * MEDIUM {
-        are_many_unique::<MEDIUM, MEDIUM_PRINTS, N>(array)
+        are_many_unique::<MEDIUM, MEDIUM, MEDIUM_PRINTS, N>(array)
     } else if count <= 2 * LARGE {
-        are_many_unique::<LARGE, LARGE_PRINTS, N>(array)
+        are_many_unique::<LARGE, LARGE, LARGE_PRINTS, N>(array)
     } else {
-        are_many_unique::<HUGE, HUGE, N>(array)
+        are_many_unique::<HUGE, LARGE, HUGE, N>(array)
     }
 }
 
-// Returns the same for many items: by a sketch, or by sorted fingerprints if the sketch is given
-// up.
-fn are_many_unique<const WORDS: usize, const PRINTS: usize, N: Node>(array: &N) -> bool
+// Returns the same for many items: by a sketch, as long as few items are in doubt.
+fn are_many_unique<const WORDS: usize, const MARKS: usize, const PRINTS: usize, N: Node>(
+    array: &N,
+) -> bool
     requires array { IsTrue (is_array (N.tree array.now)) }
     requires first { IsUniqueIn 0 1 (items (N.tree array.now)) }
     requires filled { 0 < WORDS }
     requires short { WORDS ≤ 2 ^ 32 }
+    requires marks { 0 < MARKS }
+    requires few_marks { MARKS ≤ 2 ^ 32 }
     requires prints { 0 < PRINTS }
     requires few_prints { PRINTS ≤ 2 ^ 32 }
     ensures { result ≡ unique (items (N.tree array.now)) }
 {
-    match are_unique_by_sketch::<WORDS, N>(array) {
+    let visits = Array::len(array)
+        .saturating_mul(VISITS_AN_ITEM)
+        .saturating_add(FIRST_VISITS);
+    match are_unique_by_sketch::<WORDS, N>(array, &[], visits) {
         Some(told) => told,
-        None => are_unique_by_prints::<PRINTS, N>(array),
+        None => are_unique_in_doubt::<WORDS, MARKS, PRINTS, N>(array, visits),
     }
 }
 
-// Returns the same for few items, by comparing all pairs.
+// Returns the same after comparisons have taken so many visits: by fingerprints of all items or of
+// those in doubt, as soon as these take no more, and by further comparisons until then. Never
+// inlined, so that a caller's frame does not contain the marks.
+#[inline(never)]
+fn are_unique_in_doubt<const WORDS: usize, const MARKS: usize, const PRINTS: usize, N: Node>(
+    array: &N,
+    visits: usize,
+) -> bool
+    requires array { IsTrue (is_array (N.tree array.now)) }
+    requires first { IsUniqueIn 0 1 (items (N.tree array.now)) }
+    requires filled { 0 < WORDS }
+    requires short { WORDS ≤ 2 ^ 32 }
+    requires marks { 0 < MARKS }
+    requires few_marks { MARKS ≤ 2 ^ 32 }
+    requires prints { 0 < PRINTS }
+    requires few_prints { PRINTS ≤ 2 ^ 32 }
+    ensures { result ≡ unique (items (N.tree array.now)) }
+{
+    if is_within(array, &[], visits) {
+        return are_unique_by_prints::<MARKS, PRINTS, N>(array, &[]);
+    }
+    let mut doubtful = [0u64; MARKS];
+    mark_doubtful::<WORDS, N>(array, &mut doubtful);
+    match are_unique_by_sketch::<WORDS, N>(array, &doubtful, visits) {
+        Some(told) => told,
+        None => are_unique_by_prints::<MARKS, PRINTS, N>(array, &doubtful),
+    }
+}
+
+// Returns the same by comparing all pairs.
 #[tactic(auto, using(crate::proofs::Equal::unique_step, crate::proofs::Equal::unique_end))]
-fn are_few_unique<N: Node>(array: &N) -> bool
+pub(crate) fn are_unique_by_pairs<N: Node>(array: &N) -> bool
     requires { IsTrue (is_array (N.tree array.now)) }
     ensures { result ≡ unique (items (N.tree array.now)) }
 {
@@ -110,7 +142,7 @@ fn occurs_from<N: Node>(array: &N, start: usize, node: &N) -> bool
     ensures { result ≡ list_any (equal (N.tree node.now)) (drop start (items (N.tree array.now))) }
 {
     for j in start..Array::len(array) {
-        if equal_nodes(node, array.item(j)) {
+        if equal_nodes(node, array.item(j), &mut Unmetered) {
             return true;
         }
     }
@@ -119,36 +151,59 @@ fn occurs_from<N: Node>(array: &N, start: usize, node: &N) -> bool
 
 // Returns the same by a sketch of `WORDS` words, if the first item differs from all others: block
 // by block, the items of a block are compared with all later ones. `None` if the sketch is given
-// up. Never inlined, so that a caller's frame does not contain the sketch.
+// up: if comparisons take more than so many visits, and `may_go_on` does not grant more. Never
+// inlined, so that a caller's frame does not contain the sketch.
 #[inline(never)]
 #[tactic(auto, using(crate::proofs::BlockSearch::next_block, crate::proofs::BlockSearch::last_block))]
-fn are_unique_by_sketch<const WORDS: usize, N: Node>(array: &N) -> Option<bool>
+fn are_unique_by_sketch<const WORDS: usize, N: Node>(
+    array: &N,
+    doubtful: &[u64],
+    visits: usize,
+) -> Option<bool>
     requires array { IsTrue (is_array (N.tree array.now)) }
+    requires few_marks { length doubtful.now ≤ 2 ^ 32 }
     requires first { IsUniqueIn 0 1 (items (N.tree array.now)) }
     requires filled { 0 < WORDS }
     requires short { WORDS ≤ 2 ^ 32 }
     ensures { IfSome result (λ answer. answer ≡ unique (items (N.tree array.now))) }
 {
     let mut sketch = [0u64; WORDS];
+    let mut allowance = Allowance::new(visits);
     let count = Array::len(array);
     let size = 2 * WORDS;
     let blocks = count.saturating_sub(1) / size;
     for block in 0..blocks {
         let start = block * size + 1;
-        if !is_block_unique(array, &mut sketch, start, start + size)? {
+        if !is_block_unique(
+            array,
+            &mut sketch,
+            start,
+            start + size,
+            doubtful,
+            &mut allowance,
+        )? {
             return Some(false);
         }
         sketch.fill(0);
     }
-    is_block_unique(array, &mut sketch, blocks * size + 1, count)
+    let start = blocks * size + 1;
+    is_block_unique(array, &mut sketch, start, count, doubtful, &mut allowance)
 }
 
 // Returns whether no item from one index up to another is equal to a later one, or `None` if too
-// many of them look equal and aren't. The budget of each fingerprint is a quarter of the length of
+// many of them look equal and aren't for the allowance. The budget of each fingerprint is a quarter of the length of
 // the array, so that all fingerprints together take less time than all pairs would.
 #[tactic(auto, using(crate::proofs::BlockSearch::told_start, crate::proofs::BlockSearch::told_end))]
-fn is_block_unique<N: Node>(array: &N, sketch: &mut [u64], start: usize, end: usize) -> Option<bool>
+fn is_block_unique<N: Node>(
+    array: &N,
+    sketch: &mut [u64],
+    start: usize,
+    end: usize,
+    doubtful: &[u64],
+    allowance: &mut Allowance,
+) -> Option<bool>
     requires array { IsTrue (is_array (N.tree array.now)) }
+    requires few_marks { length doubtful.now ≤ 2 ^ 32 }
     requires filled { 0 < length sketch.old }
     requires short { length sketch.old ≤ 2 ^ 32 }
     ensures length { length sketch.new ≡ length sketch.old }
@@ -157,9 +212,8 @@ fn is_block_unique<N: Node>(array: &N, sketch: &mut [u64], start: usize, end: us
 {
     let count = Array::len(array);
     let budget = count / 4;
-    let mut doubts = DOUBTS + count.saturating_sub(start) / ITEMS_A_DOUBT;
     for i in start..count {
-        if !is_new(array, i, sketch, start, end, budget, &mut doubts)? {
+        if !is_new(array, i, sketch, start, end, budget, doubtful, allowance)? {
             return Some(false);
         }
     }
@@ -168,7 +222,7 @@ fn is_block_unique<N: Node>(array: &N, sketch: &mut [u64], start: usize, end: us
 
 // Returns whether no earlier item of the block is equal to the one at an index: none is if its
 // fingerprint is not marked, and then it is marked if the item is in the block. `None` if it is
-// marked and no more such items are allowed.
+// marked and the allowance is used up.
 #[tactic(auto, using(crate::proofs::BlockSearch::told_later, crate::proofs::BlockSearch::told_again, crate::proofs::BlockSearch::told_new))]
 fn is_new<N: Node>(
     array: &N,
@@ -177,9 +231,11 @@ fn is_new<N: Node>(
     start: usize,
     end: usize,
     budget: usize,
-    doubts: &mut usize,
+    doubtful: &[u64],
+    allowance: &mut Allowance,
 ) -> Option<bool>
     requires array { IsTrue (is_array (N.tree array.now)) }
+    requires few_marks { length doubtful.now ≤ 2 ^ 32 }
     requires start { start ≤ index }
     requires index { index < length (items (N.tree array.now)) }
     requires filled { 0 < length sketch.old }
@@ -190,10 +246,12 @@ fn is_new<N: Node>(
         → IsToldOf start end budget (index + 1) sketch.new (items (N.tree array.now)) }
     ensures twice { result ≡ Some false → unique (items (N.tree array.now)) ≡ false }
 {
-    let print = fingerprint(array.item(index), UNSEEDED, budget);
+    let print = fingerprint(array.item(index), 0, budget);
     if is_marked(sketch, print) {
-        *doubts = doubts.checked_sub(1)?;
-        return Some(!occurs_between(array, start, end.min(index), index));
+        if allowance.is_used_up() && !may_go_on(array, doubtful, allowance) {
+            return None;
+        }
+        return Some(!occurs_between(array, start, end.min(index), index, allowance));
     }
     if index < end {
         mark(sketch, print);
@@ -201,20 +259,48 @@ fn is_new<N: Node>(
     Some(true)
 }
 
-// Returns whether an item from one index up to another is equal to a given one. Called rarely, and
-// never inlined, so that the loop over all items keeps its registers.
+// Returns whether no item from one index up to another is equal to the one at an index, or `None` if
+// the allowance is used up.
+pub(crate) fn differs_from<N: Node>(
+    array: &N,
+    start: usize,
+    end: usize,
+    index: usize,
+    allowance: &mut Allowance,
+) -> Option<bool>
+    requires array { IsTrue (is_array (N.tree array.now)) }
+    requires end { end ≤ index }
+    requires index { index < length (items (N.tree array.now)) }
+    ensures new { result ≡ Some true → IsNewAt start end index (items (N.tree array.now)) }
+    ensures twice { result ≡ Some false → unique (items (N.tree array.now)) ≡ false }
+{
+    if allowance.is_used_up() {
+        return None;
+    }
+    Some(!occurs_between(array, start, end, index, allowance))
+}
+
+// Returns whether an item from one index up to another is equal to the one at an index. Called
+// rarely, and never inlined, so that the loop over all items keeps its registers.
 #[inline(never)]
 #[tactic(auto, using(crate::proofs::BlockSearch::new_start, crate::proofs::BlockSearch::new_step, crate::proofs::BlockSearch::is_twice))]
-pub(crate) fn occurs_between<N: Node>(array: &N, start: usize, end: usize, index: usize) -> bool
+fn occurs_between<N: Node>(
+    array: &N,
+    start: usize,
+    end: usize,
+    index: usize,
+    allowance: &mut Allowance,
+) -> bool
     requires array { IsTrue (is_array (N.tree array.now)) }
     requires end { end ≤ index }
     requires index { index < length (items (N.tree array.now)) }
     ensures new { result ≡ false → IsNewAt start end index (items (N.tree array.now)) }
     ensures twice { result ≡ true → unique (items (N.tree array.now)) ≡ false }
 {
+    allowance.count(end.saturating_sub(start));
     let item = array.item(index);
     for j in start..end {
-        if are_equal(array.item(j), item) {
+        if are_equal(array.item(j), item, allowance) {
             return true;
         }
     }
@@ -223,12 +309,12 @@ pub(crate) fn occurs_between<N: Node>(array: &N, start: usize, end: usize, index
 
 // Returns whether two items are equal. Most of them are not, so integers from 0 on are compared
 // first.
-fn are_equal<N: Node>(left: &N, right: &N) -> bool
+fn are_equal<N: Node>(left: &N, right: &N, allowance: &mut Allowance) -> bool
     ensures { result ≡ equal (N.tree left.now) (N.tree right.now) }
 {
     match (whole_number(left), whole_number(right)) {
         (Some(a), Some(b)) => a == b,
-        _ => equal_nodes(left, right),
+        _ => equal_nodes(left, right, allowance),
     }
 }
 

@@ -1,8 +1,8 @@
-use Rattle.std.proofs.Common.{◌≤◌, ◌<◌, length, arith}
+use Rattle.std.proofs.Common.{◌≤◌, ◌<◌, length, arith, rules}
 use Rattle.jskw_value.specs.Tree.{items}
 use Rattle.jskw_value.proofs.SortedPrints.{all_new, next_new, next_other}
 use Rattle.jskw_value.proofs.unique_by_prints.differ_from_later.Goals as goal
-use Rattle.jskw_value.proofs.unique_by_prints.differ_from_later.Goals.{else-is_among-via-then-is_among+else-occurs_between, else-is_among-via-else-is_among}
+use Rattle.jskw_value.proofs.unique_by_prints.differ_from_later.Goals.{else-may_be_among-via-then-may_be_among+in_ok-differs_from+else-not-branch, else-may_be_among-via-else-may_be_among}
 
 pub loop-i-preserved : goal.loop-i-preserved
 loop-i-preserved g c =
@@ -12,13 +12,13 @@ loop-i-preserved g c =
     let all = items (g.N.Rooted.tree c.args.array.now) in
     let i = c.loop-i.i in
     let within : i < length all = omega (arith, known.0) in
-    elim c.else-is_among.branch [
-      | else-is_among-via-then-is_among+else-occurs_between w ↦ (known.0, next_new start end end i end all (omega arith) (w.occurs_between.ensures.new w.if-occurs_between.false) known.1)
-      | else-is_among-via-else-is_among w ↦ (
+    elim c.else-may_be_among.branch [
+      | else-may_be_among-via-then-may_be_among+in_ok-differs_from+else-not-branch w ↦ (known.0, next_new start end end i end all (omega arith) (w.differs_from.ensures.new (search rules)) known.1)
+      | else-may_be_among-via-else-may_be_among w ↦ (
         known.0,
-        next_other c.args.seed start end i c.of_whole.result c.args.prints.now all (g.N.Rooted.tree c.item.result.now)
-            c.requires.prints c.requires.room within c.item.ensures.value c.of_whole.ensures.value c.of_whole.ensures.distinct
-            (c.is_among.ensures w.if-is_among.false) known.1,
+        next_other c.args.seed c.args.doubtful.now start end i c.key.result c.args.keys.now all (g.N.Rooted.tree c.item.result.now)
+            c.requires.keys c.requires.room within c.item.ensures.value c.key.ensures.value c.key.ensures.distinct
+            (c.may_be_among.ensures w.if-may_be_among.false) known.1,
       )
     ]
 

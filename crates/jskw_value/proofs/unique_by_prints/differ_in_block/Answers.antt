@@ -1,12 +1,12 @@
-use Rattle.std.proofs.Common.{◌≤◌, ◌<◌, arith}
+use Rattle.std.proofs.Common.{◌≤◌, ◌<◌, arith, rules}
 use Rattle.jskw_value.specs.Tree.{items}
 use Rattle.jskw_value.proofs.SortedPrints.{all_new, next_new, next_once, rising_new}
 use Rattle.jskw_value.proofs.unique_by_prints.differ_in_block.Goals as goal
-use Rattle.jskw_value.proofs.unique_by_prints.differ_in_block.Goals.{else-is_repeated-via-then-is_repeated+else-occurs_between, else-is_repeated-via-else-is_repeated}
+use Rattle.jskw_value.proofs.unique_by_prints.differ_in_block.Goals.{else-is_repeated-via-then-is_repeated+in_ok-differs_from+else-not-branch, else-is_repeated-via-else-is_repeated}
 
 pub returns-then-rises-clause-new : goal.returns-then-rises-clause-new
 returns-then-rises-clause-new g c h =
-    rising_new c.args.seed c.args.start c.args.end c.args.prints.now (items (g.N.Rooted.tree c.args.array.now)) c.requires.prints c.requires.room
+    rising_new c.args.seed c.args.doubtful.now c.args.start c.args.end c.args.keys.now (items (g.N.Rooted.tree c.args.array.now)) c.requires.keys c.requires.room
     (c.rises.ensures c.if-rises.true)
 
 pub loop-i-preserved : goal.loop-i-preserved
@@ -17,9 +17,9 @@ loop-i-preserved g c =
     let i = c.loop-i.i in
     let within : i < end = omega arith in
     elim c.else-is_repeated.branch [
-      | else-is_repeated-via-then-is_repeated+else-occurs_between w ↦ next_new start end start i i all (omega arith) (w.occurs_between.ensures.new w.if-occurs_between.false) c.loop-i.invariant
-      | else-is_repeated-via-else-is_repeated w ↦ next_once c.args.seed start end i c.of_whole.result c.args.prints.now all (g.N.Rooted.tree c.item.result.now)
-          c.requires.prints c.requires.room within c.requires.end c.item.ensures.value c.of_whole.ensures.value
+      | else-is_repeated-via-then-is_repeated+in_ok-differs_from+else-not-branch w ↦ next_new start end start i i all (omega arith) (w.differs_from.ensures.new (search rules)) c.loop-i.invariant
+      | else-is_repeated-via-else-is_repeated w ↦ next_once c.args.seed c.args.doubtful.now start end i c.key.result c.args.keys.now all (g.N.Rooted.tree c.item.result.now)
+          c.requires.keys c.requires.room within c.requires.end c.item.ensures.value c.key.ensures.value
           (c.is_repeated.ensures w.if-is_repeated.false) c.loop-i.invariant
     ]
 

@@ -1,7 +1,7 @@
 use Rattle.std.proofs.Common.{◌≡◌, ◌-◌, ◌≤◌, length}
 use Rattle.jskw_value.specs.Tree.{items}
 use Rattle.jskw_value.specs.Unique.{IsUniqueIn}
-use Rattle.jskw_value.proofs.unique_by_prints.are_unique_by_prints.Given as goal
+use Rattle.jskw_value.proofs.unique_by_prints.are_unique_under.Given as goal
 
 abbrev pub invariant-loop-start : goal.invariant-loop-start
 invariant-loop-start g l =
