@@ -8,10 +8,11 @@
  *   - No pointer is NULL, also if its size is 0. `bytes` and `size` are one block of that many bytes, at most
  *     PTRDIFF_MAX, which no one writes during the call.
  *   - A `buffer` has `buffer_size` bytes that can be written. It overlaps no other block, `length` or handle.
- *   - A jskw_schema begins as JSKW_SCHEMA_EMPTY. After that only these functions read or write it, and it is not copied:
- *     jskw_share makes another handle of its schema. A handle is in one call at a time, also in one that only checks an
- *     instance. It may pass to another thread, by a lock, by that thread's start or join, or by an atomic in sequential
- *     order (memory_order_seq_cst). Two handles of one schema may be in calls at once, each on its own thread.
+ *   - A jskw_schema begins as JSKW_SCHEMA_EMPTY. After that only these functions read or write it, and it is not
+ *     copied: jskw_share makes another handle of its schema. A handle is in one call at a time, also in one that only
+ *     checks an instance. It may pass to another thread, by a lock, by that thread's start or join, or by an atomic in
+ *     sequential order (memory_order_seq_cst). Two handles of one schema may be in calls at once, each on its own
+ *     thread.
  *   - malloc, realloc and free are one allocator, with blocks aligned to 16 bytes as in any C library. No call is made
  *     in a signal handler, or in a forked child of a process with threads.
  *   - There is stack: 1 MB is enough for all JSON text, which nests at most 127 levels.

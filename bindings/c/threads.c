@@ -3,7 +3,8 @@
  *
  *     threads ROUNDS         so many rounds in each thread; under valgrind's helgrind 50 are enough
  *     threads SECONDS s      as many rounds as each does in so many seconds
- *     threads SECONDS rate   the calls of jskw_is_valid in a second by 1, 2 and 4 threads: the most of several turns
+ *     threads SECONDS rate   the calls of jskw_is_valid in a second by 1, 2 and 4 threads, the most of several turns: by
+ *                            the clock, and by the time that a processor spent in a thread
  *
  * The last line is `N passed, M failed`. */
 #include <pthread.h>
@@ -24,14 +25,16 @@ struct job {
     pthread_t thread;
     jskw_schema member, list;
     long rounds, wrong, done;
-    double seconds;
+    double seconds, used;
 };
 
-static double now(void) {
+static double read_clock(clockid_t clock) {
     struct timespec time;
-    clock_gettime(CLOCK_MONOTONIC, &time);
+    clock_gettime(clock, &time);
     return (double)time.tv_sec + (double)time.tv_nsec / 1e9;
 }
+
+static double now(void) { return read_clock(CLOCK_MONOTONIC); }
 
 static uint32_t compile(jskw_schema *handle, const char *schema) {
     uint8_t buffer[1];
@@ -52,8 +55,8 @@ static void *ask(void *of) {
     size_t length;
     for (double begun = now(); goes_on(job, begun);) {
         job->wrong += jskw_is_valid(&job->member, BYTES("{\"name\":\"Ada\",\"age\":36}")) != JSKW_VALID;
-        job->wrong += jskw_errors(&job->member, BYTES("{\"age\":36}"), 1, buffer, sizeof buffer, &length) != JSKW_INVALID
-            || length != strlen(wanted) || memcmp(buffer, wanted, length);
+        uint32_t status = jskw_errors(&job->member, BYTES("{\"age\":36}"), 1, buffer, sizeof buffer, &length);
+        job->wrong += status != JSKW_INVALID || length != strlen(wanted) || memcmp(buffer, wanted, length);
         job->wrong += jskw_is_valid(&job->list, BYTES("[1,2,3.0,4,5]")) != JSKW_VALID;
         job->wrong += jskw_evaluate(&job->list, BYTES("[1.5]"), buffer, sizeof buffer, &length) != JSKW_INVALID;
         jskw_schema another = JSKW_SCHEMA_EMPTY;
@@ -87,6 +90,7 @@ static void *count(void *of) {
     for (double begun = now(); now() - begun < job->seconds; job->done += 1000)
         for (int i = 0; i < 1000; i++)
             job->wrong += jskw_is_valid(&job->member, BYTES("{\"name\":\"Ada\",\"age\":36}")) != JSKW_VALID;
+    job->used = read_clock(CLOCK_THREAD_CPUTIME_ID);
     jskw_free(&job->member);
     return NULL;
 }
@@ -102,21 +106,25 @@ static long run(struct job *jobs, int threads, void *(*first)(void *), void *(*o
 
 static long rates(jskw_schema *member, double seconds) {
     long wrong = 0;
-    double most[5] = {0};
+    double most[5] = {0}, most_used[5] = {0};
     for (int turn = 0; turn < 5; turn++)
         for (int threads = 1; threads <= 4; threads *= 2) {
             struct job jobs[4] = {0};
-            double rate = 0;
+            double rate = 0, by_used = 0;
             for (int i = 0; i < threads; i++) {
                 jobs[i].seconds = seconds / 15;
                 wrong += jskw_share(member, &jobs[i].member) != JSKW_VALID;
             }
             wrong += run(jobs, threads, count, count);
             for (int i = 0; i < threads; i++) rate += (double)jobs[i].done / jobs[i].seconds;
+            for (int i = 0; i < threads; i++) by_used += (double)jobs[i].done / jobs[i].used;
             if (rate > most[threads]) most[threads] = rate;
+            if (by_used > most_used[threads]) most_used[threads] = by_used;
         }
     printf("calls in a second: %.0f by 1 thread, %.2f times that by 2, %.2f by 4\n", most[1], most[2] / most[1],
            most[4] / most[1]);
+    printf("of a processor:    %.0f by 1 thread, %.2f times that by 2, %.2f by 4\n", most_used[1],
+           most_used[2] / most_used[1], most_used[4] / most_used[1]);
     return wrong;
 }
 
