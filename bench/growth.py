@@ -25,6 +25,14 @@ COLLIDING = [
     ("a14", "b14", (2_236_116, 1_275_118), (1_291_788, 2_320_914)),
 ]
 
+# Of so many equal options, another object of the same names that has their fingerprint under the seed that they give.
+# Each was found by a search of some seconds.
+SAME_AS_OPTIONS = {
+    1_000: (1_519_507, 3_904_540, 2_709_953, 3_401_239),
+    9_000: (615_592, 2_277_882, 3_182_473, 87_704),
+    18_000: (3_666_757, 3_429_683, 3_911_658, 2_256_017),
+}
+
 WORD = 2**64 - 1
 
 
@@ -201,6 +209,51 @@ def all_match(size):
     return {"contains": {"type": "integer"}, "minContains": size, "maxContains": size}, list(range(size))
 
 
+def equal_options(count):
+    # options that are all equal, and items of their fingerprint
+    names = "", "a", "b", "c"
+    item = dict(zip(names, SAME_AS_OPTIONS[count]))
+    return {"items": {"enum": [dict.fromkeys(names, 0)] * count}}, [item] * (count // 2)
+
+
+def alike(count, depth):
+    return [nested(depth, i) for i in range(count)]
+
+
+def unique_levels(depth):
+    # at each level some items that differ only deep down, beside all that is below
+    schema, instance = True, [{"": 0}] * (1_000 * depth)
+    for _ in range(depth):
+        schema, instance = {"uniqueItems": True, "items": schema}, [*alike(20, 6), instance]
+    return schema, instance
+
+
+def unique_twice_at_each_level(levels):
+    # 2 ** levels subschemas, each applied to one array: items that differ only deep down, beside much that is not alike
+    schema, instance = {"uniqueItems": True}, [*alike(20, 6), [{"": 0}] * (60 * 2**levels)]
+    for _ in range(levels):
+        schema, instance = {"items": schema, "contains": schema}, [instance]
+    return schema, instance
+
+
+def early_differences(levels):
+    # the same, but the items that differ only deep down hold all of it, behind what differs
+    schema, instance = {"uniqueItems": True}, [[item, [0] * (10 * 2**levels)] for item in alike(20, 14)]
+    for _ in range(levels):
+        schema, instance = {"items": schema, "contains": schema}, [instance]
+    return schema, instance
+
+
+def alike_among_numbers(count):
+    return {"uniqueItems": True}, [*alike(100, 20), *range(100_000, 100_000 + count)]
+
+
+def alike_between_numbers(count):
+    apart = count // 100
+    numbers = [list(range(100_000 + i * apart, 100_000 + (i + 1) * apart)) for i in range(100)]
+    return {"uniqueItems": True}, [item for i in range(100) for item in [nested(20, i), *numbers[i]]]
+
+
 def growing():
     numbers = {"minimum": 0, "maximum": 10**6, "exclusiveMinimum": -1, "exclusiveMaximum": 10**6, "multipleOf": 1}
     number, item, match = {"items": numbers}, {"items": {"type": "integer"}}, {"contains": {"const": -1}}
@@ -215,6 +268,7 @@ def growing():
         ("enum, integers", THOUSANDS, last_option(whole_number)),
         ("enum, objects", THOUSANDS, last_option(lambda i: {"id": i})),
         ("enum, several types", THOUSANDS, last_option(mixed)),
+        ("enum, equal options, others that collide", (1_000, 9_000, 18_000), equal_options),
         ("the five keywords of numbers, for each item", THOUSANDS, of_items(number, whole_number)),
         ("minItems and maxItems", THOUSANDS, wide_limits),
         ("minProperties and maxProperties", THOUSANDS, wide_objects),
@@ -230,6 +284,11 @@ def growing():
         ("uniqueItems, objects", THOUSANDS, different(lambda i: {"id": i, "name": f"name{i}"})),
         ("uniqueItems, arrays 14 deep", THOUSANDS, different(lambda i: nested(14, i))),
         ("uniqueItems, rows that differ in the last of 100", THOUSANDS, different(lambda i: [0] * 99 + [i])),
+        ("uniqueItems at so many levels, few items alike", DEPTHS, unique_levels),
+        ("uniqueItems 2^n times, few items alike", (4, 7, 10), unique_twice_at_each_level),
+        ("uniqueItems 2^n times, alike, much behind it", (4, 7, 10), early_differences),
+        ("uniqueItems, 100 alike before integers", (10_000, 100_000, 571_000), alike_among_numbers),
+        ("uniqueItems, 100 alike between integers", (10_000, 100_000, 571_000), alike_between_numbers),
         ("required, an object of the names", THOUSANDS, lambda n: ({"required": names(n)}, members(n))),
         ("required, 17 names, an object", THOUSANDS, lambda n: ({"required": names(17)}, members(n))),
     ]

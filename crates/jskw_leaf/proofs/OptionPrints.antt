@@ -1,12 +1,13 @@
 -- What the fingerprints of options tell.
-use Rattle.std.proofs.Common.{◌≡◌, ◌≢◌, ℕ, zero, suc, ◌+◌, ◌≤◌, ◌<◌, ◌==◌, List, [], ◌∷◌, ◌++◌, length, get_or, drop, Bool, true, false, ◌&&◌, ◌||◌, sym, refl, ap, ◌∙◌, arith}
-use Rattle.std.proofs.lemmas.Bool.{and_from, and_parts, both_ways, eqb-true, eq-eqb, false_from_ne_true, ltb-true, ltb-false, true_from_ne_false}
+use Rattle.std.proofs.Common.{◌≡◌, ◌≢◌, ℕ, zero, suc, ◌+◌, ◌≤◌, ◌<◌, ◌==◌, List, [], ◌∷◌, ◌++◌, length, get_or, drop, All, Bool, true, false, ◌&&◌, ◌||◌, sym, refl, ap, ◌∙◌, arith}
+use Rattle.std.proofs.lemmas.Bool.{and_from, and_parts, both_ways, cond_both, eqb-true, eq-eqb, false_from_ne_true, ltb-true, ltb-false, true_from_ne_false}
 use Rattle.std.proofs.lemmas.List.{get_or-drop, length-drop}
-use Rattle.std.proofs.lemmas.List.Elements.{All-from_get_or}
+use Rattle.std.proofs.lemmas.List.Elements.{All-from_get_or, All-tail}
+use Rattle.std.proofs.lemmas.List.Filters.{All-dedup}
 use Rattle.std.proofs.lemmas.List.Folds.{list_all-append, list_all_at, list_any_none}
 use Rattle.std.proofs.lemmas.List.Sorted.{All-permutation, list_any-IsPermutation}
 use Rattle.std.proofs.lemmas.List.Sums.{AllPass-from_list_all, list_all-from_AllPass}
-use Rattle.std.specs.List.{list_all}
+use Rattle.std.specs.List.{list_all, dedup, dedup_from}
 use Rattle.std.specs.List.Sorted.{IsNonDecreasingBy, IsPartitionPoint, IsPermutation}
 use lib.Dec.{ltb}
 use Rattle.serde_json.specs.Data.{Items, no_items, item}
@@ -16,11 +17,12 @@ use Rattle.jskw_value.specs.Serde.{value_tree}
 use Rattle.jskw_value.specs.Tree.{Tree}
 use Rattle.jskw_value.specs.Types.{has_type_of, no_types}
 use Rattle.jskw_value.specs.declared.types.JsonTypeSet.{JsonTypeSet}
+use Rattle.jskw_value.proofs.AlikeTrees.{equal_trans}
 use Rattle.jskw_value.proofs.Fingerprints.{equal_print}
 use Rattle.jskw_report.specs.Holds.{is_option}
 use Rattle.jskw_leaf.specs.Options.{AreOptions, only, option_types}
 use Rattle.jskw_leaf.proofs.Options.{no_option}
-use Rattle.jskw_leaf.specs.Values.{IsRun, has_value, is_printed}
+use Rattle.jskw_leaf.specs.Values.{IsRun, has_value, is_printed, is_repeat}
 use Rattle.jskw_leaf.specs.declared.enum_.values.PrintedValue.{PrintedValue}
 
 -- ---- options in a table
@@ -89,21 +91,87 @@ run_over p t os i o run h here other =
     list_any_none (λ v. equal (value_tree v.value) t) (drop i os) (All-from_get_or (λ v. equal (value_tree v.value) t ≡ false) (drop i os) o (λ k l.
     rw (get_or-drop i os k o) (run i (i + k) o (omega arith) (omega (arith, l, length-drop i os)) (λ q. other (ap (λ v. v.print) here ∙ q)))))
 
+-- ---- each of equal options once
+
+-- what does not repeat the last one, which is kept
+abbrev kept : PrintedValue → List PrintedValue → List PrintedValue
+kept = dedup_from (λ o last. is_repeat last o)
+
+-- an option is left out beside the one that it repeats, which any tree equals that it equals
+left_out : (a b r : Bool) → (b ≡ true → a ≡ true) → (a || r) ≡ (a || (b || r))
+left_out true b r h = refl
+left_out false true r h = let e = h refl in absurd (cc)
+left_out false false r h = refl
+
+-- the same trees are among them
+same_kept : (t : Tree) (os : List PrintedValue) (k : PrintedValue) → has_value (kept k os) t ≡ has_value (k ∷ os) t
+same_kept t [] k = refl
+same_kept t (o ∷ os) k = cond_both (is_repeat k o) (kept k os) (k ∷ kept o os) (λ ps. has_value ps t ≡ has_value (k ∷ o ∷ os) t)
+    (λ e. same_kept t os k ∙ left_out (equal (value_tree k.value) t) (equal (value_tree o.value) t) (has_value os t)
+    (λ h. equal_trans (value_tree k.value) (value_tree o.value) t (and_parts (o.print == k.print) _ e).1 h))
+    (λ e. ap (λ b. equal (value_tree k.value) t || b) (same_kept t os o))
+
+pub same_once : (t : Tree) (os : List PrintedValue) → has_value (dedup (λ o last. is_repeat last o) os) t ≡ has_value os t
+same_once t [] = refl
+same_once t (o ∷ os) = same_kept t os o
+
+-- in front of what is no lower
+in_front : (k : PrintedValue) (os : List PrintedValue) → All (λ o. k.print ≤ o.print) os → IsNonDecreasingBy (λ o. o.print) os
+    → IsNonDecreasingBy (λ o. o.print) (k ∷ os)
+in_front k os low up zero zero d l h = omega arith
+in_front k os low up zero (suc j) d l h = low j d (omega (arith, h))
+in_front k os low up (suc i) zero d l h = absurd (omega (arith, l))
+in_front k os low up (suc i) (suc j) d l h = up i j d (omega (arith, l)) (omega (arith, h))
+
+-- the first is no higher than the others
+none_below : (k : PrintedValue) (os : List PrintedValue) → IsNonDecreasingBy (λ o. o.print) (k ∷ os) → All (λ o. k.print ≤ o.print) os
+none_below k os up j d h = up zero (suc j) d (omega arith) (omega (arith, h))
+
+-- the others
+behind : (k : PrintedValue) (os : List PrintedValue) → IsNonDecreasingBy (λ o. o.print) (k ∷ os) → IsNonDecreasingBy (λ o. o.print) os
+behind k os up i j d l h = up (suc i) (suc j) d (omega (arith, l)) (omega (arith, h))
+
+-- they stay in order
+kept_in_order : (os : List PrintedValue) (k : PrintedValue) → IsNonDecreasingBy (λ o. o.print) (k ∷ os)
+    → IsNonDecreasingBy (λ o. o.print) (kept k os)
+kept_in_order [] k up = up
+kept_in_order (o ∷ os) k up = cond_both (is_repeat k o) (kept k os) (k ∷ kept o os) (IsNonDecreasingBy (λ o. o.print))
+    (λ e. kept_in_order os k (in_front k os (All-tail (λ y. k.print ≤ y.print) o os (none_below k (o ∷ os) up)) (behind o os (behind k (o ∷ os) up))))
+    (λ e. in_front k (kept o os) (All-dedup (λ o last. is_repeat last o) (λ y. k.print ≤ y.print) (o ∷ os) (none_below k (o ∷ os) up)) (kept_in_order os o (behind k (o ∷ os) up)))
+
+pub in_order_once : (os : List PrintedValue) → IsNonDecreasingBy (λ o. o.print) os
+    → IsNonDecreasingBy (λ o. o.print) (dedup (λ o last. is_repeat last o) os)
+in_order_once [] up = up
+in_order_once (o ∷ os) up = kept_in_order os o up
+
+-- with their fingerprints
+pub printed_once : (seed : ℕ) (os : List PrintedValue) → list_all (is_printed seed) os ≡ true
+    → list_all (is_printed seed) (dedup (λ o last. is_repeat last o) os) ≡ true
+printed_once seed os h = list_all-from_AllPass (is_printed seed) (dedup (λ o last. is_repeat last o) os)
+    (All-dedup (λ o last. is_repeat last o) (λ o. is_printed seed o ≡ true) os (AllPass-from_list_all (is_printed seed) os h))
+
 -- ---- the options that a value lists
 
+-- sorted, each of equal ones once
+moved : (ds : Items) (os ps qs : List PrintedValue) → ((t : Tree) → has_value os t ≡ is_option ds t) → IsPermutation os ps
+    → qs ≡ dedup (λ o last. is_repeat last o) ps → (t : Tree) → is_option ds t ≡ has_value qs t
+moved ds os ps qs same m e t =
+    sym (same t) ∙ list_any-IsPermutation (λ o. equal (value_tree o.value) t) os ps m ∙ sym (same_once t ps) ∙ ap (λ xs. has_value xs t) (sym e)
+
 -- in a table, null among them
-pub are_values : (ds : Items) (os ps : List PrintedValue) → ((t : Tree) → has_value os t ≡ is_option ds t) → IsPermutation os ps → AreOptions (has_value ps) false ds
-are_values ds os ps same m t = sym (same t) ∙ list_any-IsPermutation (λ o. equal (value_tree o.value) t) os ps m ∙ go (has_value ps t)
+pub are_values : (ds : Items) (os ps qs : List PrintedValue) → ((t : Tree) → has_value os t ≡ is_option ds t) → IsPermutation os ps
+    → qs ≡ dedup (λ o last. is_repeat last o) ps → AreOptions (has_value qs) false ds
+are_values ds os ps qs same m e t = moved ds os ps qs same m e t ∙ go (has_value qs t)
   where
     go : (b : Bool) → b ≡ (b || false)
     go true = refl
     go false = refl
 
 -- a tree of another type is none of them
-pub no_value : (s : JsonTypeSet) (ds : Items) (os ps : List PrintedValue) → ((t : Tree) → has_value os t ≡ is_option ds t) → IsPermutation os ps
-    → s ≡ option_types no_types ds → (t : Tree) → has_type_of s t ≡ false → has_value ps t ≡ false
-no_value s ds os ps same m e t h =
-    sym (list_any-IsPermutation (λ o. equal (value_tree o.value) t) os ps m) ∙ same t ∙ no_option s ds t e h
+pub no_value : (s : JsonTypeSet) (ds : Items) (os ps qs : List PrintedValue) → ((t : Tree) → has_value os t ≡ is_option ds t)
+    → IsPermutation os ps → qs ≡ dedup (λ o last. is_repeat last o) ps → s ≡ option_types no_types ds
+    → (t : Tree) → has_type_of s t ≡ false → has_value qs t ≡ false
+no_value s ds os ps qs same m once e t h = sym (moved ds os ps qs same m once t) ∙ no_option s ds t e h
 
 -- each can stand in it
 pub all_taken : (ds : Items) → only (λ d. true) ds ≡ true

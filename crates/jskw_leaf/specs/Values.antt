@@ -15,6 +15,10 @@ is_printed seed o = (o.print == print seed unlimited (value_tree o.value)) && is
 abbrev pub has_value : List PrintedValue → Tree → Bool
 has_value os t = list_any (λ o. equal (value_tree o.value) t) os
 
+-- an option is equal to the last one before it
+abbrev pub is_repeat : PrintedValue → PrintedValue → Bool
+is_repeat last o = (o.print == last.print) && equal (value_tree last.value) (value_tree o.value)
+
 -- options with the fingerprint p come first: from one on that has another, none equals the tree
 abbrev pub IsRun : ℕ → Tree → List PrintedValue → Type 0
 IsRun p t os = (i j : ℕ) (d : PrintedValue) → i ≤ j → j < length os → (slice_index_or os i d).print ≢ p → equal (value_tree (slice_index_or os j d).value) t ≡ false

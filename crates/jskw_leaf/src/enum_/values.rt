@@ -6,7 +6,7 @@ ghost use Rattle.serde_json.specs.View.{items_view};
 ghost use Rattle.jskw_value.specs.Tree.{Tree};
 ghost use Rattle.jskw_value.specs.Types.{has_type_of};
 ghost use Rattle.jskw_report.specs.Holds.{is_option};
-ghost use Rattle.jskw_leaf.specs.Values.{IsRun, has_value, is_printed};
+ghost use Rattle.jskw_leaf.specs.Values.{IsRun, has_value, is_printed, is_repeat};
 
 use super::compilation::types_of;
 use super::table::{OptionTable, TableEnumValidator};
@@ -23,8 +23,9 @@ pub struct PrintedValue {
     value: Value,
 }
 
-/// A table of more than 8 options of any types, null included, sorted by their fingerprints. The
-/// seed of the fingerprints comes from the whole list. A lookup takes the fingerprint of the
+/// A table of more than 8 options of any types, null included, sorted by their fingerprints. Equal
+/// options are there once, since an instance of their fingerprint is compared with each. The seed of
+/// the fingerprints comes from the whole list. A lookup takes the fingerprint of the
 /// instance, a binary search, and a comparison with each option of that fingerprint: in most cases
 /// one or none.
 #[derive(Drop)]
@@ -57,6 +58,7 @@ impl OptionTable for SortedValues {
         let seed = seed_of(options);
         let mut sorted = printed(alloc, items, seed)?;
         sorted.sort_unstable_by_key(|option| option.print);
+        sorted.dedup_by(|option, last| is_repeat(option, last));
         Ok(SortedValues {
             types: types_of(items),
             seed,
@@ -84,6 +86,13 @@ fn printed(alloc: Global, items: &[Value], seed: u64) -> Result<Vec<PrintedValue
         })?;
     }
     Ok(options)
+}
+
+// Returns whether an option is equal to the last one before it.
+fn is_repeat(option: &PrintedValue, last: &PrintedValue) -> bool
+    ensures { result ≡ is_repeat last.now option.now }
+{
+    option.print == last.print && option.value.equals_value(&last.value)
 }
 
 // Returns whether one of the options equals the instance. The options must be sorted by their
