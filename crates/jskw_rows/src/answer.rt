@@ -14,6 +14,8 @@ pub(crate) struct Said {
     first: Lines,
     /// `collect_errors`.
     pub(crate) errors: Lines,
+    // The limits for which `collect_first_errors` gives others than the first of these.
+    limits: Text,
     /// `evaluate`.
     pub(crate) tree: Lines,
     /// What each observer counted, in this order: the subschemas that it applied.
@@ -27,6 +29,7 @@ impl Said {
             holds: true,
             first: lines.others(),
             errors: lines.others(),
+            limits: Text::new(lines.alloc),
             tree: lines.others(),
             contexts: [
                 ValidationContext::new(),
@@ -52,6 +55,26 @@ impl Said {
         }
     }
 
+    /// Notes a limit for which `collect_first_errors` did not give the first of all errors, of which
+    /// there are `count`, up to the limit.
+    pub(crate) fn push_limited<F: Json>(
+        &mut self,
+        limit: usize,
+        count: usize,
+        made: Made<()>,
+        errors: &[ValidationError<F>],
+    ) {
+        let mut given = self.errors.others();
+        given.text.keep(made);
+        for error in errors {
+            given.push_error(error);
+        }
+        let is_start = self.errors.text.as_str().starts_with(given.text.as_str());
+        if !is_start | (errors.len() != limit.min(count)) {
+            write!(self.limits, "{limit}\n");
+        }
+    }
+
     /// Appends the lines that a row wants: the errors or `valid`, and the evaluation if that is
     /// claimed, below the line of the schema's own node if the tree has none. A line says so where
     /// another observer disagrees with the errors.
@@ -61,6 +84,8 @@ impl Said {
         text.push(if is_valid { "valid\n" } else { errors });
         push_unless(text, self.holds == is_valid, "is_valid", "");
         push_unless(text, self.is_first(), "validate", self.first.text.as_str());
+        let limits = self.limits.as_str();
+        push_unless(text, limits.is_empty(), "collect_first_errors", limits);
         let described = self.tree.described.as_str();
         let top = if root.is_empty() { tree } else { root };
         let agrees = top.starts_with("valid") == self.holds;

@@ -160,19 +160,23 @@ impl Json for AskedJson {
     }
 }
 
-// How often each observer of a schema asks, if one asks more often than it may: `is_valid` and
-// `validate` up to the first failure, the others in all; asked once, and once more.
+// How often each observer of a schema asks, if one asks more often than it may: `is_valid`,
+// `validate` and `collect_first_errors` with the limit 1 up to the first failure, the others in all;
+// asked once, and once more.
 pub(crate) fn counted(lines: &mut Lines, given: Given<'_>, all: Arguments<'_>) {
     if let Some(tree) = lines.text.made(Asked::of(lines.alloc, all.value(3))) {
         let (until_first, of_all) = (all.number(4), all.number(5));
-        let asked = (tree, [until_first, until_first, of_all, of_all]);
+        let asked = (
+            tree,
+            [until_first, until_first, until_first, of_all, of_all],
+        );
         let ctx: Context<AskedJson> = Context::new(lines.alloc, given.settings);
         let compiled = compile(lines.alloc, &ctx, all.value(2));
         push_compiled(lines, Some(compiled), &asked, push_counts);
     }
 }
 
-fn push_counts(lines: &mut Lines, node: &SchemaNode<AskedJson>, (tree, most): &(Asked, [u64; 4])) {
+fn push_counts(lines: &mut Lines, node: &SchemaNode<AskedJson>, (tree, most): &(Asked, [u64; 5])) {
     for time in &["once", "once more"] {
         let counts = counts(lines, node, tree);
         let mut pairs = counts.iter().zip(most);
@@ -184,18 +188,26 @@ fn push_counts(lines: &mut Lines, node: &SchemaNode<AskedJson>, (tree, most): &(
 
 // How often each observer asks whether a node of the instance is null.
 #[tactic(auto, using(crate::proofs::Asks::lawful_tree))]
-fn counts(lines: &mut Lines, node: &SchemaNode<AskedJson>, tree: &Asked) -> [u64; 4] {
+fn counts(lines: &mut Lines, node: &SchemaNode<AskedJson>, tree: &Asked) -> [u64; 5] {
     let alloc = lines.alloc;
     let (mut location, mut ctx) = (LazyLocation::new(alloc), ValidationContext::new());
     let _ = node.is_valid(tree, &mut ctx);
     let is_valid = tree.take_count();
     let first = node.validate(tree, &mut location, &mut ctx);
     let validate = tree.take_count();
+    let one = node.collect_first_errors(1, tree, &mut location, &mut ctx, &mut Vec::new(alloc));
+    let collect_one = tree.take_count();
     let all = node.collect_errors(tree, &mut location, &mut ctx, &mut Vec::new(alloc));
-    let collect_errors = tree.take_count();
+    let collect_all = tree.take_count();
     let evaluation = node.evaluate_instance(alloc, tree, &mut ctx);
-    if matches!(first, Err(Fault::Memory(_))) | all.is_err() | evaluation.is_err() {
+    if matches!(first, Err(Fault::Memory(_))) | one.is_err() | all.is_err() | evaluation.is_err() {
         lines.text.cut();
     }
-    [is_valid, validate, collect_errors, tree.take_count()]
+    [
+        is_valid,
+        validate,
+        collect_one,
+        collect_all,
+        tree.take_count(),
+    ]
 }

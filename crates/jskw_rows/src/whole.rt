@@ -9,7 +9,7 @@ use crate::row::Row;
 use jskw_array::SchemaNode;
 use jskw_array::compiler::compile;
 use jskw_array::items::array_shape_fusion;
-use jskw_report::{Context, LazyLocation};
+use jskw_report::{Context, LazyLocation, ValidationContext};
 use jskw_value::{Json, Node};
 use serde_json::Value;
 
@@ -84,6 +84,26 @@ fn observe<F: Json>(said: &mut Said, node: &SchemaNode<F>, instance: &F::Node)
     let ctx = &mut said.contexts[2];
     let made = node.collect_errors(instance, &mut location, ctx, &mut errors);
     said.push_errors(made, &errors);
+    observe_limits(said, node, instance, errors.len());
     let tree = node.evaluate_instance(alloc, instance, &mut said.contexts[3]);
     said.tree.push_tree(0, &tree);
+}
+
+// Asks for the first errors, with limits from none of them to more than there are.
+fn observe_limits<F: Json>(said: &mut Said, node: &SchemaNode<F>, instance: &F::Node, count: usize)
+    requires { IsTrue (is_lawful (F.Node.tree instance.now)) }
+{
+    let alloc = said.tree.alloc;
+    for limit in &[0, count / 2, count, count.saturating_add(1)] {
+        let (mut location, mut ctx) = (LazyLocation::new(alloc), ValidationContext::new());
+        let mut errors = Vec::new(alloc);
+        let made = node.collect_first_errors(
+            *limit,
+            instance,
+            &mut location,
+            &mut ctx,
+            &mut errors,
+        );
+        said.push_limited(*limit, count, made, &errors);
+    }
 }

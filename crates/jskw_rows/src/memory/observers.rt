@@ -128,7 +128,7 @@ fn two_below(alloc: Global) -> LazyLocation {
     location
 }
 
-// Says that the schema is compiled, and asks the four observers. All but the last take no memory if
+// Says that the schema is compiled, and asks the observers. All but the last take no memory if
 // the schema has leaves alone, which hold.
 fn observe<F: Json>(to: &mut Printer<'_>, node: &SchemaNode<F>, instance: &F::Node)
     requires { IsTrue (is_lawful (F.Node.tree instance.now)) }
@@ -141,16 +141,18 @@ fn observe<F: Json>(to: &mut Printer<'_>, node: &SchemaNode<F>, instance: &F::No
     to.announce("validate", !to.kind.starts_with("leaves"));
     let first = node.validate(instance, &mut location, &mut ctx);
     to.print_first(&first, &location);
-    collect_errors(to, node, instance, &mut location);
+    collect_errors(to, "collect_errors", node, instance, &mut location);
+    collect_errors(to, "collect_first_errors", node, instance, &mut location);
     to.announce("evaluate_instance", true);
     let tree = node.evaluate_instance(to.alloc(), instance, &mut ctx);
     to.tell(tree.is_err());
     to.print_tree(&tree);
 }
 
-// Asks for all errors, behind an old one.
+// Asks for all errors, or for the first two, behind an old one.
 fn collect_errors<'i, F: Json>(
     to: &mut Printer<'_>,
+    call: &str,
     node: &'i SchemaNode<F>,
     instance: &'i F::Node,
     location: &mut LazyLocation,
@@ -158,9 +160,12 @@ fn collect_errors<'i, F: Json>(
     requires { IsTrue (is_lawful (F.Node.tree instance.now)) }
 {
     let mut errors = old_error(to, node.location(), instance);
-    to.announce("collect_errors", !to.kind.starts_with("leaves"));
+    to.announce(call, !to.kind.starts_with("leaves"));
     let mut ctx = ValidationContext::new();
-    let collected = node.collect_errors(instance, location, &mut ctx, &mut errors);
+    let collected = match call {
+        "collect_errors" => node.collect_errors(instance, location, &mut ctx, &mut errors),
+        _ => node.collect_first_errors(2, instance, location, &mut ctx, &mut errors),
+    };
     to.tell_at(collected.is_err(), location);
     to.print_errors(&errors);
 }
