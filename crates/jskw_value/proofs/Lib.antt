@@ -8,6 +8,7 @@ pub mod Equal
 pub mod Fingerprints
 pub mod FirstFloat
 pub mod Lawful
+pub mod LastMembers
 pub mod Lists
 pub mod Lookups
 pub mod MembersByPlace
