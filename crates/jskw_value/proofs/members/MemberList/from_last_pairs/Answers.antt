@@ -1,11 +1,11 @@
-use Rattle.std.proofs.Common.{rules, ◌≡◌, string_bytes, subst, sym, ap, ◌∙◌, reverse}
+use Rattle.std.proofs.Common.{rules, ◌≡◌, string_bytes, subst, sym, ◌∙◌, reverse}
 use Rattle.std.proofs.lemmas.Cmp.{nat_list_cmp_total}
 use Rattle.std.proofs.lemmas.Fn.{dedup_same}
 use Rattle.std.proofs.lemmas.List.Sorted.{answers_always, ranks_by}
 use Rattle.std.specs.List.{dedup}
 use Rattle.std.specs.List.Sorted.{IsSortedBy, IsStableBy}
 use Rattle.std.specs.Ordering.{is_lt}
-use Rattle.jskw_value.specs.Members.{lasts, names, AreSorted}
+use Rattle.jskw_value.specs.Members.{names, AreSorted}
 use Rattle.jskw_value.proofs.LastMembers.{by_name, same_name, sorted_kept, lasts_kept, lasts_rising}
 use Rattle.jskw_value.proofs.members.MemberList.from_last_pairs.Goals as goal
 
