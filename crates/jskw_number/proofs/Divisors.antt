@@ -3,7 +3,7 @@ use Rattle.std.proofs.Common.{◌≡◌, [], ℕ, zero, suc, ◌<◌, ◌≤◌,
 use Rattle.std.specs.Result.{result_ok}
 use Rattle.serde_json.specs.Data.{unsigned, negative, Data}
 use Rattle.serde_json.specs.Data as json
-use Rattle.jskw_value.specs.Decimal.{value}
+use Rattle.jskw_value.specs.Decimal.{coefficient, value}
 use Rattle.jskw_value.specs.Number.{Num, is_multiple_of}
 use Rattle.jskw_value.specs.Pointer.{Pointer}
 use Rattle.jskw_value.specs.Tree.{Tree, number, as_number}
@@ -13,7 +13,7 @@ use Rattle.jskw_report.specs.Holds.{multiple_holds}
 use Rattle.jskw_report.specs.Kind.{ExclusiveMinimum}
 
 -- what a decimal's `is_multiple_of` answers is what its tree says
-pub divides_number : (m : ℕ) (t : Tree) (n : Num) (d : Decimal) → as_number t ≡ Some n → value d ≡ n → multiple_holds m t ≡ is_multiple_of d.coefficient d.scale m
+pub divides_number : (m : ℕ) (t : Tree) (n : Num) (d : Decimal) → as_number t ≡ Some n → value d ≡ n → multiple_holds m t ≡ is_multiple_of (coefficient d) d.scale m
 divides_number m (number x) n d h e = let same : x ≡ value d = cc in ap (λ y. multiple_holds m (number y)) same
 divides_number m _ n d h e = cc
 

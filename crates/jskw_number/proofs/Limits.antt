@@ -5,7 +5,7 @@ use Rattle.std.specs.Ordering.{is_lt, is_le, is_gt, is_ge}
 use Rattle.std.specs.Option.{option_map_or}
 use Rattle.std.specs.Prelude.{int_le, int_lt}
 use Rattle.std.proofs.lemmas.Int.{ints}
-use Rattle.jskw_value.specs.Decimal.{value}
+use Rattle.jskw_value.specs.Decimal.{coefficient, value}
 use Rattle.jskw_value.specs.Number.{Num, exact, cmp_whole}
 use Rattle.jskw_value.specs.Tree.{Tree, number, as_number}
 use Rattle.jskw_value.specs.declared.decimal.Decimal.{Decimal}
@@ -14,7 +14,7 @@ use Rattle.jskw_report.specs.Keyword.{Relation, Minimum, Maximum, ExclusiveMinim
 use Rattle.jskw_number.specs.Limit.{allows, stands_to}
 
 -- what a decimal's `cmp_whole` answers is how its tree stands to the whole number
-pub stands_number : (t : Tree) (n : Num) (d : Decimal) (z : ℤ) → as_number t ≡ Some n → value d ≡ n → stands_to z t ≡ Some (cmp_whole d.coefficient d.scale z)
+pub stands_number : (t : Tree) (n : Num) (d : Decimal) (z : ℤ) → as_number t ≡ Some n → value d ≡ n → stands_to z t ≡ Some (cmp_whole (coefficient d) d.scale z)
 stands_number (number x) n d z h e = let same : x ≡ value d = cc in ap (λ y. stands_to z (number y)) same
 stands_number _ n d z h e = cc
 

@@ -1,6 +1,7 @@
 pub mod Alike
-pub mod Entries
 pub mod Exact
+pub mod FewDigits
+pub mod Members
 pub mod Numbers
 pub mod Reading
 mod Utf8

@@ -1,5 +1,5 @@
 -- Digits moved by tens.
-use Rattle.std.proofs.Common.{◌≡◌, ℕ, ◌+◌, ◌-◌, ◌*◌, ◌%◌, ◌^◌, ◌<◌, ◌≤◌, ◌==◌, min, List, ◌++◌, length, take, drop, Bool, true, false, cond, Option, Some, None, IfSome, MatchOption, refl, sym, ap, ap₂, ◌∙◌, arith, inl, inr, take-append-drop, length-drop, mul-le-mul_right, ne_eqb, lit<, [], ◌∷◌, length-append}
+use Rattle.std.proofs.Common.{◌≡◌, ℕ, zero, suc, ◌+◌, ◌-◌, ◌*◌, ◌%◌, ◌^◌, ◌<◌, ◌≤◌, ◌==◌, min, List, ◌++◌, length, take, drop, Bool, true, false, cond, Option, Some, None, IfSome, MatchOption, refl, sym, ap, ap₂, ◌∙◌, arith, inl, inr, take-append-drop, length-drop, mul-le-mul_right, ne_eqb, lit<, [], ◌∷◌, length-append}
 use native.Mathlib.Nat.{pow-le-pow_right}
 use Rattle.std.proofs.lemmas.Nat.{div-mul-add, mod-mul-add}
 use Rattle.std.proofs.lemmas.Bool.{cases_lt}
@@ -11,7 +11,8 @@ use Rattle.core.proofs.dec2flt.Rows.{AllDigits-drop, short_fits}
 use Rattle.core.proofs.str.DigitValues.{digits_value-lt}
 use lib.Pow.{pow-add}
 use Rattle.fast_float.specs.Text.{Parts, digits_of, tens_up, tens_down}
-use Rattle.jskw_text.specs.NumberText.{quotient, scaled}
+use Rattle.std.specs.Option.{option_or}
+use Rattle.jskw_text.specs.NumberText.{quotient, scaled, at_scale, at_most}
 
 -- the first digits and the others
 split : (ds : List ℕ) (i : ℕ) → digits_value 10 ds ≡ digits_value 10 (take i ds) * 10 ^ (length ds - i) + digits_value 10 (drop i ds)
@@ -121,3 +122,9 @@ as_written p k wrapped h none places few e =
     let fits : digits_of p < 2 ^ 64 = short_fits (p.whole ++ p.fraction) h (omega (arith, length-append p.whole p.fraction)) in
     let same : digits_of p ≡ wrapped = omega arith in
     digits_alone p k none places ∙ ap Some same
+
+-- of several scales, the greatest comes first
+pub at_most_is : (negative : Bool) (p : Parts) (k : ℕ) → 0 < k → at_most negative p k ≡ option_or (at_scale negative p k) (at_most negative p (k - 1))
+unfolding at_most
+at_most_is negative p zero h = absurd (omega arith)
+at_most_is negative p (suc k) h = let less : suc k - 1 ≡ k = omega arith in rw less refl

@@ -1,5 +1,5 @@
-pub mod Entries
 pub mod Laws
+pub mod Members
 pub mod NumberText
 pub mod Position
 pub mod ReadFault

@@ -9,7 +9,7 @@ ghost use Rattle.jskw_value.specs.Decimal.{value};
 ghost use Rattle.jskw_text.specs.Tens.{HasTens, IsShort};
 ghost use Rattle.jskw_text.specs.NumberText.{number_of, decimal_from, at_most, at_scale, scaled, scale_of};
 
-use core::dec2flt::{Numeral, digit_at, skip_zeros, ten_to};
+use core::dec2flt::{Numeral, digit_at, read_digits, skip_zeros, ten_to};
 use jskw_value::Decimal;
 
 /// Returns the decimal that the text of a JSON number denotes, or `None` if there is none.
@@ -17,11 +17,22 @@ use jskw_value::Decimal;
 pub fn parse_decimal(text: &str) -> Option<Decimal>
     ensures { option_map value result ≡ number_of text.now }
 {
-    let bytes = text.as_bytes();
+    let (is_negative, digits) = split_sign(text.as_bytes());
+    match few_digits(is_negative, digits) {
+        Some(decimal) => Some(decimal),
+        None => any_digits(is_negative, digits),
+    }
+}
+
+// Returns whether a number begins with a minus, and what follows it.
+#[inline(always)]
+fn split_sign(bytes: &[u8]) -> (bool, &[u8])
+    ensures { decimal_from result.0 (scan result.1.now) ≡ number_of bytes.now }
+{
     if has_minus(bytes) {
-        decimal_from(true, &scan(&bytes[1..]))
+        (true, &bytes[1..])
     } else {
-        decimal_from(false, &scan(bytes))
+        (false, bytes)
     }
 }
 
@@ -32,6 +43,39 @@ fn has_minus(bytes: &[u8]) -> bool
     ensures len { IsTrue result → 0 < length bytes.now }
 {
     !bytes.is_empty() && bytes[0] == b'-'
+}
+
+// Returns the decimal of up to 19 bytes without an exponent. Most numbers are such, and nothing but
+// their digits is looked at.
+#[inline(always)]
+fn few_digits(is_negative: bool, bytes: &[u8]) -> Option<Decimal>
+    ensures { IfSome result
+        (λ decimal. decimal_from is_negative (scan bytes.now) ≡ Some (value decimal)) }
+{
+    if bytes.is_empty() || bytes.len() > 19 {
+        return None;
+    }
+    let (point, whole) = read_digits(bytes, 0, 0);
+    if point == bytes.len() {
+        return Decimal::from_parts(is_negative, whole, 0);
+    }
+    if bytes[point] != b'.' {
+        return None;
+    }
+    let (end, size) = read_digits(bytes, point + 1, whole);
+    if end < bytes.len() || end == point + 1 {
+        return None;
+    }
+    Decimal::from_parts(is_negative, size, (end - point - 1) as u8)
+}
+
+// Returns the decimal of any bytes.
+#[cold]
+#[inline(never)]
+fn any_digits(is_negative: bool, bytes: &[u8]) -> Option<Decimal>
+    ensures { option_map value result ≡ decimal_from is_negative (scan bytes.now) }
+{
+    decimal_from(is_negative, &scan(bytes))
 }
 
 // Returns the parts of the numeral at the front of the bytes.
@@ -130,28 +174,7 @@ fn with_sign(negative: bool, size: u64) -> i128
 
 // Returns the number without its sign, times ten to the power of the scale, if that is whole and
 // below 2^64.
-#[inline(always)]
 fn scaled(numeral: &Numeral<'_>, scale: u8) -> Option<u64>
-    requires short { IsShort numeral.now }
-    requires scale { scale ≤ 18 }
-    ensures { MatchOption result (IfSome (scaled numeral.now scale) (λ n. 2 ^ 64 ≤ n))
-        (λ n. scaled numeral.now scale ≡ Some n) }
-{
-    let places = numeral.fraction().len();
-    // the digits as they are written
-    if numeral.exponent().is_empty()
-        && places == scale as usize
-        && numeral.whole().len() + places <= 19
-    {
-        Some(numeral.wrapped_digits())
-    } else {
-        scaled_slowly(numeral, scale)
-    }
-}
-
-// Returns the same by the digits before and behind the point.
-#[inline(never)]
-fn scaled_slowly(numeral: &Numeral<'_>, scale: u8) -> Option<u64>
     requires short { IsShort numeral.now }
     requires scale { scale ≤ 18 }
     ensures { MatchOption result (IfSome (scaled numeral.now scale) (λ n. 2 ^ 64 ≤ n))

@@ -1,5 +1,5 @@
 //! Lines and columns of a text.
-ghost use Rattle.std.specs.Prelude.{◌≡◌, ◌≤◌, length};
+ghost use Rattle.std.specs.Prelude.{◌≡◌};
 ghost use Rattle.jskw_text.specs.Position.{continues, line_at, column_at};
 
 /// A place in a text, as editors show it.
@@ -11,15 +11,14 @@ pub struct Position {
     pub column: usize,
 }
 
-/// Returns the line and the column of the byte at `offset`, which must be at most the length. Lines
-/// end with a line feed. Bytes that continue a character of UTF-8 are not counted.
+/// Returns the line and the column of the byte at `offset`, or of the end of the text if this is
+/// shorter. Lines end with a line feed. Bytes that continue a character of UTF-8 are not counted.
 pub fn position_of(text: &[u8], offset: usize) -> Position
-    requires { offset ≤ length text.now }
     ensures line { result.line ≡ line_at offset text.now }
     ensures column { result.column ≡ column_at offset text.now }
 {
     let mut position = Position { line: 1, column: 1 };
-    for &byte in &text[..offset] {
+    for &byte in &text[..offset.min(text.len())] {
         if byte == b'\n' {
             position.line += 1;
             position.column = 1;

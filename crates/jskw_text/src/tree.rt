@@ -2,10 +2,10 @@
 ghost use Rattle.std.specs.Prelude.{◌≡◌, ◌<◌, Some, Ok, IfOk, IfErr, OnOk, IsTrue, IsSome, ◌↔◌, length, map, string_bytes};
 ghost use Rattle.std.specs.Str.{is_utf8};
 ghost use Rattle.json.specs.Json.{value, items, members, parse_map};
-ghost use Rattle.jskw_value.specs.DecimalTree.{decimal_tree, items_from, entry_tree as member_tree};
+ghost use Rattle.jskw_value.specs.DecimalTree.{decimal_tree, items_from};
 ghost use Rattle.jskw_value.specs.FirstFloat.{below_index, below_name};
 ghost use Rattle.jskw_value.specs.Tree.{no_members};
-ghost use Rattle.jskw_text.specs.Entries.{entry_tree, members_from_entries};
+ghost use Rattle.jskw_text.specs.Members.{members_seen};
 ghost use Rattle.jskw_text.specs.ReadFault.{IsFaultOf};
 ghost use Rattle.jskw_text.specs.Stop.{IsStopOf, Explains, IsOutside};
 ghost use Rattle.jskw_text.specs.Reading.{document, reading, tree_of, items_of, members_of};
@@ -13,12 +13,10 @@ ghost use Rattle.jskw_text.specs.Reading.{document, reading, tree_of, items_of, 
 use crate::broken::offset_of_break;
 use crate::fault::{ReadFault, Stop};
 use crate::number::parse_decimal;
-use jskw_value::members::{Member, MemberList};
 use jskw_value::pointer::{push_index, push_name};
-use jskw_value::{DecimalTree, Members};
+use jskw_value::{DecimalTree, Member, Members};
 use json::{Reader, Scratch, Token};
 use std::alloc::{AllocError, Global};
-use std::collections::BTreeMap;
 
 // How deep arrays and objects may nest.
 pub(crate) const MAX_DEPTH: usize = 127;
@@ -125,8 +123,7 @@ fn read(alloc: Global, reader: &mut Reader<'_>, depth: usize) -> Result<DecimalT
             if depth == 0 {
                 return Err(Stop::Broken);
             }
-            let found = read_members(alloc, reader, depth - 1)?;
-            Ok(DecimalTree::Object(listed(alloc, found)?))
+            Ok(DecimalTree::Object(read_members(alloc, reader, depth - 1)?))
         }
     }
 }
@@ -157,42 +154,27 @@ fn read_items(
     Ok(found)
 }
 
-// Reads the names and trees of the members up to the end of an object.
+// Reads the members up to the end of an object.
 #[cycle(read)]
 #[inline(never)]
-fn read_members(
-    alloc: Global,
-    reader: &mut Reader<'_>,
-    depth: usize,
-) -> Result<BTreeMap<String, DecimalTree>, Stop>
-    ensures ok { IfOk result (λ m. parse_map (members_of no_members)
+fn read_members(alloc: Global, reader: &mut Reader<'_>, depth: usize) -> Result<Members, Stop>
+    ensures ok { IfOk result (λ ms. parse_map (members_of no_members)
         (members (value depth) (length reader.old) reader.old)
-        ≡ Some (Ok (members_from_entries (map entry_tree m.entries)), reader.new)) }
+        ≡ Some (Ok (members_seen ms), reader.new)) }
     ensures shorter { OnOk result (length reader.new < length reader.old) }
     ensures err { IfErr result (λ e. Explains e (parse_map (members_of no_members)
         (members (value depth) (length reader.old) reader.old))) }
 {
-    let mut found = BTreeMap::new(alloc);
+    let mut found = Vec::new(alloc);
     'members: while let Some(name) = reader.next_key()? {
         let key = String::from_str(alloc, name)?;
-        let member = match read(alloc, reader, depth) {
-            Ok(member) => member,
+        let value = match read(alloc, reader, depth) {
+            Ok(value) => value,
             Err(stop) => return Err(in_member(alloc, key.as_str(), stop)),
         };
-        drop(found.insert(key, member)?);
+        found.push(Member { name: key, value })?;
     }
-    Ok(found)
-}
-
-// Returns the members of a map as a sorted list.
-fn listed(alloc: Global, found: BTreeMap<String, DecimalTree>) -> Result<Members, AllocError>
-    ensures { IfOk result (λ ms. map member_tree ms ≡ map entry_tree found.entries) }
-{
-    let mut list = Vec::with_capacity(alloc, found.len())?;
-    for (name, value) in found {
-        list.push(Member { name, value })?;
-    }
-    Ok(MemberList::of_sorted(list))
+    Ok(Members::from_last_pairs(found)?)
 }
 
 // Returns a stop in an item as one of its array.

@@ -9,6 +9,7 @@ pub mod Fingerprints
 pub mod FirstFloat
 pub mod Keys
 pub mod Lawful
+pub mod LastMembers
 pub mod Lists
 pub mod Lookups
 pub mod MembersByPlace

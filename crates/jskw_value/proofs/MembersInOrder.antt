@@ -38,7 +38,7 @@ same : (k n : List ℕ) → slice_cmp nat_cmp n k ≡ Equal → bytes_eq k n ≡
 same k n e = nat_list_eq_equiv.symm k n ∙ sym (is_eq-slice_cmp n k) ∙ ap is_eq e
 
 -- names behind a greater one are greater
-all_behind : (k x : List ℕ) (ns : List (List ℕ)) → slice_cmp nat_cmp k x ≡ Less
+pub all_behind : (k x : List ℕ) (ns : List (List ℕ)) → slice_cmp nat_cmp k x ≡ Less
     → AllByRecursion (λ y. slice_cmp nat_cmp x y ≡ Less) ns → AllByRecursion (λ y. slice_cmp nat_cmp k y ≡ Less) ns
 all_behind k x [] l a = tt
 all_behind k x (n ∷ ns) l a = (nat_list_cmp_total.trans k x n l a.0, all_behind k x ns l a.1)

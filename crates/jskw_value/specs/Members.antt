@@ -4,7 +4,7 @@ use Rattle.std.specs.Coded.{Coded, code_by, coded_list, coded×}
 use Rattle.std.specs.Cmp.Lexicographic.{slice_cmp}
 use Rattle.std.specs.List.Sorted.{IsStrictlySortedBy, IsSortedByKey}
 use Rattle.std.specs.Map.{keys_of, lookup}
-use Rattle.std.specs.Ordering.{nat_cmp, is_gt}
+use Rattle.std.specs.Ordering.{nat_cmp, is_gt, match_ordering}
 use Rattle.std.specs.Set.{is_member}
 use Rattle.std.specs.Str.{bytes_eq}
 use Rattle.std.specs.contracts.alloc.Global as heap
@@ -44,6 +44,20 @@ module _ {V : Type 0} where
   abbrev pub inserted : Member V → List (Member V) → List (Member V)
   inserted m [] = m ∷ []
   inserted m (x ∷ xs) = cond (is_gt (against (string_bytes m.name) x)) (m ∷ x ∷ xs) (x ∷ inserted m xs)
+
+  -- with one member more, in place of the one of its name if there is one
+  abbrev pub put : Member V → List (Member V) → List (Member V)
+  put m [] = m ∷ []
+  put m (x ∷ xs) = match_ordering (slice_cmp nat_cmp (string_bytes m.name) (string_bytes x.name)) (m ∷ x ∷ xs) (m ∷ xs) (x ∷ put m xs)
+
+  -- members put one after another to those that were found
+  abbrev pub put_all : List (Member V) → List (Member V) → List (Member V)
+  put_all found [] = found
+  put_all found (m ∷ ms) = put_all (put m found) ms
+
+  -- the members in the order of their names, of those of one name the last
+  abbrev pub lasts : List (Member V) → List (Member V)
+  lasts ms = put_all [] ms
 
   -- the member at index i has the name
   pub record IsAt (k : List ℕ) (ms : List (Member V)) (i : ℕ) : Type 0 where

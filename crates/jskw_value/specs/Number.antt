@@ -1,5 +1,5 @@
 -- Numbers (Core 4.2.1): a coefficient over a power of ten, or a float, of which nothing more is said.
-use Rattle.std.specs.Prelude.{ℕ, zero, suc, ◌^◌, ◌*◌, ◌%◌, ◌==◌, ◌&&◌, ℤ, pos, negsuc, ◌*ℤ◌, Bool, true, false, nat_lt, nat_le, unsigned_abs, Option, Some, None, if◌then◌else◌}
+use Rattle.std.specs.Prelude.{ℕ, zero, suc, ◌^◌, ◌*◌, ◌%◌, ◌==◌, ◌&&◌, ℤ, pos, negsuc, neg_ℤ, ◌*ℤ◌, Bool, true, false, nat_lt, nat_le, unsigned_abs, Option, Some, None, if◌then◌else◌}
 use Rattle.std.specs.Ordering.{int_cmp, int_eq}
 use Rattle.std.specs.declared.cmp.Ordering.{Ordering}
 
@@ -7,6 +7,10 @@ use Rattle.std.specs.declared.cmp.Ordering.{Ordering}
 pub data Num : Type 0 where
   exact : ℤ → ℕ → Num
   float : Num
+
+-- n or -n, by its sign
+abbrev pub signed : Bool → ℕ → ℤ
+signed negative n = if negative then neg_ℤ (pos n) else pos n
 
 -- it is a decimal of some size, and no float
 abbrev pub is_exact : Num → Bool

@@ -1,7 +1,7 @@
 //! Exact decimals.
-ghost use Rattle.std.specs.Prelude.{◌≡◌, ◌≤◌, ◌<◌, ◌-◌, ◌^◌, ℤ, pos, negsuc, ◌*ℤ◌, ◌≤ℤ◌, ◌<ℤ◌};
+ghost use Rattle.std.specs.Prelude.{◌≡◌, true, ◌≤◌, ◌<◌, ◌-◌, ◌^◌, ℤ, pos, negsuc, ◌*ℤ◌, ◌≤ℤ◌, ◌<ℤ◌};
 ghost use Rattle.std.specs.Prelude.{option_map, Some, None, if◌then◌else◌};
-ghost use Rattle.jskw_value.specs.Number.{exact, is_decimal, num_equal, cmp_whole, is_multiple_of};
+ghost use Rattle.jskw_value.specs.Number.{exact, signed, is_decimal, num_equal, cmp_whole, is_multiple_of};
 
 use crate::json::JsonNumber;
 use std::cmp::Ordering;
@@ -11,15 +11,16 @@ use std::cmp::Ordering;
 /// -2^63 to 2^64-1, the scale from 0 to 18.
 #[derive(Clone, Copy, Debug, Drop)]
 pub struct Decimal {
-    coefficient: i128,
+    // The size of the coefficient, and whether it is less than 0: half the room of 128 bits.
+    size: u64,
+    is_negative: bool,
     scale: u8,
-    ghost low: { negsuc (2 ^ 63 - 1) ≤ℤ coefficient },
-    ghost high: { coefficient <ℤ pos (2 ^ 64) },
+    ghost low: { is_negative ≡ true → size ≤ 2 ^ 63 },
     ghost short: { scale ≤ 18 },
 }
 
 impl Decimal {
-    ghost use Rattle.jskw_value.specs.Decimal.{value};
+    ghost use Rattle.jskw_value.specs.Decimal.{coefficient, value};
 
     /// Returns the number with this coefficient and scale, or `None` if one of them is out of
     /// range.
@@ -27,20 +28,42 @@ impl Decimal {
         ensures { option_map value result
             ≡ (if is_decimal coefficient scale then Some (exact coefficient scale) else None) }
     {
-        if -(1 << 63) <= coefficient && coefficient < 1 << 64 && scale <= 18 {
-            Some(Decimal { coefficient, scale })
+        if -(1 << 63) <= coefficient && coefficient < 1 << 64 {
+            Decimal::from_parts(coefficient < 0, coefficient.unsigned_abs() as u64, scale)
         } else {
             None
         }
     }
 
+    /// Returns the number with a coefficient of this sign and size, and this scale, or `None` if the
+    /// coefficient or the scale is out of range. It is 0 if `size` is, whatever the sign.
+    #[inline(always)]
+    pub fn from_parts(is_negative: bool, size: u64, scale: u8) -> Option<Decimal>
+        ensures { option_map value result
+            ≡ (if is_decimal (signed is_negative size) scale then Some (exact (signed is_negative size) scale) else None) }
+    {
+        if scale > 18 || is_negative && size > 1 << 63 {
+            None
+        } else {
+            Some(Decimal {
+                size,
+                is_negative,
+                scale,
+            })
+        }
+    }
+
     /// Returns the coefficient, from -2^63 to 2^64-1.
     pub fn coefficient(&self) -> i128
-        ensures value { result ≡ self.now.coefficient }
+        ensures value { result ≡ coefficient self.now }
         ensures low { negsuc (2 ^ 63 - 1) ≤ℤ result }
         ensures high { result <ℤ pos (2 ^ 64) }
     {
-        self.coefficient
+        if self.is_negative {
+            -(self.size as i128)
+        } else {
+            self.size as i128
+        }
     }
 
     /// Returns the scale, from 0 to 18: how many digits are written after the point.
@@ -58,7 +81,7 @@ impl Decimal {
     {
         // most numbers of a list have one scale, and then need no multiplication
         if self.scale == other.scale {
-            self.coefficient == other.coefficient
+            self.coefficient() == other.coefficient()
         } else {
             self.equals_scaled(other)
         }
@@ -75,9 +98,9 @@ impl Decimal {
     // Returns the coefficient times ten to the power `by`.
     fn shifted(&self, by: u8) -> i128
         requires { by ≤ 18 }
-        ensures { result ≡ self.now.coefficient *ℤ pos (10 ^ by) }
+        ensures { result ≡ coefficient self.now *ℤ pos (10 ^ by) }
     {
-        self.coefficient * ten_to(by) as i128
+        self.coefficient() * ten_to(by) as i128
     }
 
     /// Compares the number with an integer (JSON Schema Validation 6.2.2 to 6.2.5). `whole` must be
@@ -85,23 +108,23 @@ impl Decimal {
     pub fn cmp_whole(&self, whole: i128) -> Ordering
         requires low { negsuc (2 ^ 63 - 1) ≤ℤ whole }
         requires high { whole <ℤ pos (2 ^ 64) }
-        ensures { result ≡ cmp_whole self.now.coefficient self.now.scale whole }
+        ensures { result ≡ cmp_whole (coefficient self.now) self.now.scale whole }
     {
-        self.coefficient.cmp(&(whole * ten_to(self.scale) as i128))
+        self.coefficient()
+            .cmp(&(whole * ten_to(self.scale) as i128))
     }
 
     /// Returns whether division by `divisor` gives an integer (JSON Schema Validation 6.2.1).
     /// `divisor` must be greater than 0.
     pub fn is_multiple_of(&self, divisor: u64) -> bool
         requires { 0 < divisor }
-        ensures { result ≡ is_multiple_of self.now.coefficient self.now.scale divisor }
+        ensures { result ≡ is_multiple_of (coefficient self.now) self.now.scale divisor }
     {
-        let size = self.coefficient.unsigned_abs();
         // words are divided faster than 128 bits
         if self.scale == 0 {
-            return size as u64 % divisor == 0;
+            return self.size % divisor == 0;
         }
-        size % (divisor as u128 * ten_to(self.scale) as u128) == 0
+        self.size as u128 % (divisor as u128 * ten_to(self.scale) as u128) == 0
     }
 }
 
@@ -120,7 +143,7 @@ impl JsonNumber for Decimal {
 
     fn as_u64(&self) -> Option<u64> {
         if self.scale == 0 {
-            u64::try_from(self.coefficient).ok()
+            u64::try_from(self.coefficient()).ok()
         } else {
             None
         }
@@ -128,7 +151,7 @@ impl JsonNumber for Decimal {
 
     fn as_i64(&self) -> Option<i64> {
         if self.scale == 0 {
-            i64::try_from(self.coefficient).ok()
+            i64::try_from(self.coefficient()).ok()
         } else {
             None
         }
@@ -138,7 +161,7 @@ impl JsonNumber for Decimal {
         if self.scale == 0 {
             return true;
         }
-        self.coefficient.unsigned_abs() % ten_to(self.scale) as u128 == 0
+        self.size % ten_to(self.scale) == 0
     }
 
     fn is_written_as_integer(&self) -> bool {
@@ -155,7 +178,8 @@ impl From<u64> for Decimal {
 
     fn from(unsigned: u64) -> Decimal {
         Decimal {
-            coefficient: unsigned as i128,
+            size: unsigned,
+            is_negative: false,
             scale: 0,
         }
     }
@@ -170,7 +194,8 @@ impl From<i64> for Decimal {
 
     fn from(signed: i64) -> Decimal {
         Decimal {
-            coefficient: signed as i128,
+            size: signed.unsigned_abs(),
+            is_negative: signed < 0,
             scale: 0,
         }
     }

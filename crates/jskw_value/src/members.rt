@@ -7,10 +7,10 @@ ghost use Rattle.std.specs.List.Sorted.{IsPermutation};
 ghost use Rattle.std.specs.Map.{values_of};
 ghost use Rattle.std.specs.Str.{bytes_eq};
 ghost use Rattle.jskw_value.specs.InsertFault.{HandsBack, is_repeated};
-ghost use Rattle.jskw_value.specs.Members.{entries, names, get, has_name, against, inserted};
+ghost use Rattle.jskw_value.specs.Members.{entries, names, get, has_name, against, inserted, lasts};
 ghost use Rattle.jskw_value.specs.Members.{AreSorted, IsAt, IsGap, IsSortedByName, RepeatsAt};
 
-use std::alloc::Global;
+use std::alloc::{AllocError, Global};
 use std::cmp::Ordering;
 use std::marker::Model;
 
@@ -98,15 +98,14 @@ impl<V> MemberList<V> {
         ensures repeated { IfErr result (λ e. RepeatsAt e.pairs.items e.place) }
     {
         pairs.sort_unstable_by(|left, right| left.against(right.name.as_str()));
-        match first_repeated(&pairs) {
+        match first_not_less(&pairs) {
             Some(place) => Err(RepeatedName { pairs, place }),
             None => Ok(MemberList { list: pairs }),
         }
     }
 
-    /// Creates the list of these pairs, which must be sorted by the bytes of their names, with no
-    /// name twice. Allocates nothing.
-    pub fn of_sorted(pairs: Vec<Member<V>>) -> MemberList<V>
+    // Creates the list of these pairs, which are sorted and have distinct names.
+    pub(crate) fn of_sorted(pairs: Vec<Member<V>>) -> MemberList<V>
         requires { AreSorted (names pairs.items) }
         ensures { result ≡ pairs.items }
     {
@@ -202,12 +201,30 @@ impl<V> MemberList<V> {
     }
 }
 
-// Returns the place of the first pair that has the same name as the next one. The pairs must be
-// sorted by name.
 #[tactic(auto, using(crate::proofs::MembersInOrder::lemmas))]
-fn first_repeated<V>(pairs: &[Member<V>]) -> Option<usize>
-    requires { IsSortedByName pairs.now }
-    ensures repeated { IfSome result (RepeatsAt pairs.now) }
+impl<V: Drop> MemberList<V> {
+    /// Creates the list of these pairs, which may be in any order. Of those with the same name the
+    /// last counts. They are sorted once, unless their names rise already.
+    pub fn from_last_pairs(mut pairs: Vec<Member<V>>) -> Result<MemberList<V>, AllocError>
+        ensures { IfOk result (λ members. members ≡ lasts pairs.items) }
+    {
+        if first_not_less(&pairs).is_none() {
+            return Ok(MemberList { list: pairs });
+        }
+        // of equal names the last is the first now, and stays
+        pairs.reverse();
+        pairs.sort_by(|left, right| left.against(right.name.as_str()))?;
+        pairs.dedup_by(|next, kept| next.against(kept.name.as_str()).is_eq());
+        Ok(MemberList { list: pairs })
+    }
+}
+
+// Returns the place of the first pair whose name is not less than the next one. If the pairs are
+// sorted, it is the same.
+#[tactic(auto, using(crate::proofs::MembersInOrder::lemmas))]
+fn first_not_less<V>(pairs: &[Member<V>]) -> Option<usize>
+    ensures repeated { IfSome result (λ place. IsSortedByName pairs.now
+        → RepeatsAt pairs.now place) }
     ensures rising { IfNone result (AreSorted (names pairs.now)) }
 {
     for next in 1..pairs.len() {

@@ -3,7 +3,7 @@ ghost use Rattle.std.specs.Prelude.{◌≡◌, IfOk, zero};
 ghost use Rattle.std.specs.List.Sorted.{IsSorted, IsPermutation};
 ghost use Rattle.std.specs.Ordering.{int_cmp};
 ghost use Rattle.serde_json.specs.View.{items_view};
-ghost use Rattle.jskw_value.specs.Decimal.{value};
+ghost use Rattle.jskw_value.specs.Decimal.{coefficient, value};
 ghost use Rattle.jskw_value.specs.Number.{exact};
 ghost use Rattle.jskw_leaf.specs.Options.{has_integer, has_null, integer_against, integer_of};
 ghost use Rattle.jskw_leaf.specs.Options.{is_integer, picked, some_integer};
@@ -78,7 +78,7 @@ fn is_in_table(table: &[i64], number: &Decimal) -> bool
 // Returns how the entry compares to the number.
 #[tactic(auto, using(crate::proofs::SortedTables::reversed))]
 fn compare(entry: i64, number: &Decimal) -> Ordering
-    ensures { result ≡ integer_against number.now.coefficient number.now.scale entry }
+    ensures { result ≡ integer_against (coefficient number.now) number.now.scale entry }
 {
     number.cmp_whole(i128::from(entry)).reverse()
 }

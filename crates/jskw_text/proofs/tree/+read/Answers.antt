@@ -1,4 +1,4 @@
-use Rattle.std.proofs.Common.{◌≡◌, suc, ◌-◌, ◌<◌, [], ◌∷◌, length, map, Some, None, Ok, Err, string_bytes, refl, sym, ap, ap₂, ◌∙◌, arith, rules}
+use Rattle.std.proofs.Common.{◌≡◌, suc, ◌-◌, ◌<◌, [], ◌∷◌, length, Some, None, Ok, Err, string_bytes, refl, sym, ap, ap₂, ◌∙◌, arith, rules}
 use Rattle.json.specs.Token.{Token}
 use Rattle.json.specs.Json.{parse_map, after_end_array, read_key, items, members, value}
 use Rattle.json.specs.Reads.{token_of}
@@ -8,11 +8,12 @@ use Rattle.jskw_value.specs.Decimal.{value as number_value}
 use Rattle.jskw_value.specs.Tree.{null, boolean, number, string, array, object}
 use Rattle.jskw_value.specs.declared.decimal_tree.DecimalTree.{Text, Number, Bool, Null, the_lemmas}
 use Rattle.jskw_value.proofs.DecimalTrees.{tree_of_array}
-use Rattle.jskw_text.specs.Entries.{entry_tree, members_from_entries}
+use Rattle.jskw_value.specs.Members.{lasts}
+use Rattle.jskw_text.specs.Members.{members_seen}
 use Rattle.jskw_text.specs.Stop.{Explains}
 use Rattle.jskw_text.specs.declared.fault.Stop.TheVariants.{Broken}
 use Rattle.jskw_text.specs.Reading.{on_found, put, tree_of, items_of, members_of}
-use Rattle.jskw_text.proofs.Entries.{tree_of_members, put_entry}
+use Rattle.jskw_text.proofs.Members.{tree_of_members, last_seen}
 use Rattle.jskw_text.proofs.Reading.{returned, length-append_one, parsed_array, parsed_object, explained, item_read, item_faulty, items_over, member_read, member_faulty, key_refused, members_over, items_before, items_before-no_items, one_more_item}
 use Rattle.jskw_text.proofs.tree.+read.Goals as goal
 
@@ -44,12 +45,12 @@ read-returns-in_err-read_items-in-BeginArray-clause-err t c =
     let is : c.from_residual-in_err-read_items-in-BeginArray.result ≡ Err fault.field-0.0 = search rules in
     returned _ fault.field-0.0 _ _ is opened (explained array fault.field-0.0 _ fault.ensures.err)
 
-pub read-returns-in_err-found-in-BeginObject-clause-err : goal.read-returns-in_err-found-in-BeginObject-clause-err
-read-returns-in_err-found-in-BeginObject-clause-err t c =
+pub read-returns-in_err-read_members-in-BeginObject-clause-err : goal.read-returns-in_err-read_members-in-BeginObject-clause-err
+read-returns-in_err-read_members-in-BeginObject-clause-err t c =
     let first : c.args.reader.now ≡ token_of c.in_ok-token.token ∷ c.next.new.self = grind arith in
     let opened = ap (parse_map tree_of) (ap (value c.args.depth) (first ∙ ap (λ k. token_of k ∷ c.next.new.self) c.in-BeginObject.is) ∙ value-begin_object c.args.depth c.next.new.self (omega arith)) ∙ parsed_object (members (value (c.args.depth - 1)) (length c.next.new.self) c.next.new.self) in
-    let fault = c.in_err-found-in-BeginObject in
-    let is : c.from_residual-in_err-found-in-BeginObject.result ≡ Err fault.field-0.0 = search rules in
+    let fault = c.in_err-read_members-in-BeginObject in
+    let is : c.from_residual-in_err-read_members-in-BeginObject.result ≡ Err fault.field-0.0 = search rules in
     returned _ fault.field-0.0 _ _ is opened (explained object fault.field-0.0 _ fault.ensures.err)
 
 pub read-returns-in_ok-from_str-in-String-clause-ok : goal.read-returns-in_ok-from_str-in-String-clause-ok
@@ -102,14 +103,12 @@ read-returns-in_ok-read_items-in-BeginArray-clause-ok t c =
     let found = c.in_ok-read_items-in-BeginArray in
     opened ∙ ap (parse_map (on_found array)) found.ensures.ok ∙ ap (λ d. Some (Ok d, c.read_items.new.reader)) (sym (tree_of_array found.field-0))
 
-pub read-returns-in_ok-listed-in-BeginObject-clause-ok : goal.read-returns-in_ok-listed-in-BeginObject-clause-ok
-read-returns-in_ok-listed-in-BeginObject-clause-ok t c =
+pub read-returns-in_ok-read_members-in-BeginObject-clause-ok : goal.read-returns-in_ok-read_members-in-BeginObject-clause-ok
+read-returns-in_ok-read_members-in-BeginObject-clause-ok t c =
     let first : c.args.reader.now ≡ token_of c.in_ok-token.token ∷ c.next.new.self = grind arith in
     let opened = ap (parse_map tree_of) (ap (value c.args.depth) (first ∙ ap (λ k. token_of k ∷ c.next.new.self) c.in-BeginObject.is) ∙ value-begin_object c.args.depth c.next.new.self (omega arith)) ∙ parsed_object (members (value (c.args.depth - 1)) (length c.next.new.self) c.next.new.self) in
-    let found = c.in_ok-found-in-BeginObject in
-    let list = c.in_ok-listed-in-BeginObject in
-    opened ∙ ap (parse_map (on_found object)) found.ensures.ok
-    ∙ ap (λ d. Some (Ok d, c.read_members.new.reader)) (sym (tree_of_members list.field-0 found.found.entries list.ensures))
+    let found = c.in_ok-read_members-in-BeginObject in
+    opened ∙ ap (parse_map (on_found object)) found.ensures.ok ∙ ap (λ d. Some (Ok d, c.read_members.new.reader)) (sym (tree_of_members found.field-0))
 
 pub read_items-returns-in-Err-clause-err : goal.read_items-returns-in-Err-clause-err
 read_items-returns-in-Err-clause-err t c =
@@ -156,7 +155,7 @@ read_members-returns-in_err-name-clause-err t c =
     let p = value c.args.depth in
     let l = c.members in
     let n = l.invariant.0 in
-    let old = members_from_entries (map entry_tree l.found.entries) in
+    let old = members_seen (lasts l.found.items) in
     let is : c.from_residual.result ≡ Err Broken = search rules in
     returned _ Broken _ _ is (l.invariant.2 ∙ key_refused p old n l.reader c.in_err-name.ensures.value) refl
 
@@ -165,7 +164,7 @@ read_members-returns-in-Err-clause-err t c =
     let p = value c.args.depth in
     let l = c.members in
     let n = l.invariant.0 in
-    let old = members_from_entries (map entry_tree l.found.entries) in
+    let old = members_seen (lasts l.found.items) in
     let k = c.in-Some.name.now in
     let s = c.next_key.new.self in
     let named : read_key l.reader ≡ Some (Some k, s) = grind arith in
@@ -177,29 +176,34 @@ read_members-members-preserved t c =
     let p = value c.args.depth in
     let l = c.members in
     let n = l.invariant.0 in
-    let old = members_from_entries (map entry_tree l.found.entries) in
+    let old = members_seen (lasts l.found.items) in
     let k = c.in-Some.name.now in
     let s = c.next_key.new.self in
     let named : read_key l.reader ≡ Some (Some k, s) = grind arith in
     let done = c.in-Ok.ensures in
-    let v = c.in-Ok.member in
+    let v = c.in-Ok.value in
     let r = c.read.new.reader in
     let less = read_key-shorter l.reader (Some k) s named in
     let lesser = done.shorter in
     let copied : string_bytes c.in_ok-key.key ≡ k = search rules in
-    let inserted : members_from_entries (map entry_tree c.insert.new.self.entries) ≡ put k (decimal_tree v) old =
-    ap (λ es. members_from_entries (map entry_tree es)) c.in_ok-insert.ensures.entries ∙ put_entry l.found.entries c.in_ok-key.key v ∙ ap (λ name. put name (decimal_tree v) old) copied in (
+    let one_more : members_seen (lasts c.push.new.self.items) ≡ put k (decimal_tree v) old =
+    ap (λ ms. members_seen (lasts ms)) c.in_ok-push.ensures.items ∙ last_seen l.found.items _ ∙ ap (λ name. put name (decimal_tree v) old) copied in (
       n - 1,
       omega (arith, l.invariant.1),
       l.invariant.2 ∙ member_read p old n k l.reader s r (decimal_tree v) (omega (arith, l.invariant.1)) named done.ok
-          ∙ ap (λ found. parse_map (members_of found) (members p (n - 1) r)) (sym inserted),
+          ∙ ap (λ found. parse_map (members_of found) (members p (n - 1) r)) (sym one_more),
       omega (arith, l.invariant.3),
     )
+
+pub read_members-members-init : goal.read_members-members-init
+read_members-members-init t c =
+    let r = c.args.reader.now in
+    (length r, omega arith, ap (λ ms. parse_map (members_of (members_seen (lasts ms))) (members (value c.args.depth) (length r) r)) (sym c.new-found.ensures.items), omega arith)
 
 pub read_members-returns-clause-ok : goal.read_members-returns-clause-ok
 read_members-returns-clause-ok t c =
     let p = value c.args.depth in
     let l = c.members in
-    let n = l.invariant.0 in
-    let old = members_from_entries (map entry_tree l.found.entries) in
-    l.invariant.2 ∙ members_over p old n l.reader c.next_key.new.self l.invariant.1 (grind arith)
+    let r = c.next_key.new.self in
+    l.invariant.2 ∙ members_over p (members_seen (lasts l.found.items)) l.invariant.0 l.reader r l.invariant.1 (grind arith)
+    ∙ ap (λ ms. Some (Ok (members_seen ms), r)) (sym c.in_ok-from_last_pairs.ensures)

@@ -1,7 +1,8 @@
-use Rattle.std.proofs.Common.{◌≡◌, ℕ, ◌+◌, ◌*◌, ◌≤◌, length, map}
+use Rattle.std.proofs.Common.{◌≡◌, ℕ, ◌+◌, ◌*◌, ◌≤◌, length}
 use Rattle.json.specs.Json.{items, members, value, parse_map}
 use Rattle.jskw_value.specs.Tree.{no_members}
-use Rattle.jskw_text.specs.Entries.{entry_tree, members_from_entries}
+use Rattle.jskw_value.specs.Members.{lasts}
+use Rattle.jskw_text.specs.Members.{members_seen}
 use Rattle.jskw_text.specs.Reading.{on_found, items_of, members_of}
 use Rattle.jskw_text.proofs.Reading.{items_before}
 use Rattle.jskw_text.proofs.tree.+read.Given as goal
@@ -29,7 +30,7 @@ abbrev pub invariant-read_members-members : goal.invariant-read_members-members
 invariant-read_members-members l =
     (n : ℕ) × (length l.reader ≤ n)
     × (parse_map (members_of no_members) (members (value l.depth) (length l.initial.reader) l.initial.reader)
-    ≡ parse_map (members_of (members_from_entries (map entry_tree l.found.entries))) (members (value l.depth) n l.reader))
+    ≡ parse_map (members_of (members_seen (lasts l.found.items))) (members (value l.depth) n l.reader))
     × (length l.reader ≤ length l.initial.reader)
 
 abbrev pub decreases-read_members-members : goal.decreases-read_members-members

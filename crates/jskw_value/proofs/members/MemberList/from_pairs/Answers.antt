@@ -4,8 +4,9 @@ use Rattle.std.proofs.lemmas.List.Sorted.{IsPermutation-sym, answers_always, ran
 use Rattle.jskw_value.proofs.MembersInOrder.{distinct_moved, distinct_sorted, not_distinct}
 use Rattle.jskw_value.proofs.members.MemberList.from_pairs.Goals as goal
 
-pub first_repeated-requires : goal.first_repeated-requires
-first_repeated-requires g c = rw c.deref.ensures.value (c.sort_unstable_by.ensures.sorted _ (ranks_by nat_list_cmp_total (λ m. string_bytes m.name)) (answers_always _ _ _ (λ f a r q called. search rules)))
+pub returns-in-Some-clause-repeated : goal.returns-in-Some-clause-repeated
+returns-in-Some-clause-repeated g c = rw c.deref.ensures.value at c.in-Some.ensures.repeated
+    (c.sort_unstable_by.ensures.sorted _ (ranks_by nat_list_cmp_total (λ m. string_bytes m.name)) (answers_always _ _ _ (λ f a r q called. search rules)))
 
 pub returns-in-Some-clause-sorted : goal.returns-in-Some-clause-sorted
 returns-in-Some-clause-sorted g c = c.sort_unstable_by.ensures.sorted _ (ranks_by nat_list_cmp_total (λ m. string_bytes m.name)) (answers_always _ _ _ (λ f a r q called. search rules))
@@ -13,7 +14,7 @@ returns-in-Some-clause-sorted g c = c.sort_unstable_by.ensures.sorted _ (ranks_b
 pub returns-in-Some-clause-distinct : goal.returns-in-Some-clause-distinct
 returns-in-Some-clause-distinct g c = (
   λ e. cc,
-  λ d. absurd (not_distinct _ _ (rw c.deref.ensures.value at c.in-Some.ensures.repeated) (distinct_moved _ _ c.sort_unstable_by.ensures.permutation d)),
+  λ d. absurd (not_distinct _ _ (rw c.deref.ensures.value at c.in-Some.ensures.repeated (c.sort_unstable_by.ensures.sorted _ (ranks_by nat_list_cmp_total (λ m. string_bytes m.name)) (answers_always _ _ _ (λ f a r q called. search rules)))) (distinct_moved _ _ c.sort_unstable_by.ensures.permutation d)),
 )
 
 pub returns-in-None-clause-distinct : goal.returns-in-None-clause-distinct
