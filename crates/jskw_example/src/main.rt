@@ -1,11 +1,12 @@
 //! Checks the JSON value in each line of standard input against a schema and prints its errors.
-//! Then it prints an evaluation tree, the first error of a value with decimals, and what a shop asks
-//! of its orders.
+//! Then it prints an evaluation tree, the first error of a value with decimals, the errors of prices
+//! that are read from text, and what a shop asks of its orders.
 #![tactic(auto)]
 
 mod contracts;
 mod decimals;
 mod orders;
+mod prices;
 mod tree;
 
 use contracts::verdict;
@@ -79,5 +80,6 @@ fn main(rt: HostRuntime) -> io::Result<()> {
     check_lines(&rt, &node_of(rt.alloc(), SCHEMA)?)?;
     tree::print_example(&rt)?;
     decimals::print_example(&rt)?;
+    prices::print_example(&rt)?;
     orders::print_example(&rt)
 }

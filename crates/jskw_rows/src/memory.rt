@@ -12,6 +12,7 @@ use crate::members::settings_of;
 use crate::text::{Made, Text};
 use jskw_report::Settings;
 use jskw_service::read_value;
+use jskw_text::{ReadFault, read_bytes};
 use jskw_value::{
     Decimal, DecimalJson, DecimalTree, InsertFault, Member, Members, Node, RepeatedName, SerdeJson,
 };
@@ -49,6 +50,8 @@ fn make_calls(to: &mut Printer<'_>, arguments: &[Value]) {
         ("value", [value]) => ask_value(to, value),
         ("insert", [Value::Array(names), Value::String(name)]) => insert(to, names, name),
         ("from_pairs", [Value::Array(names)]) => from_pairs(to, names),
+        ("from_last_pairs", [Value::Array(names)]) => from_last_pairs(to, names),
+        ("read_bytes", [Value::String(text)]) => read_text(to, text),
         _ => make_calls_of_schema(to, arguments),
     }
 }
@@ -149,6 +152,32 @@ fn from_pairs(to: &mut Printer<'_>, names: &[Value]) {
             Ok(members) => to.print_node(&DecimalTree::Object(members)),
             Err(RepeatedName { pairs, place }) => print_pairs(to, &pairs, place),
         }
+    }
+}
+
+// Makes members of such pairs, of those of one name the last, and prints them. Few pairs are sorted
+// without memory.
+fn from_last_pairs(to: &mut Printer<'_>, names: &[Value]) {
+    if let Ok(pairs) = pairs_of(to.alloc(), names) {
+        to.announce("from_last_pairs", names.len() > 20);
+        let made = Members::from_last_pairs(pairs);
+        to.tell(made.is_err());
+        if let Ok(members) = made {
+            to.print_node(&DecimalTree::Object(members));
+        }
+    }
+}
+
+// Reads a text, and prints its tree, or why there is none.
+fn read_text(to: &mut Printer<'_>, text: &str) {
+    to.announce("read_bytes", true);
+    let read = read_bytes(to.alloc(), text.as_bytes());
+    to.tell(matches!(read, Err(ReadFault::Memory(_))));
+    match &read {
+        Ok(tree) => to.print_node(tree),
+        Err(ReadFault::NotJson(offset)) => write!(to, "\tnot JSON at {offset}\n"),
+        Err(ReadFault::Inexact(location)) => write!(to, "\tinexact at {location}\n"),
+        Err(ReadFault::Memory(_)) => {}
     }
 }
 
