@@ -5,6 +5,7 @@ use jskw_array::SchemaNode;
 use jskw_report::{
     Context, Draft, Fault, LazyLocation, Settings, ValidationContext, VocabularySet,
 };
+use jskw_text::read_bytes;
 use jskw_unchecked::unchecked;
 use jskw_value::{DecimalTree, Member, Members, Node, SerdeJson};
 use serde_json::Value;
@@ -22,6 +23,10 @@ pub(crate) fn time_call(
     let alloc = rt.alloc();
     if call == "read" {
         return Ok(Some(time(rt, span, || Value::from_str(alloc, text).is_ok())?));
+    }
+    if call == "read_bytes" {
+        let bytes = text.as_bytes();
+        return Ok(Some(time(rt, span, || read_bytes(alloc, bytes).is_ok())?));
     }
     let Ok(value) = Value::from_str(alloc, text) else {
         return Ok(None);

@@ -13,6 +13,7 @@
 //! calls are:
 //!
 //! | `read` | the text is read as JSON |
+//! | `read_bytes` | the text is read into a tree of decimals |
 //! | `first_unlawful` | the text's value is searched for a float |
 //! | `message` | the value gets an error under `false`, and the error a message |
 //! | `insert` | members of the names in an array are inserted into an object of decimals |
@@ -120,6 +121,7 @@ fn is_call(word: &str) -> bool {
     matches!(
         word,
         "read"
+            | "read_bytes"
             | "first_unlawful"
             | "message"
             | "insert"

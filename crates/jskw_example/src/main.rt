@@ -1,12 +1,14 @@
 //! Checks the JSON value in each line of standard input against a schema and prints its errors.
-//! Then it prints an evaluation tree, the first error of a value with decimals, what a shop asks of
-//! its orders, and what a schema says that is not checked.
+//! Then it prints an evaluation tree, the first error of a value with decimals, the errors of prices
+//! that are read from text, what a shop asks of its orders, and what a schema says that is not
+//! checked.
 #![tactic(auto)]
 
 mod contracts;
 mod coverage;
 mod decimals;
 mod orders;
+mod prices;
 mod tree;
 
 use contracts::verdict;
@@ -80,6 +82,7 @@ fn main(rt: HostRuntime) -> io::Result<()> {
     check_lines(&rt, &node_of(rt.alloc(), SCHEMA)?)?;
     tree::print_example(&rt)?;
     decimals::print_example(&rt)?;
+    prices::print_example(&rt)?;
     orders::print_example(&rt)?;
     coverage::print_example(&rt)
 }

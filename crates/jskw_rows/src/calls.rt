@@ -2,6 +2,7 @@
 mod compiled;
 mod devices;
 mod reports;
+mod texts;
 mod values;
 
 use crate::asked;
@@ -101,7 +102,7 @@ fn tree_of(lines: &mut Lines, value: &Value) -> DecimalTree {
 }
 
 // The calls, and how many arguments each has.
-const CALLS: [(&str, usize); 22] = [
+const CALLS: [(&str, usize); 23] = [
     ("Decimal::new", 2),
     ("Decimal", 3),
     ("Node of decimals", 2),
@@ -116,6 +117,7 @@ const CALLS: [(&str, usize); 22] = [
     ("reply_to", 1),
     ("run over a device that fails", 3),
     ("Walk::by_place", 1),
+    ("read_bytes", 1),
     ("Limit::from", 1),
     ("new", 2),
     ("Settings", 3),
@@ -153,6 +155,7 @@ fn answer_of_names(lines: &mut Lines, name: &str, all: Arguments<'_>) {
         "reply_to" => devices::reply(lines, all.items(0)),
         "run over a device that fails" => devices::ended(lines, all),
         "Walk::by_place" => values::walks(&mut lines.text, all.value(0)),
+        "read_bytes" => texts::read(lines, all),
         "Limit::from" => compiled::limits(lines, all.value(0)),
         "new" => compiled::made(lines, all),
         _ => answer_of_settings(lines, name, all),

@@ -15,7 +15,8 @@ const GROUP: &str =
 
 const MAKER: &str = "count front choices back crowded again last";
 
-const TEST: &str = "description data each made decimals valid errors float evaluation applications";
+const TEST: &str =
+    "description data each made decimals text valid errors float evaluation applications";
 
 /// Asks the rows of a group.
 pub(crate) fn check(tally: &mut Tally, group: &Value) {

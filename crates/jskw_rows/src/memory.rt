@@ -13,6 +13,7 @@ use crate::text::{Made, Text};
 use crate::unchecked::push_members;
 use jskw_report::{Context, Settings};
 use jskw_service::read_value;
+use jskw_text::{ReadFault, read_bytes};
 use jskw_unchecked::unchecked;
 use jskw_value::{
     Decimal, DecimalJson, DecimalTree, InsertFault, Member, Members, Node, RepeatedName, SerdeJson,
@@ -54,6 +55,8 @@ fn make_calls(to: &mut Printer<'_>, arguments: &[Value]) {
         ("unchecked", [Value::String(draft), Value::Object(group), schema]) => {
             ask_unchecked(to, draft, group, schema);
         }
+        ("from_last_pairs", [Value::Array(names)]) => from_last_pairs(to, names),
+        ("read_bytes", [Value::String(text)]) => read_text(to, text),
         _ => make_calls_of_schema(to, arguments),
     }
 }
@@ -174,6 +177,32 @@ fn from_pairs(to: &mut Printer<'_>, names: &[Value]) {
             Ok(members) => to.print_node(&DecimalTree::Object(members)),
             Err(RepeatedName { pairs, place }) => print_pairs(to, &pairs, place),
         }
+    }
+}
+
+// Makes members of such pairs, of those of one name the last, and prints them. Few pairs are sorted
+// without memory.
+fn from_last_pairs(to: &mut Printer<'_>, names: &[Value]) {
+    if let Ok(pairs) = pairs_of(to.alloc(), names) {
+        to.announce("from_last_pairs", names.len() > 20);
+        let made = Members::from_last_pairs(pairs);
+        to.tell(made.is_err());
+        if let Ok(members) = made {
+            to.print_node(&DecimalTree::Object(members));
+        }
+    }
+}
+
+// Reads a text, and prints its tree, or why there is none.
+fn read_text(to: &mut Printer<'_>, text: &str) {
+    to.announce("read_bytes", true);
+    let read = read_bytes(to.alloc(), text.as_bytes());
+    to.tell(matches!(read, Err(ReadFault::Memory(_))));
+    match &read {
+        Ok(tree) => to.print_node(tree),
+        Err(ReadFault::NotJson(offset)) => write!(to, "\tnot JSON at {offset}\n"),
+        Err(ReadFault::Inexact(location)) => write!(to, "\tinexact at {location}\n"),
+        Err(ReadFault::Memory(_)) => {}
     }
 }
 

@@ -9,6 +9,7 @@ use crate::text::{Made, Text};
 use crate::wanted::Wanted;
 use crate::{leaves, whole};
 use jskw_report::Settings;
+use jskw_text::read_bytes;
 use jskw_value::{DecimalJson, DecimalTree, Json, SerdeJson};
 use serde_json::Value;
 
@@ -66,6 +67,9 @@ fn take_row(
     let mut question = Text::new(tally.alloc);
     let layer = subject.object_layer;
     write!(question, "{request}, {layer}, decimals: {has_decimals}");
+    if let Some(Value::String(text)) = test.get("text") {
+        write!(question, ", {text}");
+    }
     tally.take_row(name, question.as_str());
 }
 
@@ -87,6 +91,29 @@ fn check_tree(tally: &mut Tally, row: &Row<'_>, instance: &Value, tree: Made<Opt
     check_over::<DecimalJson>(tally, row, tree, "over decimals");
     check_over::<Keys<0>>(tally, row, tree, "over decimals, by lookups");
     check_over::<Keys<0xffff_ffff_ffff_ffff>>(tally, row, tree, "over decimals, by walks");
+    check_text(tally, row, tree);
+}
+
+// Asks a row over the tree that is read from a text: that of the test if it has one, which has to be
+// read as the instance, or else the text that the instance is written as.
+fn check_text(tally: &mut Tally, row: &Row<'_>, tree: &DecimalTree) {
+    let mut own = Text::new(tally.alloc);
+    own.push_json(tree);
+    let given = match row.test.get("text") {
+        Some(Value::String(text)) => text.as_str(),
+        _ => own.as_str(),
+    };
+    match &read_bytes(tally.alloc, given.as_bytes()) {
+        Ok(read) => check_read(tally, row, own.as_str(), read),
+        Err(_) => tally.tell_wrong("a text that is read", given),
+    }
+}
+
+fn check_read(tally: &mut Tally, row: &Row<'_>, own: &str, read: &DecimalTree) {
+    let mut written = Text::new(tally.alloc);
+    written.push_json(read);
+    tally.compare("read", own, written.as_str());
+    check_over::<DecimalJson>(tally, row, read, "over decimals, from a text");
 }
 
 fn check_float(tally: &mut Tally, row: &Row<'_>, instance: &Value) {

@@ -4,6 +4,8 @@
 pub use Rattle.jskw_value.specs.Serde.{value_tree}
 pub use Rattle.jskw_value.specs.DecimalTree.{decimal_tree}
 pub use Rattle.jskw_value.specs.Tree.{Tree, is_lawful}
+-- what bytes denote as JSON text
+pub use Rattle.jskw_text.specs.Reading.{reading}
 -- when an instance is valid, its errors in order, and its evaluation tree
 pub use Rattle.jskw_report.specs.Holds.{holds}
 pub use Rattle.jskw_report.specs.Fail.{Failure, fail}
@@ -21,6 +23,11 @@ pub use Rattle.jskw_report.specs.Setting.{Setting, all_vocabularies, stands, wit
 -- what a schema says that is not checked
 pub use Rattle.jskw_unchecked.specs.Unchecked.{unchecked}
 -- the modules
+pub use Rattle.jskw_text.specs.Laws
+pub use Rattle.jskw_text.specs.NumberText
+pub use Rattle.jskw_text.specs.Position
+pub use Rattle.jskw_text.specs.ReadFault
+pub use Rattle.jskw_text.specs.Reading
 pub use Rattle.jskw_value.specs.Decimal
 pub use Rattle.jskw_value.specs.DecimalTree
 pub use Rattle.jskw_value.specs.Equality

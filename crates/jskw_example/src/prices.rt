@@ -1,0 +1,57 @@
+//! Prices from JSON text.
+use crate::node_of;
+use lotsibegn::{
+    DecimalJson, DecimalTree, LazyLocation, Node, ReadFault, SchemaNode, ValidationContext,
+    position_of, read_bytes,
+};
+use std::io;
+
+const SCHEMA: &str = r#"{"type": "array", "items": {"minimum": 0, "multipleOf": 5}}"#;
+
+const TEXTS: [&str; 3] = [
+    "[10.00, 12.50, 1.25e2, -5]",
+    "[10.00, 1e400]",
+    "[10.00,\n 12.5O]",
+];
+
+// Checks the prices of each text.
+pub(crate) fn print_example(rt: &HostRuntime) -> io::Result<()> {
+    let node = node_of(rt.alloc(), SCHEMA)?;
+    for text in TEXTS {
+        check_prices(rt, &node, text.as_bytes())?;
+    }
+    Ok(())
+}
+
+// Reads prices from bytes and prints their errors, or why they cannot be read.
+fn check_prices(rt: &HostRuntime, node: &SchemaNode<DecimalJson>, bytes: &[u8]) -> io::Result<()> {
+    match read_bytes(rt.alloc(), bytes) {
+        Ok(prices) => print_errors(rt, node, &prices),
+        Err(ReadFault::Inexact(at)) => println!(rt; "{at}: no decimal has this value"),
+        Err(ReadFault::NotJson(offset)) => {
+            let at = position_of(bytes, offset);
+            println!(rt; "line {}, column {}: not JSON", at.line, at.column)
+        }
+        Err(ReadFault::Memory(error)) => Err(error)?,
+    }
+}
+
+// Prints each error of the prices.
+fn print_errors(
+    rt: &HostRuntime,
+    node: &SchemaNode<DecimalJson>,
+    prices: &DecimalTree,
+) -> io::Result<()> {
+    // Always true for a tree of decimals. The proof of the next call needs the test.
+    if !prices.is_lawful() {
+        return Ok(());
+    }
+    let (mut location, mut ctx) = (LazyLocation::new(rt.alloc()), ValidationContext::new());
+    let mut errors = Vec::new(rt.alloc());
+    node.collect_errors(prices, &mut location, &mut ctx, &mut errors)?;
+    for error in &errors {
+        let (at, message) = (error.instance_path().as_str(), error.message(rt.alloc())?);
+        println!(rt; "{at}: {message}")?;
+    }
+    Ok(())
+}
