@@ -62,7 +62,7 @@ impl From<AllocError> for Stop {
 impl<T: Drop> From<AllocFailed<T>> for Stop {
     ghost from_gives = { λ _ s. s ≡ stop.Memory alloc_error };
 
-    fn from(_e: AllocFailed<T>) -> Stop {
-        Stop::Memory(AllocError)
+    fn from(e: AllocFailed<T>) -> Stop {
+        Stop::Memory(AllocError::from(e))
     }
 }
