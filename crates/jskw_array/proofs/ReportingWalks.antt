@@ -1,7 +1,7 @@
 -- A walk that reports the errors of items or keywords one after another, and the applications that it takes.
 use Rattle.std.proofs.Common.{◌≡◌, ℕ, ◌+◌, ◌≤◌, List, [], ◌++◌, length, get_or, take, drop, sum_by, Bool, true, false, Result, Ok, Err, IsErrAnd, if◌then◌else◌, refl, sym, subst, ap, ◌∙◌, arith, ◌<◌}
 use Rattle.std.proofs.lemmas.Bool.{true≢false}
-use Rattle.jskw_array.specs.Words.{CountsUpTo, Each, Failure, Pointer, Reports, Rest, Schema, Schemas, TheUnit, Tree, all_applications, applications, each_holds, each_keyword, each_needed, each_pairs, fail, holds, is_empty, items, keywords_of, list_all, meaning_applications, meaning_fail, meaning_holds, needed, one_keyword, pairs, rest_keyword, schemas_of, sum_to_failure, unit_meaning, wants_all}
+use Rattle.jskw_array.specs.Words.{CountsUpTo, Each, Failure, Pointer, Reports, Rest, Schema, Schemas, TheUnit, Tree, all_applications, applications, each_holds, each_keyword, each_needed, each_pairs, fail, holds, is_empty, items, keeps_list, keywords_of, list_all, meaning_applications, meaning_fail, meaning_holds, needed, one_keyword, pairs, rest_keyword, schemas_of, sum_to_failure, unit_meaning}
 use Rattle.jskw_report.specs.declared.error.Stop.{Stop}
 use Rattle.jskw_report.specs.declared.report.Report.{Report}
 use Rattle.jskw_report.proofs.HoldsIsNoFailure.{holds_empty}
@@ -25,11 +25,11 @@ module _ {F Node Number Key : Type 0} (tree : Node → Tree) {old now : Report F
   reported_here : Reported tree old now (first ++ rest) all
   reported_here = subst (λ fs. Reported tree old now fs all) is walk.reported
 
-  counted_here : {next : ℕ} → CountsUpTo ctx next (here (wants_all now)) → CountsUpTo ctx next (here (wants_all old))
+  counted_here : {next : ℕ} → CountsUpTo ctx next (here (keeps_list now)) → CountsUpTo ctx next (here (keeps_list old))
   counted_here {next} counted = subst (λ w. CountsUpTo ctx next (here w)) walk.reported.same counted
 
   -- the first part was reported, and more is wanted
-  pub walk_on : {new : Report F Node Number Key} {next : ℕ} (less : ℕ) → Reports tree now new first (Ok tt) → CountsUpTo ctx next (here (wants_all now)) → ((wants_all old ≡ false → first ≡ []) → here (wants_all old) + less ≤ cost)
+  pub walk_on : {new : Report F Node Number Key} {next : ℕ} (less : ℕ) → Reports tree now new first (Ok tt) → CountsUpTo ctx next (here (keeps_list now)) → ((keeps_list old ≡ false → first ≡ []) → here (keeps_list old) + less ≤ cost)
       → Walk tree old new rest all before next less bound
   walk_on less reports counted within =
       let c = counted_here counted in
@@ -44,7 +44,7 @@ module _ {F Node Number Key : Type 0} (tree : Node → Tree) {old now : Report F
   pub walk_stopped : {new : Report F Node Number Key} (r : Result Unit Stop) (x : Stop) → IsErrAnd r (λ y. y ≡ x) → Reports tree now new first (Err x) → Reports tree old new all r
   walk_stopped r x gives reports = reported_stopped tree first rest r x reported_here gives reports
 
-  pub walk_counted : {next : ℕ} → CountsUpTo ctx next (here (wants_all now)) → here (wants_all old) ≤ cost → CountsUpTo before next bound
+  pub walk_counted : {next : ℕ} → CountsUpTo ctx next (here (keeps_list now)) → here (keeps_list old) ≤ cost → CountsUpTo before next bound
   walk_counted counted within =
       let c = counted_here counted in
       record { from = omega (arith, walk.from, c.from); to = omega (arith, walk.to, c.to, within) }

@@ -36,7 +36,7 @@ unfoldable pub use Rattle.jskw_report.specs.Evaluation.{of_errors}
 pub use Rattle.jskw_report.specs.Applications.{all_applications, all_height, all_needed, all_pairs, applications, each_height, each_needed, each_pairs, height, keyword_height, keyword_needed, keyword_pairs, needed, pairs, sum_to_failure}
 -- what the validators of a keyword stand for, and what their results say
 pub use Rattle.jskw_report.specs.Meaning.{is_assertion, meaning_applications, meaning_fail, meaning_holds, meaning_needed, meaning_pairs, meaning_unit, one_keyword}
-pub use Rattle.jskw_report.specs.Observe.{Appends, CountsUpTo, IsFirst, Reports, wants_all}
+pub use Rattle.jskw_report.specs.Observe.{Appends, CountsUpTo, IsFirst, Reports, keeps_list, limited}
 pub use Rattle.jskw_report.specs.Errors.{failures_of}
 pub use Rattle.jskw_report.specs.EvaluationParts.{annotation_of}
 pub use Rattle.jskw_report.specs.EvaluationView.{result_of}

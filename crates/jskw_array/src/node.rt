@@ -4,10 +4,10 @@ ghost use Rattle.jskw_array.specs.Words.{[], Appends, Begins, CountsUpTo, HasUni
 ghost use Rattle.jskw_array.specs.Words.{IfSome, IsFirst, IsTrue, LeftUnits, Reports};
 ghost use Rattle.jskw_array.specs.Words.{applications};
 ghost use Rattle.jskw_array.specs.Words.{boolean_schema, each_hands_on, fail, false_schema};
-ghost use Rattle.jskw_array.specs.Words.{hands_on_required, wants_all};
+ghost use Rattle.jskw_array.specs.Words.{hands_on_required, keeps_list};
 ghost use Rattle.std.specs.Prelude.{if◌then◌else◌};
 ghost use Rattle.jskw_array.specs.Words.{drop, holds, is_fused_schema, is_lawful, is_some};
-ghost use Rattle.jskw_array.specs.Words.{items, length, list_all, take};
+ghost use Rattle.jskw_array.specs.Words.{items, length, limited, list_all, take};
 ghost use Rattle.jskw_array.specs.Words.{item_location, keywords_in, keywords_of, marked, min};
 ghost use Rattle.jskw_array.specs.Words.{needed, pairs, path_of, schema_location, schema_object};
 ghost use Rattle.jskw_array.specs.Words.{schemas_of, shape_keywords, tree, true};
@@ -345,28 +345,59 @@ impl<F: Json> SchemaNode<F> {
         if self.accepts(instance, ctx) {
             return Ok(());
         }
-        self.collect_of_keywords(instance, location, ctx, errors)
+        self.collect_of_keywords(None, instance, location, ctx, errors)
     }
 
-    // `collect_errors` by the keywords.
-    #[inline(never)]
-    fn collect_of_keywords<'i>(
+    /// Appends the first errors of the instance, which must be lawful, to `errors`, in order: the
+    /// first `limit` of those that [`collect_errors`](SchemaNode::collect_errors) appends, or all if
+    /// there are fewer. Stops at the last one that is wanted; with the limit 0 it does nothing.
+    /// `location` is the location of the instance (JSON Schema Core 12.3.3), and is unchanged at
+    /// every return. If memory runs out, `errors` keeps its old entries, followed by a beginning of
+    /// the new ones.
+    pub fn collect_first_errors<'i>(
         &'i self,
+        limit: usize,
         instance: &'i F::Node,
         location: &mut LazyLocation,
         ctx: &mut ValidationContext,
         errors: &mut Vec<ValidationError<'i, F>>,
     ) -> Result<(), AllocError>
         requires { IsTrue (is_lawful (F.Node.tree instance.now)) }
-        ensures appended { Appends F.Node.tree errors.old.items errors.new.items
-            (fail self.now (F.Node.tree instance.now) (path_of location.old)) result }
+        ensures appended { Appends F.Node.tree errors.old.items errors.new.items (take limit
+            (fail self.now (F.Node.tree instance.now) (path_of location.old))) result }
+        ensures location { location.new ≡ location.old }
+        ensures applied { 1 ≤ limit → min (ctx.old + 1) u64.MAX ≤ ctx.new }
+        ensures counted { CountsUpTo ctx.old ctx.new (pairs self.now (F.Node.tree instance.now)) }
+    {
+        if limit == 0 {
+            return Ok(());
+        }
+        if self.accepts(instance, ctx) {
+            return Ok(());
+        }
+        self.collect_of_keywords(Some(limit), instance, location, ctx, errors)
+    }
+
+    // `collect_errors` by the keywords, or `collect_first_errors` if there is a limit.
+    #[inline(never)]
+    fn collect_of_keywords<'i>(
+        &'i self,
+        limit: Option<usize>,
+        instance: &'i F::Node,
+        location: &mut LazyLocation,
+        ctx: &mut ValidationContext,
+        errors: &mut Vec<ValidationError<'i, F>>,
+    ) -> Result<(), AllocError>
+        requires { IsTrue (is_lawful (F.Node.tree instance.now)) }
+        ensures appended { Appends F.Node.tree errors.old.items errors.new.items (limited limit
+            (fail self.now (F.Node.tree instance.now) (path_of location.old))) result }
         ensures location { location.new ≡ location.old }
         ensures applied { min (ctx.old + 1) u64.MAX ≤ ctx.new }
         ensures counted { CountsUpTo ctx.old ctx.new (pairs self.now (F.Node.tree instance.now)) }
     {
-        let mut report = Report::behind(errors);
+        let mut report = Report::behind(errors, limit);
         let reported = self.report_errors(instance, location, ctx, &mut report);
-        report.into_all(reported, errors)
+        report.into_list(reported, errors)
     }
 
     // Adds the errors to `report`, by the keywords, until no other is wanted.
@@ -385,7 +416,7 @@ impl<F: Json> SchemaNode<F> {
         ensures location { location.new ≡ location.old }
         ensures applied { min (ctx.old + 1) u64.MAX ≤ ctx.new }
         ensures counted { CountsUpTo ctx.old ctx.new
-            (applications (wants_all report.old) self.now (F.Node.tree instance.now)) }
+            (applications (keeps_list report.old) self.now (F.Node.tree instance.now)) }
     {
         let Some(units) = self.apply(instance, ctx) else {
             let kind = ValidationErrorKind::FalseSchema;
@@ -411,7 +442,7 @@ impl<F: Json> SchemaNode<F> {
             (F.Node.tree item.now) (item_location (path_of location.old) index)) result }
         ensures location { location.new ≡ location.old }
         ensures counted { CountsUpTo ctx.old ctx.new
-            (applications (wants_all report.old) self.now (F.Node.tree item.now)) }
+            (applications (keeps_list report.old) self.now (F.Node.tree item.now)) }
     {
         if self.accepts(item, ctx) {
             return Ok(());

@@ -7,7 +7,7 @@ ghost use Rattle.jskw_array.specs.Words.{all_fail, all_hand_on, all_hold, all_ne
 ghost use Rattle.jskw_array.specs.Words.{in_outline, is_in};
 ghost use Rattle.jskw_array.specs.Words.{is_lawful, is_shape, is_some, keywords_of, meaning_holds};
 ghost use Rattle.jskw_array.specs.Words.{path_of, shape_keywords, true, unit_hands_on};
-ghost use Rattle.jskw_array.specs.Words.{unit_location, unit_meaning, units as units_of, wants_all};
+ghost use Rattle.jskw_array.specs.Words.{keeps_list, unit_location, unit_meaning, units as units_of};
 
 use crate::items::ArrayShapeValidator;
 use crate::outline::Outline;
@@ -162,7 +162,7 @@ pub(crate) fn report_units<'i, F: Json>(
     ensures reported { Reports F.Node.tree report.old report.new (all_fail
         (keywords_of units.now) (F.Node.tree instance.now) (path_of location.old)) result }
     ensures location { location.new ≡ location.old }
-    ensures counted { CountsUpTo ctx.old ctx.new (all_applications (wants_all report.old)
+    ensures counted { CountsUpTo ctx.old ctx.new (all_applications (keeps_list report.old)
         (keywords_of units.now) (F.Node.tree instance.now)) }
 {
     for unit in units {

@@ -1,5 +1,5 @@
 -- What an observer owes to the failures of its keyword, and to the count of applications.
-use Rattle.std.specs.Prelude.{◌≡◌, ◌≤◌, ◌+◌, ℕ, List, [], ◌∷◌, ◌++◌, map, Bool, true, false, Option, Some, None, Result, Ok, Err, ⊤}
+use Rattle.std.specs.Prelude.{◌≡◌, ◌≤◌, ◌<◌, ◌+◌, ◌-◌, max, ℕ, List, [], ◌∷◌, ◌++◌, length, take, map, Bool, true, false, Option, Some, None, Result, Ok, Err, OnOk, ⊤}
 use Rattle.jskw_value.specs.Pointer.{Pointer}
 use Rattle.jskw_value.specs.Tree.{Tree}
 use Rattle.jskw_report.specs.Kind.{ErrorKind}
@@ -11,7 +11,7 @@ use Rattle.jskw_report.specs.declared.error.Stop.{Stop}
 use Rattle.jskw_report.specs.declared.error.Stop.TheVariants.{Invalid, Memory}
 use Rattle.jskw_report.specs.declared.error.ValidationError.{ValidationError}
 use Rattle.jskw_report.specs.declared.report.Report.{Report}
-use Rattle.jskw_report.specs.declared.report.Report.TheVariants.{First, All}
+use Rattle.jskw_report.specs.declared.report.Report.TheVariants.{First, Listed}
 
 -- F is a representation, with its types of nodes, of numbers and of prepared keys; a node stands for a tree
 
@@ -41,37 +41,54 @@ AppendsFailures old new all (Err e) = AppendsBeginning old new all
 abbrev pub Appends : {F Node Number Key E : Type 0} → (Node → Tree) → List (ValidationError F Node Number Key) → List (ValidationError F Node Number Key) → List Failure → Result Unit E → Type 0
 Appends tree old new fs r = AppendsFailures (failures_of tree old) (failures_of tree new) fs r
 
--- whether a report takes all errors; otherwise it takes the first alone
-abbrev pub wants_all : {F Node Number Key : Type 0} → Report F Node Number Key → Bool
-wants_all (First e) = false
-wants_all (All es) = true
+-- whether a report keeps a list of errors; otherwise it keeps the first alone
+abbrev pub keeps_list : {F Node Number Key : Type 0} → Report F Node Number Key → Bool
+keeps_list (First e) = false
+keeps_list (Listed es) = true
+
+-- how many more errors a report takes; all where it is None
+abbrev pub room : {F Node Number Key : Type 0} → Report F Node Number Key → Option ℕ
+room (First None) = Some 1
+room (First (Some e)) = Some 0
+room (Listed es) = es.room
 
 -- what the errors of a report say
 abbrev pub found : {F Node Number Key : Type 0} → (Node → Tree) → Report F Node Number Key → List Failure
 found tree (First None) = []
 found tree (First (Some e)) = failure_of tree e ∷ []
-found tree (All es) = failures_of tree es.items
+found tree (Listed es) = failures_of tree es.errors.items
 
--- `new` is the first of all, alone
-pub record IsFirstOf (new all : List Failure) : Type 0 where
-  pub first : Failure
-  pub rest : List Failure
-  pub is_new : new ≡ first ∷ []
-  pub is_all : all ≡ first ∷ rest
+-- the first n failures, or all where n is None
+abbrev pub limited : Option ℕ → List Failure → List Failure
+limited None fs = fs
+limited (Some n) fs = take n fs
 
--- all failures are behind the old ones, or, where the first alone is wanted, that is there
-abbrev pub Leaves : Bool → List Failure → List Failure → List Failure → Result Unit Stop → Type 0
-Leaves true old new fs (Ok u) = new ≡ old ++ fs
-Leaves true old new fs (Err Invalid) = ⊥
-Leaves true old new fs (Err (Memory e)) = AppendsBeginning old new fs
-Leaves false old new fs (Ok u) = fs ≡ []
-Leaves false old new fs (Err Invalid) = IsFirstOf new fs
-Leaves false old new fs (Err (Memory e)) = ⊤
+-- the room that is left behind the failures
+abbrev pub room_behind : List Failure → Option ℕ → Option ℕ
+room_behind fs None = None
+room_behind fs (Some n) = Some (n - length fs)
+
+-- there are none of them, or there is room for more behind them
+abbrev pub Fits : Option ℕ → List Failure → Type 0
+Fits None fs = ⊤
+Fits (Some n) fs = length fs < max n 1
+
+-- there is one at least, and there is no room for more behind them
+abbrev pub Fills : Option ℕ → List Failure → Type 0
+Fills None fs = ⊥
+Fills (Some n) fs = max n 1 ≤ length fs
+
+-- the failures are behind the old ones, as many as there was room for: Ok says that more are wanted
+abbrev pub Leaves : Option ℕ → List Failure → List Failure → List Failure → Result Unit Stop → Type 0
+Leaves n old new fs (Ok u) = (new ≡ old ++ fs) × Fits n fs
+Leaves n old new fs (Err Invalid) = (new ≡ old ++ limited n fs) × Fills n fs
+Leaves n old new fs (Err (Memory e)) = AppendsBeginning old new (limited n fs)
 
 -- the failures were reported, as far as they are wanted
 pub record Reports {F Node Number Key : Type 0} (tree : Node → Tree) (old new : Report F Node Number Key) (fs : List Failure) (r : Result Unit Stop) : Type 0 where
-  pub same : wants_all new ≡ wants_all old
-  pub leaves : Leaves (wants_all old) (found tree old) (found tree new) fs r
+  pub same : keeps_list new ≡ keeps_list old
+  pub leaves : Leaves (room old) (found tree old) (found tree new) fs r
+  pub less : OnOk r (room new ≡ room_behind fs (room old))
 
 -- the count went from `old` to `new`, up by no more than the bound
 pub record CountsUpTo (old new bound : ℕ) : Type 0 where

@@ -75,9 +75,9 @@ impl<F: Json, A: Assertion> Validate<F> for A {
         ctx: &mut ValidationContext,
         errors: &mut Vec<ValidationError<'i, F>>,
     ) -> Result<(), AllocError> {
-        let mut report = Report::behind(errors);
+        let mut report = Report::behind(errors, None);
         let reported = Validate::<F>::report_errors(self, instance, location, ctx, &mut report);
-        report.into_all(reported, errors)
+        report.into_list(reported, errors)
     }
 
     fn evaluate(

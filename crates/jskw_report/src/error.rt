@@ -319,8 +319,8 @@ impl From<AllocError> for CompileFault<'_> {
 impl<T: Drop> From<AllocFailed<T>> for CompileFault<'_> {
     ghost from_gives = { λ _ f. f ≡ compile_fault.Memory alloc_error };
 
-    fn from(_e: AllocFailed<T>) -> Self {
-        CompileFault::Memory(AllocError)
+    fn from(e: AllocFailed<T>) -> Self {
+        CompileFault::Memory(AllocError::from(e))
     }
 }
 
@@ -335,8 +335,8 @@ impl From<AllocError> for Stop {
 impl<T: Drop> From<AllocFailed<T>> for Stop {
     ghost from_gives = { λ _ s. s ≡ stop.Memory alloc_error };
 
-    fn from(_e: AllocFailed<T>) -> Self {
-        Stop::Memory(AllocError)
+    fn from(e: AllocFailed<T>) -> Self {
+        Stop::Memory(AllocError::from(e))
     }
 }
 

@@ -49,6 +49,6 @@ pub use error::{
 pub use evaluation::{Annotations, ErrorDescription, EvaluationNode, EvaluationResult};
 pub use keyword::KeywordName;
 pub use paths::{LazyLocation, Location, LocationSegment};
-pub use report::Report;
+pub use report::{ErrorList, Report};
 pub use settings::{Draft, Settings, Vocabulary, VocabularySet};
 pub use validator::{Validate, ValidationContext};

@@ -1,27 +1,35 @@
-//! The errors of an instance as they are found: the first alone, or all.
-ghost use Rattle.std.specs.Prelude.{◌≡◌, [], ◌∷◌, IsOk, List, None, true};
+//! The errors of an instance as they are found: the first alone, or a list.
+ghost use Rattle.std.specs.Prelude.{◌≡◌, [], ◌∷◌, IsOk, List, None, Option, false, true, ℕ};
 ghost use Rattle.jskw_report.specs.Errors.{failure_of, failures_of};
 ghost use Rattle.jskw_report.specs.Fail.{Failure};
 ghost use Rattle.jskw_report.specs.Observe.{AppendsFailures, IsFirst, Leaves, Reports, found};
-ghost use Rattle.jskw_report.specs.Observe.{wants_all};
-ghost use Rattle.jskw_report.specs.declared.report.Report.TheVariants.{First};
+ghost use Rattle.jskw_report.specs.Observe.{keeps_list, limited, room as room_of};
+ghost use Rattle.jskw_report.specs.declared.report.Report.TheVariants.{First, Listed};
 
 use crate::error::{Fault, Stop, ValidationError};
 use jskw_value::Json;
 use std::alloc::AllocError;
 use std::mem;
 
-/// The errors of an instance that were found, and whether more are wanted.
+/// The errors of an instance that were found, and how many more are wanted.
 #[derive(Drop)]
 pub enum Report<'i, F: Json> {
     /// The first error, if it was found. No other is wanted.
     First(Option<ValidationError<'i, F>>),
-    /// All errors so far, in order.
-    All(Vec<ValidationError<'i, F>>),
+    /// The errors so far, while others are wanted.
+    Listed(ErrorList<'i, F>),
+}
+
+/// A list of errors, in order, and how many more it takes.
+#[derive(Drop)]
+pub struct ErrorList<'i, F: Json> {
+    errors: Vec<ValidationError<'i, F>>,
+    // all of them if `None`
+    room: Option<usize>,
 }
 
 impl<'i, F: Json> Report<'i, F> {
-    /// Adds an error.
+    /// Adds an error, if one is wanted.
     ///
     /// # Errors
     ///
@@ -33,61 +41,85 @@ impl<'i, F: Json> Report<'i, F> {
     {
         match self {
             Report::First(first) => {
-                *first = Some(error);
+                if first.is_none() {
+                    *first = Some(error);
+                }
                 Err(Stop::Invalid)
             }
-            Report::All(errors) => {
-                errors.push(error)?;
-                Ok(())
-            }
+            Report::Listed(list) => list.add(error),
         }
     }
 
-    /// Takes the errors out of a list, to report all errors behind them.
-    pub fn behind(errors: &mut Vec<ValidationError<'i, F>>) -> Report<'i, F>
-        ensures all { wants_all result ≡ true }
+    /// Takes the errors out of a list, to report others behind them: at most `room`, or all if it is
+    /// `None`.
+    pub fn behind(errors: &mut Vec<ValidationError<'i, F>>, room: Option<usize>) -> Report<'i, F>
+        ensures list { keeps_list result ≡ true }
+        ensures room { room_of result ≡ room }
         ensures found { found F.Node.tree result ≡ failures_of F.Node.tree errors.old.items }
     {
         let alloc = *errors.allocator();
-        Report::All(mem::replace(errors, Vec::new(alloc)))
+        let errors = mem::replace(errors, Vec::new(alloc));
+        Report::Listed(ErrorList { errors, room })
     }
 
-    /// Returns the result of `validate` for that of `report_errors`, if the first error was wanted.
-    /// `Stop::Invalid` without an error, which no validator returns, gives `Fault::Memory`.
+    /// Returns the result of `validate` for that of `report_errors`. The report must not be a list.
     pub fn into_first(self, reported: Result<(), Stop>) -> Result<(), Fault<'i, F>>
+        requires { keeps_list self ≡ false }
         ensures first { (fs : List Failure) → Reports F.Node.tree (First None) self.entry fs reported
             → IsFirst F.Node.tree fs result }
-        ensures ok { IsOk reported → IsOk result }
+        ensures ok { IsOk reported → found F.Node.tree self.entry ≡ [] → IsOk result }
     {
-        match (reported, self) {
-            (Ok(()), _) => Ok(()),
-            (Err(Stop::Invalid), Report::First(Some(error))) => Err(Fault::Invalid(error)),
-            (Err(Stop::Invalid), _) => Err(Fault::Memory(AllocError)),
+        let Report::First(first) = self else {
+            unreachable!()
+        };
+        match (reported, first) {
             (Err(Stop::Memory(error)), _) => Err(Fault::Memory(error)),
+            (_, Some(error)) => Err(Fault::Invalid(error)),
+            (_, None) => Ok(()),
         }
     }
 
     /// Puts the errors into the list from which [`behind`](Report::behind) took them, and returns the
-    /// result of `collect_errors` for that of `report_errors`. `Stop::Invalid`, which no validator
-    /// returns if all errors are wanted, gives `AllocError`.
-    pub fn into_all(
+    /// result of `collect_errors` for that of `report_errors`. The report must be a list.
+    pub fn into_list(
         self,
         reported: Result<(), Stop>,
         errors: &mut Vec<ValidationError<'i, F>>,
     ) -> Result<(), AllocError>
-        ensures list { wants_all self.entry ≡ true
-            → failures_of F.Node.tree errors.new.items ≡ found F.Node.tree self.entry }
-        ensures appended { (old new fs : List Failure) → Leaves true old new fs reported
-            → AppendsFailures old new fs result }
+        requires { keeps_list self ≡ true }
+        ensures list { failures_of F.Node.tree errors.new.items ≡ found F.Node.tree self.entry }
+        ensures appended { (n : Option ℕ) (old new fs : List Failure) → Leaves n old new fs reported
+            → AppendsFailures old new (limited n fs) result }
         ensures ok { IsOk reported → IsOk result }
     {
-        if let Report::All(all) = self {
-            *errors = all;
-        }
+        let Report::Listed(list) = self else {
+            unreachable!()
+        };
+        *errors = list.errors;
         match reported {
-            Ok(()) => Ok(()),
+            Ok(()) | Err(Stop::Invalid) => Ok(()),
             Err(Stop::Memory(error)) => Err(error),
-            Err(Stop::Invalid) => Err(AllocError),
+        }
+    }
+}
+
+impl<'i, F: Json> ErrorList<'i, F> {
+    // Adds an error, if there is room. `Stop::Invalid` if there is none for another then.
+    fn add(&mut self, error: ValidationError<'i, F>) -> Result<(), Stop>
+        ensures { Reports F.Node.tree (Listed self.old) (Listed self.new)
+            (failure_of F.Node.tree error.entry ∷ []) result }
+    {
+        let behind = match self.room {
+            Some(0) => return Err(Stop::Invalid),
+            Some(room) => Some(room - 1),
+            None => None,
+        };
+        self.errors.push(error)?;
+        self.room = behind;
+        if behind == Some(0) {
+            Err(Stop::Invalid)
+        } else {
+            Ok(())
         }
     }
 }

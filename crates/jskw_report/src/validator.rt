@@ -11,7 +11,7 @@ ghost use Rattle.jskw_report.specs.Meaning.{Meaning, is_assertion, meaning_holds
 ghost use Rattle.jskw_report.specs.Meaning.{meaning_applications, meaning_needed, meaning_pairs};
 ghost use Rattle.jskw_report.specs.Meaning.{meaning_unit};
 ghost use Rattle.jskw_report.specs.Observe.{Appends, CountsUpTo, IsFirst, Reports};
-ghost use Rattle.jskw_report.specs.Observe.{failures_unless, wants_all};
+ghost use Rattle.jskw_report.specs.Observe.{failures_unless, keeps_list};
 ghost use Rattle.jskw_report.specs.Paths.{path_of};
 
 use crate::error::{Fault, Stop, ValidationError, ValidationErrorKind};
@@ -115,7 +115,7 @@ pub trait Validate<F: Json> {
             (meaning_fail (meaning self.now) (F.Node.tree instance.now) (path_of location.old))
             result }
         ensures location { location.new ≡ location.old }
-        ensures counted { CountsUpTo ctx.old ctx.new (meaning_applications (wants_all report.old)
+        ensures counted { CountsUpTo ctx.old ctx.new (meaning_applications (keeps_list report.old)
             (meaning self.now) (F.Node.tree instance.now)) };
 
     /// Returns `Ok` if the instance is valid. Stops at the first failure. A keyword without
@@ -168,9 +168,9 @@ pub trait Validate<F: Json> {
         ensures counted { CountsUpTo ctx.old ctx.new
             (meaning_pairs (meaning self.now) (F.Node.tree instance.now)) }
     {
-        let mut report = Report::behind(errors);
+        let mut report = Report::behind(errors, None);
         let reported = self.report_errors(instance, location, ctx, &mut report);
-        report.into_all(reported, errors)
+        report.into_list(reported, errors)
     }
 
     /// Returns what the keyword reports of the instance: its unit of the evaluation tree (JSON

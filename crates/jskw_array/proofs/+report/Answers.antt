@@ -1,5 +1,5 @@
 use Rattle.std.proofs.Common.{rules, ◌≡◌, ◌∙◌, ◌+◌, ◌-◌, ◌≤◌, Err, Ok, refl, drop, ap, ap₂, sym, subst, append-nil, arith}
-use Rattle.jskw_array.specs.Words.{Reports, absorbed_keywords, all_fail, all_height, applications, each_item, each_keyword, fail, item_location, items, keyword_fail, meaning_applications, meaning_fail, path_of, rest_keyword, shape_keywords, unit_meaning, validator_keyword, wants_all}
+use Rattle.jskw_array.specs.Words.{Reports, absorbed_keywords, all_fail, all_height, applications, each_item, each_keyword, fail, item_location, items, keeps_list, keyword_fail, meaning_applications, meaning_fail, path_of, rest_keyword, shape_keywords, unit_meaning, validator_keyword}
 use Rattle.jskw_report.proofs.AppendedKeywords.{fail_appended}
 use Rattle.jskw_report.proofs.ReportedFailures.{Reported, reported_all, reported_nothing, reports_begun, reports_behind, reports_memory, reports_none}
 use Rattle.jskw_array.specs.Heights.{rest_is_as_high}
@@ -22,7 +22,7 @@ node::SchemaNode::report_item-returns-then-accepts-clause-reported g t c =
 
 pub node::SchemaNode::report_item-returns-then-accepts-clause-counted : goal.node::SchemaNode::report_item-returns-then-accepts-clause-counted
 node::SchemaNode::report_item-returns-then-accepts-clause-counted g t c =
-    counted_within _ _ _ c.accepts.result c.if-accepts.true (one_applied (wants_all c.args.report.now) c.args.self.now (g.F.Node.Rooted.tree c.args.item.now)) c.accepts.ensures.counted
+    counted_within _ _ _ c.accepts.result c.if-accepts.true (one_applied (keeps_list c.args.report.now) c.args.self.now (g.F.Node.Rooted.tree c.args.item.now)) c.accepts.ensures.counted
 
 pub node::SchemaNode::report_item-returns-in_err-push-clause-reported : goal.node::SchemaNode::report_item-returns-in_err-push-clause-reported
 node::SchemaNode::report_item-returns-in_err-push-clause-reported g t c = reports_memory g.F.Node.Rooted.tree c.args.report.now _ _ _ c.from_residual.ensures.1
@@ -47,13 +47,13 @@ each::EachValidate::report_errors-loop-index-init g t c =
     let n = c.take_items-index.result in
     let taken = c.take_items-index.ensures in
     let left = each_taken_fails n ss ts p (omega (arith, taken.within)) (omega (arith, taken.within)) taken.valid in
-    let cost = each_taken_applied (wants_all old) n ss ts (omega (arith, taken.within)) (omega (arith, taken.within)) taken.valid in
+    let cost = each_taken_applied (keeps_list old) n ss ts (omega (arith, taken.within)) (omega (arith, taken.within)) taken.valid in
     record {
       last = omega arith;
       walk = record {
         reported = subst (λ fs. Reported tree old old fs (keyword_fail (each_keyword v) instance p)) (each_fails_of v instance p ∙ left) (reported_nothing tree old _);
         from = taken.counted.from;
-        to = omega (arith, each_applied (wants_all old) v instance, cost, taken.counted.to);
+        to = omega (arith, each_applied (keeps_list old) v instance, cost, taken.counted.to);
       };
       location = refl;
     }
@@ -85,7 +85,7 @@ each::EachValidate::report_errors-returns-in_err-report_item-clause-counted g t 
     let s = c.index.result.now in
     let u = tree c.item.result.now in
     let at = each_fails_at ss ts l.index s u (omega arith) (omega arith) c.index.ensures c.item.ensures.value p in
-    let cost = each_item_applied ss ts l.index s u (omega arith) (omega arith) c.index.ensures c.item.ensures.value (wants_all c.args.report.now) in
+    let cost = each_item_applied ss ts l.index s u (omega arith) (omega arith) c.index.ensures c.item.ensures.value (keeps_list c.args.report.now) in
     walk_counted tree (fail s u (item_location p l.index)) _ l.invariant.walk at (λ w. applications w s u) c.in_err-report_item.ensures.counted cost
 
 pub each::EachValidate::report_errors-loop-index-preserved : goal.each::EachValidate::report_errors-loop-index-preserved
@@ -99,7 +99,7 @@ each::EachValidate::report_errors-loop-index-preserved g t c =
     let u = tree c.item.result.now in
     let at = each_fails_at ss ts l.index s u (omega arith) (omega arith) c.index.ensures c.item.ensures.value p in
     let here = subst (λ q. Reports tree l.report c.report_item.new.report (fail s u (item_location (path_of q) l.index)) (Ok tt)) l.invariant.location c.in_ok-report_item.ensures.reported in
-    let cost = each_item_passed ss ts l.index s u (omega arith) (omega arith) c.index.ensures c.item.ensures.value (wants_all c.args.report.now) (item_location p l.index) in
+    let cost = each_item_passed ss ts l.index s u (omega arith) (omega arith) c.index.ensures c.item.ensures.value (keeps_list c.args.report.now) (item_location p l.index) in
     record {
       last = l.invariant.last;
       walk = walk_on tree (fail s u (item_location p l.index)) _ l.invariant.walk at (λ w. applications w s u) _ here c.in_ok-report_item.ensures.counted cost;
@@ -127,13 +127,13 @@ rest::RestValidate::report_errors-loop-index-init g t c =
     let n = i - v.start in
     let behind : drop n (drop v.start ts) ≡ drop i ts = drop_behind v.start i ts taken.from in
     let left = taken_fails v.node n (drop v.start ts) v.start p taken.within taken.valid ∙ ap₂ (λ j us. each_item (fail v.node) j us p) {x = v.start + n} {y = i} (omega (arith, taken.from)) behind in
-    let cost = subst (λ us. n + items_applications (wants_all old) v.node us ≤ items_applications (wants_all old) v.node (drop v.start ts)) behind (taken_applied (wants_all old) v.node n (drop v.start ts) taken.within taken.valid) in
+    let cost = subst (λ us. n + items_applications (keeps_list old) v.node us ≤ items_applications (keeps_list old) v.node (drop v.start ts)) behind (taken_applied (keeps_list old) v.node n (drop v.start ts) taken.within taken.valid) in
     record {
       last = omega arith;
       walk = record {
         reported = subst (λ fs. Reported tree old old fs (keyword_fail (rest_keyword v) instance p)) (rest_fails_of v instance p ∙ left) (reported_nothing tree old _);
         from = taken.counted.from;
-        to = omega (arith, rest_applied (wants_all old) v instance, cost, taken.counted.to);
+        to = omega (arith, rest_applied (keeps_list old) v instance, cost, taken.counted.to);
       };
       location = refl;
     }
@@ -162,7 +162,7 @@ rest::RestValidate::report_errors-returns-in_err-report_item-clause-counted g t 
     let s = c.args.self.now.node in
     let u = tree c.item.result.now in
     let at = fails_at ts l.index u (omega arith) c.item.ensures.value (fail s) p in
-    let cost = item_applied ts l.index u (omega arith) c.item.ensures.value s (wants_all c.args.report.now) in
+    let cost = item_applied ts l.index u (omega arith) c.item.ensures.value s (keeps_list c.args.report.now) in
     walk_counted tree (fail s u (item_location p l.index)) _ l.invariant.walk at (λ w. applications w s u) c.in_err-report_item.ensures.counted cost
 
 pub rest::RestValidate::report_errors-loop-index-preserved : goal.rest::RestValidate::report_errors-loop-index-preserved
@@ -175,7 +175,7 @@ rest::RestValidate::report_errors-loop-index-preserved g t c =
     let u = tree c.item.result.now in
     let at = fails_at ts l.index u (omega arith) c.item.ensures.value (fail s) p in
     let here = subst (λ q. Reports tree l.report c.report_item.new.report (fail s u (item_location (path_of q) l.index)) (Ok tt)) l.invariant.location c.in_ok-report_item.ensures.reported in
-    let cost = item_passed ts l.index u (omega arith) c.item.ensures.value s (wants_all c.args.report.now) (item_location p l.index) in
+    let cost = item_passed ts l.index u (omega arith) c.item.ensures.value s (keeps_list c.args.report.now) (item_location p l.index) in
     record {
       last = l.invariant.last;
       walk = walk_on tree (fail s u (item_location p l.index)) _ l.invariant.walk at (λ w. applications w s u) _ here c.in_ok-report_item.ensures.counted cost;
@@ -214,7 +214,7 @@ unit::report_units-returns-in_err-report_errors-clause-counted g t c =
     let p = path_of c.args.location.now in
     let m = unit_meaning c.unit-item.result in
     let at = fail_at c.args.units.now l.unit-index c.unit-item.result c.loop-unit-test.true c.unit-item.is instance p in
-    let cost = unit_applied c.args.units.now l.unit-index c.unit-item.result c.loop-unit-test.true c.unit-item.is instance (wants_all c.args.report.now) in
+    let cost = unit_applied c.args.units.now l.unit-index c.unit-item.result c.loop-unit-test.true c.unit-item.is instance (keeps_list c.args.report.now) in
     walk_counted tree (meaning_fail m instance p) _ l.invariant.walk at (λ w. meaning_applications w m instance) c.in_err-report_errors.ensures.counted cost
 
 pub unit::report_units-loop-unit-preserved : goal.unit::report_units-loop-unit-preserved
@@ -226,7 +226,7 @@ unit::report_units-loop-unit-preserved g t c =
     let m = unit_meaning c.unit-item.result in
     let at = fail_at c.args.units.now l.unit-index c.unit-item.result c.loop-unit-test.true c.unit-item.is instance p in
     let here = subst (λ q. Reports tree l.report c.report_errors.new.report (meaning_fail m instance (path_of q)) (Ok tt)) l.invariant.location c.in_ok-report_errors.ensures.reported in
-    let cost = unit_passed c.args.units.now l.unit-index c.unit-item.result c.loop-unit-test.true c.unit-item.is instance (wants_all c.args.report.now) p in
+    let cost = unit_passed c.args.units.now l.unit-index c.unit-item.result c.loop-unit-test.true c.unit-item.is instance (keeps_list c.args.report.now) p in
     record {
       walk = walk_on tree (meaning_fail m instance p) _ l.invariant.walk at (λ w. meaning_applications w m instance) _ here c.in_ok-report_errors.ensures.counted cost;
       location = c.in_ok-report_errors.ensures.location ∙ l.invariant.location;
@@ -285,7 +285,7 @@ node::SchemaNode::report_errors-returns-clause-reported g t c =
 
 pub node::SchemaNode::report_errors-returns-clause-counted : goal.node::SchemaNode::report_errors-returns-clause-counted
 node::SchemaNode::report_errors-returns-clause-counted g t c =
-    let whole = c.in-Some.ensures.units.applied (wants_all c.args.report.now) in
+    let whole = c.in-Some.ensures.units.applied (keeps_list c.args.report.now) in
     let first = c.apply.ensures.counted in
     let rest = c.report_units.ensures.counted in
     record { from = omega (arith, first.from, rest.from); to = omega (arith, whole, first.to, rest.to) }

@@ -1,5 +1,5 @@
 use Rattle.std.proofs.Common.{◌≡◌, ◌+◌, ◌*◌, min, length, drop}
-use Rattle.jskw_array.specs.Words.{all_applications, all_fail, all_height, each_fails, each_item, each_keyword, fail, height, items, keyword_fail, keyword_height, keywords_of, meaning_applications, one_keyword, path_of, rest_keyword, schemas_of, validator_keyword, wants_all}
+use Rattle.jskw_array.specs.Words.{all_applications, all_fail, all_height, each_fails, each_item, each_keyword, fail, height, items, keeps_list, keyword_fail, keyword_height, keywords_of, meaning_applications, one_keyword, path_of, rest_keyword, schemas_of, validator_keyword}
 use Rattle.jskw_array.proofs.WalksOverUnits.{unit_tall}
 use Rattle.jskw_array.proofs.ReportingWalks.{Walk, each_applications, items_applications}
 use Rattle.jskw_array.proofs.+report.Given as goal
@@ -35,7 +35,7 @@ invariant-each::EachValidate::report_errors-loop-index g l =
     let ts = drop l.index (items t) in
     let p = path_of l.initial.location in
     let ss = schemas_of (drop l.index l.self.nodes.items) in
-    let wanted = wants_all l.initial.report in
+    let wanted = keeps_list l.initial.report in
     record {
       last : l.count ≡ min (length (items t)) (length l.self.nodes.items);
       walk : Walk tree l.initial.report l.report (each_fails ss l.index ts p) (keyword_fail (each_keyword l.self) t p)
@@ -50,7 +50,7 @@ invariant-rest::RestValidate::report_errors-loop-index g l =
     let ts = drop l.index (items t) in
     let p = path_of l.initial.location in
     let s = l.self.node in
-    let wanted = wants_all l.initial.report in
+    let wanted = keeps_list l.initial.report in
     record {
       last : l.count ≡ length (items t);
       walk : Walk tree l.initial.report l.report (each_item (fail s) l.index ts p) (keyword_fail (rest_keyword l.self) t p)
@@ -64,7 +64,7 @@ invariant-unit::report_units-loop-unit g l =
     let t = tree l.instance in
     let p = path_of l.initial.location in
     let ks = keywords_of (drop l.unit-index l.units) in
-    let wanted = wants_all l.initial.report in
+    let wanted = keeps_list l.initial.report in
     record {
       walk : Walk tree l.initial.report l.report (all_fail ks t p) (all_fail (keywords_of l.units) t p)
           l.initial.ctx l.ctx (all_applications wanted ks t) (all_applications wanted (keywords_of l.units) t);

@@ -2,6 +2,7 @@ use Rattle.std.proofs.Common.{refl, arith}
 use Rattle.std.proofs.lemmas.Grind.{common_steps}
 use Rattle.jskw_value.specs.Tree.{items}
 use Rattle.jskw_report.specs.Paths.{path_of}
+use Rattle.jskw_report.proofs.ReportedFailures.{reported_last, reports_memory}
 use Rattle.jskw_leaf.proofs.TypeWalks.{entered, type_begins, type_reported, type_stopped}
 use Rattle.jskw_leaf.proofs.items.item_type.ItemsTypeValidatorValidate.report_errors.Goals as goal
 
@@ -18,6 +19,11 @@ loop-index-init g c =
       location = refl;
       counted = refl;
     }
+
+pub returns-in_err-push-clause-reported : goal.returns-in_err-push-clause-reported
+returns-in_err-push-clause-reported g c =
+    let tree = g.F.Node.Rooted.tree in
+    reported_last tree _ _ c.loop-index.invariant.reported (reports_memory tree c.loop-index.report _ _ _ c.from_residual.ensures.1)
 
 pub returns-in_err-answer-clause-reported : goal.returns-in_err-answer-clause-reported
 returns-in_err-answer-clause-reported g c =
