@@ -1,4 +1,5 @@
--- The validators of keywords without subschemas may cross threads, where the names that they look up may, and be read in several at once.
+-- The validators of keywords without subschemas may cross threads, and be read in several at once, if the names that
+-- they look up may.
 use denote.RattleType.{RattleType}
 use denote.Struct.Field.{u64-field}
 use denote.Param.Send.{IsSend, IsSync, plain_send, plain_sync, view_send, view_sync}
@@ -40,6 +41,7 @@ use Rattle.jskw_leaf.proofs.enum_.strings.SortedStrings.TheSendSync as strings
 use Rattle.jskw_leaf.proofs.unique_items.UniqueItemsValidator.TheSendSync as unique
 use Rattle.jskw_leaf.specs.contracts.required.names.NameList as names'
 use Rattle.jskw_leaf.specs.contracts.required.names.FewNames as few_names'
+use Rattle.jskw_leaf.specs.contracts.required.RequiredNames as required'
 use Rattle.jskw_leaf.proofs.required.RequiredNames.TheSendSync as required
 use Rattle.jskw_leaf.proofs.required.names.FewNames.TheSendSync as few_names
 use Rattle.jskw_leaf.proofs.required.names.NameList.TheSendSync as names
@@ -58,29 +60,37 @@ any_sync : IsSync any.the_row
 any_sync = declared_sync any.the_type (row_sync value_sync, (types.the_sync, (row_sync location.the_sync, tt)))
 
 single_send : IsSend single.the_row
-single_send = declared_send single.the_type (row_send value_send, (row_send value_send, (row_send location.the_send, tt)))
+single_send = declared_send single.the_type
+    (row_send value_send, (row_send value_send, (row_send location.the_send, tt)))
 
 single_sync : IsSync single.the_row
-single_sync = declared_sync single.the_type (row_sync value_sync, (row_sync value_sync, (row_sync location.the_sync, tt)))
+single_sync = declared_sync single.the_type
+    (row_sync value_sync, (row_sync value_sync, (row_sync location.the_sync, tt)))
 
 printed_send : IsSend printed.the_row
-printed_send = declared_send printed.the_type (as_row_send u64-field (plain_send _ _ _ _ _), (row_send value_send, tt))
+printed_send = declared_send printed.the_type
+    (as_row_send u64-field (plain_send _ _ _ _ _), (row_send value_send, tt))
 
 printed_sync : IsSync printed.the_row
-printed_sync = declared_sync printed.the_type (as_row_sync u64-field (plain_sync _ _ _ _ _), (row_sync value_sync, tt))
+printed_sync = declared_sync printed.the_type
+    (as_row_sync u64-field (plain_sync _ _ _ _ _), (row_sync value_sync, tt))
 
 values_send : IsSend values.the_row
-values_send = declared_send values.the_type (types.the_send, (as_row_send u64-field (plain_send _ _ _ _ _), (std.Vec-send printed.the_row printed_send, tt)))
+values_send = declared_send values.the_type
+    (types.the_send, (as_row_send u64-field (plain_send _ _ _ _ _), (std.Vec-send printed.the_row printed_send, tt)))
 
 values_sync : IsSync values.the_row
-values_sync = declared_sync values.the_type (types.the_sync, (as_row_sync u64-field (plain_sync _ _ _ _ _), (std.Vec-sync printed.the_row printed_sync, tt)))
+values_sync = declared_sync values.the_type
+    (types.the_sync, (as_row_sync u64-field (plain_sync _ _ _ _ _), (std.Vec-sync printed.the_row printed_sync, tt)))
 
 module _ (T N : RattleType) (g : table.Ghosts T.Denot) (h : nullability.Ghosts N.Denot) where
   listed_send : IsSend T → IsSend (listed.the_row T N g h)
-  listed_send s = view_send _ _ _ _ _ (declared_send (listed_inside.the_type T N g h) (row_send value_send, (row_send s, (phantom.the_send N, tt))))
+  listed_send s = view_send _ _ _ _ _ (declared_send (listed_inside.the_type T N g h)
+      (row_send value_send, (row_send s, (phantom.the_send N, tt))))
 
   listed_sync : IsSync T → IsSync (listed.the_row T N g h)
-  listed_sync s = view_sync _ _ _ _ _ (declared_sync (listed_inside.the_type T N g h) (row_sync value_sync, (row_sync s, (phantom.the_sync N, tt))))
+  listed_sync s = view_sync _ _ _ _ _ (declared_sync (listed_inside.the_type T N g h)
+      (row_sync value_sync, (row_sync s, (phantom.the_sync N, tt))))
 
   among_send : IsSend T → IsSend (among.the_row T N g h)
   among_send s = declared_send (among.the_type T N g h) (row_send (listed_send s), (row_send location.the_send, tt))
@@ -88,77 +98,58 @@ module _ (T N : RattleType) (g : table.Ghosts T.Denot) (h : nullability.Ghosts N
   among_sync : IsSync T → IsSync (among.the_row T N g h)
   among_sync s = declared_sync (among.the_type T N g h) (row_sync (listed_sync s), (row_sync location.the_sync, tt))
 
-module _ (T T' T'' T'3 : RattleType) (g : rooted.Ghosts T'.Denot) (g' : object.Ghosts T'.Denot T'3.Denot) (g'' : number.Ghosts T''.Denot) where
-  pub leaf_send : IsSend T'3 → IsSend (leaf.the_row T T' T'' T'3 g g' g'')
-  leaf_send s = variants_send (leaf.enum T T' T'' T'3 g g' g'') (
-    (false_schema.the_send, tt),
-    (
-      (numbers_send, tt),
-      (
-        (type_keyword.the_send, tt),
-        (
-          (const_send, tt),
-          (
-            (any_send, tt),
-            (
-              (among_send values.the_row not_nullable.the_row values'.ghosts not_nullable'.ghosts values_send, tt),
-              (
-                (single_send, tt),
-                (
-                  (among_send few_strings''.the_row not_nullable.the_row few_strings'.ghosts not_nullable'.ghosts few_strings.the_send, tt),
-                  (
-                    (among_send few_strings''.the_row nullable.the_row few_strings'.ghosts nullable'.ghosts few_strings.the_send, tt),
-                    (
-                      (among_send strings''.the_row not_nullable.the_row strings'.ghosts not_nullable'.ghosts strings.the_send, tt),
-                      (
-                        (among_send strings''.the_row nullable.the_row strings'.ghosts nullable'.ghosts strings.the_send, tt),
-                        (
-                          (among_send integers''.the_row not_nullable.the_row integers'.ghosts not_nullable'.ghosts integers.the_send, tt),
-                          (
-                            (among_send integers''.the_row nullable.the_row integers'.ghosts nullable'.ghosts integers.the_send, tt),
-                            ((unique.the_send, tt), ((required.the_send T (names'.the_row T T' T'' T'3 g g' g'') T' T'' T'3 (names.the_send T T' T'' T'3 g g' g'' s), tt), ((required.the_send T (few_names'.the_row T T' T'' T'3 g g' g'') T' T'' T'3 (few_names.the_send T T' T'' T'3 g g' g'' s), tt), tt))),
-                          ),
-                        ),
-                      ),
-                    ),
-                  ),
-                ),
-              ),
-            ),
-          ),
-        ),
-      ),
-    ),
-  )
+module _
+    (T T' T'' T'3 : RattleType) (g : rooted.Ghosts T'.Denot) (g' : object.Ghosts T'.Denot T'3.Denot)
+    (g'' : number.Ghosts T''.Denot)
+  where
+    -- the names of `required` in a list, and few of them
+    abbrev Names : RattleType
+    Names = names'.the_row T T' T'' T'3 g g' g''
 
-  pub leaf_sync : IsSync T'3 → IsSync (leaf.the_row T T' T'' T'3 g g' g'')
-  leaf_sync s = variants_sync (leaf.enum T T' T'' T'3 g g' g'') (
-    (false_schema.the_sync, tt),
-    (
-      (numbers_sync, tt),
+    abbrev FewNames : RattleType
+    FewNames = few_names'.the_row T T' T'' T'3 g g' g''
+
+    required_send : IsSend T'3 → IsSend (required'.the_row T Names T' T'' T'3)
+    required_send s = required.the_send T Names T' T'' T'3 (names.the_send T T' T'' T'3 g g' g'' s)
+
+    required_sync : IsSync T'3 → IsSync (required'.the_row T Names T' T'' T'3)
+    required_sync s = required.the_sync T Names T' T'' T'3 (names.the_sync T T' T'' T'3 g g' g'' s)
+
+    required_few_send : IsSend T'3 → IsSend (required'.the_row T FewNames T' T'' T'3)
+    required_few_send s = required.the_send T FewNames T' T'' T'3 (few_names.the_send T T' T'' T'3 g g' g'' s)
+
+    required_few_sync : IsSync T'3 → IsSync (required'.the_row T FewNames T' T'' T'3)
+    required_few_sync s = required.the_sync T FewNames T' T'' T'3 (few_names.the_sync T T' T'' T'3 g g' g'' s)
+
+    pub leaf_send : IsSend T'3 → IsSend (leaf.the_row T T' T'' T'3 g g' g'')
+    leaf_send s = variants_send (leaf.enum T T' T'' T'3 g g' g'') (
+      (false_schema.the_send, tt),
       (
-        (type_keyword.the_sync, tt),
+        (numbers_send, tt),
         (
-          (const_sync, tt),
+          (type_keyword.the_send, tt),
           (
-            (any_sync, tt),
+            (const_send, tt),
             (
-              (among_sync values.the_row not_nullable.the_row values'.ghosts not_nullable'.ghosts values_sync, tt),
+              (any_send, tt),
               (
-                (single_sync, tt),
+                (among_send values.the_row not_nullable.the_row values'.ghosts not_nullable'.ghosts values_send, tt),
                 (
-                  (among_sync few_strings''.the_row not_nullable.the_row few_strings'.ghosts not_nullable'.ghosts few_strings.the_sync, tt),
+                  (single_send, tt),
                   (
-                    (among_sync few_strings''.the_row nullable.the_row few_strings'.ghosts nullable'.ghosts few_strings.the_sync, tt),
+                    (among_send few_strings''.the_row not_nullable.the_row few_strings'.ghosts not_nullable'.ghosts few_strings.the_send, tt),
                     (
-                      (among_sync strings''.the_row not_nullable.the_row strings'.ghosts not_nullable'.ghosts strings.the_sync, tt),
+                      (among_send few_strings''.the_row nullable.the_row few_strings'.ghosts nullable'.ghosts few_strings.the_send, tt),
                       (
-                        (among_sync strings''.the_row nullable.the_row strings'.ghosts nullable'.ghosts strings.the_sync, tt),
+                        (among_send strings''.the_row not_nullable.the_row strings'.ghosts not_nullable'.ghosts strings.the_send, tt),
                         (
-                          (among_sync integers''.the_row not_nullable.the_row integers'.ghosts not_nullable'.ghosts integers.the_sync, tt),
+                          (among_send strings''.the_row nullable.the_row strings'.ghosts nullable'.ghosts strings.the_send, tt),
                           (
-                            (among_sync integers''.the_row nullable.the_row integers'.ghosts nullable'.ghosts integers.the_sync, tt),
-                            ((unique.the_sync, tt), ((required.the_sync T (names'.the_row T T' T'' T'3 g g' g'') T' T'' T'3 (names.the_sync T T' T'' T'3 g g' g'' s), tt), ((required.the_sync T (few_names'.the_row T T' T'' T'3 g g' g'') T' T'' T'3 (few_names.the_sync T T' T'' T'3 g g' g'' s), tt), tt))),
+                            (among_send integers''.the_row not_nullable.the_row integers'.ghosts not_nullable'.ghosts integers.the_send, tt),
+                            (
+                              (among_send integers''.the_row nullable.the_row integers'.ghosts nullable'.ghosts integers.the_send, tt),
+                              ((unique.the_send, tt), ((required_send s, tt), ((required_few_send s, tt), tt))),
+                            ),
                           ),
                         ),
                       ),
@@ -170,5 +161,46 @@ module _ (T T' T'' T'3 : RattleType) (g : rooted.Ghosts T'.Denot) (g' : object.G
           ),
         ),
       ),
-    ),
-  )
+    )
+
+    pub leaf_sync : IsSync T'3 → IsSync (leaf.the_row T T' T'' T'3 g g' g'')
+    leaf_sync s = variants_sync (leaf.enum T T' T'' T'3 g g' g'') (
+      (false_schema.the_sync, tt),
+      (
+        (numbers_sync, tt),
+        (
+          (type_keyword.the_sync, tt),
+          (
+            (const_sync, tt),
+            (
+              (any_sync, tt),
+              (
+                (among_sync values.the_row not_nullable.the_row values'.ghosts not_nullable'.ghosts values_sync, tt),
+                (
+                  (single_sync, tt),
+                  (
+                    (among_sync few_strings''.the_row not_nullable.the_row few_strings'.ghosts not_nullable'.ghosts few_strings.the_sync, tt),
+                    (
+                      (among_sync few_strings''.the_row nullable.the_row few_strings'.ghosts nullable'.ghosts few_strings.the_sync, tt),
+                      (
+                        (among_sync strings''.the_row not_nullable.the_row strings'.ghosts not_nullable'.ghosts strings.the_sync, tt),
+                        (
+                          (among_sync strings''.the_row nullable.the_row strings'.ghosts nullable'.ghosts strings.the_sync, tt),
+                          (
+                            (among_sync integers''.the_row not_nullable.the_row integers'.ghosts not_nullable'.ghosts integers.the_sync, tt),
+                            (
+                              (among_sync integers''.the_row nullable.the_row integers'.ghosts nullable'.ghosts integers.the_sync, tt),
+                              ((unique.the_sync, tt), ((required_sync s, tt), ((required_few_sync s, tt), tt))),
+                            ),
+                          ),
+                        ),
+                      ),
+                    ),
+                  ),
+                ),
+              ),
+            ),
+          ),
+        ),
+      ),
+    )

@@ -57,16 +57,20 @@ schema_row = node.the_row S V N K rooted.ghosts object.ghosts numbered.ghosts
 
 pub schema_send : IsSend schema_row
 schema_send = knot.send-SchemaNode S V N K rooted.ghosts object.ghosts numbered.ghosts
-    (row_send location.the_send) (as_row_send bool-field (plain_send _ _ _ _ _)) quick.the_send begun.the_send std.Vec-send std.Box-send
+    (row_send location.the_send) (as_row_send bool-field (plain_send _ _ _ _ _)) quick.the_send begun.the_send
+    std.Vec-send std.Box-send
     (leaf_send S V N K rooted.ghosts object.ghosts numbered.ghosts name_send)
-    (item_type.the_send of_number.the_row S V N K) (item_type.the_send of_string.the_row S V N K) (item_type.the_send of_boolean.the_row S V N K)
-    (item_type.the_send of_integer.the_row S V N K) (item_type.the_send of_integer_4.the_row S V N K)
+    (item_type.the_send of_number.the_row S V N K) (item_type.the_send of_string.the_row S V N K)
+    (item_type.the_send of_boolean.the_row S V N K) (item_type.the_send of_integer.the_row S V N K)
+    (item_type.the_send of_integer_4.the_row S V N K)
     additional.the_send absorbed.the_send bounds.the_send (as_row_send usize-field (plain_send _ _ _ _ _))
 
 pub schema_sync : IsSync schema_row
 schema_sync = knot.sync-SchemaNode S V N K rooted.ghosts object.ghosts numbered.ghosts
-    (row_sync location.the_sync) (as_row_sync bool-field (plain_sync _ _ _ _ _)) quick.the_sync begun.the_sync std.Vec-sync std.Box-sync
+    (row_sync location.the_sync) (as_row_sync bool-field (plain_sync _ _ _ _ _)) quick.the_sync begun.the_sync
+    std.Vec-sync std.Box-sync
     (leaf_sync S V N K rooted.ghosts object.ghosts numbered.ghosts name_sync)
-    (item_type.the_sync of_number.the_row S V N K) (item_type.the_sync of_string.the_row S V N K) (item_type.the_sync of_boolean.the_row S V N K)
-    (item_type.the_sync of_integer.the_row S V N K) (item_type.the_sync of_integer_4.the_row S V N K)
+    (item_type.the_sync of_number.the_row S V N K) (item_type.the_sync of_string.the_row S V N K)
+    (item_type.the_sync of_boolean.the_row S V N K) (item_type.the_sync of_integer.the_row S V N K)
+    (item_type.the_sync of_integer_4.the_row S V N K)
     additional.the_sync absorbed.the_sync bounds.the_sync (as_row_sync usize-field (plain_sync _ _ _ _ _))

@@ -35,10 +35,12 @@ pub row_sync : {R : RattleType} → IsSync R → IsSync (as_row (row_field R))
 row_sync {R} s = as_row_sync (row_field R) s
 
 limit_send : (T R : RattleType) → IsSend T → IsSend (limit.the_row T R)
-limit_send T R s = declared_send (limit.the_type T R) (row_send s, (row_send value_send, (row_send location.the_send, (phantom.the_send R, tt))))
+limit_send T R s = declared_send (limit.the_type T R)
+    (row_send s, (row_send value_send, (row_send location.the_send, (phantom.the_send R, tt))))
 
 limit_sync : (T R : RattleType) → IsSync T → IsSync (limit.the_row T R)
-limit_sync T R s = declared_sync (limit.the_type T R) (row_sync s, (row_sync value_sync, (row_sync location.the_sync, (phantom.the_sync R, tt))))
+limit_sync T R s = declared_sync (limit.the_type T R)
+    (row_sync s, (row_sync value_sync, (row_sync location.the_sync, (phantom.the_sync R, tt))))
 
 large_send : (R : RattleType) → IsSend (limit.the_row builtin.u64 R)
 large_send R = limit_send builtin.u64 R (plain_send _ _ _ _ _)

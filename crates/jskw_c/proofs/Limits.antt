@@ -1,13 +1,16 @@
--- The first errors of a list.
-use Rattle.std.proofs.Common.{◌≡◌, ◌∙◌, ℕ, Bool, true, false, eqb, if◌then◌else◌, List, map, take, refl, sym, ap}
-use Rattle.std.proofs.lemmas.List.{take-map}
-use Rattle.jskw_c.specs.Asked.{limited}
+-- A limit on errors.
+use Rattle.std.proofs.Common.{◌≡◌, ℕ, zero, suc, Bool, true, false, true≢false, eqb, if◌then◌else◌, List, [], ◌∷◌, None, Some, refl}
+use Rattle.jskw_report.specs.Fail.{Failure, is_empty}
+use Rattle.jskw_report.specs.Observe.{limited}
+use Rattle.jskw_c.specs.Asked.{limit_of}
 
--- what is done to each of one list or of another
-map_if : {A B : Type 0} (f : A → B) (b : Bool) (xs ys : List A) → map f (if b then xs else ys) ≡ (if b then map f xs else map f ys)
-map_if f true xs ys = refl
-map_if f false xs ys = refl
+empty_if : (b : Bool) (n : ℕ) (fs : List Failure) → eqb n 0 ≡ b
+    → is_empty (limited (if b then None else Some n) fs) ≡ is_empty fs
+empty_if true n fs e = refl
+empty_if false zero fs e = absurd (true≢false e)
+empty_if false (suc n) [] e = refl
+empty_if false (suc n) (f ∷ fs) e = refl
 
--- what is done to each of the first n, or to all
-pub limited_map : {A B : Type 0} (f : A → B) (n : ℕ) (xs : List A) → map f (limited n xs) ≡ limited n (map f xs)
-limited_map f n xs = map_if f (eqb n 0) xs (take n xs) ∙ ap (λ ys. if eqb n 0 then map f xs else ys) (sym (take-map f n xs))
+-- the first errors are none only where there is none
+pub limited_empty : (n : ℕ) (fs : List Failure) → is_empty (limited (limit_of n) fs) ≡ is_empty fs
+limited_empty n fs = empty_if (eqb n 0) n fs refl

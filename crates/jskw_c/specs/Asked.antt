@@ -4,9 +4,10 @@ use Rattle.jskw_value.specs.Pointer.{Pointer}
 use Rattle.jskw_value.specs.Tree.{Tree}
 use Rattle.jskw_text.specs.Reading.{reading}
 use Rattle.jskw_report.specs.Evaluation.{tree}
-use Rattle.jskw_report.specs.Fail.{Failure, fail}
+use Rattle.jskw_report.specs.Fail.{fail}
 use Rattle.jskw_report.specs.Holds.{holds}
 use Rattle.jskw_report.specs.Keyword.{Schema}
+use Rattle.jskw_report.specs.Observe.{limited}
 use Rattle.jskw_c.specs.Evaluated.{evaluation_text}
 use Rattle.jskw_c.specs.Line.{AreErrorLines, IsPlaceLine, words_line}
 use Rattle.jskw_c.specs.Status.{VALID, INVALID, NOT_JSON, INEXACT, NO_SCHEMA}
@@ -41,13 +42,13 @@ abbrev pub IsReport : (Schema → Tree → List ℕ → Type 0) → Option Schem
 IsReport Says None bytes text = text ≡ []
 IsReport Says (Some s) bytes text = IsReportOf Says s bytes (reading bytes) text
 
--- the first n of a list, or all where n is 0
-abbrev pub limited : {A : Type 0} → ℕ → List A → List A
-limited n xs = if eqb n 0 then xs else take n xs
+-- 0 is no limit
+abbrev pub limit_of : ℕ → Option ℕ
+limit_of n = if eqb n 0 then None else Some n
 
 -- a line for each of the first `limit` errors, or for each error
 abbrev pub SaysErrors : ℕ → Schema → Tree → List ℕ → Type 0
-SaysErrors limit s t text = AreErrorLines (limited limit (fail s t [])) text
+SaysErrors limit s t text = AreErrorLines (limited (limit_of limit) (fail s t [])) text
 
 -- the line of the first error, if there is one
 abbrev pub SaysFirst : Schema → Tree → List ℕ → Type 0

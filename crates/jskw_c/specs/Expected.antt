@@ -1,5 +1,5 @@
 -- What a keyword expected, as JSON without spaces.
-use Rattle.std.specs.Prelude.{◌≡◌, ℕ, ℤ, List, [], ◌∷◌, ◌++◌, false, codes, decimal, filter, map}
+use Rattle.std.specs.Prelude.{◌≡◌, ℕ, List, [], ◌∷◌, ◌++◌, false, codes, decimal, filter, map}
 use Rattle.std.specs.Fmt.{signed_decimal}
 use Rattle.json.specs.Print.{quoted}
 use Rattle.serde_json.specs.Data.{Data}
@@ -7,7 +7,6 @@ use Rattle.serde_json.specs.Written.{compact_text, has_float}
 use Rattle.jskw_value.specs.Types.{contains, type_name}
 use Rattle.jskw_value.specs.declared.types.JsonType.{JsonType}
 use Rattle.jskw_value.specs.declared.types.JsonType.TheVariants.{Array, Boolean, Integer, Null, Number, Object, String}
-use Rattle.jskw_value.specs.declared.types.JsonTypeSet.{JsonTypeSet}
 use Rattle.jskw_report.specs.Kind.{ErrorKind, EnumOptions}
 use Rattle.jskw_report.specs.Kind as kind
 use Rattle.jskw_report.specs.declared.error.TypeKind.{TypeKind}

@@ -5,8 +5,9 @@ ghost use Rattle.std.specs.Prelude.{◌≡◌, ◌≤◌, [], IfOk, Some, length
 ghost use Rattle.jskw_value.specs.DecimalTree.{decimal_tree};
 ghost use Rattle.jskw_text.specs.Reading.{reading};
 ghost use Rattle.jskw_report.specs.Errors.{failures_of};
-ghost use Rattle.jskw_report.specs.Fail.{is_empty};
-ghost use Rattle.jskw_c.specs.Asked.{Says, SaysErrors, SaysFirst, SaysTree, limited};
+ghost use Rattle.jskw_report.specs.Fail.{fail, is_empty};
+ghost use Rattle.jskw_report.specs.Observe.{limited};
+ghost use Rattle.jskw_c.specs.Asked.{Says, SaysErrors, SaysFirst, SaysTree, limit_of};
 ghost use Rattle.jskw_c.specs.Asked.{status_of, verdict};
 ghost use Rattle.jskw_c.specs.Compiled.{IsPlaceOf, compiled_of, setting_numbered};
 ghost use Rattle.jskw_c.specs.Line.{IsPlaceLine};
@@ -185,28 +186,33 @@ fn errors_of(
 ) -> Result<Told, AllocError>
     ensures { IfOk result (Reports (SaysErrors limit) schema.now (decimal_tree instance.now)) }
 {
-    let mut errors = Vec::new(alloc);
-    let mut location = LazyLocation::new(alloc);
-    let mut ctx = ValidationContext::new();
-    schema.collect_errors(instance, &mut location, &mut ctx, &mut errors)?;
-    let errors = errors.as_slice();
+    let errors = collect(alloc, limit, schema, instance)?;
     Ok(Told {
-        status: status_of_errors(errors),
-        text: error_lines(alloc, first_errors(errors, limit))?,
+        status: status_of_errors(errors.as_slice()),
+        text: error_lines(alloc, errors.as_slice())?,
     })
 }
 
-// Returns the first `limit` errors, or all if `limit` is 0.
-fn first_errors<'e, 'i>(
-    errors: &'e [ValidationError<'i, DecimalJson>],
+// Collects the first `limit` errors of the instance, or all if `limit` is 0.
+fn collect<'i>(
+    alloc: Global,
     limit: u64,
-) -> &'e [ValidationError<'i, DecimalJson>]
-    ensures { result.now ≡ limited limit errors.now }
+    schema: &'i SchemaNode<DecimalJson>,
+    instance: &'i DecimalTree,
+) -> Result<Vec<ValidationError<'i, DecimalJson>>, AllocError>
+    ensures { IfOk result (λ errors. failures_of decimal_tree errors.items
+        ≡ limited (limit_of limit) (fail schema.now (decimal_tree instance.now) [])) }
 {
-    if limit == 0 || errors.len() as u64 <= limit {
-        return errors;
+    let mut errors = Vec::new(alloc);
+    let mut location = LazyLocation::new(alloc);
+    let mut ctx = ValidationContext::new();
+    if limit == 0 {
+        schema.collect_errors(instance, &mut location, &mut ctx, &mut errors)?;
+    } else {
+        let limit = limit as usize;
+        schema.collect_first_errors(limit, instance, &mut location, &mut ctx, &mut errors)?;
     }
-    &errors[..limit as usize]
+    Ok(errors)
 }
 
 // Returns the line of the first error of the instance.

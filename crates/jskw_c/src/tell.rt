@@ -1,7 +1,7 @@
 //! Texts in the buffer of a caller.
 ghost use Rattle.std.specs.Prelude.{◌≡◌};
 ghost use Rattle.jskw_c.specs.Status as status;
-ghost use Rattle.jskw_c.specs.Told.{Gives, RunsOut};
+ghost use Rattle.jskw_c.specs.Told.{Gives};
 
 use crate::status::{NO_MEMORY, TOO_SMALL};
 

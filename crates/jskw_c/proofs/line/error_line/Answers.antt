@@ -1,4 +1,4 @@
-use Rattle.std.proofs.Common.{◌≡◌, ◌∙◌, List, [], ◌++◌, ap}
+use Rattle.std.proofs.Common.{◌∙◌, ◌++◌, ap}
 use Rattle.jskw_value.specs.DecimalTree.{decimal_tree}
 use Rattle.jskw_report.specs.Errors.{failure_of}
 use Rattle.jskw_c.proofs.Lines.{only_line}
