@@ -46,8 +46,9 @@ extern "C" {
 #define JSKW_VERSION_PATCH 0
 
 enum {
-    JSKW_VALID = 0,       /* the instance is valid; of jskw_compile and jskw_share: the handle has the schema */
-    JSKW_INVALID = 1,     /* the instance has errors */
+    JSKW_VALID = 0,       /* the instance is valid; of jskw_compile and jskw_share: the handle has the schema; of
+                           * jskw_unchecked: nothing is unchecked */
+    JSKW_INVALID = 1,     /* the instance has errors; of jskw_unchecked: the schema has unchecked members */
     JSKW_REFUSED = 2,     /* of jskw_answer: no verdict, and the text says why */
     JSKW_NOT_JSON = 3,    /* the schema or the instance is not JSON in UTF-8, or nests more than 127 levels */
     JSKW_INEXACT = 4,     /* the instance contains a number that is not exact; the text is a line with its location */
@@ -91,6 +92,23 @@ uint32_t jskw_answer(const uint8_t *bytes, size_t size, uint8_t *buffer, size_t 
 uint32_t jskw_compile(uint32_t draft, uint32_t vocabularies, const uint8_t *overridden, size_t overridden_size,
                       const uint8_t *bytes, size_t size, jskw_schema *schema, uint8_t *buffer, size_t buffer_size,
                       size_t *length);
+
+/* What is not checked of a schema: a line for each of its members that asserts nothing under this setting, keyword
+ * location and reason, in the order of the names' bytes. Members of the subschemas that items, prefixItems,
+ * additionalItems and contains apply have their lines too; what stands below a member that has a line is not looked at.
+ * The reason is
+ *     notImplemented  a keyword of the draft that asserts or applies something, which this library does not have
+ *     unknown         no keyword of the draft, such as a misspelt one
+ *     inactive        a keyword of this library that asserts nothing as it stands: the draft or the vocabularies do not
+ *                     have it, it is overridden, what it goes with is absent, or it passes over such a value
+ * Annotations such as `title` have no line (docs/USE.md). The name of the member is what stands behind the last `/` of
+ * the location, where ~1 is a `/` and ~0 a `~`.
+ *
+ * JSKW_VALID and an empty text: all that the schema says is asserted, if jskw_compile takes it with the same setting;
+ * else JSKW_INVALID. JSKW_NOT_JSON, with the line that jskw_compile has; JSKW_BAD_SETTING, JSKW_NO_MEMORY,
+ * JSKW_TOO_SMALL. A schema that jskw_compile refuses has its lines too. */
+uint32_t jskw_unchecked(uint32_t draft, uint32_t vocabularies, const uint8_t *overridden, size_t overridden_size,
+                        const uint8_t *bytes, size_t size, uint8_t *buffer, size_t buffer_size, size_t *length);
 
 /* Puts the schema of the handle `from` into the handle `to` too, without compiling it again, and frees the schema that
  * `to` had. The two are different handles. JSKW_VALID; JSKW_NO_SCHEMA or JSKW_NO_MEMORY, and both are unchanged. It

@@ -85,9 +85,9 @@ static void free_asked(struct asked asked) {
 static const char *const SCHEMA = "{\"required\":[\"name\",\"age\"],\"minProperties\":2}";
 static const char *const INVALID = "{\"age\":36}";
 
-enum { VERSION, IS_VALID, FIRST_ERROR, TWO_ERRORS, ERRORS, EVALUATE, ANSWER, COMPILE, CALLS };
+enum { VERSION, IS_VALID, FIRST_ERROR, TWO_ERRORS, ERRORS, EVALUATE, ANSWER, UNCHECKED, COMPILE, CALLS };
 static const char *const NAMES[] = {"version", "is_valid", "first_error", "two errors", "errors", "evaluate", "answer",
-                                    "compile"};
+                                    "unchecked", "compile"};
 
 static uint32_t call(int which, struct asked a, jskw_schema *handle, uint8_t *buffer, size_t room, size_t *length) {
     const uint8_t *bytes = a.instance.bytes;
@@ -100,6 +100,8 @@ static uint32_t call(int which, struct asked a, jskw_schema *handle, uint8_t *bu
     case TWO_ERRORS: return jskw_errors(handle, bytes, size, 2, buffer, room, length);
     case EVALUATE: return jskw_evaluate(handle, bytes, size, buffer, room, length);
     case ANSWER: return jskw_answer(a.request.bytes, a.request.size, buffer, room, length);
+    case UNCHECKED: return jskw_unchecked(a.draft, a.vocabularies, a.overridden.bytes, a.overridden.size,
+                                          a.schema.bytes, a.schema.size, buffer, room, length);
     default: return jskw_compile(a.draft, a.vocabularies, a.overridden.bytes, a.overridden.size, a.schema.bytes,
                                  a.schema.size, handle, buffer, room, length);
     }
@@ -236,6 +238,18 @@ static void places(void) {
     check("no place in a schema", gives(status, JSKW_NOT_JSON, buffer, length, ""));
 }
 
+/* A name in a line of what is not checked: as in a JSON pointer, and then as in any word. */
+static void names(void) {
+    uint8_t buffer[ROOM];
+    size_t length;
+    const char *schema = "{\"a\\t\\n\\\\/~\":1,\"pattern\":\"\",\"type\":5}";
+    uint32_t status = jskw_unchecked(7, JSKW_ALL, BYTES(""), BYTES(schema), buffer, ROOM, &length);
+    check("names", gives(status, JSKW_INVALID, buffer, length,
+        "/a\\t\\n\\\\~1~0\tunknown\n/pattern\tnotImplemented\n"));
+    status = jskw_unchecked(7, JSKW_ALL, BYTES(""), BYTES("{\"minimum\":1e999}"), buffer, ROOM, &length);
+    check("names, no place", gives(status, JSKW_NOT_JSON, buffer, length, ""));
+}
+
 /* An empty handle gets a status from each call, and another schema takes its place after each. */
 static void empty_handles(void) {
     uint8_t buffer[ROOM];
@@ -341,8 +355,8 @@ static int limits(jskw_schema *handle, struct asked a, uint32_t wanted, const ui
 }
 
 /* Splits a line of rows.txt. */
-static void split(char *line, char *part[7]) {
-    for (int i = 0; i < 7; i++) {
+static void split(char *line, char *part[8]) {
+    for (int i = 0; i < 8; i++) {
         part[i] = line;
         line += strcspn(line, "\t\n");
         if (*line) *line++ = 0;
@@ -370,12 +384,29 @@ static int says(struct asked a, const char *result, const char *wanted) {
     return agree && status < 7 && !strcmp(RESULTS[status], result) && !strcmp(told, wanted);
 }
 
+/* Whether the list of what is not checked is the wanted one; or there is none, as there is no compiled schema. */
+static int lists(struct asked a, const char *wanted) {
+    uint8_t buffer[ROOM], refusal[ROOM];
+    char told[ROOM];
+    size_t length, refusal_length;
+    jskw_schema handle = JSKW_SCHEMA_EMPTY;
+    uint32_t compiled = call(COMPILE, a, &handle, refusal, ROOM, &refusal_length);
+    uint32_t status = call(UNCHECKED, a, &handle, buffer, ROOM, &length);
+    jskw_free(&handle);
+    if (compiled == JSKW_NOT_JSON || compiled == JSKW_BAD_SETTING)
+        return status == compiled && length == refusal_length && !memcmp(buffer, refusal, length) && !*wanted;
+    tell(told, (char *)buffer, length, 2);
+    return status == (uint32_t)(length ? JSKW_INVALID : JSKW_VALID) && !strcmp(told, wanted);
+}
+
 static void row(char *line, unsigned long times[CALLS]) {
-    char *part[7], name[ROOM], what[ROOM + 64];
+    char *part[8], name[ROOM], what[ROOM + 64];
     snprintf(name, sizeof name, "%.*s", (int)strcspn(line, "\n"), line);
     split(line, part);
     struct asked a = asked_of(part[0], part[1], part[2], part[3], part[4]);
     check(name, says(a, part[5], part[6]));
+    snprintf(what, sizeof what, "what is not checked: %s", name);
+    check(what, lists(a, part[7]));
     for (int which = 0; which < CALLS; which++) {
         snprintf(what, sizeof what, "%s, buffers: %s", NAMES[which], name);
         check(what, buffers(which, a));
@@ -424,6 +455,7 @@ int main(int count, char **words) {
     readme();
     expected();
     places();
+    names();
     empty_handles();
     shares();
     frees();

@@ -29,6 +29,7 @@ def run() -> None:
             "schema": '{"items": {"type": "integer", "minimum": 0}}',
             "draft4": '{"$schema": "http://json-schema.org/draft-04/schema#", "minimum": 1, "exclusiveMinimum": true}',
             "no_schema": '{"minItems": -1}',
+            "unchecked": '{"items": {"minimun": 1}, "properties": {"a": {"b": 1}}, "maxItems": 3}',
             "valid": "[1, 2]",
             "invalid": '[1, -2, "a"]',
             "broken": "[1,\n 2",
@@ -60,6 +61,16 @@ def files() -> None:
     check("draft by option", asked("--schema", "draft4.json", "--draft", "7", given="2")[0], 2)
     refusal = "no_schema.json: -1 is less than the minimum of 0 (schema '/minItems')\n"
     check("no schema", asked("--schema", "no_schema.json"), (2, "", refusal))
+    lines = (
+        "unchecked.json: /items/minimun: not checked (unknown)\n"
+        "unchecked.json: /properties: not checked (notImplemented)\n"
+        "jskw: no file was checked; --allow-unchecked ignores these keywords\n"
+    )
+    unchecked = ["--schema", "unchecked.json"]
+    check("not checked", asked(*unchecked, "valid.json"), (2, "", lines))
+    check("not checked, of a draft", asked(*unchecked, "--draft", "7", "valid.json"), (2, "", lines))
+    check("allowed", asked(*unchecked, "--allow-unchecked", "valid.json"), (0, "", ""))
+    check("allowed, invalid", asked(*unchecked, "--allow-unchecked", given="[1, 2, 3, 4]")[0], 1)
     check("no option", asked()[0], 2)
     check("no errors", asked(*schema, "--max-errors", "0")[0], 2)
     check("help", asked("--help")[0], 0)

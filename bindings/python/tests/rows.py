@@ -9,22 +9,25 @@ from typing import Any
 import jskw
 from jskw.validators import DRAFTS, VOCABULARIES
 
-from checks import check
+from checks import check, raised
 
 ROWS = pathlib.Path(__file__).resolve().parents[2] / "rows.txt"
 NUMBERS = {str(number): name for name, number in DRAFTS.items()}
 
 
+def validator_of(draft: str, vocabularies: str, overridden: str, schema: str, **strict: bool) -> jskw.Validator:
+    names = [name for name, bit in VOCABULARIES.items() if int(vocabularies) & bit]
+    names += ["no such vocabulary"] * (int(vocabularies) > 7)
+    given: Any = json.loads(overridden)
+    # an object would be taken for its names
+    given = given if isinstance(given, list) else None
+    return jskw.Validator(schema.encode(), NUMBERS.get(draft, draft), names, given, **strict)
+
+
 def outcome(draft: str, vocabularies: str, overridden: str, schema: str, instance: str) -> tuple[str, str]:
     """Returns the result of a row and what it tells."""
     try:
-        names = [name for name, bit in VOCABULARIES.items() if int(vocabularies) & bit]
-        names += ["no such vocabulary"] * (int(vocabularies) > 7)
-        given: Any = json.loads(overridden)
-        # an object would be taken for its names
-        given = given if isinstance(given, list) else None
-        validator = jskw.Validator(schema.encode(), NUMBERS.get(draft, draft), names, given)
-        return answers(validator, instance.encode())
+        return answers(validator_of(draft, vocabularies, overridden, schema), instance.encode())
     except jskw.SchemaError as error:
         return "bad schema", f"{error.kind}|{error.instance_location}"
     except jskw.InexactNumber as error:
@@ -49,6 +52,15 @@ def answers(validator: jskw.Validator, instance: bytes) -> tuple[str, str]:
     return "valid" if valid else "invalid", told(errors)
 
 
+def unchecked(*given: str) -> str:
+    """Returns what is not checked of the schema of a row, as the list and as the strict setting tells it."""
+    members = validator_of(*given).unchecked
+    error = raised(validator_of, *given, strict=True)
+    if (error.unchecked if isinstance(error, jskw.UncheckedError) else []) != members:
+        return "the two disagree"
+    return " ".join(f"{member.keyword_location}|{member.reason}" for member in members)
+
+
 def told(errors: list[jskw.ValidationError]) -> str:
     return " ".join(f"{e.kind}|{e.instance_location}|{e.keyword_location}" for e in errors)
 
@@ -56,5 +68,7 @@ def told(errors: list[jskw.ValidationError]) -> str:
 def run() -> None:
     for line in ROWS.read_text(encoding="utf-8").split("\n"):
         if line and not line.startswith("#"):
-            *given, result, says = line.split("\t")
+            *given, result, says, lacks = (line + "\t" * (line.count("\t") < 7)).split("\t")
             check(line, outcome(*given), (result, says))
+            if result in ("valid", "invalid"):
+                check(f"what is not checked: {line}", unchecked(*given[:4]), lacks)

@@ -2,6 +2,7 @@
 
 use crate::json::{read, Kind, Value};
 use crate::library::{lines, BAD_SCHEMA, INEXACT, NOT_JSON, NO_MEMORY};
+use crate::unchecked::UncheckedMember;
 use std::fmt;
 use std::ops::Range;
 use std::sync::Arc;
@@ -218,6 +219,9 @@ pub enum Error {
     Invalid(Box<ValidationError>),
     /// The schema does not compile.
     Schema(Box<ValidationError>),
+    /// The schema has these members, which are not checked. Only [`crate::ValidationOptions::build`] of strict options
+    /// returns it.
+    Unchecked(Vec<UncheckedMember>),
     /// The text is not JSON in UTF-8, or nests more than 127 levels, or has an escape of a lone surrogate. Without a
     /// position it is a schema with a number that is too large for a double.
     NotJson { text: Text, position: Option<Position> },
@@ -235,6 +239,16 @@ impl fmt::Display for Error {
         match self {
             Error::Invalid(error) => write!(f, "{error} (instance {:?})", error.instance_path.to_string()),
             Error::Schema(error) => write!(f, "{error} (schema {:?})", error.instance_path.to_string()),
+            Error::Unchecked(members) => {
+                let shown: Vec<String> = members.iter().take(10).map(UncheckedMember::to_string).collect();
+                let more = members.len() - shown.len();
+                write!(f, "the schema has what is not checked: {}", shown.join(", "))?;
+                if more > 0 {
+                    write!(f, " and {more} more")
+                } else {
+                    Ok(())
+                }
+            }
             Error::NotJson { text, position } => {
                 let name = if *text == Text::Schema { "schema" } else { "instance" };
                 match position {
@@ -298,13 +312,13 @@ pub(crate) fn refusal(text: Text, status: u32, told: &str, given: &[u8]) -> Erro
 }
 
 /// A JSON text, read once for all errors of a call.
-struct Document {
+pub(crate) struct Document {
     text: Arc<str>,
     root: Option<Value>,
 }
 
 impl Document {
-    fn new(text: &[u8]) -> Document {
+    pub(crate) fn new(text: &[u8]) -> Document {
         let text: Arc<str> = String::from_utf8_lossy(text).into();
         Document { root: read(&text), text }
     }
@@ -322,7 +336,7 @@ impl Document {
     }
 
     /// Returns the steps of a JSON pointer, and the place of the value there.
-    fn find(&self, pointer: &str) -> (Location, Range<usize>) {
+    pub(crate) fn find(&self, pointer: &str) -> (Location, Range<usize>) {
         let (mut segments, mut value) = (Vec::new(), self.root.as_ref());
         for word in pointer.split('/').skip(1) {
             let name = unescaped(word);

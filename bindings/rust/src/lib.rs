@@ -1,6 +1,6 @@
 //! The proved JSON Schema validator jskw, in process: the value and array keywords of Drafts 4, 6, 7, 2019-09 and
-//! 2020-12. All other keywords are ignored. Schemas and instances are JSON texts, as `&str`, `&[u8]`, `String` or
-//! `Vec<u8>`.
+//! 2020-12. All other keywords are ignored, unless the options are [strict](ValidationOptions::with_strict). Schemas
+//! and instances are JSON texts, as `&str`, `&[u8]`, `String` or `Vec<u8>`.
 //!
 //! ```
 //! use jskw::{ValidationErrorKind, Validator};
@@ -48,10 +48,12 @@ mod handles;
 mod json;
 mod library;
 mod settings;
+mod unchecked;
 
 pub use error::{Error, JsonType, Location, PathSegment, Position, Text, ValidationError, ValidationErrorKind};
 pub use evaluation::{Annotation, EvaluationNode};
 pub use settings::{Draft, ValidationOptions, Vocabulary};
+pub use unchecked::{UncheckedMember, UncheckedReason};
 
 use error::{errors, refusal};
 use handles::Handles;
@@ -68,7 +70,7 @@ pub struct Validator {
 
 struct Shared {
     handles: Handles,
-    draft: Draft,
+    options: ValidationOptions,
     schema: String,
 }
 
@@ -87,19 +89,28 @@ impl Validator {
         ValidationOptions::default()
     }
 
-    fn of(handles: Handles, draft: Draft, schema: &[u8]) -> Validator {
+    fn of(handles: Handles, options: ValidationOptions, schema: &[u8]) -> Validator {
         let schema = String::from_utf8_lossy(schema).into_owned();
-        Validator { shared: Arc::new(Shared { handles, draft, schema }) }
+        Validator { shared: Arc::new(Shared { handles, options, schema }) }
     }
 
     /// Returns the draft.
     pub fn draft(&self) -> Draft {
-        self.shared.draft
+        self.shared.options.draft()
     }
 
     /// Returns the text of the schema.
     pub fn schema(&self) -> &str {
         &self.shared.schema
+    }
+
+    /// Returns the members of the schema that are not checked, as [`ValidationOptions::unchecked`].
+    ///
+    /// # Errors
+    ///
+    /// [`Error::NoMemory`].
+    pub fn unchecked(&self) -> Result<Vec<UncheckedMember>, Error> {
+        self.shared.options.unchecked(self.schema())
     }
 
     /// Returns whether the instance is valid.

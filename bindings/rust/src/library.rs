@@ -19,6 +19,17 @@ extern "C" {
         room: usize,
         length: *mut usize,
     ) -> u32;
+    fn jskw_unchecked(
+        draft: u32,
+        vocabularies: u32,
+        overridden: *const u8,
+        overridden_size: usize,
+        bytes: *const u8,
+        size: usize,
+        buffer: *mut u8,
+        room: usize,
+        length: *mut usize,
+    ) -> u32;
     fn jskw_share(from: *mut Handle, to: *mut Handle) -> u32;
     fn jskw_is_valid(schema: *mut Handle, bytes: *const u8, size: usize) -> u32;
     fn jskw_first_error(
@@ -141,6 +152,25 @@ impl Drop for Handle {
         // SAFETY: nothing uses the handle after this.
         unsafe { jskw_free(self) }
     }
+}
+
+/// Returns what is not checked of a schema.
+pub(crate) fn unchecked(draft: u32, vocabularies: u32, overridden: &str, schema: &[u8]) -> Told {
+    check_interface();
+    // SAFETY: both texts are live slices, whose pointers are never null, and the buffer is lent to the call alone.
+    asked(|buffer, room, length| unsafe {
+        jskw_unchecked(
+            draft,
+            vocabularies,
+            overridden.as_ptr(),
+            overridden.len(),
+            schema.as_ptr(),
+            schema.len(),
+            buffer,
+            room,
+            length,
+        )
+    })
 }
 
 /// Returns the lines of the library's version.

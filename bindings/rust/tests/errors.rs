@@ -1,6 +1,7 @@
 //! Errors and evaluation trees as data.
 use jskw::{
-    Annotation, Draft, Error, JsonType, PathSegment, Position, Text, ValidationError, ValidationErrorKind, Validator,
+    Annotation, Draft, Error, JsonType, PathSegment, Position, Text, UncheckedMember, UncheckedReason, ValidationError,
+    ValidationErrorKind, Validator,
 };
 use ValidationErrorKind as Kind;
 
@@ -101,6 +102,32 @@ fn refusals() {
     }
     let error: Box<dyn std::error::Error + Send + Sync> = Box::new(all.is_valid("").unwrap_err());
     assert_eq!(error.to_string(), "the instance is not JSON at line 1, column 1");
+}
+
+#[test]
+fn unchecked() {
+    let schema = r#"{"items":[{"a\t\n\\/~":1}],"minimun":1,"0":2,"title":"t"}"#;
+    let strict = Validator::options().with_draft(Draft::Draft7).with_strict(true);
+    let error = strict.build(schema).unwrap_err();
+    let shown = "/0 (unknown), /items/0/a\t\n\\~1~0 (unknown), /minimun (unknown)";
+    assert_eq!(error.to_string(), format!("the schema has what is not checked: {shown}"));
+    let members = match error {
+        Error::Unchecked(members) => members,
+        other => panic!("{other:?}"),
+    };
+    assert_eq!(members.iter().map(UncheckedMember::keyword).collect::<Vec<_>>(), ["0", "a\t\n\\/~", "minimun"]);
+    assert_eq!(members[0].location().segments(), [PathSegment::Property("0".into())]);
+    assert_eq!(members[1].location().segments()[1], PathSegment::Index(0));
+    assert_eq!(strict.clone().with_strict(false).build(schema).and_then(|all| all.unchecked()), Ok(members));
+    let many: Vec<String> = (0..100).map(|number| format!("\"x{number:02}\":1")).collect();
+    let error = strict.build(format!("{{{}}}", many.join(","))).unwrap_err();
+    assert!(error.to_string().ends_with("/x08 (unknown), /x09 (unknown) and 90 more"));
+    let overridden = Validator::options().with_overridden(["type"]).unchecked(r#"{"type":1,"not":{}}"#);
+    let reasons: Vec<_> = overridden.expect("JSON").iter().map(|member| member.reason().clone()).collect();
+    assert_eq!(reasons, [UncheckedReason::NotImplemented, UncheckedReason::Inactive]);
+    let position = Some(Position { offset: 6, line: 2, column: 3 });
+    assert_eq!(strict.unchecked("[1,\n  ?]"), Err(Error::NotJson { text: Text::Schema, position }));
+    assert!(matches!(strict.build(r#"{"a":1,"type":5}"#), Err(Error::Schema(_))));
 }
 
 #[test]

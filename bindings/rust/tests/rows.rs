@@ -1,5 +1,5 @@
 //! The rows of bindings/rows.txt.
-use jskw::{Draft, Error, ValidationError, Validator, Vocabulary};
+use jskw::{Draft, Error, UncheckedMember, ValidationError, ValidationOptions, Validator, Vocabulary};
 use std::num::NonZeroU64;
 
 const FIRST: NonZeroU64 = match NonZeroU64::new(1) {
@@ -7,8 +7,8 @@ const FIRST: NonZeroU64 = match NonZeroU64::new(1) {
     None => panic!(),
 };
 
-// Returns the validator of a row; none if its settings cannot be written.
-fn validator(part: &[&str]) -> Option<Result<Validator, Error>> {
+// Returns the settings of a row; none if they cannot be written.
+fn options(part: &[&str]) -> Option<ValidationOptions> {
     let draft = match part[0] {
         "4" => Draft::Draft4,
         "6" => Draft::Draft6,
@@ -22,8 +22,23 @@ fn validator(part: &[&str]) -> Option<Result<Validator, Error>> {
     let vocabularies = all.into_iter().filter(|vocabulary| set & *vocabulary as u32 != 0);
     let names = part[2].strip_prefix('[')?.trim_matches(|c| c == '"' || c == ']');
     let overridden = names.split("\",\"").filter(|name| !name.is_empty());
-    let options = Validator::options().with_draft(draft).with_vocabularies(vocabularies).with_overridden(overridden);
-    Some(options.build(part[3]))
+    Some(Validator::options().with_draft(draft).with_vocabularies(vocabularies).with_overridden(overridden))
+}
+
+// Returns what is not checked of the schema of a row, if the validator and the strict options tell the same.
+fn unchecked(options: &ValidationOptions, part: &[&str]) -> String {
+    let members = options.unchecked(part[3]).expect("JSON");
+    match options.build(part[3]) {
+        Ok(validator) => assert_eq!(validator.unchecked().as_ref(), Ok(&members)),
+        Err(_) => assert_eq!(part[5], "bad schema"),
+    }
+    match options.clone().with_strict(true).build(part[3]) {
+        Ok(_) => assert!(members.is_empty()),
+        Err(Error::Unchecked(others)) => assert_eq!(others, members),
+        Err(_) => assert_eq!(part[5], "bad schema"),
+    }
+    let line = |member: &UncheckedMember| format!("{}|{}", member.location(), member.reason().as_str());
+    members.iter().map(line).collect::<Vec<_>>().join(" ")
 }
 
 fn told(errors: &[ValidationError]) -> String {
@@ -46,8 +61,8 @@ fn answers(validator: &Validator, instance: &[u8]) -> Result<(&'static str, Stri
 }
 
 fn result(part: &[&str]) -> (&'static str, String) {
-    let outcome = match validator(part) {
-        Some(validator) => validator.and_then(|validator| answers(&validator, part[4].as_bytes())),
+    let outcome = match options(part) {
+        Some(options) => options.build(part[3]).and_then(|validator| answers(&validator, part[4].as_bytes())),
         None => return ("bad setting", String::new()),
     };
     match outcome {
@@ -68,6 +83,10 @@ fn rows() {
     for line in rows {
         let part: Vec<&str> = line.split('\t').collect();
         assert_eq!(result(&part), (part[5], part[6].to_string()), "{line}");
+        if ["valid", "invalid", "bad schema"].contains(&part[5]) {
+            let options = options(&part).expect("settings");
+            assert_eq!(unchecked(&options, &part), *part.get(7).unwrap_or(&""), "{line}");
+        }
         count += 1;
     }
     assert!(count >= 40);

@@ -7,3 +7,4 @@ pub mod Replies
 pub mod Slot
 pub mod Status
 pub mod Told
+pub mod Unchecked

@@ -66,7 +66,7 @@ pub(crate) fn compile_schema(
 
 // Returns what is told of a schema that is not JSON: its place, if the reader of instances finds one.
 // That reader takes a number such as `1e999`, which no schema may have.
-fn no_json(alloc: Global, schema: &[u8]) -> Result<Told, AllocError>
+pub(crate) fn no_json(alloc: Global, schema: &[u8]) -> Result<Told, AllocError>
     ensures { IfOk result (IsTold status.NOT_JSON (IsPlaceOf schema.now (reading schema.now))) }
 {
     match read_bytes(alloc, schema) {
@@ -88,7 +88,7 @@ fn no_json_at(alloc: Global, bytes: &[u8], offset: usize) -> Result<Told, AllocE
 }
 
 // Returns a status with no text.
-fn status_alone(alloc: Global, status: u32) -> Told
+pub(crate) fn status_alone(alloc: Global, status: u32) -> Told
     ensures status { result.status ≡ status }
     ensures text { result.text.items ≡ [] }
 {

@@ -21,6 +21,7 @@ ghost use Rattle.jskw_service.specs.Run.{status_of_verdict};
 ghost use Rattle.jskw_c.specs.Asked.{IsReport, Says, SaysErrors, SaysFirst, SaysTree, status_of};
 ghost use Rattle.jskw_c.specs.Compiled.{Compiles, Shares, compiled_of, setting_numbered};
 ghost use Rattle.jskw_c.specs.Told.{Gives, IsStatus, Tells};
+ghost use Rattle.jskw_c.specs.Unchecked.{IsListText, status_of_list, unchecked_of};
 
 mod ask;
 mod compiled;
@@ -32,11 +33,13 @@ mod line;
 mod settings;
 mod status;
 mod tell;
+mod unchecked;
 
 use crate::ask::{Report, compile_schema, report_of, validity};
 use crate::handle::SchemaHandle;
 use crate::status::{INVALID, NO_MEMORY, NO_SCHEMA, REFUSED, VALID};
 use crate::tell::{tell, tell_no_memory};
+use crate::unchecked::unchecked_of;
 use jskw_service::{Verdict, reply_to};
 use std::alloc::{AllocError, Global};
 
@@ -108,6 +111,30 @@ pub extern "C" fn jskw_compile(
             VALID
         }
         Ok(Err(told)) => tell(told.status, told.text.as_slice(), buffer, length),
+        Err(AllocError) => tell_no_memory(length),
+    }
+}
+
+/// Writes a line for each member of a schema that is not checked under the setting: its keyword
+/// location, and the reason, which is `notImplemented`, `unknown` or `inactive`. Members of the
+/// subschemas that keywords of this library apply have lines too. The status is `VALID` if there is
+/// no such member, else `INVALID`. If the schema is not JSON, status and text are those of
+/// `jskw_compile`. A schema that does not compile has its lines too.
+#[unsafe(no_mangle)]
+pub extern "C" fn jskw_unchecked(
+    alloc: Global,
+    draft: u32,
+    vocabularies: u32,
+    overridden: &[u8],
+    schema: &[u8],
+    buffer: &mut [u8],
+    length: &mut usize,
+) -> u32
+    ensures { let list = unchecked_of (setting_numbered draft vocabularies overridden.now) schema.now in
+        Tells (IsListText list) result (status_of_list list) buffer.old buffer.new length.new }
+{
+    match unchecked_of(alloc, draft, vocabularies, overridden, schema) {
+        Ok(list) => tell(list.status, list.text.as_slice(), buffer, length),
         Err(AllocError) => tell_no_memory(length),
     }
 }

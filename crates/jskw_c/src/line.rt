@@ -5,10 +5,12 @@ ghost use Rattle.jskw_report.specs.Compile.{refusal_of};
 ghost use Rattle.jskw_report.specs.Errors.{failure_of, failures_of};
 ghost use Rattle.jskw_c.specs.Line.{AreErrorLines, IsErrorLine, IsRefusalLine, escaped};
 ghost use Rattle.jskw_c.specs.Line.{place_line, words_line};
+ghost use Rattle.jskw_c.specs.Unchecked.{member_line};
 
 use crate::expected::expected_text;
 use jskw_report::ValidationError;
 use jskw_text::position_of;
+use jskw_unchecked::UncheckedMember;
 use jskw_value::{DecimalJson, SerdeJson};
 use std::alloc::{AllocError, Global};
 
@@ -54,6 +56,14 @@ pub(crate) fn place_line(alloc: Global, text: &[u8], offset: usize) -> Result<Ve
     let position = position_of(text, offset);
     let line = format!(in alloc; "{offset}\t{}\t{}\n", position.line, position.column)?;
     Ok(line.into_bytes())
+}
+
+// Appends the line of an unchecked member: its keyword location and the reason.
+pub(crate) fn push_member(text: &mut Vec<u8>, member: &UncheckedMember) -> Result<(), AllocError>
+    ensures { OnOk result (text.new.items ≡ text.old.items ++ member_line member.now) }
+{
+    push_word_and(text, member.location().as_str().as_bytes(), b'\t')?;
+    push_word_and(text, member.reason().as_str().as_bytes(), b'\n')
 }
 
 // Returns the line of a compile error: its keyword, keyword location and message, and what was

@@ -11,7 +11,15 @@ Names and habits are those of the package `jsonschema`. A schema and an instance
 `bytes`, `bytearray` or `memoryview`. Of a value the text counts that `json.dumps` writes: the float 0.1 is the decimal
 0.1, exactly, and a Decimal is taken as it is written."""
 
-from .exceptions import BadSetting, InexactNumber, NotJson, SchemaError, ValidationError
+from .exceptions import (
+    BadSetting,
+    InexactNumber,
+    NotJson,
+    SchemaError,
+    UncheckedError,
+    UncheckedMember,
+    ValidationError,
+)
 from .validators import (
     Draft4Validator,
     Draft6Validator,
@@ -35,6 +43,8 @@ __all__ = [
     "InexactNumber",
     "NotJson",
     "SchemaError",
+    "UncheckedError",
+    "UncheckedMember",
     "ValidationError",
     "Validator",
     "answer",

@@ -49,6 +49,7 @@ def _functions(library: Any) -> Any:
         "version": buffer,
         "answer": [text, size, *buffer],
         "compile": [number, number, text, size, text, size, handle, *buffer],
+        "unchecked": [number, number, text, size, text, size, *buffer],
         "share": [handle, handle],
         "is_valid": [handle, text, size],
         "first_error": [handle, text, size, *buffer],
@@ -74,7 +75,10 @@ def _loaded() -> tuple[Any, Any]:
     version = buffer.raw[: length.value].decode().split("\n")[0]
     if not version.startswith(INTERFACE):
         raise ImportError(f"jskw: {path} is {version!r}, and this package is for {INTERFACE}x")
-    return _functions(kept), _functions(released)
+    try:
+        return _functions(kept), _functions(released)
+    except AttributeError as error:
+        raise ImportError(f"jskw: {path} is {version!r}, and lacks a function of this package: {error}") from error
 
 
 _kept, _released = _loaded()

@@ -7,9 +7,17 @@ import re
 from collections import deque
 from collections.abc import Iterable, Sequence
 from decimal import Decimal
-from typing import Any
+from typing import Any, NamedTuple
 
-__all__ = ["BadSetting", "InexactNumber", "NotJson", "SchemaError", "ValidationError"]
+__all__ = [
+    "BadSetting",
+    "InexactNumber",
+    "NotJson",
+    "SchemaError",
+    "UncheckedError",
+    "UncheckedMember",
+    "ValidationError",
+]
 
 _PLAIN_NAME = re.compile("^[a-zA-Z][a-zA-Z0-9_]*$")
 
@@ -144,6 +152,38 @@ class InexactNumber(ValueError):
         )
 
 
+class UncheckedMember(NamedTuple):
+    """A member of a schema that is not checked: it asserts nothing. `keyword` is its name, `path` leads to it in the
+    schema, and `reason` is one of
+
+    - "notImplemented": a keyword of the draft that asserts or applies something, which jskw does not have;
+    - "unknown": no keyword of the draft, such as a misspelt one;
+    - "inactive": a keyword of jskw that asserts nothing as it stands: the draft or the vocabularies do not have it, it
+      is overridden, what it goes with is absent, or it passes over such a value."""
+
+    keyword: str
+    path: tuple[str | int, ...]
+    reason: str
+
+    @property
+    def keyword_location(self) -> str:
+        """The path as a JSON pointer."""
+        return _pointer(self.path)
+
+
+class UncheckedError(ValueError):
+    """A schema that is to be checked whole has members that are not checked: `unchecked`, a list of UncheckedMember."""
+
+    def __init__(self, unchecked: Iterable[UncheckedMember]) -> None:
+        self.unchecked = list(unchecked)
+        super().__init__(self.unchecked)
+
+    def __str__(self) -> str:
+        shown = [f"{member.keyword_location} ({member.reason})" for member in self.unchecked[:10]]
+        more = len(self.unchecked) - len(shown)
+        return "the schema has what is not checked: " + ", ".join(shown) + (f" and {more} more" if more else "")
+
+
 class Document:
     """A JSON value, of which each location that was asked for is kept."""
 
@@ -198,6 +238,12 @@ def schema_error(line: list[str], schema: Document) -> SchemaError:
     limit = json.loads(expected) if expected else None
     path, value = schema.at(location)
     return SchemaError(message, kind, path, validator_value=limit, instance=value, schema=schema.root, expected=limit)
+
+
+def unchecked_members(lines: list[list[str]], schema: Document) -> list[UncheckedMember]:
+    """Returns the member of each line: keyword location, reason."""
+    paths = [(schema.at(location)[0], reason) for location, reason, *_ in lines]
+    return [UncheckedMember(str(path[-1]), path, reason) for path, reason in paths]
 
 
 def _pointer(path: Path) -> str:

@@ -17,8 +17,11 @@ from .exceptions import (
     InexactNumber,
     NotJson,
     SchemaError,
+    UncheckedError,
+    UncheckedMember,
     ValidationError,
     schema_error,
+    unchecked_members,
     validation_errors,
 )
 
@@ -82,9 +85,10 @@ class Validator:
     `schema` and the instances are values of Python, or JSON texts as `bytes`, `bytearray` or `memoryview`; a `str` is
     a value. `draft` is "4", "6", "7", "2019-09" or "2020-12", `vocabularies` are of "core", "applicator" and
     "validation", `overridden` the names of keywords that are not to be asserted. `$schema` is not read, and keywords
-    that the README does not list are ignored.
+    that the README does not list are ignored: `unchecked` lists them.
 
-    Raises SchemaError if the schema does not compile, NotJson if it is not JSON, BadSetting for any other setting."""
+    Raises SchemaError if the schema does not compile, NotJson if it is not JSON, BadSetting for any other setting; with
+    `strict`, UncheckedError if the list is not empty."""
 
     DRAFTS: ClassVar[tuple[str, ...]] = tuple(DRAFTS)
 
@@ -94,6 +98,8 @@ class Validator:
         draft: str | None = None,
         vocabularies: Iterable[str] = tuple(VOCABULARIES),
         overridden: Iterable[str] = (),
+        *,
+        strict: bool = False,
     ) -> None:
         self._shared: _Shared | None = None
         self.draft = self.DRAFTS[-1] if draft is None else _one_of("draft", draft, self.DRAFTS)
@@ -102,13 +108,18 @@ class Validator:
         self.overridden = tuple(_names("overridden", overridden))
         self._text = text_of(schema, "schema")
         self._document: Document | None = None
-        self._shared = _Shared(self._compiled(schema))
+        first = self._compiled(schema)
+        if strict and (unchecked := self.unchecked):
+            raise UncheckedError(unchecked)
+        self._shared = _Shared(first)
+
+    def _setting(self) -> tuple[int, int, bytes, int]:
+        names = json.dumps(self.overridden).encode()
+        return DRAFTS[self.draft], sum(VOCABULARIES[name] for name in self.vocabularies), names, len(names)
 
     def _compiled(self, schema: Any) -> Owner:
-        owner, names, text = Owner(), json.dumps(self.overridden).encode(), self._text
-        vocabularies = sum(VOCABULARIES[name] for name in self.vocabularies)
-        setting = DRAFTS[self.draft], vocabularies, names, len(names)
-        status, told = owner.call("jskw_compile", text, *setting, text, len(text), owner.handle)
+        owner, text = Owner(), self._text
+        status, told = owner.call("jskw_compile", text, *self._setting(), text, len(text), owner.handle)
         if status == _library.BAD_SCHEMA:
             raise schema_error(words(told)[0], self._read_schema())
         if status == _library.NOT_JSON:
@@ -118,6 +129,15 @@ class Validator:
         if status != _library.VALID:
             _refuse(status)
         return owner
+
+    @property
+    def unchecked(self) -> list[UncheckedMember]:
+        """The members of the schema, and of the subschemas that keywords of jskw apply, that are not checked. What
+        stands below one is not looked at. If the list is empty, all that the schema says is asserted."""
+        status, told = Owner().call("jskw_unchecked", self._text, *self._setting(), self._text, len(self._text))
+        if status > _library.INVALID:
+            _refuse(status)
+        return unchecked_members(words(told), self._read_schema()) if told else []
 
     @property
     def schema(self) -> Any:
@@ -132,7 +152,7 @@ class Validator:
     @classmethod
     def check_schema(cls, schema: Any, **settings: Any) -> None:
         """Raises SchemaError if the schema does not compile. No meta-schema is read: what compiles may still have
-        mistakes in keywords that are ignored."""
+        mistakes in keywords that are ignored; with `strict=True` it has none of these."""
         cls(schema, **settings).close()
 
     def is_valid(self, instance: Any) -> bool:

@@ -1,0 +1,45 @@
+-- What is told of the members of a schema in bytes that are not checked, under a setting that numbers name.
+use Rattle.std.specs.Prelude.{◌≡◌, ℕ, List, [], ◌∷◌, false, flat_map, Option, None, Some, Result, Ok, Err}
+use Rattle.serde_json.specs.Data.{Data}
+use Rattle.jskw_report.specs.Setting.{Setting, with_object_layer}
+use Rattle.jskw_service.specs.Request.{value_of}
+use Rattle.jskw_unchecked.specs.Reason.{word_of}
+use Rattle.jskw_unchecked.specs.Unchecked.{unchecked}
+use Rattle.jskw_unchecked.specs.declared.member.UncheckedMember.{UncheckedMember}
+use Rattle.jskw_c.specs.Compiled.{Fault, bad_setting, not_json, IsTextOf}
+use Rattle.jskw_c.specs.Compiled as compiled
+use Rattle.jskw_c.specs.Line.{words_line}
+use Rattle.jskw_c.specs.Status.{VALID, INVALID}
+
+-- ---- the members, without an object layer, or why there is no list
+
+abbrev pub unchecked_from : Setting → List ℕ → Option Data → Result (List UncheckedMember) Fault
+unchecked_from s bytes None = Err (not_json bytes)
+unchecked_from s bytes (Some d) = Ok (unchecked d (with_object_layer false s) [])
+
+abbrev pub unchecked_of : Option Setting → List ℕ → Result (List UncheckedMember) Fault
+unchecked_of None bytes = Err bad_setting
+unchecked_of (Some s) bytes = unchecked_from s bytes (value_of bytes)
+
+-- ---- the status and the text
+
+-- VALID exactly where every member is checked, or is an annotation
+abbrev pub status_of_members : List UncheckedMember → ℕ
+status_of_members [] = VALID
+status_of_members (m ∷ ms) = INVALID
+
+abbrev pub status_of_list : Result (List UncheckedMember) Fault → ℕ
+status_of_list (Ok ms) = status_of_members ms
+status_of_list (Err f) = compiled.status_of f
+
+-- the line of a member: its keyword location and the reason
+abbrev pub member_line : UncheckedMember → List ℕ
+member_line m = words_line (m.location ∷ word_of m.reason ∷ [])
+
+-- the lines of the members, in order
+abbrev pub member_lines : List UncheckedMember → List ℕ
+member_lines = flat_map member_line
+
+abbrev pub IsListText : Result (List UncheckedMember) Fault → List ℕ → Type 0
+IsListText (Ok ms) text = text ≡ member_lines ms
+IsListText (Err f) text = IsTextOf f text
