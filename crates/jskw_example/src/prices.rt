@@ -8,19 +8,15 @@ use std::io;
 
 const SCHEMA: &str = r#"{"type": "array", "items": {"minimum": 0, "multipleOf": 5}}"#;
 
-const TEXTS: [&str; 3] = [
-    "[10.00, 12.50, 1.25e2, -5]",
-    "[10.00, 1e400]",
-    "[10.00,\n 12.5O]",
-];
-
-// Checks the prices of each text.
 pub(crate) fn print_example(rt: &HostRuntime) -> io::Result<()> {
-    let node = node_of(rt.alloc(), SCHEMA)?;
-    for text in TEXTS {
-        check_prices(rt, &node, text.as_bytes())?;
-    }
-    Ok(())
+    check_texts(rt, &node_of(rt.alloc(), SCHEMA)?)
+}
+
+// Checks the prices of three texts.
+fn check_texts(rt: &HostRuntime, node: &SchemaNode<DecimalJson>) -> io::Result<()> {
+    check_prices(rt, node, b"[10.00, 12.50, 1.25e2, -5]")?;
+    check_prices(rt, node, b"[10.00, 1e400]")?;
+    check_prices(rt, node, b"[10.00,\n 12.5O]")
 }
 
 // Reads prices from bytes and prints their errors, or why they cannot be read.

@@ -11,7 +11,8 @@ pub(super) fn read(lines: &mut Lines, all: Arguments<'_>) {
     let mut bytes = Vec::new(lines.alloc);
     let mut made = bytes.extend_from_slice(all.text(0).as_bytes()).is_ok();
     for byte in all.items(0) {
-        made = made && bytes.push(byte.as_u64().unwrap_or(0) as u8).is_ok();
+        let byte = u8::try_from(byte.as_u64().unwrap_or(0)).unwrap_or(0);
+        made = made && bytes.push(byte).is_ok();
     }
     match &read_bytes(lines.alloc, &bytes) {
         Ok(tree) => lines.text.push_json(tree),
