@@ -8,6 +8,7 @@ use std::io;
 
 const SCHEMA: &str = r#"{"type": "array", "items": {"minimum": 0, "multipleOf": 5}}"#;
 
+// Checks the prices of the example's texts under its schema.
 pub(crate) fn print_example(rt: &HostRuntime) -> io::Result<()> {
     check_texts(rt, &node_of(rt.alloc(), SCHEMA)?)
 }
