@@ -13,10 +13,13 @@ ROOT = pathlib.Path(__file__).resolve().parent.parent
 CRATE = ROOT / "crates" / "jskw_bench"
 BUILT = CRATE / "out" / "jskw_bench"
 ROUNDS = 3
+# what a line may answer, unless a caller expects more
+ANSWERS = {"valid", "invalid", "done"}
 
 # The C library keeps memory that is freed, as it does in a program that holds other memory: else each compile of a large
-# schema would give its pages back to the system, and the next one take them anew.
-ENVIRONMENT = {**os.environ, "MALLOC_TRIM_THRESHOLD_": "1000000000"}
+# schema would give its pages back to the system, and the next one take them anew. The second setting is for blocks of
+# 128 KB and more: without the first, the library would raise it by itself when the first of them is freed.
+ENVIRONMENT = {**os.environ, "MALLOC_TRIM_THRESHOLD_": "1000000000", "MALLOC_MMAP_THRESHOLD_": "1000000000"}
 
 
 def text_of(value):
@@ -51,16 +54,16 @@ def said(command, mode, lines):
     return [line.split("\t") for line in ran.stdout.splitlines()]
 
 
-def times_of(programs, lines):
+def times_of(programs, lines, answers=frozenset(ANSWERS)):
     """Returns for each program the rows of its lines: a name, an answer, and nanoseconds. A processor that is shared
     may be slow for a minute, so that each time is the least of some rounds, and the programs take turns."""
     rounds = [[said([program], "time", lines) for program in programs] for _ in range(ROUNDS)]
-    return [[least(rows) for rows in zip(*(turn[place] for turn in rounds))] for place in range(len(programs))]
+    return [[least(rows, answers) for rows in zip(*(turn[place] for turn in rounds))] for place in range(len(programs))]
 
 
-def least(rows):
+def least(rows, answers):
     name, answer = rows[0][:2]
-    if answer not in ("valid", "invalid", "done"):
+    if answer not in answers:
         sys.exit(f"bench: {name}: {answer}")
     return name, answer, [min(map(float, times)) for times in zip(*(row[2:] for row in rows))]
 

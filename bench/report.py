@@ -1,4 +1,4 @@
-"""What both reports say of the machine, the program and the commit, and how they are laid out."""
+"""What both reports say of the machine, the program and the commit and of each other, and how they are laid out."""
 
 import datetime
 import os
@@ -42,3 +42,36 @@ def conditions(given):
         ("kernel", f"{platform.system()} {platform.release()}"),
         ("rt version", said_by("rt", "version")),
     ]
+
+
+# ---- whether the two reports are of one commit and one machine
+
+REPORTS = ROOT / "bench" / "RESULTS.md", ROOT / "docs" / "PEERS.md"
+ALIKE = "commit", "program", "processor", "kernel", "rt version"
+OTHER = "- the other figures: "
+
+
+def facts_of(path):
+    """Returns what a report says of its conditions, by name; of calls in process, which come first, the rest counts."""
+    lines = path.read_text(encoding="utf-8").splitlines()
+    pairs = [line[2:].split(": ", 1) for line in lines if line.startswith("- ") and ": " in line]
+    facts = {name: value for name, value in pairs if name in (*ALIKE, "date")}
+    return facts | {"processor": facts.get("processor", "").split(";")[0]}
+
+
+def compare_reports():
+    """Writes into both reports whether they are of one commit, program and machine."""
+    if not all(path.exists() for path in REPORTS):
+        return
+    facts = [facts_of(path) for path in REPORTS]
+    others = [name for name in ALIKE if facts[0].get(name) != facts[1].get(name)]
+    for place, path in enumerate(REPORTS):
+        there = f"[{REPORTS[1 - place].name}]({os.path.relpath(REPORTS[1 - place], path.parent)})"
+        when = facts[1 - place].get("date", "an unknown date")
+        if others:
+            said = f"{there}, of {when}, are **not of this run**: another {', '.join(others)}. Compare none with these"
+        else:
+            said = f"{there}, of {when}, are of the same commit, program and machine"
+        lines = [line for line in path.read_text(encoding="utf-8").splitlines() if not line.startswith(OTHER)]
+        last = max(index for index, line in enumerate(lines) if line.startswith("- rt version: "))
+        path.write_text("\n".join([*lines[: last + 1], OTHER + said, *lines[last + 1 :]]) + "\n", encoding="utf-8")

@@ -3,8 +3,9 @@
  *
  *     threads ROUNDS         so many rounds in each thread; under valgrind's helgrind 50 are enough
  *     threads SECONDS s      as many rounds as each does in so many seconds
- *     threads SECONDS rate   the calls of jskw_is_valid in a second by 1, 2 and 4 threads, the most of several turns: by
- *                            the clock, and by the time that a processor spent in a thread
+ *     threads SECONDS rate   the calls of jskw_is_valid in a second by 1, 2 and 4 threads, the most of several turns:
+ *                            threads, the calls by the clock, those by the time that processors spent in the threads,
+ *                            and the share of a processor that a thread had (bench/threads prints a table of them)
  *
  * The last line is `N passed, M failed`. */
 #include <pthread.h>
@@ -105,26 +106,33 @@ static long run(struct job *jobs, int threads, void *(*first)(void *), void *(*o
 }
 
 static long rates(jskw_schema *member, double seconds) {
+    enum { TURNS = 10, MOST = 4 };
     long wrong = 0;
-    double most[5] = {0}, most_used[5] = {0};
-    for (int turn = 0; turn < 5; turn++)
-        for (int threads = 1; threads <= 4; threads *= 2) {
-            struct job jobs[4] = {0};
-            double rate = 0, by_used = 0;
+    double by_clock[MOST + 1] = {0}, by_processor[MOST + 1] = {0}, share[MOST + 1] = {0};
+    for (int turn = 0; turn < TURNS; turn++)
+        for (int threads = 1; threads <= MOST; threads *= 2) {
+            struct job jobs[MOST] = {0};
+            double calls = 0, rate = 0, used = 0;
             for (int i = 0; i < threads; i++) {
-                jobs[i].seconds = seconds / 15;
+                jobs[i].seconds = seconds / (3 * TURNS);
                 wrong += jskw_share(member, &jobs[i].member) != JSKW_VALID;
             }
+            double begun = now();
             wrong += run(jobs, threads, count, count);
-            for (int i = 0; i < threads; i++) rate += (double)jobs[i].done / jobs[i].seconds;
-            for (int i = 0; i < threads; i++) by_used += (double)jobs[i].done / jobs[i].used;
-            if (rate > most[threads]) most[threads] = rate;
-            if (by_used > most_used[threads]) most_used[threads] = by_used;
+            double lasted = now() - begun;
+            for (int i = 0; i < threads; i++) {
+                calls += (double)jobs[i].done;
+                rate += (double)jobs[i].done / jobs[i].used;
+                used += jobs[i].used;
+            }
+            if (calls / lasted > by_clock[threads]) {
+                by_clock[threads] = calls / lasted;
+                share[threads] = used / lasted / threads;
+            }
+            if (rate > by_processor[threads]) by_processor[threads] = rate;
         }
-    printf("calls in a second: %.0f by 1 thread, %.2f times that by 2, %.2f by 4\n", most[1], most[2] / most[1],
-           most[4] / most[1]);
-    printf("of a processor:    %.0f by 1 thread, %.2f times that by 2, %.2f by 4\n", most_used[1],
-           most_used[2] / most_used[1], most_used[4] / most_used[1]);
+    for (int threads = 1; threads <= MOST; threads *= 2)
+        printf("%d %.0f %.0f %.2f\n", threads, by_clock[threads], by_processor[threads], share[threads]);
     return wrong;
 }
 

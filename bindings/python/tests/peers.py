@@ -3,17 +3,23 @@
 
 from __future__ import annotations
 
+import importlib
 import random
 from typing import Any
 
 import jskw
 from checks import check
 
-try:
-    import jsonschema
-    from jsonschema.exceptions import ErrorTree, best_match, relevance
-except ModuleNotFoundError:
-    jsonschema = None  # type: ignore[assignment]
+
+def _module(name: str) -> Any:
+    """Returns a module, or nothing if it is not installed. Whether its types are known makes no difference."""
+    try:
+        return importlib.import_module(name)
+    except ModuleNotFoundError:
+        return None
+
+
+jsonschema, exceptions = _module("jsonschema"), _module("jsonschema.exceptions")
 
 ATTRIBUTES = [
     "validator", "validator_value", "instance", "schema", "path", "relative_path", "absolute_path", "schema_path",
@@ -51,18 +57,19 @@ def seen(errors: Any) -> list[str]:
 
 def check_tree(got: Any, wanted: Any) -> None:
     """Both trees have the same errors, and the best error of both lists is as good."""
-    ours, theirs = ErrorTree(got), ErrorTree(wanted)
+    ours, theirs = exceptions.ErrorTree(got), exceptions.ErrorTree(wanted)
     check("a tree of errors", (len(ours), sorted(map(str, ours))), (len(theirs), sorted(map(str, theirs))))
     if wanted:
         # of equally good ones it takes the first, and the orders differ
-        check("the best error", relevance(best_match(got)), relevance(best_match(wanted)))
+        ours, theirs = (exceptions.relevance(exceptions.best_match(errors)) for errors in (got, wanted))
+        check("the best error", ours, theirs)
 
 
 def best() -> None:
     schema = {"items": {"type": "object", "required": ["a"]}, "maxItems": 1}
     errors: Any = list(jskw.Validator(schema).iter_errors([{}, 1]))
-    check("best_match", best_match(errors).validator, "maxItems")
-    tree = ErrorTree(errors)
+    check("best_match", exceptions.best_match(errors).validator, "maxItems")
+    tree = exceptions.ErrorTree(errors)
     check("ErrorTree", (tree.total_errors, sorted(tree), tree[0].errors["required"].path[0]), (3, [0, 1], 0))
 
 

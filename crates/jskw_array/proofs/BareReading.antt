@@ -1,8 +1,14 @@
 -- How a schema is read that is a bare type check.
-use Rattle.std.proofs.Common.{◌≡◌, ℕ, List, Option, Some, None, option_map, unwrap_or, Ok, Bool, true, false, ◌&&◌, ◌||◌, bytes_eq, refl, sym, ap, ◌∙◌}
+use Rattle.std.proofs.Common.{◌≡◌, ℕ, List, Option, Some, None, option_map, unwrap_or, Ok, Bool, true, false, ◌&&◌}
+use Rattle.std.proofs.Common.{◌||◌, bytes_eq, refl, sym, ap, ◌∙◌}
 use Rattle.std.proofs.lemmas.Bool.{and_parts, and_right, false≢true}
 use Rattle.std.proofs.lemmas.Slice.Eq.{bytes_eq-Decides}
-use Rattle.jskw_array.specs.Words.{Array, Boolean, Data, Integer, Integers, JsonType, Keyword, Number, Pointer, Setting, Single, String, as_str, asserted, bare_items, bare_schema, by_value, get, has_keyword, integers_of, is_absent, is_fused, is_handed_on, is_inlined_type, is_items_schema, is_only_type, is_string, items_from, keyword_location, list_all, map_ok, member, name_of, no_members, object, option_map_or, read, read_word, stands, string, takes_size, type_at, type_name, type_named, unfused_names}
+use Rattle.jskw_array.specs.Words.{Array, Boolean, Data, Integer, Integers, JsonType, Keyword, Number, Pointer, Setting}
+use Rattle.jskw_array.specs.Words.{Single, String, as_str, asserted, bare_items, bare_schema, by_value, get}
+use Rattle.jskw_array.specs.Words.{has_keyword, integers_of, is_absent, is_fused, is_handed_on, is_inlined_type}
+use Rattle.jskw_array.specs.Words.{is_items_schema, is_only_type, is_string, items_from, keyword_location, list_all}
+use Rattle.jskw_array.specs.Words.{map_ok, member, name_of, no_members, object, option_map_or, read, read_keyword}
+use Rattle.jskw_array.specs.Words.{is_active, string, takes_size, type_at, type_name, type_named, unfused_names}
 use Rattle.jskw_report.specs.declared.keyword.KeywordName.TheVariants.{Items, MaxItems, MinItems, TypeKeyword}
 use Rattle.jskw_report.specs.declared.settings.Draft.{Draft}
 use Rattle.jskw_report.specs.declared.settings.Draft.TheVariants.{Draft4}
@@ -23,33 +29,42 @@ only_named (object (member k d no_members)) h = absurd-of (and_parts _ _ h).1
 only_named _ h = cc
 
 -- `required` is not among the members
-not_handed_on : (st : Setting) (s : List ℕ) → is_handed_on st (member (name_of TypeKeyword) (string s) no_members) ≡ false
+not_delegated : (st : Setting) (s : List ℕ)
+    → is_handed_on st (member (name_of TypeKeyword) (string s) no_members) ≡ false
 unfolding is_handed_on
-not_handed_on st s = and_right _ false refl
+not_delegated st s = and_right _ false refl
 
 -- nor is `items`
 not_fused : (st : Setting) (s : List ℕ) → is_fused st (member (name_of TypeKeyword) (string s) no_members) ≡ false
 unfolding is_fused
 not_fused st s =
     let ms = member (name_of TypeKeyword) (string s) no_members in
-    ap (λ b. b && takes_size st ms MinItems && takes_size st ms MaxItems && list_all (λ name. is_absent name ms) unfused_names)
-    (and_right (has_keyword st ms TypeKeyword (is_string (type_name Array))) (has_keyword st ms Items is_items_schema) refl)
+    ap (λ b. b && takes_size st ms MinItems && takes_size st ms MaxItems
+    && list_all (λ name. is_absent name ms) unfused_names)
+    (and_right (has_keyword st ms TypeKeyword (is_string (type_name Array)))
+    (has_keyword st ms Items is_items_schema) refl)
 
-pub typed_reads : (st : Setting) (q : Pointer) (s : List ℕ) (j : JsonType) → stands st TypeKeyword ≡ true → type_named s ≡ Some j
-    → read (typed s) st q ≡ Ok (bare_schema q (type_at j (integers_of st.draft (Single j)) (keyword_location q TypeKeyword)))
-unfolding read_word asserted
-typed_reads st q s j h e = rw h (rw e (rw (not_handed_on st s) (rw (not_fused st s) refl)))
+pub typed_reads : (st : Setting) (q : Pointer) (s : List ℕ) (j : JsonType) → is_active st TypeKeyword ≡ true
+    → type_named s ≡ Some j
+    → read (typed s) st q
+    ≡ Ok (bare_schema q (type_at j (integers_of st.draft (Single j)) (keyword_location q TypeKeyword)))
+unfolding read_keyword asserted
+typed_reads st q s j h e = rw h (rw e (rw (not_delegated st s) (rw (not_fused st s) refl)))
 
 -- ---- the name
 
-named_as : (j : JsonType) (s : List ℕ) → bytes_eq (type_name j) s ≡ true → type_named (type_name j) ≡ Some j → type_named s ≡ Some j
+named_as : (j : JsonType) (s : List ℕ) → bytes_eq (type_name j) s ≡ true → type_named (type_name j) ≡ Some j
+    → type_named s ≡ Some j
 named_as j s e is = ap type_named (sym ((bytes_eq-Decides (type_name j) s).0 e)) ∙ is
 
 -- it is that of a type
 pub inlined_named : (s : List ℕ) → is_inlined_type (string s) ≡ true → (j : JsonType) × (type_named s ≡ Some j)
-inlined_named s h = go (bytes_eq (type_name Number) s) (bytes_eq (type_name String) s) (bytes_eq (type_name Boolean) s) (bytes_eq (type_name Integer) s) refl refl refl refl h
+inlined_named s h =
+    go (bytes_eq (type_name Number) s) (bytes_eq (type_name String) s) (bytes_eq (type_name Boolean) s)
+    (bytes_eq (type_name Integer) s) refl refl refl refl h
   where
-    go : (a b c d : Bool) → bytes_eq (type_name Number) s ≡ a → bytes_eq (type_name String) s ≡ b → bytes_eq (type_name Boolean) s ≡ c → bytes_eq (type_name Integer) s ≡ d
+    go : (a b c d : Bool) → bytes_eq (type_name Number) s ≡ a → bytes_eq (type_name String) s ≡ b
+        → bytes_eq (type_name Boolean) s ≡ c → bytes_eq (type_name Integer) s ≡ d
         → (a || (b || (c || (d || false)))) ≡ true → (j : JsonType) × (type_named s ≡ Some j)
     go true b c d e f g k h = (Number, named_as Number s e refl)
     go false true c d e f g k h = (String, named_as String s f refl)
@@ -58,15 +73,18 @@ inlined_named s h = go (bytes_eq (type_name Number) s) (bytes_eq (type_name Stri
     go false false false false e f g k h = absurd (false≢true h)
 
 -- and that of integers where it is none of the others
-else_integer : (s : List ℕ) → is_inlined_type (string s) ≡ true → (s ≡ type_name Number → ⊥) → (s ≡ type_name String → ⊥) → (s ≡ type_name Boolean → ⊥)
+else_integer : (s : List ℕ) → is_inlined_type (string s) ≡ true → (s ≡ type_name Number → ⊥)
+    → (s ≡ type_name String → ⊥) → (s ≡ type_name Boolean → ⊥)
     → s ≡ type_name Integer
 else_integer s h no_number no_string no_boolean =
-    go (bytes_eq (type_name Number) s) (bytes_eq (type_name String) s) (bytes_eq (type_name Boolean) s) (bytes_eq (type_name Integer) s) refl refl refl refl h
+    go (bytes_eq (type_name Number) s) (bytes_eq (type_name String) s) (bytes_eq (type_name Boolean) s)
+    (bytes_eq (type_name Integer) s) refl refl refl refl h
   where
     is : (j : JsonType) → bytes_eq (type_name j) s ≡ true → s ≡ type_name j
     is j e = sym ((bytes_eq-Decides (type_name j) s).0 e)
 
-    go : (a b c d : Bool) → bytes_eq (type_name Number) s ≡ a → bytes_eq (type_name String) s ≡ b → bytes_eq (type_name Boolean) s ≡ c → bytes_eq (type_name Integer) s ≡ d
+    go : (a b c d : Bool) → bytes_eq (type_name Number) s ≡ a → bytes_eq (type_name String) s ≡ b
+        → bytes_eq (type_name Boolean) s ≡ c → bytes_eq (type_name Integer) s ≡ d
         → (a || (b || (c || (d || false)))) ≡ true → s ≡ type_name Integer
     go true b c d e f g k h = absurd (no_number (is Number e))
     go false true c d e f g k h = absurd (no_string (is String f))
@@ -82,26 +100,34 @@ integers_by_value Draft4 other = absurd (other refl)
 integers_by_value _ other = refl
 
 pub integer_items : (s : List ℕ) (j : JsonType) (draft : Draft) (rule : Integers) (q r : Pointer)
-    → is_inlined_type (string s) ≡ true → (s ≡ type_name Number → ⊥) → (s ≡ type_name String → ⊥) → (s ≡ type_name Boolean → ⊥) → type_named s ≡ Some j
-    → integers_of draft (Single Integer) ≡ rule → bare_items q (type_at Integer rule r) ≡ bare_items q (type_at j (integers_of draft (Single j)) r)
+    → is_inlined_type (string s) ≡ true → (s ≡ type_name Number → ⊥) → (s ≡ type_name String → ⊥)
+    → (s ≡ type_name Boolean → ⊥) → type_named s ≡ Some j
+    → integers_of draft (Single Integer) ≡ rule
+    → bare_items q (type_at Integer rule r) ≡ bare_items q (type_at j (integers_of draft (Single j)) r)
 integer_items s j draft rule q r inlined no_number no_string no_boolean named e =
     let is : s ≡ type_name Integer = else_integer s inlined no_number no_string no_boolean in
     let j_is : Some Integer ≡ Some j = sym (ap type_named is) ∙ named in
-    ap (λ x. bare_items q (type_at Integer x r)) (sym e) ∙ ap (λ o. option_map_or (λ i. bare_items q (type_at i (integers_of draft (Single i)) r)) o (bare_items q (type_at Integer rule r))) j_is
+    ap (λ x. bare_items q (type_at Integer x r)) (sym e) ∙ ap (λ o. option_map_or
+    (λ i. bare_items q (type_at i (integers_of draft (Single i)) r)) o (bare_items q (type_at Integer rule r))) j_is
 
 -- ---- the whole
 
 -- `items` at q of the name's type
-pub inline_reads : (st : Setting) (q : Pointer) (d : Data) (s : List ℕ) (k : Keyword) → is_only_type d ≡ true → stands st TypeKeyword ≡ true → d ≡ typed s
-    → ((j : JsonType) → type_named s ≡ Some j → k ≡ bare_items q (type_at j (integers_of st.draft (Single j)) (keyword_location q TypeKeyword)))
+pub inline_reads : (st : Setting) (q : Pointer) (d : Data) (s : List ℕ) (k : Keyword) → is_only_type d ≡ true
+    → is_active st TypeKeyword ≡ true → d ≡ typed s
+    → ((j : JsonType) → type_named s ≡ Some j
+    → k ≡ bare_items q (type_at j (integers_of st.draft (Single j)) (keyword_location q TypeKeyword)))
     → map_ok (λ sub. items_from 0 sub true) (read d st q) ≡ Ok k
 inline_reads st q d s k only h is made =
     let inlined : is_inlined_type (string s) ≡ true = ap is_only_type (sym is) ∙ only in
     let named = inlined_named s inlined in
-    ap (λ e. map_ok (λ sub. items_from 0 sub true) (read e st q)) is ∙ ap (map_ok (λ sub. items_from 0 sub true)) (typed_reads st q s named.0 h named.1) ∙ ap Ok (sym (made named.0 named.1))
+    ap (λ e. map_ok (λ sub. items_from 0 sub true) (read e st q)) is
+    ∙ ap (map_ok (λ sub. items_from 0 sub true)) (typed_reads st q s named.0 h named.1)
+    ∙ ap Ok (sym (made named.0 named.1))
 
 -- at these places under this draft
-pub placed_items : {k : Keyword} {l m q r : Pointer} {old draft : Draft} (j : JsonType) → k ≡ bare_items l (type_at j (integers_of old (Single j)) m)
+pub placed_items : {k : Keyword} {l m q r : Pointer} {old draft : Draft} (j : JsonType)
+    → k ≡ bare_items l (type_at j (integers_of old (Single j)) m)
     → l ≡ q → m ≡ r → old ≡ draft → k ≡ bare_items q (type_at j (integers_of draft (Single j)) r)
 placed_items {m = m} {q = q} {r = r} {old = old} j is at type_at_place same =
     is ∙ ap (λ l. bare_items l (type_at j (integers_of old (Single j)) m)) at
@@ -110,7 +136,8 @@ placed_items {m = m} {q = q} {r = r} {old = old} j is at type_at_place same =
 
 -- ---- the text of the one member
 
-pub only_text : {A : Type 0} (now : A → List ℕ) (d e : Data) (o : Option A) (x : A) → is_only_type d ≡ true → Some e ≡ get (name_of TypeKeyword) d
+pub only_text : {A : Type 0} (now : A → List ℕ) (d e : Data) (o : Option A) (x : A) → is_only_type d ≡ true
+    → Some e ≡ get (name_of TypeKeyword) d
     → option_map now o ≡ as_str e → d ≡ typed (now (unwrap_or o x))
 only_text {A} now d e o x h at text =
     let found = only_named d h in

@@ -1,9 +1,11 @@
 -- An object of a single member is a bare type check by its `type` alone.
-use Rattle.std.proofs.Common.{◌≡◌, ℕ, List, Some, None, Ordering, nat_cmp, is_eq, Bool, true, false, ◌&&◌, bytes_eq, refl, sym, ap, ◌∙◌, arith}
+use Rattle.std.proofs.Common.{◌≡◌, ℕ, List, Some, None, Ordering, nat_cmp, is_eq, Bool, true, false, ◌&&◌, bytes_eq}
+use Rattle.std.proofs.Common.{refl, sym, ap, ◌∙◌, arith}
 use Rattle.std.proofs.lemmas.Map.Text.{is_eq-slice_cmp}
 use Rattle.std.proofs.lemmas.Slice.Eq.{bytes_eq-Decides}
 use Rattle.std.specs.Cmp.Lexicographic.{slice_cmp}
-use Rattle.jskw_array.specs.Words.{Data, Members, as_str, get_member, is_inlined_type, is_only_type, member, members_len, name_of, no_members, object, option_map_or, string}
+use Rattle.jskw_array.specs.Words.{Data, Members, as_str, get_member, is_inlined_type, is_only_type, member}
+use Rattle.jskw_array.specs.Words.{members_len, name_of, no_members, object, option_map_or, string}
 use Rattle.std.specs.Ordering.{match_ordering}
 use Rattle.std.specs.declared.cmp.Ordering.TheVariants.{Less, Equal, Greater}
 use Rattle.jskw_report.specs.declared.keyword.KeywordName.TheVariants.{TypeKeyword}
@@ -36,7 +38,8 @@ pub only_type_at : (ms : Members) → members_len ms ≡ 1
     → is_only_type (object ms) ≡ option_map_or is_inlined_type (get_member (name_of TypeKeyword) ms) false
 only_type_at no_members e = absurd (omega (arith, e))
 only_type_at (member k d no_members) e =
-    one_member (slice_cmp nat_cmp (name_of TypeKeyword) k) (bytes_eq k (name_of TypeKeyword)) d (is_eq-slice_cmp (name_of TypeKeyword) k ∙ turned (name_of TypeKeyword) k)
+    one_member (slice_cmp nat_cmp (name_of TypeKeyword) k) (bytes_eq k (name_of TypeKeyword)) d
+    (is_eq-slice_cmp (name_of TypeKeyword) k ∙ turned (name_of TypeKeyword) k)
 only_type_at (member k d (member l f ms)) e = absurd (omega (arith, e))
 
 pub many_members : (ms : Members) → (members_len ms ≡ 1 → ⊥) → is_only_type (object ms) ≡ false

@@ -1,9 +1,11 @@
 -- Items and members nest less deep than their array or object.
-use Rattle.std.proofs.Common.{◌≡◌, ℕ, zero, suc, ◌<◌, ◌≤◌, max, List, [], ◌∷◌, length, get_or, Option, Some, None, Ordering, ap, arith}
+use Rattle.std.proofs.Common.{◌≡◌, ℕ, zero, suc, ◌<◌, ◌≤◌, max, List, [], ◌∷◌, length, get_or, Option, Some, None}
+use Rattle.std.proofs.Common.{Ordering, ap, arith}
 use Rattle.std.specs.Ordering.{nat_cmp, match_ordering}
 use Rattle.std.specs.declared.cmp.Ordering.TheVariants.{Less, Equal, Greater}
 use Rattle.std.specs.Cmp.Lexicographic.{slice_cmp}
-use Rattle.jskw_array.specs.Words.{Data, Items, Members, array, as_array, depth, get_member, items_depth, items_view, member, members_depth, no_members, view}
+use Rattle.jskw_array.specs.Words.{Data, Items, Members, array, as_array, depth, get_member, items_depth, items_view}
+use Rattle.jskw_array.specs.Words.{member, members_depth, no_members, view}
 use Rattle.serde_json.specs.declared.value.Value.{Value}
 
 same_value : (x d : Data) → Some x ≡ Some d → x ≡ d
@@ -34,7 +36,8 @@ member_depth name (member k x ms) d e =
     here_or_below (slice_cmp nat_cmp name k) (get_member name ms) x d (members_depth ms) (member_depth name ms d) e
 
 -- nor does an item
-pub item_depth : (vs : List Value) (i : ℕ) (v : Value) → i < length vs → v ≡ get_or vs i v → depth (view v) ≤ items_depth (items_view vs)
+pub item_depth : (vs : List Value) (i : ℕ) (v : Value) → i < length vs → v ≡ get_or vs i v
+    → depth (view v) ≤ items_depth (items_view vs)
 item_depth [] i v within is = absurd (omega arith)
 item_depth (x ∷ vs) zero v within is = let same = ap (λ y. depth (view y)) is in omega arith
 item_depth (x ∷ vs) (suc i) v within is = let below = item_depth vs i v (omega arith) is in omega arith

@@ -1,21 +1,28 @@
 -- What a walk over items has left behind the first ones, if these are valid.
-use Rattle.std.proofs.Common.{◌≡◌, ℕ, zero, suc, ◌+◌, ◌-◌, ◌<◌, ◌≤◌, List, [], ◌∷◌, ◌++◌, length, get_or, take, drop, sum_by, Bool, true, false, ◌&&◌, if◌then◌else◌, refl, sym, subst, ap, ap₂, ◌∙◌, arith}
+use Rattle.std.proofs.Common.{◌≡◌, ℕ, zero, suc, ◌+◌, ◌-◌, ◌<◌, ◌≤◌, List, [], ◌∷◌, ◌++◌, length, get_or, take, drop}
+use Rattle.std.proofs.Common.{sum_by, Bool, true, false, ◌&&◌, if◌then◌else◌, refl, sym, subst, ap, ap₂, ◌∙◌, arith}
 use Rattle.std.proofs.lemmas.Bool.{and_parts}
 use Rattle.std.proofs.lemmas.List.{drop-drop}
-use Rattle.std.proofs.lemmas.List.Sums.{sum_by-cons}
-use Rattle.jskw_array.specs.Words.{Pointer, Schema, Tree, each_fails, each_holds, each_item, each_needed, each_pairs, fail, holds, item_location, list_all, needed, pairs, schemas_of, sum_to_failure}
+use Rattle.std.proofs.Math.Seq.{take-add}
+use Rattle.std.proofs.lemmas.List.Folds.{list_all-append}
+use Rattle.std.proofs.lemmas.List.Sums.{sum_by-append, sum_by-cons}
+use Rattle.jskw_report.proofs.Pairs.{needed-le}
+use Rattle.jskw_array.specs.Words.{Pointer, Schema, Tree, each_fails, each_holds, each_item, each_needed, each_pairs}
+use Rattle.jskw_array.specs.Words.{fail, holds, item_location, list_all, needed, pairs, schemas_of, sum_to_failure}
 use Rattle.jskw_number.specs.QuickSet.{leading}
 use Rattle.jskw_array.proofs.AcceptedValues.{no_errors, one_needed}
-use Rattle.jskw_array.proofs.WalksOverUnits.{one_pair}
+use Rattle.jskw_array.proofs.WalksOverParts.{one_pair}
 
 -- the items from an index on, as those behind some of the items from an earlier one on
 pub drop_behind : {A : Type 0} (start i : ℕ) (xs : List A) → start ≤ i → drop (i - start) (drop start xs) ≡ drop i xs
-drop_behind start i xs from = drop-drop (i - start) start xs ∙ ap (λ n. drop n xs) {x = start + (i - start)} {y = i} (omega (arith, from))
+drop_behind start i xs from =
+    drop-drop (i - start) start xs ∙ ap (λ n. drop n xs) {x = start + (i - start)} {y = i} (omega (arith, from))
 
 -- ---- one schema for all items
 
 -- the items before the first that fails a check are valid, if all that pass it are
-pub leading_valid : (s : Schema) (check : Tree → Bool) → ((t : Tree) → check t ≡ true → holds s t ≡ true) → (ts : List Tree) → list_all (holds s) (take (leading check ts) ts) ≡ true
+pub leading_valid : (s : Schema) (check : Tree → Bool) → ((t : Tree) → check t ≡ true → holds s t ≡ true)
+    → (ts : List Tree) → list_all (holds s) (take (leading check ts) ts) ≡ true
 leading_valid s check valid [] = refl
 leading_valid s check valid (t ∷ ts) = go (check t) (valid t) (leading_valid s check valid ts)
   where
@@ -25,60 +32,95 @@ leading_valid s check valid (t ∷ ts) = go (check t) (valid t) (leading_valid s
     go false here rest = refl
 
 module _ (s : Schema) where
-  pub taken_holds : (n : ℕ) (ts : List Tree) → n ≤ length ts → list_all (holds s) (take n ts) ≡ true → list_all (holds s) ts ≡ list_all (holds s) (drop n ts)
+  pub taken_holds : (n : ℕ) (ts : List Tree) → n ≤ length ts → list_all (holds s) (take n ts) ≡ true
+      → list_all (holds s) ts ≡ list_all (holds s) (drop n ts)
   taken_holds zero ts within all = refl
   taken_holds (suc n) [] within all = absurd (omega arith)
   taken_holds (suc n) (t ∷ ts) within all =
       let here = and_parts (holds s t) (list_all (holds s) (take n ts)) all in
       ap (λ b. b && list_all (holds s) ts) here.0 ∙ taken_holds n ts (omega arith) here.1
 
-  pub taken_fails : (n : ℕ) (ts : List Tree) (i : ℕ) (p : Pointer) → n ≤ length ts → list_all (holds s) (take n ts) ≡ true
+  pub taken_fails : (n : ℕ) (ts : List Tree) (i : ℕ) (p : Pointer) → n ≤ length ts
+      → list_all (holds s) (take n ts) ≡ true
       → each_item (fail s) i ts p ≡ each_item (fail s) (i + n) (drop n ts) p
   taken_fails zero ts i p within all = ap (λ j. each_item (fail s) j ts p) {x = i} {y = i + 0} (omega arith)
   taken_fails (suc n) [] i p within all = absurd (omega arith)
   taken_fails (suc n) (t ∷ ts) i p within all =
       let here = and_parts (holds s t) (list_all (holds s) (take n ts)) all in
-      ap (λ fs. fs ++ each_item (fail s) (suc i) ts p) (no_errors s t (item_location p i) here.0) ∙ taken_fails n ts (suc i) p (omega arith) here.1
+      ap (λ fs. fs ++ each_item (fail s) (suc i) ts p) (no_errors s t (item_location p i) here.0)
+      ∙ taken_fails n ts (suc i) p (omega arith) here.1
       ∙ ap (λ j. each_item (fail s) j (drop n ts) p) {x = suc i + n} {y = i + suc n} (omega arith)
 
   pub taken_needed : (n : ℕ) (ts : List Tree) → n ≤ length ts → list_all (holds s) (take n ts) ≡ true
-      → n + sum_to_failure (holds s) (needed s) (drop n ts) ≤ sum_to_failure (holds s) (needed s) ts
+      → sum_by (needed s) (take n ts) + sum_to_failure (holds s) (needed s) (drop n ts)
+      ≤ sum_to_failure (holds s) (needed s) ts
   taken_needed zero ts within all = omega arith
   taken_needed (suc n) [] within all = absurd (omega arith)
   taken_needed (suc n) (t ∷ ts) within all =
       let here = and_parts (holds s t) (list_all (holds s) (take n ts)) all in
       let rest = taken_needed n ts (omega arith) here.1 in
-      let one = one_needed s t in
+      let taken = sum_by-cons (needed s) t (take n ts) in
       let first = ap (λ b. needed s t + (if b then sum_to_failure (holds s) (needed s) ts else 0)) here.0 in
-      omega (arith, rest, one, first)
+      omega (arith, rest, taken, first)
 
-  pub taken_pairs : (n : ℕ) (ts : List Tree) → n ≤ length ts → n + sum_by (pairs s) (drop n ts) ≤ sum_by (pairs s) ts
+  pub taken_pairs : (n : ℕ) (ts : List Tree) → n ≤ length ts
+      → sum_by (needed s) (take n ts) + sum_by (pairs s) (drop n ts) ≤ sum_by (pairs s) ts
   taken_pairs zero ts within = omega arith
   taken_pairs (suc n) [] within = absurd (omega arith)
   taken_pairs (suc n) (t ∷ ts) within =
       let rest = taken_pairs n ts (omega arith) in
-      let one = one_pair s t in
+      let taken = sum_by-cons (needed s) t (take n ts) in
+      let some = needed-le s t in
       let first = sum_by-cons (pairs s) t ts in
-      omega (arith, rest, one, first)
+      omega (arith, rest, taken, some, first)
+
+  -- each of them is an application at least
+  pub taken_least : (n : ℕ) (ts : List Tree) → n ≤ length ts → n ≤ sum_by (needed s) (take n ts)
+  taken_least zero ts within = omega arith
+  taken_least (suc n) [] within = absurd (omega arith)
+  taken_least (suc n) (t ∷ ts) within =
+      let rest = taken_least n ts (omega arith) in
+      let taken = sum_by-cons (needed s) t (take n ts) in
+      let one = one_needed s t in
+      omega (arith, rest, taken, one)
+
+-- items that are taken, and then those behind them
+module _ {A : Type 0} (n m : ℕ) (xs : List A) where
+  pub both_valid : (valid : A → Bool) → list_all valid (take n xs) ≡ true → list_all valid (take m (drop n xs)) ≡ true
+      → list_all valid (take (n + m) xs) ≡ true
+  both_valid valid first second =
+      ap (list_all valid) (take-add n m xs) ∙ list_all-append valid (take n xs) (take m (drop n xs))
+      ∙ ap₂ (λ a b. a && b) first second
+
+  pub both_cost : (cost : A → ℕ)
+      → sum_by cost (take (n + m) xs) ≡ sum_by cost (take n xs) + sum_by cost (take m (drop n xs))
+  both_cost cost = ap (sum_by cost) (take-add n m xs) ∙ sum_by-append cost (take n xs) (take m (drop n xs))
 
 -- ---- a schema for each item
 
 -- one item more
-each_taken_more : (ss : List Schema) (ts : List Tree) (i : ℕ) (s : Schema) (t : Tree) → i < length ss → i < length ts → s ≡ get_or ss i s → t ≡ get_or ts i t
-    → each_holds (schemas_of (take i ss)) ts ≡ true → holds s t ≡ true → each_holds (schemas_of (take (suc i) ss)) ts ≡ true
+each_taken_more : (ss : List Schema) (ts : List Tree) (i : ℕ) (s : Schema) (t : Tree) → i < length ss → i < length ts
+    → s ≡ get_or ss i s → t ≡ get_or ts i t
+    → each_holds (schemas_of (take i ss)) ts ≡ true → holds s t ≡ true
+    → each_holds (schemas_of (take (suc i) ss)) ts ≡ true
 each_taken_more [] ts i s t schema_within within schema_is is before here = absurd (omega arith)
 each_taken_more (r ∷ ss) [] i s t schema_within within schema_is is before here = absurd (omega arith)
-each_taken_more (r ∷ ss) (u ∷ ts) zero s t schema_within within schema_is is before here = ap (λ b. b && true) (ap₂ holds (sym schema_is) (sym is) ∙ here)
+each_taken_more (r ∷ ss) (u ∷ ts) zero s t schema_within within schema_is is before here =
+    ap (λ b. b && true) (ap₂ holds (sym schema_is) (sym is) ∙ here)
 each_taken_more (r ∷ ss) (u ∷ ts) (suc i) s t schema_within within schema_is is before here =
     let first = and_parts (holds r u) (each_holds (schemas_of (take i ss)) ts) before in
     ap₂ (λ a b. a && b) first.0 (each_taken_more ss ts i s t (omega arith) (omega arith) schema_is is first.1 here)
 
-pub each_taken_next : (ss : List Schema) (ts : List Tree) (i : ℕ) (s : Schema) (t : Tree) → i < length ss → i < length ts → s ≡ get_or ss i s → t ≡ get_or ts i t
-    → each_holds (schemas_of (take i ss)) ts ≡ true → holds s t ≡ true → each_holds (schemas_of (take (i + 1) ss)) ts ≡ true
+pub each_taken_next : (ss : List Schema) (ts : List Tree) (i : ℕ) (s : Schema) (t : Tree) → i < length ss
+    → i < length ts → s ≡ get_or ss i s → t ≡ get_or ts i t
+    → each_holds (schemas_of (take i ss)) ts ≡ true → holds s t ≡ true
+    → each_holds (schemas_of (take (i + 1) ss)) ts ≡ true
 each_taken_next ss ts i s t schema_within within schema_is is before here =
-    subst (λ n. each_holds (schemas_of (take n ss)) ts ≡ true) {x = suc i} {y = i + 1} (omega arith) (each_taken_more ss ts i s t schema_within within schema_is is before here)
+    subst (λ n. each_holds (schemas_of (take n ss)) ts ≡ true) {x = suc i} {y = i + 1} (omega arith)
+    (each_taken_more ss ts i s t schema_within within schema_is is before here)
 
-pub each_taken_holds : (n : ℕ) (ss : List Schema) (ts : List Tree) → n ≤ length ss → n ≤ length ts → each_holds (schemas_of (take n ss)) ts ≡ true
+pub each_taken_holds : (n : ℕ) (ss : List Schema) (ts : List Tree) → n ≤ length ss → n ≤ length ts
+    → each_holds (schemas_of (take n ss)) ts ≡ true
     → each_holds (schemas_of ss) ts ≡ each_holds (schemas_of (drop n ss)) (drop n ts)
 each_taken_holds zero ss ts schemas within all = refl
 each_taken_holds (suc n) [] ts schemas within all = absurd (omega arith)
@@ -87,22 +129,28 @@ each_taken_holds (suc n) (s ∷ ss) (t ∷ ts) schemas within all =
     let here = and_parts (holds s t) (each_holds (schemas_of (take n ss)) ts) all in
     ap (λ b. b && each_holds (schemas_of ss) ts) here.0 ∙ each_taken_holds n ss ts (omega arith) (omega arith) here.1
 
-each_taken_from : (n : ℕ) (ss : List Schema) (ts : List Tree) (i : ℕ) (p : Pointer) → n ≤ length ss → n ≤ length ts → each_holds (schemas_of (take n ss)) ts ≡ true
+each_taken_from : (n : ℕ) (ss : List Schema) (ts : List Tree) (i : ℕ) (p : Pointer) → n ≤ length ss → n ≤ length ts
+    → each_holds (schemas_of (take n ss)) ts ≡ true
     → each_fails (schemas_of ss) i ts p ≡ each_fails (schemas_of (drop n ss)) (i + n) (drop n ts) p
-each_taken_from zero ss ts i p schemas within all = ap (λ j. each_fails (schemas_of ss) j ts p) {x = i} {y = i + 0} (omega arith)
+each_taken_from zero ss ts i p schemas within all =
+    ap (λ j. each_fails (schemas_of ss) j ts p) {x = i} {y = i + 0} (omega arith)
 each_taken_from (suc n) [] ts i p schemas within all = absurd (omega arith)
 each_taken_from (suc n) (s ∷ ss) [] i p schemas within all = absurd (omega arith)
 each_taken_from (suc n) (s ∷ ss) (t ∷ ts) i p schemas within all =
     let here = and_parts (holds s t) (each_holds (schemas_of (take n ss)) ts) all in
-    ap (λ fs. fs ++ each_fails (schemas_of ss) (suc i) ts p) (no_errors s t (item_location p i) here.0) ∙ each_taken_from n ss ts (suc i) p (omega arith) (omega arith) here.1
+    ap (λ fs. fs ++ each_fails (schemas_of ss) (suc i) ts p) (no_errors s t (item_location p i) here.0)
+    ∙ each_taken_from n ss ts (suc i) p (omega arith) (omega arith) here.1
     ∙ ap (λ j. each_fails (schemas_of (drop n ss)) j (drop n ts) p) {x = suc i + n} {y = i + suc n} (omega arith)
 
-pub each_taken_fails : (n : ℕ) (ss : List Schema) (ts : List Tree) (p : Pointer) → n ≤ length ss → n ≤ length ts → each_holds (schemas_of (take n ss)) ts ≡ true
+pub each_taken_fails : (n : ℕ) (ss : List Schema) (ts : List Tree) (p : Pointer) → n ≤ length ss → n ≤ length ts
+    → each_holds (schemas_of (take n ss)) ts ≡ true
     → each_fails (schemas_of ss) 0 ts p ≡ each_fails (schemas_of (drop n ss)) n (drop n ts) p
 each_taken_fails n ss ts p schemas within all =
-    each_taken_from n ss ts 0 p schemas within all ∙ ap (λ j. each_fails (schemas_of (drop n ss)) j (drop n ts) p) {x = 0 + n} {y = n} (omega arith)
+    each_taken_from n ss ts 0 p schemas within all
+    ∙ ap (λ j. each_fails (schemas_of (drop n ss)) j (drop n ts) p) {x = 0 + n} {y = n} (omega arith)
 
-pub each_taken_needed : (n : ℕ) (ss : List Schema) (ts : List Tree) → n ≤ length ss → n ≤ length ts → each_holds (schemas_of (take n ss)) ts ≡ true
+pub each_taken_needed : (n : ℕ) (ss : List Schema) (ts : List Tree) → n ≤ length ss → n ≤ length ts
+    → each_holds (schemas_of (take n ss)) ts ≡ true
     → n + each_needed (schemas_of (drop n ss)) (drop n ts) ≤ each_needed (schemas_of ss) ts
 each_taken_needed zero ss ts schemas within all = omega arith
 each_taken_needed (suc n) [] ts schemas within all = absurd (omega arith)

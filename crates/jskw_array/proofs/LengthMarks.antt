@@ -1,5 +1,6 @@
 -- The marks of the lengths of names, one name after another.
-use Rattle.std.proofs.Common.{◌≡◌, ◌≢◌, ℕ, ◌<◌, List, length, get_or, set, min, Bool, true, false, refl, sym, ap, subst, ◌∙◌, Ordering, arith}
+use Rattle.std.proofs.Common.{◌≡◌, ◌≢◌, ℕ, ◌<◌, List, length, get_or, set, min, Bool, true, false, refl, sym, ap, subst}
+use Rattle.std.proofs.Common.{◌∙◌, Ordering, arith}
 use Rattle.std.proofs.lemmas.Bool.{true≢false}
 use Rattle.std.proofs.lemmas.List.{get_or-set_other, get_or-set_same, length-set}
 use Rattle.std.proofs.lemmas.Map.Lookups.{exact_bytes}
@@ -12,11 +13,15 @@ use Rattle.serde_json.specs.Data.{member}
 
 -- a name whose length has no mark is no other member than one of the rest
 abbrev pub AreMarked : List Bool → Members → Members → Type 0
-AreMarked marks ms rest = (length marks ≡ 17) × ((name : List ℕ) → get_or marks (min (length name) 16) true ≡ false → get_member name ms ≡ get_member name rest)
+AreMarked marks ms rest =
+    (length marks ≡ 17)
+    × ((name : List ℕ) → get_or marks (min (length name) 16) true ≡ false → get_member name ms ≡ get_member name rest)
 
 -- a place without a mark is another one than that of the last mark, and had none before
 other : (marks : List Bool) (i j : ℕ) → i < length marks → get_or (set marks i true) j true ≡ false → j ≢ i
-other marks i j within none same = true≢false (sym (get_or-set_same marks i true true within) ∙ subst (λ k. get_or (set marks i true) k true ≡ false) same none)
+other marks i j within none same =
+    true≢false
+    (sym (get_or-set_same marks i true true within) ∙ subst (λ k. get_or (set marks i true) k true ≡ false) same none)
 
 -- one member more is marked
 pub next_marked : (marks : List Bool) (ms : Members) (key : List ℕ) (d : Data) (rest : Members)
@@ -31,8 +36,10 @@ next_marked marks ms key d rest known = (
       before ∙ passed name apart (slice_cmp nat_cmp name key) refl,
 )
   where
-    passed : (name : List ℕ) → min (length name) 16 ≢ min (length key) 16 → (o : Ordering) → slice_cmp nat_cmp name key ≡ o
-        → match_ordering (slice_cmp nat_cmp name key) (get_member name rest) (Some d) (get_member name rest) ≡ get_member name rest
+    passed : (name : List ℕ) → min (length name) 16 ≢ min (length key) 16 → (o : Ordering)
+        → slice_cmp nat_cmp name key ≡ o
+        → match_ordering (slice_cmp nat_cmp name key) (get_member name rest) (Some d) (get_member name rest)
+        ≡ get_member name rest
     passed name apart Less e = rw e refl
     passed name apart Greater e = rw e refl
     passed name apart Equal e = absurd (apart (ap (λ n. min (length n) 16) (exact_bytes name key e)))

@@ -7,12 +7,13 @@ pub mod Depths
 pub mod FusedReading
 pub mod ItemsTaken
 pub mod KeywordReadings
-pub mod KeywordsOfUnits
+pub mod KeywordsOfParts
 pub mod LengthMarks
 pub mod MatchedItems
 pub mod ObserversAgree
 pub mod ReportingWalks
-pub mod UnitsLeft
+pub mod PartsLeft
+pub mod QuickArrays
 pub mod ValidatorMeanings
 pub mod WalksOverItems
-pub mod WalksOverUnits
+pub mod WalksOverParts

@@ -1,26 +1,34 @@
 -- A walk that reports the errors of items or keywords one after another, and the applications that it takes.
-use Rattle.std.proofs.Common.{◌≡◌, ℕ, ◌+◌, ◌≤◌, List, [], ◌++◌, length, get_or, take, drop, sum_by, Bool, true, false, Result, Ok, Err, IsErrAnd, if◌then◌else◌, refl, sym, subst, ap, ◌∙◌, arith, ◌<◌}
+use Rattle.std.proofs.Common.{◌≡◌, ℕ, ◌+◌, ◌≤◌, List, [], ◌++◌, length, get_or, take, drop, sum_by, Bool, true, false}
+use Rattle.std.proofs.Common.{Result, Ok, Err, IsErrAnd, if◌then◌else◌, refl, sym, subst, ap, ◌∙◌, arith, ◌<◌}
 use Rattle.std.proofs.lemmas.Bool.{true≢false}
-use Rattle.jskw_array.specs.Words.{CountsUpTo, Each, Failure, Pointer, Reports, Rest, Schema, Schemas, TheUnit, Tree, all_applications, applications, each_holds, each_keyword, each_needed, each_pairs, fail, holds, is_empty, items, keeps_list, keywords_of, list_all, meaning_applications, meaning_fail, meaning_holds, needed, one_keyword, pairs, rest_keyword, schemas_of, sum_to_failure, unit_meaning}
+use Rattle.jskw_array.specs.Words.{CountsUpTo, Each, Failure, Pointer, Reports, Rest, Schema, Schemas, Part, Tree}
+use Rattle.jskw_array.specs.Words.{all_applications, applications, each_holds, each_keyword, each_needed, each_pairs}
+use Rattle.jskw_array.specs.Words.{fail, holds, is_empty, items, keeps_list, keywords_of, list_all}
+use Rattle.jskw_array.specs.Words.{meaning_applications, meaning_fail, meaning_holds, needed, one_keyword, pairs}
+use Rattle.jskw_array.specs.Words.{rest_keyword, schemas_of, sum_to_failure, part_meaning}
 use Rattle.jskw_report.specs.declared.error.Stop.{Stop}
 use Rattle.jskw_report.specs.declared.report.Report.{Report}
 use Rattle.jskw_report.proofs.HoldsIsNoFailure.{holds_empty}
 use Rattle.jskw_report.proofs.ReportedFailures.{Reported, none_found, reported_more, reported_stopped}
 use Rattle.jskw_array.proofs.AcceptedValues.{one_needed}
-use Rattle.jskw_array.proofs.WalksOverUnits.{needed_at, one_pair, pairs_at, unit_empty}
+use Rattle.jskw_array.proofs.WalksOverParts.{needed_at, one_pair, pairs_at, part_empty}
 use Rattle.jskw_array.proofs.ValidatorMeanings.{each_meets, each_needs, rest_meets, rest_needs}
 use Rattle.jskw_array.proofs.WalksOverItems.{each_needed_at, each_pairs_at, sum_at, until_at}
 use Rattle.jskw_array.proofs.ItemsTaken.{each_taken_needed, each_taken_pairs, taken_needed, taken_pairs}
 
 -- ---- the walk
 
--- `left` of `all` is still to be reported, and the applications for it are within what the walk may take from `before` on
-pub record Walk {F Node Number Key : Type 0} (tree : Node → Tree) (old now : Report F Node Number Key) (left all : List Failure) (before ctx cost bound : ℕ) : Type 0 where
+-- `left` of `all` is still to be reported, and the applications for it are within what the walk may take from `before`
+-- on
+pub record Walk {F Node Number Key : Type 0} (tree : Node → Tree) (old now : Report F Node Number Key)
+    (left all : List Failure) (before ctx cost bound : ℕ) : Type 0 where
   pub reported : Reported tree old now left all
   pub from : before ≤ ctx
   pub to : ctx + cost ≤ before + bound
 
-module _ {F Node Number Key : Type 0} (tree : Node → Tree) {old now : Report F Node Number Key} {left all : List Failure} {before ctx cost bound : ℕ} (first rest : List Failure)
+module _ {F Node Number Key : Type 0} (tree : Node → Tree) {old now : Report F Node Number Key}
+    {left all : List Failure} {before ctx cost bound : ℕ} (first rest : List Failure)
     (walk : Walk tree old now left all before ctx cost bound) (is : left ≡ first ++ rest) (here : Bool → ℕ) where
   reported_here : Reported tree old now (first ++ rest) all
   reported_here = subst (λ fs. Reported tree old now fs all) is walk.reported
@@ -29,7 +37,9 @@ module _ {F Node Number Key : Type 0} (tree : Node → Tree) {old now : Report F
   counted_here {next} counted = subst (λ w. CountsUpTo ctx next (here w)) walk.reported.same counted
 
   -- the first part was reported, and more is wanted
-  pub walk_on : {new : Report F Node Number Key} {next : ℕ} (less : ℕ) → Reports tree now new first (Ok tt) → CountsUpTo ctx next (here (keeps_list now)) → ((keeps_list old ≡ false → first ≡ []) → here (keeps_list old) + less ≤ cost)
+  pub walk_on : {new : Report F Node Number Key} {next : ℕ} (less : ℕ) → Reports tree now new first (Ok tt)
+      → CountsUpTo ctx next (here (keeps_list now))
+      → ((keeps_list old ≡ false → first ≡ []) → here (keeps_list old) + less ≤ cost)
       → Walk tree old new rest all before next less bound
   walk_on less reports counted within =
       let c = counted_here counted in
@@ -41,10 +51,12 @@ module _ {F Node Number Key : Type 0} (tree : Node → Tree) {old now : Report F
       }
 
   -- it stopped in the first part
-  pub walk_stopped : {new : Report F Node Number Key} (r : Result Unit Stop) (x : Stop) → IsErrAnd r (λ y. y ≡ x) → Reports tree now new first (Err x) → Reports tree old new all r
+  pub walk_stopped : {new : Report F Node Number Key} (r : Result Unit Stop) (x : Stop) → IsErrAnd r (λ y. y ≡ x)
+      → Reports tree now new first (Err x) → Reports tree old new all r
   walk_stopped r x gives reports = reported_stopped tree first rest r x reported_here gives reports
 
-  pub walk_counted : {next : ℕ} → CountsUpTo ctx next (here (keeps_list now)) → here (keeps_list old) ≤ cost → CountsUpTo before next bound
+  pub walk_counted : {next : ℕ} → CountsUpTo ctx next (here (keeps_list now)) → here (keeps_list old) ≤ cost
+      → CountsUpTo before next bound
   walk_counted counted within =
       let c = counted_here counted in
       record { from = omega (arith, walk.from, c.from); to = omega (arith, walk.to, c.to, within) }
@@ -65,27 +77,34 @@ abbrev pub each_applications : Bool → Schemas → List Tree → ℕ
 each_applications true ss ts = each_pairs ss ts
 each_applications false ss ts = each_needed ss ts
 
-pub rest_applied : {F Node Number Key : Type 0} (wanted : Bool) (v : Rest F Node Number Key) (t : Tree) → meaning_applications wanted (one_keyword (rest_keyword v)) t ≡ items_applications wanted v.node (drop v.start (items t))
+pub rest_applied : {F Node Number Key : Type 0} (wanted : Bool) (v : Rest F Node Number Key) (t : Tree)
+    → meaning_applications wanted (one_keyword (rest_keyword v)) t
+    ≡ items_applications wanted v.node (drop v.start (items t))
 rest_applied true v t = rest_meets v t
 rest_applied false v t = rest_needs v t
 
-pub each_applied : {F Node Number Key : Type 0} (wanted : Bool) (v : Each F Node Number Key) (t : Tree) → meaning_applications wanted (one_keyword (each_keyword v)) t ≡ each_applications wanted (schemas_of v.nodes.items) (items t)
+pub each_applied : {F Node Number Key : Type 0} (wanted : Bool) (v : Each F Node Number Key) (t : Tree)
+    → meaning_applications wanted (one_keyword (each_keyword v)) t
+    ≡ each_applications wanted (schemas_of v.nodes.items) (items t)
 each_applied true v t = each_meets v t
 each_applied false v t = each_needs v t
 
 -- the first items, which are valid, take an application each
-pub taken_applied : (wanted : Bool) (s : Schema) (n : ℕ) (ts : List Tree) → n ≤ length ts → list_all (holds s) (take n ts) ≡ true
-    → n + items_applications wanted s (drop n ts) ≤ items_applications wanted s ts
+pub taken_applied : (wanted : Bool) (s : Schema) (n : ℕ) (ts : List Tree) → n ≤ length ts
+    → list_all (holds s) (take n ts) ≡ true
+    → sum_by (needed s) (take n ts) + items_applications wanted s (drop n ts) ≤ items_applications wanted s ts
 taken_applied true s n ts within valid = taken_pairs s n ts within
 taken_applied false s n ts within valid = taken_needed s n ts within valid
 
-pub each_taken_applied : (wanted : Bool) (n : ℕ) (ss : List Schema) (ts : List Tree) → n ≤ length ss → n ≤ length ts → each_holds (schemas_of (take n ss)) ts ≡ true
+pub each_taken_applied : (wanted : Bool) (n : ℕ) (ss : List Schema) (ts : List Tree) → n ≤ length ss → n ≤ length ts
+    → each_holds (schemas_of (take n ss)) ts ≡ true
     → n + each_applications wanted (schemas_of (drop n ss)) (drop n ts) ≤ each_applications wanted (schemas_of ss) ts
 each_taken_applied true n ss ts schemas within valid = each_taken_pairs n ss ts schemas within
 each_taken_applied false n ss ts schemas within valid = each_taken_needed n ss ts schemas within valid
 
 -- where the first failure alone is wanted, a part of the walk that passed holds
-passed : (holds_here : Bool) (first : List Failure) → holds_here ≡ is_empty first → (false ≡ false → first ≡ []) → holds_here ≡ true
+passed : (holds_here : Bool) (first : List Failure) → holds_here ≡ is_empty first → (false ≡ false → first ≡ [])
+    → holds_here ≡ true
 passed holds_here first is none = is ∙ ap is_empty (none refl)
 
 -- with the part behind, or without it
@@ -103,28 +122,41 @@ module _ (ts : List Tree) (i : ℕ) (t : Tree) (within : i < length ts) (is : t 
   item_applied true = let e = sum_at ts i t within is (pairs s) in omega (arith, e)
   item_applied false = at_least (holds s t) _ _ _ (until_at ts i t within is (holds s) (needed s))
 
-  pub item_passed : (wanted : Bool) (p : Pointer) → (wanted ≡ false → fail s t p ≡ []) → applications wanted s t + items_applications wanted s (drop (i + 1) ts) ≤ items_applications wanted s (drop i ts)
+  pub item_passed : (wanted : Bool) (p : Pointer) → (wanted ≡ false → fail s t p ≡ []) → applications wanted s t
+      + items_applications wanted s (drop (i + 1) ts) ≤ items_applications wanted s (drop i ts)
   item_passed true p none = let e = sum_at ts i t within is (pairs s) in omega (arith, e)
-  item_passed false p none = branch (holds s t) _ _ _ (until_at ts i t within is (holds s) (needed s)) (passed (holds s t) (fail s t p) (holds_empty s t p) none)
+  item_passed false p none =
+      branch (holds s t) _ _ _ (until_at ts i t within is (holds s) (needed s))
+      (passed (holds s t) (fail s t p) (holds_empty s t p) none)
 
 module _ (ss : List Schema) (ts : List Tree) (i : ℕ) (s : Schema) (t : Tree)
-    (schema_within : i < length ss) (within : i < length ts) (schema_is : s ≡ get_or ss i s) (is : t ≡ get_or ts i t) where
-  pub each_item_applied : (wanted : Bool) → applications wanted s t ≤ each_applications wanted (schemas_of (drop i ss)) (drop i ts)
+    (schema_within : i < length ss) (within : i < length ts) (schema_is : s ≡ get_or ss i s)
+    (is : t ≡ get_or ts i t) where
+  pub each_item_applied : (wanted : Bool)
+      → applications wanted s t ≤ each_applications wanted (schemas_of (drop i ss)) (drop i ts)
   each_item_applied true = let e = each_pairs_at ss ts i s t schema_within within schema_is is in omega (arith, e)
   each_item_applied false = at_least (holds s t) _ _ _ (each_needed_at ss ts i s t schema_within within schema_is is)
 
   pub each_item_passed : (wanted : Bool) (p : Pointer) → (wanted ≡ false → fail s t p ≡ [])
-      → applications wanted s t + each_applications wanted (schemas_of (drop (i + 1) ss)) (drop (i + 1) ts) ≤ each_applications wanted (schemas_of (drop i ss)) (drop i ts)
+      → applications wanted s t + each_applications wanted (schemas_of (drop (i + 1) ss)) (drop (i + 1) ts)
+      ≤ each_applications wanted (schemas_of (drop i ss)) (drop i ts)
   each_item_passed true p none = let e = each_pairs_at ss ts i s t schema_within within schema_is is in omega (arith, e)
-  each_item_passed false p none = branch (holds s t) _ _ _ (each_needed_at ss ts i s t schema_within within schema_is is) (passed (holds s t) (fail s t p) (holds_empty s t p) none)
+  each_item_passed false p none =
+      branch (holds s t) _ _ _ (each_needed_at ss ts i s t schema_within within schema_is is)
+      (passed (holds s t) (fail s t p) (holds_empty s t p) none)
 
 -- at a unit
-module _ {F Node Number Key : Type 0} (us : List (TheUnit F Node Number Key)) (i : ℕ) (u : TheUnit F Node Number Key) (within : i < length us) (is : u ≡ get_or us i u) (t : Tree) where
-  pub unit_applied : (wanted : Bool) → meaning_applications wanted (unit_meaning u) t ≤ all_applications wanted (keywords_of (drop i us)) t
+module _ {F Node Number Key : Type 0} (us : List (Part F Node Number Key)) (i : ℕ) (u : Part F Node Number Key)
+    (within : i < length us) (is : u ≡ get_or us i u) (t : Tree) where
+  pub unit_applied : (wanted : Bool)
+      → meaning_applications wanted (part_meaning u) t ≤ all_applications wanted (keywords_of (drop i us)) t
   unit_applied true = let e = pairs_at us i u within is t in omega (arith, e)
-  unit_applied false = at_least (meaning_holds (unit_meaning u) t) _ _ _ (needed_at us i u within is t)
+  unit_applied false = at_least (meaning_holds (part_meaning u) t) _ _ _ (needed_at us i u within is t)
 
-  pub unit_passed : (wanted : Bool) (p : Pointer) → (wanted ≡ false → meaning_fail (unit_meaning u) t p ≡ [])
-      → meaning_applications wanted (unit_meaning u) t + all_applications wanted (keywords_of (drop (i + 1) us)) t ≤ all_applications wanted (keywords_of (drop i us)) t
+  pub unit_passed : (wanted : Bool) (p : Pointer) → (wanted ≡ false → meaning_fail (part_meaning u) t p ≡ [])
+      → meaning_applications wanted (part_meaning u) t + all_applications wanted (keywords_of (drop (i + 1) us)) t
+      ≤ all_applications wanted (keywords_of (drop i us)) t
   unit_passed true p none = let e = pairs_at us i u within is t in omega (arith, e)
-  unit_passed false p none = branch (meaning_holds (unit_meaning u) t) _ _ _ (needed_at us i u within is t) (passed (meaning_holds (unit_meaning u) t) (meaning_fail (unit_meaning u) t p) (unit_empty u t p) none)
+  unit_passed false p none =
+      branch (meaning_holds (part_meaning u) t) _ _ _ (needed_at us i u within is t)
+      (passed (meaning_holds (part_meaning u) t) (meaning_fail (part_meaning u) t p) (part_empty u t p) none)

@@ -9,16 +9,18 @@ use Rattle.jskw_array.specs.Meaning.{validator_keyword}
 use Rattle.jskw_array.specs.declared.items.array_shape.ArrayShapeValidator.{ArrayShapeValidator}
 
 -- its keywords, in the order in which they are read: the first of all
-abbrev pub fused_words : List KeywordName
-fused_words = TypeKeyword ∷ MinItems ∷ MaxItems ∷ Items ∷ []
+abbrev pub fused_keywords : List KeywordName
+fused_keywords = TypeKeyword ∷ MinItems ∷ MaxItems ∷ Items ∷ []
 
 -- all four keywords
 abbrev pub shape_keywords : {F Node Number Key : Type 0} → ArrayShapeValidator F Node Number Key → Keywords
-shape_keywords v = append_keywords (absorbed_keywords v.absorbed) (keyword v.items.location (validator_keyword v.items.validator) no_keywords)
+shape_keywords v =
+    append_keywords (absorbed_keywords v.absorbed)
+    (keyword v.items.location (validator_keyword v.items.validator) no_keywords)
 
 -- the keywords begin with these
-abbrev pub Begins : Keywords → Keywords → Type 0
-Begins first all = (rest : Keywords) × (all ≡ append_keywords first rest)
+abbrev pub IsBeginning : Keywords → Keywords → Type 0
+IsBeginning first all = (rest : Keywords) × (all ≡ append_keywords first rest)
 
 -- all four, with the unit of `items`
 abbrev pub shape_meaning : {F Node Number Key : Type 0} → ArrayShapeValidator F Node Number Key → Meaning

@@ -13,15 +13,16 @@ use Rattle.jskw_leaf.specs.Items.{absorbed_keywords}
 use Rattle.jskw_array.specs.Fused.{shape_keywords}
 use Rattle.jskw_array.specs.Meaning.{each_keyword, each_of, rest_keyword, rest_of, schemas_of, validator_keyword}
 use Rattle.jskw_array.specs.Node.{schema_of}
-use Rattle.jskw_array.specs.Units.{keywords_of}
+use Rattle.jskw_array.specs.Parts.{keywords_of}
 use Rattle.jskw_array.specs.declared.each.Each.{Each}
 use Rattle.jskw_array.specs.declared.items.array_shape.ArrayShapeValidator.{ArrayShapeValidator}
 use Rattle.jskw_array.specs.declared.node.Assertions.{Assertions}
 use Rattle.jskw_array.specs.declared.node.Assertions.TheVariants.{Never, Keywords}
 use Rattle.jskw_array.specs.declared.rest.Rest.{Rest}
-use Rattle.jskw_array.specs.declared.unit.Unit.{Unit as TheUnit}
-use Rattle.jskw_array.specs.declared.unit.Unit.TheVariants.{Keyword as OfKeyword, Shape}
-use Rattle.jskw_array.specs.declared.node.SchemaNode.TheDeep.{deep-ArrayShapeValidator, deep-Assertions, deep-Unit, deep-Validator}
+use Rattle.jskw_array.specs.declared.part.Part.{Part}
+use Rattle.jskw_array.specs.declared.part.Part.TheVariants.{Keyword as OfKeyword, Shape}
+use Rattle.jskw_array.specs.declared.node.Subschema.TheDeep.{deep-ArrayShapeValidator, deep-Assertions, deep-Part}
+use Rattle.jskw_array.specs.declared.node.Subschema.TheDeep.{deep-Validator}
 use Rattle.jskw_array.specs.declared.validator.Validator.{Validator}
 use Rattle.jskw_array.specs.declared.validator.Validator.TheVariants as validator
 
@@ -38,15 +39,19 @@ rest_as_high : (is_additional : Bool) (n : ℕ) (s : Schema) → keyword_height 
 rest_as_high true n s = refl
 rest_as_high false n s = refl
 
-pub each_is_as_high : {F Node Number Key : Type 0} (v : Each F Node Number Key) → keyword_height (each_keyword v) ≡ each_height (schemas_of v.nodes.items)
+pub each_is_as_high : {F Node Number Key : Type 0} (v : Each F Node Number Key)
+    → keyword_height (each_keyword v) ≡ each_height (schemas_of v.nodes.items)
 each_is_as_high v = each_as_high v.is_prefix (schemas_of v.nodes.items)
 
-pub rest_is_as_high : {F Node Number Key : Type 0} (v : Rest F Node Number Key) → keyword_height (rest_keyword v) ≡ height v.node
+pub rest_is_as_high : {F Node Number Key : Type 0} (v : Rest F Node Number Key)
+    → keyword_height (rest_keyword v) ≡ height v.node
 rest_is_as_high v = rest_as_high v.is_additional v.start v.node
 
 -- r, o and j say what the types of a representation are
-module _ {F Node Number Key : Type 0} (r : rooted.Ghosts Node) (o : object.Ghosts Node Key) (j : number.Ghosts Number) where
-  keyword_falls : (v : Validator F Node Number Key) → deep-Validator F Node Number Key r o j v ≤ keyword_height (validator_keyword v) + 1
+module _ {F Node Number Key : Type 0} (r : rooted.Ghosts Node) (o : object.Ghosts Node Key)
+    (j : number.Ghosts Number) where
+  keyword_falls : (v : Validator F Node Number Key)
+      → deep-Validator F Node Number Key r o j v ≤ keyword_height (validator_keyword v) + 1
   keyword_falls (validator.Leaf v) = omega arith
   keyword_falls (validator.Each v) = omega (arith, each_falls v.nodes.items, each_is_as_high v)
   keyword_falls (validator.Rest v) = omega (arith, rest_is_as_high v)
@@ -58,18 +63,23 @@ module _ {F Node Number Key : Type 0} (r : rooted.Ghosts Node) (o : object.Ghost
   keyword_falls (validator.ItemsIntegerDraft4 v) = omega arith
   keyword_falls (validator.AdditionalItemsBoolean v) = omega arith
 
-  shape_falls : (v : ArrayShapeValidator F Node Number Key) → deep-ArrayShapeValidator F Node Number Key r o j v ≤ all_height (shape_keywords v) + 1
+  shape_falls : (v : ArrayShapeValidator F Node Number Key)
+      → deep-ArrayShapeValidator F Node Number Key r o j v ≤ all_height (shape_keywords v) + 1
   shape_falls v =
-      let parts = height_appended (absorbed_keywords v.absorbed) (keyword v.items.location (validator_keyword v.items.validator) no_keywords) in
+      let parts =
+      height_appended (absorbed_keywords v.absorbed)
+      (keyword v.items.location (validator_keyword v.items.validator) no_keywords) in
       omega (arith, parts, keyword_falls v.items.validator)
 
-  all_fall : (us : List (TheUnit F Node Number Key)) → most (deep-Unit F Node Number Key r o j) us ≤ all_height (keywords_of us) + 1
+  all_fall : (us : List (Part F Node Number Key))
+      → most (deep-Part F Node Number Key r o j) us ≤ all_height (keywords_of us) + 1
   all_fall [] = omega arith
   all_fall (OfKeyword k ∷ us) = omega (arith, keyword_falls k.validator, all_fall us)
   all_fall (Shape v ∷ us) =
       let parts = height_appended (shape_keywords v.value) (keywords_of us) in
       omega (arith, parts, shape_falls v.value, all_fall us)
 
-  pub height_falls : (q : Pointer) (hands_on : Bool) (a : Assertions F Node Number Key) → deep-Assertions F Node Number Key r o j a ≤ height (schema_of q hands_on a)
-  height_falls q hands_on Never = omega arith
-  height_falls q hands_on (Keywords us) = omega (arith, all_fall us.items)
+  pub height_falls : (q : Pointer) (delegates : Bool) (a : Assertions F Node Number Key)
+      → deep-Assertions F Node Number Key r o j a ≤ height (schema_of q delegates a)
+  height_falls q delegates Never = omega arith
+  height_falls q delegates (Keywords us) = omega (arith, all_fall us.items)

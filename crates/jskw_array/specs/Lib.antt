@@ -1,9 +1,10 @@
 pub mod Limits
 pub mod Meaning
-pub mod Units
+pub mod Parts
 pub mod Fused
 pub mod Node
 pub mod Outline
+pub mod QuickArrays
 pub mod Heights
 pub mod Siblings
 pub mod Agreement

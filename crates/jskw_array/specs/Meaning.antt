@@ -1,7 +1,8 @@
 -- What each validator stands for. A node is seen as the schema that it stands for.
 use Rattle.std.specs.Prelude.{ℕ, List, [], ◌∷◌, Bool, false, if◌then◌else◌, unwrap_or}
 use Rattle.jskw_value.specs.declared.types.JsonType.TheVariants as json_type
-use Rattle.jskw_report.specs.Keyword.{Schema, Keyword, additional_items, at_most, contains, items_list, items_from, prefix_items, Schemas, no_schemas, schema, Bounds, by_value, as_written}
+use Rattle.jskw_report.specs.Keyword.{Schema, Keyword, additional_items, at_most, contains, items_list, items_from}
+use Rattle.jskw_report.specs.Keyword.{prefix_items, Schemas, no_schemas, schema, Bounds, by_value, as_written}
 use Rattle.jskw_report.specs.Meaning.{LocatedAssertion, as_keyword}
 use Rattle.jskw_leaf.specs.Items.{items_type}
 use Rattle.jskw_leaf.specs.Meaning.{leaf_keyword}
@@ -20,7 +21,8 @@ schemas_of (s ∷ ss) = schema s (schemas_of ss)
 
 -- the bounds of `contains`
 abbrev pub bounds_of : ItemBounds → Bounds
-bounds_of b = record { lower = b.lower; upper = b.upper; few = b.too_few_at; many = unwrap_or b.too_many_at b.too_few_at }
+bounds_of b =
+    record { lower = b.lower; upper = b.upper; few = b.too_few_at; many = unwrap_or b.too_many_at b.too_few_at }
 
 -- a schema for each item: `prefixItems`, or `items` of an array of schemas
 abbrev pub each_of : Bool → Schemas → Keyword

@@ -6,30 +6,32 @@ use Rattle.jskw_value.specs.Tree.{Tree}
 use Rattle.jskw_report.specs.Applications.{all_applications, all_height, applications, height}
 use Rattle.jskw_report.specs.Fail.{all_fail, fail}
 use Rattle.jskw_report.specs.Holds.{all_hold, holds}
-use Rattle.jskw_report.specs.Keyword.{Schema, false_schema, schema_location, schema_object, Marks, no_marks, no_keywords}
+use Rattle.jskw_report.specs.Keyword.{Schema, false_schema, schema_location, schema_object, Marks, no_marks}
+use Rattle.jskw_report.specs.Keyword.{no_keywords}
 use Rattle.jskw_number.specs.QuickSet.{is_in}
 use Rattle.jskw_number.specs.declared.quick_set.QuickSet.{QuickSet}
 use Rattle.jskw_array.specs.Outline.{in_outline}
-use Rattle.jskw_array.specs.Units.{begin_fused, keywords_of}
+use Rattle.jskw_array.specs.Parts.{begin_fused, keywords_of}
 use Rattle.jskw_array.specs.declared.node.Assertions.{Assertions}
 use Rattle.jskw_array.specs.declared.node.Assertions.TheVariants.{Never, Keywords}
-use Rattle.jskw_array.specs.declared.unit.BegunUnits.{BegunUnits}
-use Rattle.jskw_array.specs.declared.unit.Unit.{Unit as TheUnit}
+use Rattle.jskw_array.specs.declared.part.SettledParts.{SettledParts}
+use Rattle.jskw_array.specs.declared.part.Part.{Part}
 
 module _ {F Node Number Key : Type 0} where
-  -- what is marked of a schema of these units that hands its `required` on or does not
-  abbrev pub marked : Bool → List (TheUnit F Node Number Key) → Marks
-  marked hands_on us = record { hands_on = hands_on; fused = begin_fused us }
+  -- what is marked of a schema of these units that delegates its `required` or does not
+  abbrev pub marked : Bool → List (Part F Node Number Key) → Marks
+  marked delegates us = record { delegates = delegates; fused = begin_fused us }
 
-  -- at this keyword location, with or without a `required` that it hands on
+  -- at this keyword location, with or without a `required` that it delegates
   abbrev pub schema_of : Pointer → Bool → Assertions F Node Number Key → Schema
-  schema_of q hands_on Never = false_schema q
-  schema_of q hands_on (Keywords us) = schema_object q (marked hands_on us.items) (keywords_of us.items)
+  schema_of q delegates Never = false_schema q
+  schema_of q delegates (Keywords us) = schema_object q (marked delegates us.items) (keywords_of us.items)
 
   -- the schema is that of these units, or it is `false`
-  abbrev pub HasUnits : Schema → Option (Bor (List (TheUnit F Node Number Key))) → Type 0
-  HasUnits s None = s ≡ false_schema (schema_location s)
-  HasUnits s (Some us) = (hands_on : Bool) × (s ≡ schema_object (schema_location s) (marked hands_on us.now) (keywords_of us.now))
+  abbrev pub HasParts : Schema → Option (Bor (List (Part F Node Number Key))) → Type 0
+  HasParts s None = s ≡ false_schema (schema_location s)
+  HasParts s (Some us) =
+      (delegates : Bool) × (s ≡ schema_object (schema_location s) (marked delegates us.now) (keywords_of us.now))
 
 -- a boolean schema: `true` has no keywords
 abbrev pub boolean_schema : Pointer → Bool → Schema
@@ -44,22 +46,25 @@ AllValid q s = (t : Tree) → is_in q t ≡ true → holds s t ≡ true
 
 module _ {F Node Number Key : Type 0} where
   -- the first of these units hold of every tree of the outline
-  abbrev pub BeginsWith : BegunUnits → List (TheUnit F Node Number Key) → Type 0
-  BeginsWith b us = (b.count ≤ length us) × ((t : Tree) → in_outline b.outline t ≡ true → all_hold (keywords_of (take b.count us)) t ≡ true)
+  abbrev pub AreSettled : SettledParts → List (Part F Node Number Key) → Type 0
+  AreSettled b us =
+      (b.count ≤ length us)
+      × ((t : Tree) → in_outline b.outline t ≡ true → all_hold (keywords_of (take b.count us)) t ≡ true)
 
   -- the first units of a schema do
-  abbrev pub SchemaBegins : BegunUnits → Assertions F Node Number Key → Type 0
-  SchemaBegins b Never = ⊤
-  SchemaBegins b (Keywords us) = BeginsWith b us.items
+  abbrev pub SchemaSettles : SettledParts → Assertions F Node Number Key → Type 0
+  SchemaSettles b Never = ⊤
+  SchemaSettles b (Keywords us) = AreSettled b us.items
 
-  -- for this tree these units are as good as the schema: they say the same of it, take no more applications, and are lower
-  pub record IsLeft (s : Schema) (t : Tree) (us : List (TheUnit F Node Number Key)) : Type 0 where
+  -- for this tree these units are as good as the schema: they say the same of it, take no more applications, and are
+  -- lower
+  pub record IsLeft (s : Schema) (t : Tree) (us : List (Part F Node Number Key)) : Type 0 where
     pub answer : holds s t ≡ all_hold (keywords_of us) t
     pub errors : (p : Pointer) → fail s t p ≡ all_fail (keywords_of us) t p
     pub applied : (wanted : Bool) → 1 + all_applications wanted (keywords_of us) t ≤ applications wanted s t
     pub lower : 1 + all_height (keywords_of us) ≤ height s
 
   -- these units are left of the schema for this tree, or it is `false`
-  abbrev pub LeftUnits : Schema → Tree → Option (Bor (List (TheUnit F Node Number Key))) → Type 0
-  LeftUnits s t None = s ≡ false_schema (schema_location s)
-  LeftUnits s t (Some us) = IsLeft s t us.now
+  abbrev pub LeftParts : Schema → Tree → Option (Bor (List (Part F Node Number Key))) → Type 0
+  LeftParts s t None = s ≡ false_schema (schema_location s)
+  LeftParts s t (Some us) = IsLeft s t us.now

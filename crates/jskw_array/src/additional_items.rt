@@ -1,28 +1,27 @@
 //! `additionalItems` (Draft 7 Validation 6.4.2): the schema of the items for which `items` has no
 //! schema.
-ghost use Rattle.jskw_array.specs.Words.{AdditionalItems, Compiles, Ok, assertion, at_most};
+ghost use Rattle.jskw_array.specs.Words.{AdditionalItems, CompilesKeyword, Ok, assertion, at_most};
 ghost use Rattle.jskw_array.specs.Words.{keyword_location, members_view, no_additional_items};
-ghost use Rattle.jskw_array.specs.Words.{reading, refl, validator_keyword, view};
+ghost use Rattle.jskw_array.specs.Words.{keyword_reading, refl, validator_keyword, view};
 
 use crate::compiler::{compile_at, schema_count};
-use crate::rest::{Rest, of_schema};
+use crate::rest::of_schema;
+pub use crate::upstream::AdditionalItemsObjectValidator;
 use crate::validator::Validator;
 use jskw_report::{
-    Assertion, CompilationResult, CompileFault, Context, KeywordName, Location, ValidationErrorKind,
+    Assertion, CompilationResult, CompileFault, Context, KeywordLocation, KeywordName,
+    ValidationErrorKind,
 };
 use jskw_value::{Json, Node};
 use serde_json::{Map, Value};
 use std::alloc::Global;
 
-/// The validator of `additionalItems` of a schema.
-pub type AdditionalItemsObjectValidator<F> = Rest<F>;
-
 /// The validator of `additionalItems` of `false`. It accepts an array with no more items than
 /// `items` has schemas, and every non-array.
-#[derive(Drop)]
+#[derive(Debug, Drop)]
 pub struct AdditionalItemsBooleanValidator {
     pub(crate) items_count: usize,
-    pub(crate) location: Location,
+    pub(crate) location: KeywordLocation,
 }
 
 impl Assertion for AdditionalItemsBooleanValidator {
@@ -42,7 +41,7 @@ impl Assertion for AdditionalItemsBooleanValidator {
         }
     }
 
-    fn location(&self) -> &Location {
+    fn location(&self) -> &KeywordLocation {
         &self.location
     }
 }
@@ -63,8 +62,8 @@ pub fn compile<'a, F: Json>(
     parent: &'a Map<String, Value>,
     schema: &'a Value,
 ) -> Option<CompilationResult<'a, Validator<F>>>
-    ensures { Compiles validator_keyword result
-        (reading KeywordName.AdditionalItems ctx.now (members_view parent.now.entries)
+    ensures { CompilesKeyword validator_keyword result
+        (keyword_reading KeywordName.AdditionalItems ctx.now (members_view parent.now.entries)
         (view schema.now)) }
 {
     let Some(items_count) = schema_count(parent, "items") else {
@@ -86,7 +85,7 @@ fn no_more<'a, F: Json>(
     ctx: &Context<'_, F>,
     items_count: usize,
 ) -> Option<CompilationResult<'a, Validator<F>>>
-    ensures { Compiles validator_keyword result (Some (Ok (assertion
+    ensures { CompilesKeyword validator_keyword result (Some (Ok (assertion
         (keyword_location ctx.now.location KeywordName.AdditionalItems) (at_most items_count)))) }
 {
     match ctx.keyword_location(alloc, KeywordName::AdditionalItems) {

@@ -1,32 +1,36 @@
 //! Compiles schemas, keyword by keyword.
 ghost use Rattle.std.specs.Prelude.{◌≡◌, ◌++◌, ◌∷◌};
-ghost use Rattle.jskw_array.specs.Words.{[], Asserts, Boolean, Compiles, Err, IfOk};
-ghost use Rattle.jskw_array.specs.Words.{IsTrue, Keywords, Makes, Object, Ok, Reading, Refusal};
+ghost use Rattle.jskw_array.specs.Words.{[], Asserts, Boolean, CompilesKeyword, Err, IfOk};
+ghost use Rattle.jskw_array.specs.Words.{IsTrue, Keywords, CompilesTo, Object, Ok, Reading, Refusal};
 ghost use Rattle.jskw_array.specs.Words.{MarksLengths, Result, Schema, Some, active_member, after};
-ghost use Rattle.jskw_array.specs.Words.{before, begin_fused, boolean_schema, each_of, fused_words};
+ghost use Rattle.jskw_array.specs.Words.{before, begin_fused, boolean_schema, each_of, fused_keywords};
 ghost use Rattle.jskw_array.specs.Words.{get_member, is_fused, is_leaf, items_view};
 ghost use Rattle.jskw_array.specs.Words.{keyword_location, keywords};
 ghost use Rattle.jskw_array.specs.Words.{keywords_of, map_ok, members_view, no_keywords, object, of_types};
-ghost use Rattle.jskw_array.specs.Words.{option_map, part_named, read, read_each, read_words};
-ghost use Rattle.jskw_array.specs.Words.{reading, schema_count, schemas_of, shape_keywords, true};
+ghost use Rattle.jskw_array.specs.Words.{option_map, readings_named, read, read_each, read_keywords};
+ghost use Rattle.jskw_array.specs.Words.{keyword_reading, array_schema_count, schemas_of, shape_keywords, true};
 ghost use Rattle.jskw_array.specs.Words.{validator_keyword, view, wrong};
-ghost use Rattle.jskw_array.specs.declared.unit.Unit.TheVariants as unit;
+ghost use Rattle.jskw_array.specs.declared.part.Part.TheVariants as part;
 
 use crate::each::of_schemas;
 use crate::items::{ArrayShapeValidator, array_shape_fusion};
-use crate::node::SchemaNode;
-use crate::unit::{PlacedValidator, Unit};
+use crate::node::Subschema;
+use crate::part::{LocatedValidator, Part};
+use crate::schema::SchemaNode;
 use crate::validator::Validator;
 use crate::{additional_items, contains, items, prefix_items};
 use jskw_leaf::required;
 use jskw_report::context::member_of;
 use jskw_report::{
-    CompilationResult, CompileFault, Context, KeywordName, Location, LocationSegment,
+    CompilationResult, CompileFault, Context, KeywordLocation, KeywordName, LocationSegment,
     ValidationErrorKind,
 };
 use jskw_value::{Json, JsonType, JsonTypeSet};
 use serde_json::{Map, Value};
 use std::alloc::{AllocError, Global};
+
+// The number of keywords of the fused shape, which are the first of all keywords.
+const FUSED: usize = 4;
 
 /// Compiles a schema and its subschemas: a boolean, or an object (JSON Schema Core 4.3). `ctx` has
 /// its keyword location and the settings. Keywords that are not active and unknown members are
@@ -39,19 +43,41 @@ use std::alloc::{AllocError, Global};
 ///   neither an object nor a boolean where a schema must be. The kind is `WrongType` with the types
 ///   boolean and object in the second case.
 /// - [`CompileFault::Memory`] if memory runs out. This says nothing about the schema.
-#[cycle(compile)]
 pub fn compile<'a, F: Json>(
     alloc: Global,
     ctx: &Context<'_, F>,
     schema: &'a Value,
 ) -> CompilationResult<'a, SchemaNode<F>>
-    ensures { Makes (λ s. s) result
+    ensures { CompilesTo (λ s. s) result
+        (read (view schema.now) ctx.now.setting ctx.now.location) }
+{
+    of_subschema(alloc, compile_subschema(alloc, ctx, schema))
+}
+
+// Returns the node of a schema that was compiled.
+fn of_subschema<'a, F: Json>(
+    alloc: Global,
+    compiled: CompilationResult<'a, Subschema<F>>,
+) -> CompilationResult<'a, SchemaNode<F>>
+    ensures { (read : Reading) → CompilesTo (λ s. s) compiled.entry read → CompilesTo (λ s. s) result read }
+{
+    Ok(SchemaNode::new(alloc, compiled?)?)
+}
+
+// Compiles a schema or a subschema.
+#[cycle(compile)]
+fn compile_subschema<'a, F: Json>(
+    alloc: Global,
+    ctx: &Context<'_, F>,
+    schema: &'a Value,
+) -> CompilationResult<'a, Subschema<F>>
+    ensures { CompilesTo (λ s. s) result
         (read (view schema.now) ctx.now.setting ctx.now.location) }
 {
     match schema {
         Value::Bool(accepts) => Ok(boolean_node(alloc, ctx, *accepts)?),
         Value::Object(parent) => compile_object(alloc, ctx, parent),
-        _ => Err(no_schema(alloc, ctx.location(), schema)),
+        _ => Err(no_schema(alloc, ctx.place(), schema)),
     }
 }
 
@@ -62,13 +88,13 @@ fn compile_object<'a, F: Json>(
     alloc: Global,
     ctx: &Context<'_, F>,
     parent: &'a Map<String, Value>,
-) -> CompilationResult<'a, SchemaNode<F>>
-    ensures { let ms = members_view parent.now.entries in Makes (λ s. s) result
+) -> CompilationResult<'a, Subschema<F>>
+    ensures { let ms = members_view parent.now.entries in CompilesTo (λ s. s) result
         (read (object ms) ctx.now.setting ctx.now.location) }
 {
-    let mut units = Vec::with_capacity(alloc, parent.len().min(KeywordName::ALL.len()))?;
-    let made = push_units(alloc, ctx, parent, &mut units);
-    node_of(alloc, ctx, parent, units, made)
+    let mut parts = Vec::with_capacity(alloc, parent.len().min(KeywordName::ALL.len()))?;
+    let made = push_parts(alloc, ctx, parent, &mut parts);
+    node_of(alloc, ctx, parent, parts, made)
 }
 
 // Returns the node of a boolean schema at the location of `ctx`.
@@ -77,82 +103,79 @@ fn boolean_node<F: Json>(
     alloc: Global,
     ctx: &Context<'_, F>,
     accepts: bool,
-) -> Result<SchemaNode<F>, AllocError>
+) -> Result<Subschema<F>, AllocError>
     ensures { IfOk result (λ node. node ≡ boolean_schema ctx.now.location accepts) }
 {
-    let location = ctx.location().copy(alloc)?;
-    Ok(SchemaNode::of_boolean(alloc, location, accepts))
+    let location = ctx.place().copy()?;
+    Ok(Subschema::of_boolean(alloc, location, accepts))
 }
 
-// Returns the node of an object, if its units were made. Not a part of the recursion, so that the
+// Returns the node of an object, if its parts were made. Not a part of the recursion, so that the
 // frames of a deep schema do without what this one needs.
 #[inline(never)]
 fn node_of<'a, F: Json>(
     alloc: Global,
     ctx: &Context<'_, F>,
     parent: &Map<String, Value>,
-    mut units: Vec<Unit<F>>,
+    mut parts: Vec<Part<F>>,
     made: CompilationResult<'a, ()>,
-) -> CompilationResult<'a, SchemaNode<F>>
+) -> CompilationResult<'a, Subschema<F>>
     requires made { let ms = members_view parent.now.entries in
-        Makes (λ _. keywords_of units.items) made
-        (read_words keywords ctx.now.setting ctx.now.location ms (λ name. part_named name ms)) }
-    requires fused { IfOk made (λ _. begin_fused units.items
+        CompilesTo (λ _. keywords_of parts.items) made
+        (read_keywords keywords ctx.now.setting ctx.now.location ms (λ name. readings_named name ms)) }
+    requires fused { IfOk made (λ _. begin_fused parts.items
         ≡ is_fused ctx.now.setting (members_view parent.now.entries)) }
-    ensures { Makes (λ s. s) result
+    ensures { CompilesTo (λ s. s) result
         (read (object (members_view parent.now.entries)) ctx.now.setting ctx.now.location) }
 {
     if let Err(fault) = made {
         return Err(fault);
     }
-    // a unit takes some hundred bytes
-    units.shrink_to_fit();
-    let location = ctx.location().copy(alloc)?;
-    Ok(SchemaNode::of_keywords(location, required::is_handed_on(ctx, parent), units))
+    // a part takes some 250 bytes
+    parts.shrink_to_fit();
+    let location = ctx.place().copy()?;
+    Ok(Subschema::of_keywords(location, required::is_handed_on(ctx, parent), parts))
 }
 
-// Appends the units of an object to an empty vector: its keywords in their order, where the first
-// four may be one unit.
+// Appends the parts of an object to an empty vector: its keywords in their order, where the first
+// four may be one part.
 #[inline(never)]
 #[cycle(compile)]
-fn push_units<'a, F: Json>(
+fn push_parts<'a, F: Json>(
     alloc: Global,
     ctx: &Context<'_, F>,
     parent: &'a Map<String, Value>,
-    units: &mut Vec<Unit<F>>,
+    parts: &mut Vec<Part<F>>,
 ) -> CompilationResult<'a, ()>
-    requires { units.old.items ≡ [] }
+    requires { parts.old.items ≡ [] }
     ensures made { let ms = members_view parent.now.entries in
-        Makes (λ _. keywords_of units.new.items) result
-        (read_words keywords ctx.now.setting ctx.now.location ms (λ name. part_named name ms)) }
-    ensures fused { IfOk result (λ _. begin_fused units.new.items
+        CompilesTo (λ _. keywords_of parts.new.items) result
+        (read_keywords keywords ctx.now.setting ctx.now.location ms (λ name. readings_named name ms)) }
+    ensures fused { IfOk result (λ _. begin_fused parts.new.items
         ≡ is_fused ctx.now.setting (members_view parent.now.entries)) }
 {
     if !array_shape_fusion(ctx, parent) {
-        return push_keywords(alloc, ctx, parent, &KeywordName::ALL, units);
+        return push_keywords(alloc, ctx, parent, &KeywordName::ALL, parts);
     }
-    push_shape(alloc, ctx, parent, units)?;
-    push_keywords(alloc, ctx, parent, &KeywordName::ALL[FUSED..], units)
+    push_shape(alloc, ctx, parent, parts)?;
+    push_keywords(alloc, ctx, parent, &KeywordName::ALL[FUSED..], parts)
 }
 
-// The number of keywords of the fused shape, which are the first of all keywords.
-const FUSED: usize = 4;
-
-// Appends the unit of an object with the fused shape to an empty vector.
+// Appends the part of an object with the fused shape to an empty vector.
 #[inline(never)]
 #[cycle(compile)]
 fn push_shape<'a, F: Json>(
     alloc: Global,
     ctx: &Context<'_, F>,
     parent: &'a Map<String, Value>,
-    units: &mut Vec<Unit<F>>,
+    parts: &mut Vec<Part<F>>,
 ) -> CompilationResult<'a, ()>
-    requires empty { units.old.items ≡ [] }
+    requires empty { parts.old.items ≡ [] }
     requires fused { IsTrue (is_fused ctx.now.setting (members_view parent.now.entries)) }
     ensures made { let ms = members_view parent.now.entries in
-        Makes (λ _. keywords_of units.new.items) result
-        (read_words fused_words ctx.now.setting ctx.now.location ms (λ name. part_named name ms)) }
-    ensures fused { IfOk result (λ _. begin_fused units.new.items ≡ true) }
+        CompilesTo (λ _. keywords_of parts.new.items) result
+        (read_keywords fused_keywords ctx.now.setting ctx.now.location ms (λ name. readings_named name ms)) }
+    ensures fused { IfOk result (λ _. begin_fused parts.new.items ≡ true) }
 {
     let Some(items) = member_of(parent, KeywordName::Items.as_str()) else {
         unreachable!();
@@ -160,7 +183,7 @@ fn push_shape<'a, F: Json>(
     push_compiled(
         alloc,
         ArrayShapeValidator::compile(alloc, ctx, parent, items),
-        units,
+        parts,
     )
 }
 
@@ -169,21 +192,21 @@ fn push_shape<'a, F: Json>(
 fn push_compiled<'a, F: Json>(
     alloc: Global,
     compiled: CompilationResult<'a, ArrayShapeValidator<F>>,
-    units: &mut Vec<Unit<F>>,
+    parts: &mut Vec<Part<F>>,
 ) -> CompilationResult<'a, ()>
-    requires { units.old.items ≡ [] }
-    ensures made { (read : Result Keywords Refusal) → Makes shape_keywords compiled.entry read
-        → Makes (λ _. keywords_of units.new.items) result read }
-    ensures fused { IfOk result (λ _. begin_fused units.new.items ≡ true) }
+    requires { parts.old.items ≡ [] }
+    ensures made { (read : Result Keywords Refusal) → CompilesTo shape_keywords compiled.entry read
+        → CompilesTo (λ _. keywords_of parts.new.items) result read }
+    ensures fused { IfOk result (λ _. begin_fused parts.new.items ≡ true) }
 {
-    units.push(Unit::Shape(Box::new(alloc, compiled?)?))?;
+    parts.push(Part::Shape(Box::new(alloc, compiled?)?))?;
     Ok(())
 }
 
 // Returns the fault for a value that is neither a boolean nor an object.
 #[inline(never)]
-fn no_schema<'a>(alloc: Global, location: &Location, value: &'a Value) -> CompileFault<'a>
-    ensures { Makes (λ (s : Schema). s) (Err result)
+fn no_schema<'a>(alloc: Global, location: &KeywordLocation, value: &'a Value) -> CompileFault<'a>
+    ensures { CompilesTo (λ (s : Schema). s) (Err result)
         (wrong (of_types Boolean Object) location.now (view value.now)) }
 {
     let types = JsonTypeSet::empty()
@@ -192,7 +215,7 @@ fn no_schema<'a>(alloc: Global, location: &Location, value: &'a Value) -> Compil
     CompileFault::wrong(alloc, ValidationErrorKind::of_types(types), location, value)
 }
 
-// Appends a unit for each of the given keywords that asserts something, in their order.
+// Appends a part for each of the given keywords that asserts something, in their order.
 #[inline(never)]
 #[cycle(compile)]
 fn push_keywords<'a, F: Json>(
@@ -200,15 +223,15 @@ fn push_keywords<'a, F: Json>(
     ctx: &Context<'_, F>,
     parent: &'a Map<String, Value>,
     keywords: &[KeywordName],
-    units: &mut Vec<Unit<F>>,
+    parts: &mut Vec<Part<F>>,
 ) -> CompilationResult<'a, ()>
     ensures made { let ms = members_view parent.now.entries in
-        Makes (λ _. keywords_of units.new.items) result
-        (after (keywords_of units.old.items)
-        (read_words keywords.now ctx.now.setting ctx.now.location ms
-        (λ name. part_named name ms))) }
-    ensures fused { IfOk result (λ _. begin_fused units.new.items
-        ≡ begin_fused units.old.items) }
+        CompilesTo (λ _. keywords_of parts.new.items) result
+        (after (keywords_of parts.old.items)
+        (read_keywords keywords.now ctx.now.setting ctx.now.location ms
+        (λ name. readings_named name ms))) }
+    ensures fused { IfOk result (λ _. begin_fused parts.new.items
+        ≡ begin_fused parts.old.items) }
 {
     let lengths = name_lengths(parent);
     for &keyword in keywords {
@@ -216,13 +239,13 @@ fn push_keywords<'a, F: Json>(
             continue;
         };
         let compiled = compile_keyword(alloc, ctx, parent, keyword, schema);
-        push_unit(alloc, ctx, keyword, compiled, units)?;
+        push_part(alloc, ctx, keyword, compiled, parts)?;
     }
     Ok(())
 }
 
-// Returns marks of the lengths of an object's names. The mark at an index is for names of so many
-// bytes, the last one for 16 and more.
+// Returns marks of the lengths of an object's names. The mark at an index is for names of that
+// many bytes, the last one for 16 and more.
 fn name_lengths(parent: &Map<String, Value>) -> [bool; 17]
     ensures { MarksLengths result (members_view parent.now.entries) }
 {
@@ -250,32 +273,32 @@ fn active_member<'a, F: Json>(
         return None;
     }
     let value = member_of(parent, name)?;
-    if keyword.stands(ctx) {
+    if keyword.is_active(ctx) {
         Some(value)
     } else {
         None
     }
 }
 
-// Appends the unit of a keyword that was compiled, if it asserts something.
+// Appends the part of a keyword that was compiled, if it asserts something.
 #[inline(never)]
 #[tactic(auto, using(crate::proofs::CompiledKeywords::appends_nothing, crate::proofs::CompiledKeywords::appends_refused))]
-fn push_unit<'a, F: Json>(
+fn push_part<'a, F: Json>(
     alloc: Global,
     ctx: &Context<'_, F>,
     keyword: KeywordName,
     compiled: Option<CompilationResult<'a, Validator<F>>>,
-    units: &mut Vec<Unit<F>>,
+    parts: &mut Vec<Part<F>>,
 ) -> CompilationResult<'a, ()>
-    ensures made { (read : Asserts) → Compiles validator_keyword compiled.entry read
-        → Makes (λ _. keywords_of units.new.items) result (after (keywords_of units.old.items)
+    ensures made { (read : Asserts) → CompilesKeyword validator_keyword compiled.entry read
+        → CompilesTo (λ _. keywords_of parts.new.items) result (after (keywords_of parts.old.items)
         (before (keyword_location ctx.now.location keyword) read (Ok no_keywords))) }
-    ensures fused { IfOk result (λ _. begin_fused units.new.items
-        ≡ begin_fused units.old.items) }
+    ensures fused { IfOk result (λ _. begin_fused parts.new.items
+        ≡ begin_fused parts.old.items) }
 {
     match compiled {
         None => Ok(()),
-        Some(Ok(validator)) => Ok(push_validator(alloc, ctx, keyword, validator, units)?),
+        Some(Ok(validator)) => Ok(push_validator(alloc, ctx, keyword, validator, parts)?),
         Some(Err(fault)) => Err(fault),
     }
 }
@@ -286,19 +309,38 @@ fn push_validator<F: Json>(
     ctx: &Context<'_, F>,
     keyword: KeywordName,
     validator: Validator<F>,
-    units: &mut Vec<Unit<F>>,
+    parts: &mut Vec<Part<F>>,
 ) -> Result<(), AllocError>
-    ensures { IfOk result (λ _. units.new.items ≡ units.old.items ++ unit.Keyword (record {
+    ensures { IfOk result (λ _. parts.new.items ≡ parts.old.items ++ part.Keyword (record {
       validator = validator;
       location = keyword_location ctx.now.location keyword;
     }) ∷ []) }
 {
-    let location = ctx.keyword_location(alloc, keyword);
-    units.push(Unit::Keyword(location.map(|location| PlacedValidator {
+    let location = location_of(alloc, ctx, keyword, &validator);
+    parts.push(Part::Keyword(location.map(|location| LocatedValidator {
         validator,
         location,
     })?))?;
     Ok(())
+}
+
+// Returns the location of a keyword: that of the validator's errors, if it is the same, else one that
+// is made. The errors of a limit of Draft 4 may have that of another keyword.
+fn location_of<F: Json>(
+    alloc: Global,
+    ctx: &Context<'_, F>,
+    keyword: KeywordName,
+    validator: &Validator<F>,
+) -> Result<KeywordLocation, AllocError>
+    ensures { IfOk result (λ location. location ≡ keyword_location ctx.now.location keyword) }
+{
+    if let Validator::Leaf(leaf) = validator {
+        let location = leaf.location();
+        if location.is_member(ctx.location(), keyword.as_str()) {
+            return location.copy();
+        }
+    }
+    ctx.keyword_location(alloc, keyword)
 }
 
 // Compiles a keyword of an object. Returns `None` if it asserts nothing.
@@ -312,8 +354,8 @@ fn compile_keyword<'a, F: Json>(
     keyword: KeywordName,
     schema: &'a Value,
 ) -> Option<CompilationResult<'a, Validator<F>>>
-    ensures { Compiles validator_keyword result
-        (reading keyword ctx.now (members_view parent.now.entries) (view schema.now)) }
+    ensures { CompilesKeyword validator_keyword result
+        (keyword_reading keyword ctx.now (members_view parent.now.entries) (view schema.now)) }
 {
     match keyword {
         KeywordName::Items => items::compile(alloc, ctx, parent, schema),
@@ -334,8 +376,8 @@ fn compile_leaf<'a, F: Json>(
     schema: &'a Value,
 ) -> Option<CompilationResult<'a, Validator<F>>>
     requires { is_leaf keyword ≡ true }
-    ensures { Compiles validator_keyword result
-        (reading keyword ctx.now (members_view parent.now.entries) (view schema.now)) }
+    ensures { CompilesKeyword validator_keyword result
+        (keyword_reading keyword ctx.now (members_view parent.now.entries) (view schema.now)) }
 {
     match jskw_leaf::compile(alloc, ctx, parent, keyword, schema)? {
         Ok(validator) => Some(Ok(Validator::Leaf(validator))),
@@ -350,12 +392,12 @@ pub(crate) fn compile_at<'a, F: Json>(
     ctx: &Context<'_, F>,
     keyword: KeywordName,
     schema: &'a Value,
-) -> CompilationResult<'a, SchemaNode<F>>
-    ensures { Makes (λ s. s) result (read (view schema.now) ctx.now.setting
+) -> CompilationResult<'a, Subschema<F>>
+    ensures { CompilesTo (λ s. s) result (read (view schema.now) ctx.now.setting
         (keyword_location ctx.now.location keyword)) }
 {
-    let below = below(alloc, ctx, keyword)?;
-    compile(alloc, &below, schema)
+    let below = ctx.new_at_keyword(alloc, keyword)?;
+    compile_subschema(alloc, &below, schema)
 }
 
 // Compiles the value of a keyword as an array of schemas, each for the item at its index. `ctx` is
@@ -368,11 +410,11 @@ pub(crate) fn compile_list<'a, F: Json>(
     is_prefix: bool,
     schemas: &'a Vec<Value>,
 ) -> CompilationResult<'a, Validator<F>>
-    ensures { Makes validator_keyword result (map_ok (each_of is_prefix)
+    ensures { CompilesTo validator_keyword result (map_ok (each_of is_prefix)
         (read_each (items_view schemas.now.items) ctx.now.setting
         (keyword_location ctx.now.location keyword) 0)) }
 {
-    let below = below(alloc, ctx, keyword)?;
+    let below = ctx.new_at_keyword(alloc, keyword)?;
     of_schemas(is_prefix, compile_each(alloc, &below, schemas.as_slice()))
 }
 
@@ -382,14 +424,14 @@ fn compile_each<'a, F: Json>(
     alloc: Global,
     ctx: &Context<'_, F>,
     schemas: &'a [Value],
-) -> CompilationResult<'a, Vec<SchemaNode<F>>>
-    ensures { Makes (λ nodes. schemas_of nodes.items) result
+) -> CompilationResult<'a, Vec<Subschema<F>>>
+    ensures { CompilesTo (λ nodes. schemas_of nodes.items) result
         (read_each (items_view schemas.now) ctx.now.setting ctx.now.location 0) }
 {
     let mut nodes = Vec::with_capacity(alloc, schemas.len())?;
     for index in 0..schemas.len() {
         let item = ctx.new_at_location(alloc, LocationSegment::Index(index))?;
-        push_node(compile(alloc, &item, &schemas[index]), &mut nodes)?;
+        push_node(compile_subschema(alloc, &item, &schemas[index]), &mut nodes)?;
     }
     Ok(nodes)
 }
@@ -397,34 +439,20 @@ fn compile_each<'a, F: Json>(
 // Appends a schema that was compiled.
 #[inline(never)]
 fn push_node<'a, F: Json>(
-    compiled: CompilationResult<'a, SchemaNode<F>>,
-    nodes: &mut Vec<SchemaNode<F>>,
+    compiled: CompilationResult<'a, Subschema<F>>,
+    nodes: &mut Vec<Subschema<F>>,
 ) -> CompilationResult<'a, ()>
-    ensures { (read : Reading) → Makes (λ s. s) compiled.entry read
-        → Makes (λ _. nodes.new.items) result
+    ensures { (read : Reading) → CompilesTo (λ s. s) compiled.entry read
+        → CompilesTo (λ _. nodes.new.items) result
         (map_ok (λ s. nodes.old.items ++ s ∷ []) read) }
 {
     nodes.push(compiled?)?;
     Ok(())
 }
 
-// Returns the context of the value of a keyword. Fails only if memory runs out.
-fn below<'s, F: Json>(
-    alloc: Global,
-    ctx: &Context<'s, F>,
-    keyword: KeywordName,
-) -> Result<Context<'s, F>, AllocError>
-    ensures { IfOk result (λ c. c ≡ record {
-      setting = ctx.now.setting;
-      location = keyword_location ctx.now.location keyword;
-    }) }
-{
-    Ok(ctx.at(ctx.keyword_location(alloc, keyword)?))
-}
-
 // Returns the number of schemas in the array under a name, or `None` if there is no array.
 pub(crate) fn schema_count(parent: &Map<String, Value>, name: &str) -> Option<usize>
-    ensures { result ≡ schema_count (get_member name.now (members_view parent.now.entries)) }
+    ensures { result ≡ array_schema_count (get_member name.now (members_view parent.now.entries)) }
 {
     match member_of(parent, name) {
         Some(value) => item_count(value),
@@ -434,7 +462,7 @@ pub(crate) fn schema_count(parent: &Map<String, Value>, name: &str) -> Option<us
 
 // Returns the number of items of an array, or `None` for other values.
 fn item_count(value: &Value) -> Option<usize>
-    ensures { result ≡ schema_count (Some (view value.now)) }
+    ensures { result ≡ array_schema_count (Some (view value.now)) }
 {
     match value {
         Value::Array(items) => Some(items.len()),

@@ -1,33 +1,24 @@
 //! `contains` (JSON Schema Core 10.3.1.3) with `minContains` and `maxContains` (JSON Schema
 //! Validation 6.4.4, 6.4.5).
 ghost use Rattle.std.specs.Prelude.{◌≡◌};
-ghost use Rattle.jskw_array.specs.Words.{Compiles, IfOk, Makes, Reading, bound_beside};
+ghost use Rattle.jskw_array.specs.Words.{CompilesKeyword, IfOk, CompilesTo, Reading, bound_beside};
 ghost use Rattle.jskw_array.specs.Words.{bound_value, bounds_between, bounds_of};
 ghost use Rattle.jskw_array.specs.Words.{contains as contains_keyword, map_ok, member_location};
-ghost use Rattle.jskw_array.specs.Words.{members_view, read_bounds, reading, validator_keyword};
+ghost use Rattle.jskw_array.specs.Words.{members_view, read_bounds, keyword_reading, validator_keyword};
 ghost use Rattle.jskw_array.specs.Words.{view};
 
 use crate::compiler::compile_at;
 use crate::matching::{ItemBounds, Matching};
-use crate::node::SchemaNode;
+use crate::node::Subschema;
+pub use crate::upstream::{
+    ContainsValidator, MaxContainsValidator, MinContainsValidator, MinMaxContainsValidator,
+};
 use crate::validator::Validator;
 use jskw_number::helpers::map_get_u64;
-use jskw_report::{CompilationResult, Context, Draft, KeywordName, LocationSegment, Vocabulary};
+use jskw_report::{CompilationResult, Context, Draft, KeywordName, Vocabulary};
 use jskw_value::Json;
 use serde_json::{Map, Value};
 use std::alloc::{AllocError, Global};
-
-/// The validator of `contains` without bounds.
-pub type ContainsValidator<F> = Matching<F>;
-
-/// The validator of `contains` with `minContains`.
-pub type MinContainsValidator<F> = Matching<F>;
-
-/// The validator of `contains` with `maxContains`.
-pub type MaxContainsValidator<F> = Matching<F>;
-
-/// The validator of `contains` with `minContains` and `maxContains`.
-pub type MinMaxContainsValidator<F> = Matching<F>;
 
 /// Compiles `contains`, whose value is a schema. Always returns `Some`. From 2019-09 on, with the
 /// validation vocabulary, reads the siblings `minContains` and `maxContains` too, overridden or
@@ -49,8 +40,8 @@ pub fn compile<'a, F: Json>(
     parent: &'a Map<String, Value>,
     schema: &'a Value,
 ) -> Option<CompilationResult<'a, Validator<F>>>
-    ensures { Compiles validator_keyword result
-        (reading KeywordName.Contains ctx.now (members_view parent.now.entries) (view schema.now)) }
+    ensures { CompilesKeyword validator_keyword result
+        (keyword_reading KeywordName.Contains ctx.now (members_view parent.now.entries) (view schema.now)) }
 {
     let bounds = match bounds_beside(alloc, ctx, parent) {
         Ok(bounds) => bounds,
@@ -69,7 +60,7 @@ fn bounds_beside<'a, F: Json>(
     ctx: &Context<'_, F>,
     parent: &'a Map<String, Value>,
 ) -> CompilationResult<'a, ItemBounds>
-    ensures { Makes bounds_of result
+    ensures { CompilesTo bounds_of result
         (read_bounds ctx.now.setting ctx.now.location (members_view parent.now.entries)) }
 {
     let min_contains = bound_beside(alloc, ctx, parent, "minContains")?;
@@ -85,7 +76,7 @@ fn bound_beside<'a, F: Json>(
     parent: &'a Map<String, Value>,
     name: &str,
 ) -> CompilationResult<'a, Option<u64>>
-    ensures { let ms = members_view parent.now.entries in Makes (λ bound. bound) result
+    ensures { let ms = members_view parent.now.entries in CompilesTo (λ bound. bound) result
         (bound_value (member_location ctx.now.location name.now)
         (bound_beside ctx.now.setting ms name.now)) }
 {
@@ -114,14 +105,15 @@ fn bounds_between<F: Json>(
     ensures { IfOk result (λ bounds. bounds_of bounds
         ≡ bounds_between ctx.now.location min_contains max_contains) }
 {
-    let min = LocationSegment::Name("minContains");
-    let max = LocationSegment::Name("maxContains");
-    let place = ctx.location();
+    let (min, max) = ("minContains", "maxContains");
     let (too_few_at, too_many_at) = match (min_contains, max_contains) {
         (None, None) => (ctx.keyword_location(alloc, KeywordName::Contains)?, None),
-        (Some(_), None) => (place.join(alloc, min)?, None),
-        (None, Some(_)) => (place.join(alloc, max)?, None),
-        (Some(_), Some(_)) => (place.join(alloc, min)?, Some(place.join(alloc, max)?)),
+        (Some(_), None) => (ctx.member_location(alloc, min)?, None),
+        (None, Some(_)) => (ctx.member_location(alloc, max)?, None),
+        (Some(_), Some(_)) => (
+            ctx.member_location(alloc, min)?,
+            Some(ctx.member_location(alloc, max)?),
+        ),
     };
     Ok(ItemBounds {
         lower: min_contains.unwrap_or(1),
@@ -135,10 +127,10 @@ fn bounds_between<F: Json>(
 #[inline(never)]
 fn of_schema<'a, F: Json>(
     bounds: ItemBounds,
-    compiled: CompilationResult<'a, SchemaNode<F>>,
+    compiled: CompilationResult<'a, Subschema<F>>,
 ) -> Option<CompilationResult<'a, Validator<F>>>
-    ensures { (read : Reading) → Makes (λ s. s) compiled.entry read
-        → Compiles validator_keyword result
+    ensures { (read : Reading) → CompilesTo (λ s. s) compiled.entry read
+        → CompilesKeyword validator_keyword result
         (Some (map_ok (λ sub. contains_keyword sub (bounds_of bounds)) read)) }
 {
     match compiled {

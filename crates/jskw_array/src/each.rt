@@ -1,13 +1,13 @@
 //! A schema for each item: `prefixItems` (JSON Schema Core 10.3.1.1), and `items` of an array of
 //! schemas (Draft 7 Validation 6.4.1). A non-array has no items.
 ghost use Rattle.std.specs.Prelude.{◌≡◌, ◌+◌, ◌≤◌};
-ghost use Rattle.jskw_array.specs.Words.{CountsUpTo, IsTrue, Makes, Refusal, Result};
+ghost use Rattle.jskw_array.specs.Words.{CountsUpTo, IfSome, IsTrue, CompilesTo, Refusal, Result};
 ghost use Rattle.jskw_array.specs.Words.{Schemas, drop, each_holds, each_needed, is_lawful};
 ghost use Rattle.jskw_array.specs.Words.{items, length, min, take, true};
-ghost use Rattle.jskw_array.specs.Words.{each_keyword, each_of, map_ok, one_keyword, schemas_of};
+ghost use Rattle.jskw_array.specs.Words.{each_keyword, each_of, keyword_holds, map_ok, one_keyword, schemas_of};
 ghost use Rattle.jskw_array.specs.Words.{validator_keyword};
 
-use crate::node::SchemaNode;
+use crate::node::Subschema;
 use crate::prefix_items::prefix_unit;
 use crate::validator::Validator;
 use jskw_report::{
@@ -21,16 +21,53 @@ use std::alloc::{AllocError, Global};
 #[cycle(schema)]
 #[derive(Drop)]
 pub struct Each<F: Json> {
-    pub(crate) nodes: Vec<SchemaNode<F>>,
+    pub(crate) nodes: Vec<Subschema<F>>,
     // the keyword is `prefixItems`, whose unit has an annotation; otherwise it is `items`
     pub(crate) is_prefix: bool,
 }
 
 impl<F: Json> Each<F> {
-    // Applies each schema to its item, as far as the schemas take them. Returns the index of the first
-    // item that its schema does not take, or `count`, if there is none.
+    // Returns the index of the first item that is not in the quick set of its schema, or `count`, if
+    // there is none.
     #[inline(always)]
-    fn take_items(&self, count: usize, instance: &F::Node, ctx: &mut ValidationContext) -> usize
+    fn first_not_accepted(&self, count: usize, instance: &F::Node) -> usize
+        requires lawful { IsTrue (is_lawful (F.Node.tree instance.now)) }
+        requires count { count ≡ min (length (items (F.Node.tree instance.now)))
+            (length self.now.nodes.items) }
+        ensures within { result ≤ count }
+        ensures valid { each_holds (schemas_of (take result self.now.nodes.items))
+            (items (F.Node.tree instance.now)) ≡ true }
+    {
+        for index in 0..count {
+            if !self.nodes[index].is_accepted(instance.item(index)) {
+                return index;
+            }
+        }
+        count
+    }
+
+    // Returns how many items of an array of `count` items have a schema, if each of these is in the
+    // quick set of its schema.
+    #[inline(always)]
+    pub(crate) fn accepted_count(&self, count: usize, instance: &F::Node) -> Option<usize>
+        requires lawful { IsTrue (is_lawful (F.Node.tree instance.now)) }
+        requires count { count ≡ length (items (F.Node.tree instance.now)) }
+        ensures valid { IfSome result (λ n.
+            keyword_holds (each_keyword self.now) (F.Node.tree instance.now) ≡ true) }
+        ensures count { IfSome result (λ n. n ≡ min count (length self.now.nodes.items)) }
+    {
+        let count = count.min(self.nodes.len());
+        if self.first_not_accepted(count, instance) == count {
+            Some(count)
+        } else {
+            None
+        }
+    }
+
+    // Applies each schema to its item, as far as the items are in the quick sets of their schemas.
+    // Returns the index of the first item that is not, or `count`, if there is none.
+    #[inline(always)]
+    fn skip_accepted(&self, count: usize, instance: &F::Node, ctx: &mut ValidationContext) -> usize
         requires lawful { IsTrue (is_lawful (F.Node.tree instance.now)) }
         requires count { count ≡ min (length (items (F.Node.tree instance.now)))
             (length self.now.nodes.items) }
@@ -40,14 +77,9 @@ impl<F: Json> Each<F> {
         ensures applied { min (ctx.old + result) u64.MAX ≤ ctx.new }
         ensures counted { CountsUpTo ctx.old ctx.new result }
     {
-        for index in 0..count {
-            if !self.nodes[index].takes(instance.item(index)) {
-                ctx.count_more(index);
-                return index;
-            }
-        }
-        ctx.count_more(count);
-        count
+        let index = self.first_not_accepted(count, instance);
+        ctx.count_more(index);
+        index
     }
 
     // Returns `is_valid` for the items from `first` on.
@@ -87,7 +119,7 @@ impl<F: Json> Validate<F> for Each<F> {
     #[cycle(is_valid)]
     fn is_valid(&self, instance: &F::Node, ctx: &mut ValidationContext) -> bool {
         let count = instance.item_count().min(self.nodes.len());
-        let first = self.take_items(count, instance, ctx);
+        let first = self.skip_accepted(count, instance, ctx);
         if first == count {
             return true;
         }
@@ -104,7 +136,7 @@ impl<F: Json> Validate<F> for Each<F> {
         report: &mut Report<'i, F>,
     ) -> Result<(), Stop> {
         let count = instance.item_count().min(self.nodes.len());
-        for index in self.take_items(count, instance, ctx)..count {
+        for index in self.skip_accepted(count, instance, ctx)..count {
             self.nodes[index].report_item(index, instance.item(index), location, ctx, report)?;
         }
         Ok(())
@@ -118,9 +150,10 @@ impl<F: Json> Validate<F> for Each<F> {
         location: &mut LazyLocation,
         ctx: &mut ValidationContext,
     ) -> Result<EvaluationResult, AllocError> {
-        let mut children = Vec::new(alloc);
         let schemas = self.nodes.len();
-        for index in 0..instance.item_count().min(schemas) {
+        let count = instance.item_count().min(schemas);
+        let mut children = Vec::with_capacity(alloc, count)?;
+        for index in 0..count {
             let item = instance.item(index);
             children.push(self.nodes[index].evaluate_item(alloc, index, item, location, ctx)?)?;
         }
@@ -135,11 +168,11 @@ impl<F: Json> Validate<F> for Each<F> {
 #[inline(never)]
 pub(crate) fn of_schemas<'a, F: Json>(
     is_prefix: bool,
-    compiled: CompilationResult<'a, Vec<SchemaNode<F>>>,
+    compiled: CompilationResult<'a, Vec<Subschema<F>>>,
 ) -> CompilationResult<'a, Validator<F>>
     ensures { (read : Result Schemas Refusal)
-        → Makes (λ nodes. schemas_of nodes.items) compiled.entry read
-        → Makes validator_keyword result (map_ok (each_of is_prefix) read) }
+        → CompilesTo (λ nodes. schemas_of nodes.items) compiled.entry read
+        → CompilesTo validator_keyword result (map_ok (each_of is_prefix) read) }
 {
     Ok(Validator::Each(Each {
         nodes: compiled?,

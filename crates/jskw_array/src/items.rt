@@ -1,17 +1,19 @@
 //! `items`: one schema, for every item that `prefixItems` has no schema for (JSON Schema Core
 //! 10.3.1.2), or an array of schemas, each for the item at its index (Draft 7 Validation 6.4.1).
 ghost use Rattle.std.specs.Prelude.{◌≡◌};
-ghost use Rattle.jskw_array.specs.Words.{Compiles, IsTrue, Makes, is_bare, is_inlined_type};
+ghost use Rattle.jskw_array.specs.Words.{CompilesKeyword, IsTrue, CompilesTo, is_bare, is_inlined_type};
 ghost use Rattle.jskw_array.specs.Words.{is_items_schema, is_list, is_only_type, items_from};
 ghost use Rattle.jskw_array.specs.Words.{items_start, keyword_location, map_ok, member_passes};
-ghost use Rattle.jskw_array.specs.Words.{members_view, read, reading, validator_keyword, view};
+ghost use Rattle.jskw_array.specs.Words.{members_view, read, keyword_reading, validator_keyword, view};
 
 mod array_shape;
 mod inline;
 
 use crate::compiler::{compile_at, compile_list, schema_count};
-use crate::each::Each;
-use crate::rest::{Rest, of_schema};
+use crate::rest::of_schema;
+pub use crate::upstream::{
+    ItemsArrayValidator, ItemsObjectSkipPrefixValidator, ItemsObjectValidator,
+};
 use crate::validator::Validator;
 pub use array_shape::ArrayShapeValidator;
 use inline::compile_inline;
@@ -21,19 +23,10 @@ pub use jskw_leaf::items::{
     NumberItems, StringItems, array_shape_fusion,
 };
 use jskw_report::context::member_of;
-use jskw_report::{CompilationResult, CompileFault, Context, Draft, KeywordName};
+use jskw_report::{CompilationResult, Context, Draft, KeywordName};
 use jskw_value::Json;
 use serde_json::{Map, Value};
 use std::alloc::Global;
-
-/// The validator of `items` of an array of schemas.
-pub type ItemsArrayValidator<F> = Each<F>;
-
-/// The validator of `items` of one schema, for every item.
-pub type ItemsObjectValidator<F> = Rest<F>;
-
-/// The validator of `items` of one schema, for the items behind those of `prefixItems`.
-pub type ItemsObjectSkipPrefixValidator<F> = Rest<F>;
 
 /// Compiles `items`. The value is an array of schemas, each for the item at its index, or one
 /// schema: an object or `false`. In 2020-12 one schema is for the items behind those that an array
@@ -52,8 +45,8 @@ pub fn compile<'a, F: Json>(
     parent: &'a Map<String, Value>,
     schema: &'a Value,
 ) -> Option<CompilationResult<'a, Validator<F>>>
-    ensures { Compiles validator_keyword result
-        (reading KeywordName.Items ctx.now (members_view parent.now.entries) (view schema.now)) }
+    ensures { CompilesKeyword validator_keyword result
+        (keyword_reading KeywordName.Items ctx.now (members_view parent.now.entries) (view schema.now)) }
 {
     if let Some(schemas) = schema.as_array() {
         return Some(compile_list(alloc, ctx, KeywordName::Items, false, schemas));
@@ -74,7 +67,7 @@ pub(crate) fn compile_schema<'a, F: Json>(
     schema: &'a Value,
 ) -> CompilationResult<'a, Validator<F>>
     requires { IsTrue (is_items_schema (view schema.now)) }
-    ensures { let ms = members_view parent.now.entries in Makes validator_keyword result
+    ensures { let ms = members_view parent.now.entries in CompilesTo validator_keyword result
         (map_ok (λ sub. items_from (items_start ctx.now.setting ms) sub
         (is_bare ctx.now.setting ms (view schema.now)))
         (read (view schema.now) ctx.now.setting
@@ -99,7 +92,7 @@ fn is_bare<F: Json>(ctx: &Context<'_, F>, parent: &Map<String, Value>, schema: &
         ≡ is_bare ctx.now.setting (members_view parent.now.entries) (view schema.now) }
 {
     is_only_type(schema)
-        && KeywordName::TypeKeyword.stands(ctx)
+        && KeywordName::TypeKeyword.is_active(ctx)
         && !(ctx.draft() == Draft::Draft202012 && has_array(parent, "prefixItems"))
 }
 

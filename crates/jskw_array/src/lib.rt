@@ -1,5 +1,4 @@
-//! The keywords of JSON Schema that have subschemas, and whole schemas of the value and array
-//! keywords.
+//! Whole schemas of the value and array keywords, and the keywords that have subschemas.
 //!
 //! [`compile`] turns a schema into a [`SchemaNode`], which validates instances: `is_valid`,
 //! `validate`, `collect_errors`, `evaluate_instance`. These four have one condition: the instance
@@ -19,9 +18,12 @@ pub mod laws;
 pub mod matching;
 pub mod node;
 mod outline;
+mod part;
 pub mod prefix_items;
+mod quick_arrays;
 pub mod rest;
-mod unit;
+mod schema;
+pub mod upstream;
 pub mod validator;
 
 pub use compiler::compile;

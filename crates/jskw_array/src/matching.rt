@@ -6,10 +6,10 @@ ghost use Rattle.jskw_array.specs.Words.{deciding_count, failing_bound, failing_
 ghost use Rattle.jskw_array.specs.Words.{is_lawful, items, length, locations_of, matching_keyword};
 ghost use Rattle.jskw_array.specs.Words.{matching_result, needed, one_keyword, result_of, sum_by};
 
-use crate::node::SchemaNode;
+use crate::node::Subschema;
 use jskw_report::validator::report_error;
 use jskw_report::{
-    Annotations, ErrorDescription, EvaluationNode, EvaluationResult, LazyLocation, Location,
+    Annotations, ErrorDescription, EvaluationNode, EvaluationResult, KeywordLocation, LazyLocation,
     Report, Stop, Validate, ValidationContext, ValidationError, ValidationErrorKind,
 };
 use jskw_value::{Array, Json, Node};
@@ -17,13 +17,13 @@ use std::alloc::{AllocError, Global};
 
 /// How many items must match, and the keyword locations of a failure with too few and with too many
 /// matches.
-#[derive(Drop)]
+#[derive(Debug, Drop)]
 pub struct ItemBounds {
     pub(crate) lower: u64,
     pub(crate) upper: Option<u64>,
-    pub(crate) too_few_at: Location,
+    pub(crate) too_few_at: KeywordLocation,
     // None if it is the same location
-    pub(crate) too_many_at: Option<Location>,
+    pub(crate) too_many_at: Option<KeywordLocation>,
 }
 
 impl ItemBounds {
@@ -40,7 +40,7 @@ impl ItemBounds {
 
     // Returns the keyword location of the error for this number of matches, or `None` if it is
     // within the bounds.
-    fn failing_location(&self, matches: u64) -> Option<&Location>
+    fn failing_location(&self, matches: u64) -> Option<&KeywordLocation>
         ensures { locations_of result ≡ failing_bound (bounds_of self.now) matches }
     {
         match (self.upper, &self.too_many_at) {
@@ -57,7 +57,7 @@ impl ItemBounds {
 #[cycle(schema)]
 #[derive(Drop)]
 pub struct Matching<F: Json> {
-    pub(crate) node: SchemaNode<F>,
+    pub(crate) node: Subschema<F>,
     pub(crate) bounds: ItemBounds,
 }
 
@@ -66,7 +66,11 @@ impl<F: Json> Matching<F> {
     // the schema to no more items than the result needs.
     #[inline(never)]
     #[cycle(is_valid)]
-    fn failing_location(&self, instance: &F::Node, ctx: &mut ValidationContext) -> Option<&Location>
+    fn failing_location(
+        &self,
+        instance: &F::Node,
+        ctx: &mut ValidationContext,
+    ) -> Option<&KeywordLocation>
         requires { IsTrue (is_lawful (F.Node.tree instance.now)) }
         ensures answer { let t = F.Node.tree instance.now in locations_of result
             ≡ failing_locations (bounds_of self.now.bounds)
@@ -110,7 +114,13 @@ impl<F: Json> Matching<F> {
         {
             let kind = ValidationErrorKind::Contains;
             let path = location.render()?;
-            let error: ValidationError<F> = ValidationError::new(kind, path, schema_path, instance);
+            let error: ValidationError<F> = ValidationError::at_keyword(
+                alloc,
+                kind,
+                path,
+                schema_path,
+                instance,
+            )?;
             let mut errors = Vec::new(alloc);
             errors.push(ErrorDescription::from_validation_error::<F>(alloc, &error)?)?;
             return Ok(EvaluationResult::invalid_empty(alloc, errors));

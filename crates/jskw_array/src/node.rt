@@ -1,52 +1,49 @@
 //! A compiled schema: the validators of its keywords, in the order in which a schema is read.
 ghost use Rattle.std.specs.Prelude.{◌≡◌, ◌+◌, ◌-◌, ◌≤◌};
-ghost use Rattle.jskw_array.specs.Words.{[], Appends, Begins, CountsUpTo, HasUnits, IfOk};
-ghost use Rattle.jskw_array.specs.Words.{IfSome, IsFirst, IsTrue, LeftUnits, Reports};
+ghost use Rattle.jskw_array.specs.Words.{[], Appends, IsBeginning, CountsUpTo, HasParts, IfOk};
+ghost use Rattle.jskw_array.specs.Words.{IfSome, IsFirst, IsTrue, LeftParts, Reports};
 ghost use Rattle.jskw_array.specs.Words.{applications};
-ghost use Rattle.jskw_array.specs.Words.{boolean_schema, each_hands_on, fail, false_schema};
+ghost use Rattle.jskw_array.specs.Words.{boolean_schema, schemas_delegate, fail, false_schema};
 ghost use Rattle.jskw_array.specs.Words.{hands_on_required, keeps_list};
 ghost use Rattle.std.specs.Prelude.{if◌then◌else◌};
 ghost use Rattle.jskw_array.specs.Words.{drop, holds, is_fused_schema, is_lawful, is_some};
 ghost use Rattle.jskw_array.specs.Words.{items, length, limited, list_all, take};
 ghost use Rattle.jskw_array.specs.Words.{item_location, keywords_in, keywords_of, marked, min};
 ghost use Rattle.jskw_array.specs.Words.{needed, pairs, path_of, schema_location, schema_object};
-ghost use Rattle.jskw_array.specs.Words.{schemas_of, shape_keywords, tree, true};
+ghost use Rattle.jskw_array.specs.Words.{ArraysAreValid, schemas_of, shape_keywords, sum_by, tree, true};
 
 use crate::items::ArrayShapeValidator;
-use crate::unit::{
-    BegunUnits, Unit, begun_units, evaluate_units, quick_set_of, report_units, some_unit_hands_on,
-    units_are_valid,
+use crate::part::{
+    Part, SettledParts, evaluate_parts, parts_are_valid, quick_set_of, report_parts, settled_parts,
+    some_part_delegates,
 };
+use crate::quick_arrays::QuickArrays;
+pub use crate::schema::SchemaNode;
 pub use crate::validator::Validator;
 use jskw_number::QuickSet;
 use jskw_report::validator::{evaluate_first, report_error};
 use jskw_report::{
-    EvaluationNode, EvaluationResult, Fault, LazyLocation, Location, Report, Stop, Validate,
+    EvaluationNode, EvaluationResult, Fault, KeywordLocation, LazyLocation, Report, Stop, Validate,
     ValidationContext, ValidationError, ValidationErrorKind,
 };
 use jskw_value::Json;
 use std::alloc::{AllocError, Global};
 use std::marker::Model;
 
-/// A compiled schema over the representation `F`. It keeps no reference to the schema's value, the
-/// settings or the context, and validating changes nothing in it: one node serves for any number of
-/// instances.
-///
-/// Each of its observers has one condition: the instance is lawful, that is, it contains no float;
-/// `Node::is_lawful` returns whether it is. In contracts a node is the schema that it was compiled
-/// from, keyword by keyword.
+// A schema or a subschema, compiled over the representation `F`: what a `SchemaNode` holds. Each of
+// its observers has the condition and the contract of the one of `SchemaNode`.
 #[cycle(schema)]
 #[derive(Drop)]
-pub struct SchemaNode<F: Json> {
-    location: Location,
-    // the `required` of this schema is handed on
-    hands_on: bool,
-    // the `required` of this schema or of a subschema is handed on
-    hands_on_any: bool,
+pub(crate) struct Subschema<F: Json> {
+    location: KeywordLocation,
+    // the `required` of this schema is delegated
+    delegates: bool,
+    // the `required` of this schema or of a subschema is delegated
+    delegates_any: bool,
     // values that are valid against the schema, tested before its keywords
     accepted: QuickSet,
-    // the units that hold of arrays and objects whose items and members are not looked at
-    begun: BegunUnits,
+    // the parts that hold of arrays and objects whose items and members are not looked at
+    settled: SettledParts,
     assertions: Assertions<F>,
 }
 
@@ -56,11 +53,11 @@ pub struct SchemaNode<F: Json> {
 enum Assertions<F: Json> {
     // The schema `false`.
     Never,
-    // The keywords of an object, none for `true`. A fused shape is the first unit.
-    Keywords(Vec<Unit<F>>),
+    // The keywords of an object, none for `true`. A fused shape is the first part.
+    Keywords(Vec<Part<F>>),
 }
 
-impl<F: Json> Model for SchemaNode<F> {
+impl<F: Json> Model for Subschema<F> {
     ghost use Rattle.jskw_report.specs.Keyword.{Schema, hands_on_required};
     ghost use Rattle.jskw_report.specs.SchemaCode.{schema_code};
 
@@ -70,14 +67,14 @@ impl<F: Json> Model for SchemaNode<F> {
 
     ghost use Rattle.std.specs.Prelude.{◌≡◌};
     ghost use Rattle.jskw_report.specs.Applications.{height};
-    ghost use Rattle.jskw_array.specs.Node.{AllValid, SchemaBegins, schema_of};
+    ghost use Rattle.jskw_array.specs.Node.{AllValid, SchemaSettles, schema_of};
 
-    ghost view = { λ n. schema_of n.location n.hands_on n.assertions };
+    ghost view = { λ n. schema_of n.location n.delegates n.assertions };
 
     ghost invariant = { λ n.
-        (n.hands_on_any ≡ hands_on_required (schema_of n.location n.hands_on n.assertions))
-        × AllValid n.accepted (schema_of n.location n.hands_on n.assertions)
-        × SchemaBegins n.begun n.assertions };
+        (n.delegates_any ≡ hands_on_required (schema_of n.location n.delegates n.assertions))
+        × AllValid n.accepted (schema_of n.location n.delegates n.assertions)
+        × SchemaSettles n.settled n.assertions };
 
     ghost size = { height };
 
@@ -87,13 +84,17 @@ impl<F: Json> Model for SchemaNode<F> {
     ghost size_decreases = { λ n h. omega (
       arith,
       height_falls F.Node.Rooted F.Node.Object
-          F.Node.Number.JsonNumber n.location n.hands_on n.assertions,
+          F.Node.Number.JsonNumber n.location n.delegates n.assertions,
     ) };
 }
 
-impl<F: Json> SchemaNode<F> {
+impl<F: Json> Subschema<F> {
     // Creates the node of a boolean schema. That of `true` has no keywords.
-    pub(crate) fn of_boolean(alloc: Global, location: Location, accepts: bool) -> SchemaNode<F>
+    pub(crate) fn of_boolean(
+        alloc: Global,
+        location: KeywordLocation,
+        accepts: bool,
+    ) -> Subschema<F>
         ensures { result ≡ boolean_schema location accepts }
     {
         let (accepted, assertions) = if accepts {
@@ -101,112 +102,123 @@ impl<F: Json> SchemaNode<F> {
         } else {
             (QuickSet::none(), Assertions::Never)
         };
-        SchemaNode {
+        Subschema {
             location,
-            hands_on: false,
-            hands_on_any: false,
+            delegates: false,
+            delegates_any: false,
             accepted,
-            begun: BegunUnits::none(),
+            settled: SettledParts::none(),
             assertions,
         }
     }
 
-    // Creates the node of a schema with these keywords. `hands_on` is whether its own `required` is
-    // handed on.
+    // Creates the node of a schema with these keywords. `delegates` is whether its own `required` is
+    // delegated.
     pub(crate) fn of_keywords(
-        location: Location,
-        hands_on: bool,
-        units: Vec<Unit<F>>,
-    ) -> SchemaNode<F>
-        ensures { result ≡ schema_object location (marked hands_on units.items)
-            (keywords_of units.items) }
+        location: KeywordLocation,
+        delegates: bool,
+        parts: Vec<Part<F>>,
+    ) -> Subschema<F>
+        ensures { result ≡ schema_object location (marked delegates parts.items)
+            (keywords_of parts.items) }
     {
-        let hands_on_any = hands_on || some_unit_hands_on(units.as_slice());
-        let accepted = quick_set_of(units.as_slice());
-        let begun = begun_units(units.as_slice());
-        SchemaNode {
+        let delegates_any = delegates || some_part_delegates(parts.as_slice());
+        let accepted = quick_set_of(parts.as_slice());
+        let settled = settled_parts(parts.as_slice());
+        Subschema {
             location,
-            hands_on,
-            hands_on_any,
+            delegates,
+            delegates_any,
             accepted,
-            begun,
-            assertions: Assertions::Keywords(units),
+            settled,
+            assertions: Assertions::Keywords(parts),
         }
     }
 
-    /// Returns the schema's keyword location (JSON Schema Core 12.3.1).
-    pub fn location(&self) -> &Location
+    // Returns the keyword location of the schema.
+    pub(crate) fn location(&self) -> &KeywordLocation
         ensures { result.now ≡ schema_location self.now }
     {
         &self.location
     }
 
-    /// Returns whether the `required` of the schema or of a subschema is handed on: it asserts
-    /// nothing here, and is left to the object layer, as
-    /// [`is_handed_on`](jskw_leaf::required::is_handed_on) says.
-    pub fn hands_on_required(&self) -> bool
+    // Returns whether the `required` of the schema or of a subschema is delegated.
+    pub(crate) fn hands_on_required(&self) -> bool
         ensures { result ≡ hands_on_required self.now }
     {
-        self.hands_on_any
+        self.delegates_any
     }
 
-    /// Returns the validator of `type`, `minItems`, `maxItems` and `items`, if they are checked
-    /// together: exactly if [`array_shape_fusion`](crate::items::array_shape_fusion) returns true
-    /// for the schema.
-    pub fn array_shape(&self) -> Option<&ArrayShapeValidator<F>>
+    // Returns the validator of the fused shape, if the schema has it.
+    pub(crate) fn array_shape(&self) -> Option<&ArrayShapeValidator<F>>
         ensures fused { is_some result ≡ is_fused_schema self.now }
-        ensures keywords { IfSome result (λ v. Begins (shape_keywords v.now)
+        ensures keywords { IfSome result (λ v. IsBeginning (shape_keywords v.now)
             (keywords_in self.now)) }
     {
-        match self.units()? {
+        match self.parts()? {
             [first, ..] => first.shape(),
             [] => None,
         }
     }
 
-    // Returns the units of the schema, or `None` for `false`.
-    fn units(&self) -> Option<&[Unit<F>]>
-        ensures { HasUnits self.now result }
+    // Returns the parts of the schema, or `None` for `false`.
+    fn parts(&self) -> Option<&[Part<F>]>
+        ensures { HasParts self.now result }
     {
         match &self.assertions {
             Assertions::Never => None,
-            Assertions::Keywords(units) => Some(units.as_slice()),
+            Assertions::Keywords(parts) => Some(parts.as_slice()),
         }
     }
 
-    // Counts one application of the schema, and returns the units that are not known to hold of the
+    // Counts one application of the schema, and returns the parts that are not known to hold of the
     // instance, or `None` for `false`.
-    fn apply(&self, instance: &F::Node, ctx: &mut ValidationContext) -> Option<&[Unit<F>]>
-        ensures units { LeftUnits self.now (F.Node.tree instance.now) result }
+    fn apply(&self, instance: &F::Node, ctx: &mut ValidationContext) -> Option<&[Part<F>]>
+        ensures parts { LeftParts self.now (F.Node.tree instance.now) result }
         ensures applied { min (ctx.old + 1) u64.MAX ≤ ctx.new }
         ensures counted { CountsUpTo ctx.old ctx.new 1 }
     {
         ctx.count_one();
-        let units = match &self.assertions {
+        let parts = match &self.assertions {
             Assertions::Never => return None,
-            Assertions::Keywords(units) => units.as_slice(),
+            Assertions::Keywords(parts) => parts.as_slice(),
         };
-        if self.begun.count > 0 && self.begun.outline.contains(instance) {
-            Some(&units[self.begun.count..])
+        if self.settled.count > 0 && self.settled.outline.contains(instance) {
+            Some(&parts[self.settled.count..])
         } else {
-            Some(units)
+            Some(parts)
         }
     }
 
     // Returns whether the instance is known to be valid without a look at the keywords.
     #[inline(always)]
-    pub(crate) fn takes(&self, instance: &F::Node) -> bool
+    pub(crate) fn is_accepted(&self, instance: &F::Node) -> bool
         requires { IsTrue (is_lawful (F.Node.tree instance.now)) }
         ensures { result ≡ true → holds self.now (F.Node.tree instance.now) ≡ true }
     {
         self.accepted.contains(instance)
     }
 
+    // Returns the index of the first item from `start` on that is not in the quick set, or `count`, if
+    // there is none. `count` is the number of items.
+    #[inline(always)]
+    pub(crate) fn first_not_accepted(&self, start: usize, count: usize, instance: &F::Node) -> usize
+        requires lawful { IsTrue (is_lawful (F.Node.tree instance.now)) }
+        requires count { count ≡ length (items (F.Node.tree instance.now)) }
+        requires start { start ≤ count }
+        ensures from { start ≤ result }
+        ensures within { result ≤ count }
+        ensures valid { list_all (holds self.now) (take (result - start)
+            (drop start (items (F.Node.tree instance.now)))) ≡ true }
+    {
+        self.accepted.first_outside(start, count, instance)
+    }
+
     // Applies the schema to the items from `start` on, as far as it takes them. Returns the index of
     // the first that it does not take; if there is none, `count`, the number of items, or `start` if
     // that is past them.
     #[inline(always)]
-    pub(crate) fn take_items(
+    fn skip_accepted(
         &self,
         start: usize,
         count: usize,
@@ -225,38 +237,103 @@ impl<F: Json> SchemaNode<F> {
         if start >= count {
             return start;
         }
-        let index = self.accepted.first_outside(start, count, instance);
+        let index = self.first_not_accepted(start, count, instance);
         ctx.count_more(index - start);
         index
+    }
+
+    // Returns arrays that are known to be valid by their length and the quick sets of their items, or
+    // `None` if the schema asks for more.
+    fn quick_arrays(&self) -> Option<QuickArrays<'_, F>>
+        ensures { IfSome result (λ q. ArraysAreValid self.now q) }
+    {
+        let parts = match &self.assertions {
+            Assertions::Never => return None,
+            Assertions::Keywords(parts) => parts.as_slice(),
+        };
+        QuickArrays::of_parts(self.settled.outline, &parts[self.settled.count..])
+    }
+
+    // Applies the schema to the items from `start` on, as far as they are arrays whose items are in
+    // quick sets. Returns the index of the first that is not, or `count`, the number of items.
+    fn skip_arrays(
+        &self,
+        start: usize,
+        count: usize,
+        instance: &F::Node,
+        ctx: &mut ValidationContext,
+    ) -> usize
+        requires lawful { IsTrue (is_lawful (F.Node.tree instance.now)) }
+        requires count { count ≡ length (items (F.Node.tree instance.now)) }
+        requires start { start ≤ count }
+        ensures from { start ≤ result }
+        ensures within { result ≤ count }
+        ensures valid { list_all (holds self.now) (take (result - start)
+            (drop start (items (F.Node.tree instance.now)))) ≡ true }
+        ensures applied { min (ctx.old + (result - start)) u64.MAX ≤ ctx.new }
+        ensures counted { CountsUpTo ctx.old ctx.new (sum_by (needed self.now)
+            (take (result - start) (drop start (items (F.Node.tree instance.now))))) }
+    {
+        match self.quick_arrays() {
+            Some(arrays) => arrays.skip(start, count, instance, ctx),
+            None => start,
+        }
+    }
+
+    // Applies the schema to the items from `start` on, as far as `skip_accepted` does, and then as far
+    // as `skip_arrays` does. Returns the index of the first that neither passes over; if there is
+    // none, `count`, the number of items, or `start` if that is past them.
+    #[inline(always)]
+    pub(crate) fn skip_valid(
+        &self,
+        start: usize,
+        count: usize,
+        instance: &F::Node,
+        ctx: &mut ValidationContext,
+    ) -> usize
+        requires lawful { IsTrue (is_lawful (F.Node.tree instance.now)) }
+        requires count { count ≡ length (items (F.Node.tree instance.now)) }
+        ensures from { start ≤ result }
+        ensures within { result - start ≤ length (drop start (items (F.Node.tree instance.now))) }
+        ensures valid { list_all (holds self.now) (take (result - start)
+            (drop start (items (F.Node.tree instance.now)))) ≡ true }
+        ensures applied { min (ctx.old + (result - start)) u64.MAX ≤ ctx.new }
+        ensures counted { CountsUpTo ctx.old ctx.new (sum_by (needed self.now)
+            (take (result - start) (drop start (items (F.Node.tree instance.now))))) }
+    {
+        let first = self.skip_accepted(start, count, instance, ctx);
+        if first >= count {
+            return first;
+        }
+        self.skip_arrays(first, count, instance, ctx)
     }
 
     // Applies the schema to an instance that is known to be valid without a look at the keywords.
     // Returns whether it is; if not, nothing is applied.
     #[inline(always)]
-    pub(crate) fn accepts(&self, instance: &F::Node, ctx: &mut ValidationContext) -> bool
+    pub(crate) fn apply_if_accepted(&self, instance: &F::Node, ctx: &mut ValidationContext) -> bool
         requires { IsTrue (is_lawful (F.Node.tree instance.now)) }
         ensures valid { result ≡ true → holds self.now (F.Node.tree instance.now) ≡ true }
         ensures applied { result ≡ true → min (ctx.old + 1) u64.MAX ≤ ctx.new }
         ensures counted { CountsUpTo ctx.old ctx.new (if result then 1 else 0) }
     {
-        let accepted = self.takes(instance);
+        let accepted = self.is_accepted(instance);
         if accepted {
             ctx.count_one();
         }
         accepted
     }
 
-    /// Returns whether the instance, which must be lawful, is valid (JSON Schema Core 7.6). Stops
-    /// at the first failure. Allocates nothing.
+    // Returns whether the instance is valid.
     #[inline(always)]
     #[cycle(is_valid)]
-    pub fn is_valid(&self, instance: &F::Node, ctx: &mut ValidationContext) -> bool
+    pub(crate) fn is_valid(&self, instance: &F::Node, ctx: &mut ValidationContext) -> bool
         requires { IsTrue (is_lawful (F.Node.tree instance.now)) }
         ensures answer { result ≡ holds self.now (F.Node.tree instance.now) }
         ensures applied { min (ctx.old + 1) u64.MAX ≤ ctx.new }
         ensures counted { CountsUpTo ctx.old ctx.new (needed self.now (F.Node.tree instance.now)) }
     {
-        self.accepts(instance, ctx) || self.keywords_are_valid(instance, ctx)
+        self.apply_if_accepted(instance, ctx) || self.keywords_are_valid(instance, ctx)
     }
 
     // `is_valid` by the keywords.
@@ -268,24 +345,18 @@ impl<F: Json> SchemaNode<F> {
         ensures applied { min (ctx.old + 1) u64.MAX ≤ ctx.new }
         ensures counted { CountsUpTo ctx.old ctx.new (needed self.now (F.Node.tree instance.now)) }
     {
-        let Some(units) = self.apply(instance, ctx) else {
+        let Some(parts) = self.apply(instance, ctx) else {
             return false;
         };
-        match units {
-            [unit] => unit.is_valid(instance, ctx),
-            _ => units_are_valid(units, instance, ctx),
+        match parts {
+            [part] => part.is_valid(instance, ctx),
+            _ => parts_are_valid(parts, instance, ctx),
         }
     }
 
-    /// Returns `Ok` if the instance, which must be lawful, is valid. `location` is the location of
-    /// the instance (JSON Schema Core 12.3.3), and is unchanged at every return.
-    ///
-    /// # Errors
-    ///
-    /// - [`Fault::Invalid`] with the first error if the instance is invalid.
-    /// - [`Fault::Memory`] if memory runs out. This says nothing about the instance.
+    // Returns `Ok` if the instance is valid, else the first error.
     #[inline(always)]
-    pub fn validate<'i>(
+    pub(crate) fn validate<'i>(
         &'i self,
         instance: &'i F::Node,
         location: &mut LazyLocation,
@@ -298,7 +369,7 @@ impl<F: Json> SchemaNode<F> {
         ensures applied { min (ctx.old + 1) u64.MAX ≤ ctx.new }
         ensures counted { CountsUpTo ctx.old ctx.new (needed self.now (F.Node.tree instance.now)) }
     {
-        if self.accepts(instance, ctx) {
+        if self.apply_if_accepted(instance, ctx) {
             return Ok(());
         }
         self.validate_keywords(instance, location, ctx)
@@ -321,14 +392,12 @@ impl<F: Json> SchemaNode<F> {
     {
         let mut report = Report::First(None);
         let reported = self.report_errors(instance, location, ctx, &mut report);
-        report.into_first(reported)
+        report.first_result(reported)
     }
 
-    /// Appends all errors of the instance, which must be lawful, to `errors`, in order. `location`
-    /// is the location of the instance (JSON Schema Core 12.3.3), and is unchanged at every return.
-    /// If memory runs out, `errors` keeps its old entries, followed by a beginning of the new ones.
+    // Appends all errors of the instance.
     #[inline(always)]
-    pub fn collect_errors<'i>(
+    pub(crate) fn collect_errors<'i>(
         &'i self,
         instance: &'i F::Node,
         location: &mut LazyLocation,
@@ -342,19 +411,14 @@ impl<F: Json> SchemaNode<F> {
         ensures applied { min (ctx.old + 1) u64.MAX ≤ ctx.new }
         ensures counted { CountsUpTo ctx.old ctx.new (pairs self.now (F.Node.tree instance.now)) }
     {
-        if self.accepts(instance, ctx) {
+        if self.apply_if_accepted(instance, ctx) {
             return Ok(());
         }
         self.collect_of_keywords(None, instance, location, ctx, errors)
     }
 
-    /// Appends the first errors of the instance, which must be lawful, to `errors`, in order: the
-    /// first `limit` of those that [`collect_errors`](SchemaNode::collect_errors) appends, or all if
-    /// there are fewer. Stops at the last one that is wanted; with the limit 0 it does nothing.
-    /// `location` is the location of the instance (JSON Schema Core 12.3.3), and is unchanged at
-    /// every return. If memory runs out, `errors` keeps its old entries, followed by a beginning of
-    /// the new ones.
-    pub fn collect_first_errors<'i>(
+    // Appends the first errors of the instance, at most `limit`.
+    pub(crate) fn collect_first_errors<'i>(
         &'i self,
         limit: usize,
         instance: &'i F::Node,
@@ -372,7 +436,7 @@ impl<F: Json> SchemaNode<F> {
         if limit == 0 {
             return Ok(());
         }
-        if self.accepts(instance, ctx) {
+        if self.apply_if_accepted(instance, ctx) {
             return Ok(());
         }
         self.collect_of_keywords(Some(limit), instance, location, ctx, errors)
@@ -395,7 +459,7 @@ impl<F: Json> SchemaNode<F> {
         ensures applied { min (ctx.old + 1) u64.MAX ≤ ctx.new }
         ensures counted { CountsUpTo ctx.old ctx.new (pairs self.now (F.Node.tree instance.now)) }
     {
-        let mut report = Report::behind(errors, limit);
+        let mut report = Report::appending_to(errors, limit);
         let reported = self.report_errors(instance, location, ctx, &mut report);
         report.into_list(reported, errors)
     }
@@ -418,11 +482,11 @@ impl<F: Json> SchemaNode<F> {
         ensures counted { CountsUpTo ctx.old ctx.new
             (applications (keeps_list report.old) self.now (F.Node.tree instance.now)) }
     {
-        let Some(units) = self.apply(instance, ctx) else {
+        let Some(parts) = self.apply(instance, ctx) else {
             let kind = ValidationErrorKind::FalseSchema;
             return report_error(kind, self.location(), instance, location, report);
         };
-        report_units(units, instance, location, ctx, report)
+        report_parts(parts, instance, location, ctx, report)
     }
 
     // Adds the errors of the item at `index` of the instance at `location` to `report`, until no
@@ -444,7 +508,7 @@ impl<F: Json> SchemaNode<F> {
         ensures counted { CountsUpTo ctx.old ctx.new
             (applications (keeps_list report.old) self.now (F.Node.tree item.now)) }
     {
-        if self.accepts(item, ctx) {
+        if self.apply_if_accepted(item, ctx) {
             return Ok(());
         }
         location.push(index)?;
@@ -453,28 +517,9 @@ impl<F: Json> SchemaNode<F> {
         reported
     }
 
-    /// Returns the evaluation tree of a whole instance, which must be lawful (JSON Schema Core
-    /// 12.3). Fails only if memory runs out.
-    pub fn evaluate_instance(
-        &self,
-        alloc: Global,
-        instance: &F::Node,
-        ctx: &mut ValidationContext,
-    ) -> Result<EvaluationNode, AllocError>
-        requires { IsTrue (is_lawful (F.Node.tree instance.now)) }
-        ensures gives { IfOk result (λ node. node ≡ tree self.now (F.Node.tree instance.now) []) }
-        ensures applied { min (ctx.old + 1) u64.MAX ≤ ctx.new }
-        ensures counted { CountsUpTo ctx.old ctx.new (pairs self.now (F.Node.tree instance.now)) }
-    {
-        let mut location = LazyLocation::new(alloc);
-        self.evaluate_instance_below(alloc, instance, &mut location, ctx)
-    }
-
-    /// Returns the evaluation tree of the instance at `location`, as part of a larger one. The
-    /// instance must be lawful. `location` is unchanged at every return. Fails only if memory runs
-    /// out.
+    // Returns the evaluation tree of the instance at `location`.
     #[cycle(evaluate)]
-    pub fn evaluate_instance_below(
+    pub(crate) fn evaluate_instance_below(
         &self,
         alloc: Global,
         instance: &F::Node,
@@ -489,14 +534,14 @@ impl<F: Json> SchemaNode<F> {
         ensures counted { CountsUpTo ctx.old ctx.new (pairs self.now (F.Node.tree instance.now)) }
     {
         ctx.count_one();
-        let Some(units) = self.units() else {
+        let Some(parts) = self.parts() else {
             return evaluate_refusal::<F>(alloc, self.location(), instance, location);
         };
         let path = location.render()?;
-        let mut children = Vec::new(alloc);
-        evaluate_units(alloc, units, instance, location, &path, ctx, &mut children)?;
+        let mut children = Vec::with_capacity(alloc, parts.len())?;
+        evaluate_parts(alloc, parts, instance, location, &path, ctx, &mut children)?;
         let result = EvaluationResult::from_children(alloc, children);
-        EvaluationNode::new(alloc, result, self.location(), &path)
+        EvaluationNode::at_keyword(alloc, result, self.location(), &path)
     }
 
     // Returns the evaluation tree of the item at `index` of the instance at `location`.
@@ -525,7 +570,7 @@ impl<F: Json> SchemaNode<F> {
 // Returns the evaluation tree of the schema `false`.
 fn evaluate_refusal<'i, F: Json>(
     alloc: Global,
-    schema_path: &'i Location,
+    schema_path: &'i KeywordLocation,
     instance: &'i F::Node,
     location: &LazyLocation,
 ) -> Result<EvaluationNode, AllocError>
@@ -536,14 +581,14 @@ fn evaluate_refusal<'i, F: Json>(
     let kind = ValidationErrorKind::FalseSchema;
     let mut report: Report<F> = Report::First(None);
     let reported = report_error(kind, schema_path, instance, location, &mut report);
-    let result = evaluate_first(alloc, report.into_first(reported))?;
-    EvaluationNode::new(alloc, result, schema_path, &path)
+    let result = evaluate_first(alloc, report.first_result(reported))?;
+    EvaluationNode::at_keyword(alloc, result, schema_path, &path)
 }
 
-// Returns whether the `required` of some schema, or of a subschema of it, is handed on.
-#[tactic(auto, using(crate::proofs::KeywordsOfUnits::each_hands_on_at, crate::proofs::KeywordsOfUnits::each_hands_on_end))]
-pub(crate) fn some_hands_on<F: Json>(nodes: &[SchemaNode<F>]) -> bool
-    ensures { result ≡ each_hands_on (schemas_of nodes.now) }
+// Returns whether the `required` of some schema, or of a subschema of it, is delegated.
+#[tactic(auto, using(crate::proofs::KeywordsOfParts::schemas_delegate_at, crate::proofs::KeywordsOfParts::schemas_delegate_end))]
+pub(crate) fn some_schema_delegates<F: Json>(nodes: &[Subschema<F>]) -> bool
+    ensures { result ≡ schemas_delegate (schemas_of nodes.now) }
 {
     for node in nodes {
         if node.hands_on_required() {

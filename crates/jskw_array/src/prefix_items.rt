@@ -1,12 +1,12 @@
 //! `prefixItems` (JSON Schema Core 10.3.1.1): a list of schemas, each for the item at its index.
 ghost use Rattle.std.specs.Prelude.{◌≡◌};
-ghost use Rattle.jskw_array.specs.Words.{Array, Compiles, Err, Keyword, Makes, annotation_of};
+ghost use Rattle.jskw_array.specs.Words.{Array, CompilesKeyword, Err, Keyword, CompilesTo, annotation_of};
 ghost use Rattle.jskw_array.specs.Words.{items, keyword_location, length, members_view};
 ghost use Rattle.jskw_array.specs.Words.{of_children, of_type, option_map, prefix_annotation};
-ghost use Rattle.jskw_array.specs.Words.{reading, result_of, validator_keyword, view, wrong};
+ghost use Rattle.jskw_array.specs.Words.{keyword_reading, result_of, validator_keyword, view, wrong};
 
 use crate::compiler::compile_list;
-use crate::each::Each;
+pub use crate::upstream::PrefixItemsValidator;
 use crate::validator::Validator;
 use jskw_report::{
     Annotations, CompilationResult, CompileFault, Context, EvaluationNode, EvaluationResult,
@@ -15,9 +15,6 @@ use jskw_report::{
 use jskw_value::{Json, JsonType, Node};
 use serde_json::{Map, Value};
 use std::alloc::Global;
-
-/// The validator of `prefixItems`.
-pub type PrefixItemsValidator<F> = Each<F>;
 
 // Returns the evaluation of `prefixItems` with this number of schemas. `nodes` are the nodes of the
 // items.
@@ -69,8 +66,8 @@ pub fn compile<'a, F: Json>(
     parent: &'a Map<String, Value>,
     schema: &'a Value,
 ) -> Option<CompilationResult<'a, Validator<F>>>
-    ensures { Compiles validator_keyword result
-        (reading KeywordName.PrefixItems ctx.now (members_view parent.now.entries)
+    ensures { CompilesKeyword validator_keyword result
+        (keyword_reading KeywordName.PrefixItems ctx.now (members_view parent.now.entries)
         (view schema.now)) }
 {
     let _ = parent;
@@ -83,7 +80,7 @@ pub fn compile<'a, F: Json>(
 // Refuses a value that is not an array.
 #[inline(never)]
 fn no_array<'a, F: Json>(alloc: Global, ctx: &Context<'_, F>, value: &'a Value) -> CompileFault<'a>
-    ensures { Makes (λ (k : Keyword). k) (Err result) (wrong (of_type Array)
+    ensures { CompilesTo (λ (k : Keyword). k) (Err result) (wrong (of_type Array)
         (keyword_location ctx.now.location KeywordName.PrefixItems) (view value.now)) }
 {
     let kind = ValidationErrorKind::of_type(JsonType::Array);

@@ -1,19 +1,18 @@
 //! One schema for the items from an index on: `items` (JSON Schema Core 10.3.1.2), and
 //! `additionalItems` (Draft 7 Validation 6.4.2). A non-array has no items.
-ghost use Rattle.std.specs.Prelude.{◌≡◌};
-ghost use Rattle.jskw_array.specs.Words.{CountsUpTo, IfOk, IsTrue, Makes, Reading, is_lawful};
-ghost use Rattle.jskw_array.specs.Words.{items, keyword_fail, keyword_holds, keyword_needed};
-ghost use Rattle.jskw_array.specs.Words.{keyword_pairs, length, map_ok, of_errors, one_keyword};
-ghost use Rattle.jskw_array.specs.Words.{path_of, rest_keyword, rest_of, result_of};
+ghost use Rattle.std.specs.Prelude.{◌≡◌, ◌-◌};
+ghost use Rattle.jskw_array.specs.Words.{CountsUpTo, IsTrue, CompilesTo, Reading, is_lawful};
+ghost use Rattle.jskw_array.specs.Words.{items, keyword_holds, keyword_needed};
+ghost use Rattle.jskw_array.specs.Words.{IfSome, length, map_ok, one_keyword};
+ghost use Rattle.jskw_array.specs.Words.{rest_keyword, rest_of, true};
 ghost use Rattle.jskw_array.specs.Words.{validator_keyword};
 
-use crate::node::SchemaNode;
+use crate::node::Subschema;
 use crate::validator::Validator;
 use jskw_leaf::items::item_type::items_unit;
 use jskw_report::validator::evaluate_errors;
 use jskw_report::{
     CompilationResult, EvaluationResult, LazyLocation, Report, Stop, Validate, ValidationContext,
-    ValidationError,
 };
 use jskw_value::{Array, Json, Node};
 use std::alloc::{AllocError, Global};
@@ -24,17 +23,37 @@ use std::alloc::{AllocError, Global};
 #[derive(Drop)]
 pub struct Rest<F: Json> {
     pub(crate) start: usize,
-    pub(crate) node: SchemaNode<F>,
+    pub(crate) node: Subschema<F>,
     // the keyword is `additionalItems`, whose unit has the errors and no nodes below; otherwise it
     // is `items`
     pub(crate) is_additional: bool,
 }
 
 impl<F: Json> Rest<F> {
+    // Returns how many items of an array of `count` items have the schema, if all of these are in its
+    // quick set.
+    #[inline(always)]
+    pub(crate) fn accepted_count(&self, count: usize, instance: &F::Node) -> Option<usize>
+        requires lawful { IsTrue (is_lawful (F.Node.tree instance.now)) }
+        requires count { count ≡ length (items (F.Node.tree instance.now)) }
+        ensures valid { IfSome result (λ n.
+            keyword_holds (rest_keyword self.now) (F.Node.tree instance.now) ≡ true) }
+        ensures count { IfSome result (λ n. n ≡ count - self.now.start) }
+    {
+        if count <= self.start {
+            return Some(0);
+        }
+        if self.node.first_not_accepted(self.start, count, instance) == count {
+            Some(count - self.start)
+        } else {
+            None
+        }
+    }
+
     // Returns `is_valid` for an array of `count` items, so that they are not counted again.
     #[inline(never)]
     #[cycle(is_valid)]
-    pub(crate) fn holds_of(
+    pub(crate) fn is_valid_counted(
         &self,
         count: usize,
         instance: &F::Node,
@@ -46,7 +65,7 @@ impl<F: Json> Rest<F> {
         ensures counted { CountsUpTo ctx.old ctx.new
             (keyword_needed (rest_keyword self.now) (F.Node.tree instance.now)) }
     {
-        for index in self.node.take_items(self.start, count, instance, ctx)..count {
+        for index in self.node.skip_valid(self.start, count, instance, ctx)..count {
             if !self.node.is_valid(instance.item(index), ctx) {
                 return false;
             }
@@ -62,7 +81,7 @@ impl<F: Json> Validate<F> for Rest<F> {
     #[cycle(is_valid)]
     fn is_valid(&self, instance: &F::Node, ctx: &mut ValidationContext) -> bool {
         let count = instance.item_count();
-        count <= self.start || self.holds_of(count, instance, ctx)
+        count <= self.start || self.is_valid_counted(count, instance, ctx)
     }
 
     #[inline(always)]
@@ -75,7 +94,7 @@ impl<F: Json> Validate<F> for Rest<F> {
         report: &mut Report<'i, F>,
     ) -> Result<(), Stop> {
         let count = instance.item_count();
-        for index in self.node.take_items(self.start, count, instance, ctx)..count {
+        for index in self.node.skip_valid(self.start, count, instance, ctx)..count {
             self.node
                 .report_item(index, instance.item(index), location, ctx, report)?;
         }
@@ -95,8 +114,9 @@ impl<F: Json> Validate<F> for Rest<F> {
             self.collect_errors(instance, location, ctx, &mut errors)?;
             return evaluate_errors(alloc, errors.as_slice());
         }
-        let mut children = Vec::new(alloc);
-        for index in self.start..instance.item_count() {
+        let count = instance.item_count();
+        let mut children = Vec::with_capacity(alloc, count.saturating_sub(self.start))?;
+        for index in self.start..count {
             let item = instance.item(index);
             children.push(self.node.evaluate_item(alloc, index, item, location, ctx)?)?;
         }
@@ -109,10 +129,10 @@ impl<F: Json> Validate<F> for Rest<F> {
 pub(crate) fn of_schema<'a, F: Json>(
     start: usize,
     is_additional: bool,
-    compiled: CompilationResult<'a, SchemaNode<F>>,
+    compiled: CompilationResult<'a, Subschema<F>>,
 ) -> CompilationResult<'a, Validator<F>>
-    ensures { (read : Reading) → Makes (λ s. s) compiled.entry read
-        → Makes validator_keyword result (map_ok (rest_of is_additional start) read) }
+    ensures { (read : Reading) → CompilesTo (λ s. s) compiled.entry read
+        → CompilesTo validator_keyword result (map_ok (rest_of is_additional start) read) }
 {
     Ok(Validator::Rest(Rest {
         start,

@@ -1,7 +1,7 @@
 //! The validators of all keywords as one type.
 ghost use Rattle.std.specs.Prelude.{◌≡◌};
 ghost use Rattle.jskw_array.specs.Words.{Accepts, CountsUpTo, IsTrue, Tree, in_outline, is_lawful};
-ghost use Rattle.jskw_array.specs.Words.{items, keyword_hands_on, keyword_holds, keyword_needed};
+ghost use Rattle.jskw_array.specs.Words.{items, keyword_delegates, keyword_holds, keyword_needed};
 ghost use Rattle.jskw_array.specs.Words.{length, one_keyword, true, validator_keyword};
 
 use crate::additional_items::AdditionalItemsBooleanValidator;
@@ -10,7 +10,7 @@ use crate::items::{
     BooleanItems, IntegerItems, IntegerItemsDraft4, ItemsTypeValidator, NumberItems, StringItems,
 };
 use crate::matching::Matching;
-use crate::node::some_hands_on;
+use crate::node::some_schema_delegates;
 use crate::outline::Outline;
 use crate::rest::Rest;
 use jskw_leaf::LeafValidator;
@@ -96,7 +96,7 @@ impl<F: Json> Validate<F> for Validator<F> {
 impl<F: Json> Validator<F> {
     // Returns `is_valid` for an array of `count` items, so that they are not counted again.
     #[cycle(is_valid)]
-    pub(crate) fn holds_of(
+    pub(crate) fn is_valid_counted(
         &self,
         count: usize,
         instance: &F::Node,
@@ -110,12 +110,12 @@ impl<F: Json> Validator<F> {
             (keyword_needed (validator_keyword self.now) (F.Node.tree instance.now)) }
     {
         match self {
-            Validator::ItemsNumber(v) => v.holds_of(count, instance),
-            Validator::ItemsString(v) => v.holds_of(count, instance),
-            Validator::ItemsBoolean(v) => v.holds_of(count, instance),
-            Validator::ItemsInteger(v) => v.holds_of(count, instance),
-            Validator::ItemsIntegerDraft4(v) => v.holds_of(count, instance),
-            Validator::Rest(v) => v.holds_of(count, instance, ctx),
+            Validator::ItemsNumber(v) => v.is_valid_counted(count, instance),
+            Validator::ItemsString(v) => v.is_valid_counted(count, instance),
+            Validator::ItemsBoolean(v) => v.is_valid_counted(count, instance),
+            Validator::ItemsInteger(v) => v.is_valid_counted(count, instance),
+            Validator::ItemsIntegerDraft4(v) => v.is_valid_counted(count, instance),
+            Validator::Rest(v) => v.is_valid_counted(count, instance, ctx),
             _ => self.is_valid(instance, ctx),
         }
     }
@@ -148,13 +148,13 @@ impl<F: Json> Validator<F> {
         }
     }
 
-    // Returns whether the `required` of a subschema is handed on.
+    // Returns whether the `required` of a subschema is delegated.
     #[tactic(auto, using(crate::proofs::ValidatorMeanings::each_delegates, crate::proofs::ValidatorMeanings::rest_delegates))]
     pub(crate) fn hands_on_required(&self) -> bool
-        ensures { result ≡ keyword_hands_on (validator_keyword self.now) }
+        ensures { result ≡ keyword_delegates (validator_keyword self.now) }
     {
         match self {
-            Validator::Each(v) => some_hands_on(v.nodes.as_slice()),
+            Validator::Each(v) => some_schema_delegates(v.nodes.as_slice()),
             Validator::Rest(v) => v.node.hands_on_required(),
             Validator::Matching(v) => v.node.hands_on_required(),
             Validator::Leaf(_) => false,

@@ -1,5 +1,5 @@
 //! Times calls other than a compile and `is_valid`.
-use crate::observers::compiled;
+use crate::observers::{accepts_tree, compiled};
 use crate::timing::{Instance, Timing, fastest, instances, time_test};
 use jskw_array::SchemaNode;
 use jskw_report::{
@@ -7,7 +7,7 @@ use jskw_report::{
 };
 use jskw_text::read_bytes;
 use jskw_unchecked::unchecked;
-use jskw_value::{DecimalTree, Member, Members, Node, SerdeJson};
+use jskw_value::{DecimalJson, DecimalTree, Member, Members, Node, SerdeJson};
 use serde_json::Value;
 use std::alloc::{AllocError, Global};
 use std::io;
@@ -68,6 +68,53 @@ pub(crate) fn settings_of(
         }
     }
     Ok(Settings::new(draft, VocabularySet::all(), overridden))
+}
+
+/// Times reading a text and asking a schema whether it is valid: as a value of `serde_json` by the
+/// call `ask`, as a tree of decimals by `ask_decimals`. A text that is not read is not valid, nor is
+/// one with a float for `serde_json`. Returns `None` if there is no such call or no such schema.
+pub(crate) fn time_asking(
+    rt: &HostRuntime,
+    span: u128,
+    settings: &Settings,
+    call: &str,
+    text: &str,
+    schema: &str,
+) -> io::Result<Option<Timing>> {
+    let alloc = rt.alloc();
+    let Ok(schema) = Value::from_str(alloc, schema) else {
+        return Ok(None);
+    };
+    match call {
+        "ask" => match compiled(alloc, settings, &schema) {
+            Some(node) => Ok(Some(time(rt, span, || accepts_text(alloc, &node, text))?)),
+            None => Ok(None),
+        },
+        "ask_decimals" => match compiled(alloc, settings, &schema) {
+            Some(node) => {
+                let bytes = text.as_bytes();
+                Ok(Some(time(rt, span, || accepts_bytes(alloc, &node, bytes))?))
+            }
+            None => Ok(None),
+        },
+        _ => Ok(None),
+    }
+}
+
+// Reads a text as a value of `serde_json`, and returns whether it is valid.
+fn accepts_text(alloc: Global, node: &SchemaNode<SerdeJson>, text: &str) -> bool {
+    match Value::from_str(alloc, text) {
+        Ok(value) => value.is_lawful() && node.is_valid(&value, &mut ValidationContext::new()),
+        Err(_) => false,
+    }
+}
+
+// Reads bytes as a tree of decimals, and returns whether it is valid.
+fn accepts_bytes(alloc: Global, node: &SchemaNode<DecimalJson>, bytes: &[u8]) -> bool {
+    match read_bytes(alloc, bytes) {
+        Ok(tree) => accepts_tree(node, &tree),
+        Err(_) => false,
+    }
 }
 
 // Times a call.

@@ -6,20 +6,24 @@
 //! | `under`, a draft, an array of names | from here on, compile so, with these names overridden |
 //! | `sizes` | prints how many bytes a node, a validator and a location take |
 //! | a name, a schema, an instance | a case: a compile and `is_valid` |
-//! | the same, and a loop's name or `-` | all observers, `is_lawful`, and the loop by hand |
+//! | the same, and a loop's name or `-` | all observers, `is_lawful`, `is_valid` over decimals, and the loop by hand |
 //! | a name, a call, a text | another call |
+//! | the same, and a schema | `ask` or `ask_decimals` |
 //!
 //! The draft is 2020-12 at first. All observers and the loop have to agree on an answer. The other
 //! calls are:
 //!
 //! | `read` | the text is read as JSON |
 //! | `read_bytes` | the text is read into a tree of decimals |
+//! | `ask` | the text is read as JSON, and the schema asked whether it is valid |
+//! | `ask_decimals` | the same of a tree of decimals |
 //! | `first_unlawful` | the text's value is searched for a float |
 //! | `message` | the value gets an error under `false`, and the error a message |
 //! | `insert` | members of the names in an array are inserted into an object of decimals |
 //! | `from_pairs` | the same, all at once |
 //! | `from_value` | the value is made one of decimals |
 //! | `settings` | settings are made with the names in an array overridden |
+//! | `unchecked` | what is not checked of the schema is listed |
 #![tactic(auto)]
 
 mod by_hand;
@@ -27,16 +31,16 @@ mod calls;
 mod observers;
 mod timing;
 
-use calls::{settings_of, time_call};
+use calls::{settings_of, time_asking, time_call};
 use jskw_array::{SchemaNode, Validator};
 use jskw_report::{Draft, Location, Settings};
 use jskw_value::SerdeJson;
-use observers::{compiled, time_by_hand, time_compile, time_is_valid, time_others};
+use observers::{compiled, time_by_hand, time_compile, time_decimals, time_is_valid, time_others};
 use serde_json::Value;
 use std::alloc::Global;
 use std::io;
 use std::mem::size_of;
-use timing::{Instance, Row, instances};
+use timing::{Row, instances};
 
 // The nanoseconds that a batch of calls takes at least.
 const SPAN: u128 = 1_000_000;
@@ -46,19 +50,26 @@ fn row_of(
     rt: &HostRuntime,
     settings: &Settings,
     schema: &Value,
-    instances: &[Instance],
+    instance: &str,
     loop_name: &str,
     span: u128,
 ) -> io::Result<Result<Row, &'static str>> {
+    let Some(instances) = instances(rt.alloc(), instance)? else {
+        return Ok(Err("no instance"));
+    };
     let Some(node) = compiled(rt.alloc(), settings, schema) else {
         return Ok(Err("not compiled"));
     };
     let mut row = Row::new(rt.alloc());
     row.add(time_compile(rt, span, settings, schema)?)?;
-    row.add_answer(time_is_valid(rt, span, instances, &node)?)?;
+    row.add_answer(time_is_valid(rt, span, &instances, &node)?)?;
     if !loop_name.is_empty() {
-        time_others(rt, span, instances, &node, &mut row)?;
-        match time_by_hand(rt, span, instances, loop_name)? {
+        time_others(rt, span, &instances, &node, &mut row)?;
+        match time_decimals(rt, span, settings, schema, instance)? {
+            Some(timing) => row.add_answer(timing)?,
+            None => return Ok(Err("no decimals")),
+        }
+        match time_by_hand(rt, span, &instances, loop_name)? {
             Some(timing) => row.add_answer(timing)?,
             None if loop_name == "-" => {}
             None => return Ok(Err("no loop")),
@@ -76,28 +87,52 @@ fn print_sizes(rt: &HostRuntime) -> io::Result<()> {
     println!(rt; "sizes\t{node}\t{validator}\t{location}")
 }
 
-// Makes a call on a text, and prints whether it succeeded.
+// The columns of a line; those that it does not have are empty. That of the schema has the name of a
+// call, if the line is one, and the last a loop's name or a schema.
+#[derive(Drop)]
+struct Columns<'a> {
+    name: &'a str,
+    schema: &'a str,
+    instance: &'a str,
+    last: &'a str,
+}
+
+// Returns the columns of a line.
+fn columns_of(line: &str) -> Columns<'_> {
+    let mut parts = line.split('\t');
+    Columns {
+        name: parts.next().unwrap_or(""),
+        schema: parts.next().unwrap_or(""),
+        instance: parts.next().unwrap_or(""),
+        last: parts.next().unwrap_or(""),
+    }
+}
+
+// Makes a call, and prints whether it succeeded.
 fn run_call(
     rt: &HostRuntime,
-    name: &str,
-    call: &str,
-    text: &str,
+    settings: &Settings,
+    line: &Columns<'_>,
     is_timed: bool,
 ) -> io::Result<()> {
+    let (call, text) = (line.schema, line.instance);
     let span = if is_timed { SPAN } else { 0 };
-    let Some(timing) = time_call(rt, span, call, text)? else {
-        return println!(rt; "{name}\tno call");
+    let timing = if line.last.is_empty() {
+        time_call(rt, span, call, text)?
+    } else {
+        time_asking(rt, span, settings, call, text, line.last)?
     };
-    let is_done = timing.answer() == Some(true);
+    let Some(timing) = timing else {
+        return println!(rt; "{}\tno call", line.name);
+    };
+    let word = if timing.answer() == Some(true) {
+        "done"
+    } else {
+        "refused"
+    };
     let mut row = Row::new(rt.alloc());
     row.add(timing)?;
-    print_row(
-        rt,
-        name,
-        if is_done { "done" } else { "refused" },
-        &row,
-        is_timed,
-    )
+    print_row(rt, line.name, word, &row, is_timed)
 }
 
 // Prints the row of a case or call with a word for its answer.
@@ -122,6 +157,8 @@ fn is_call(word: &str) -> bool {
         word,
         "read"
             | "read_bytes"
+            | "ask"
+            | "ask_decimals"
             | "first_unlawful"
             | "message"
             | "insert"
@@ -135,22 +172,16 @@ fn is_call(word: &str) -> bool {
 // Runs a case and prints its line.
 fn run_case(rt: &HostRuntime, settings: &Settings, line: &str, is_timed: bool) -> io::Result<()> {
     let alloc = rt.alloc();
-    let mut parts = line.split('\t');
-    let name = parts.next().unwrap_or("");
-    let schema = parts.next().unwrap_or("");
-    let instance = parts.next().unwrap_or("");
-    let loop_name = parts.next().unwrap_or("");
-    if is_call(schema) {
-        return run_call(rt, name, schema, instance, is_timed);
+    let line = columns_of(line);
+    let name = line.name;
+    if is_call(line.schema) {
+        return run_call(rt, settings, &line, is_timed);
     }
-    let Ok(schema) = Value::from_str(alloc, schema) else {
+    let Ok(schema) = Value::from_str(alloc, line.schema) else {
         return println!(rt; "{name}\tno schema");
     };
-    let Some(instances) = instances(alloc, instance)? else {
-        return println!(rt; "{name}\tno instance");
-    };
     let span = if is_timed { SPAN } else { 0 };
-    match row_of(rt, settings, &schema, &instances, loop_name, span)? {
+    match row_of(rt, settings, &schema, line.instance, line.last, span)? {
         Ok(row) => print_row(rt, name, row.word(), &row, is_timed),
         Err(word) => println!(rt; "{name}\t{word}"),
     }

@@ -1,29 +1,29 @@
 //! Times a compile, the observers of a schema, and the loop written by hand that goes with it.
 use crate::by_hand;
-use crate::timing::{COPIES, Instance, Row, Timing, fastest, time_test};
+use crate::timing::{COPIES, Instance, Row, Timing, decimal_trees, fastest, time_test};
 use jskw_array::SchemaNode;
 use jskw_array::compiler::compile;
 use jskw_report::{Context, LazyLocation, Settings, ValidationContext, ValidationError};
-use jskw_value::{Node, SerdeJson};
+use jskw_value::{DecimalJson, DecimalTree, Json, Node, SerdeJson};
 use serde_json::Value;
 use std::alloc::Global;
 use std::io;
 
 /// Compiles a schema; None if it is refused.
-pub(crate) fn compiled(
+pub(crate) fn compiled<F: Json>(
     alloc: Global,
     settings: &Settings,
     schema: &Value,
-) -> Option<SchemaNode<SerdeJson>> {
-    let ctx: Context<SerdeJson> = Context::new(alloc, settings);
+) -> Option<SchemaNode<F>> {
+    let ctx: Context<F> = Context::new(alloc, settings);
     compile(alloc, &ctx.with_object_layer(false), schema).ok()
 }
 
-// Returns how many of so many calls compile the schema.
+// Compiles the schema `calls` times, and returns how often that succeeds.
 fn count_compiled(alloc: Global, settings: &Settings, schema: &Value, calls: usize) -> usize {
     let mut count = 0usize;
     for _ in 0..calls {
-        if compiled(alloc, settings, schema).is_some() {
+        if compiled::<SerdeJson>(alloc, settings, schema).is_some() {
             count = count.wrapping_add(1);
         }
     }
@@ -54,6 +54,33 @@ pub(crate) fn time_is_valid(
     })
 }
 
+/// Times `is_valid` over the trees of decimals that the text of an instance is read into; None if
+/// there is no node or no tree.
+pub(crate) fn time_decimals(
+    rt: &HostRuntime,
+    span: u128,
+    settings: &Settings,
+    schema: &Value,
+    instance: &str,
+) -> io::Result<Option<Timing>> {
+    let alloc = rt.alloc();
+    let Some(node) = compiled::<DecimalJson>(alloc, settings, schema) else {
+        return Ok(None);
+    };
+    let Some(trees) = decimal_trees(alloc, instance)? else {
+        return Ok(None);
+    };
+    let timing = time_test(rt, span, &trees, |tree| accepts_tree(&node, tree))?;
+    Ok(Some(timing))
+}
+
+/// Returns whether a tree of decimals is valid.
+#[inline(always)]
+#[tactic(auto, using(jskw_value::proofs::DecimalTrees::lawful_tree))]
+pub(crate) fn accepts_tree(node: &SchemaNode<DecimalJson>, tree: &DecimalTree) -> bool {
+    node.is_valid(tree, &mut ValidationContext::new())
+}
+
 /// Times the other observers and `is_lawful`, and adds them to the row in this order: `validate`,
 /// `collect_errors`, `evaluate_instance`, `is_lawful`.
 pub(crate) fn time_others(
@@ -74,7 +101,7 @@ pub(crate) fn time_others(
     Ok(())
 }
 
-// Returns how many calls accept their instance, in so many rounds over the instances: of
+// Returns how many calls accept their instance, in `rounds` rounds over the instances: of
 // `collect_errors` if `ALL`, else of `validate`. The location and the list of errors are made once,
 // as by a caller that makes many calls.
 fn accepted<'i, const ALL: bool>(

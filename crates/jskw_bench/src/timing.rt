@@ -3,7 +3,8 @@ ghost use Rattle.std.specs.Prelude.{IsTrue};
 ghost use Rattle.jskw_value.specs.Serde.{value_tree};
 ghost use Rattle.jskw_value.specs.Tree.{is_lawful};
 
-use jskw_value::Node;
+use jskw_text::{ReadFault, read_bytes};
+use jskw_value::{DecimalTree, Node};
 use serde_json::Value;
 use std::alloc::{AllocError, Global};
 use std::io;
@@ -49,6 +50,22 @@ pub(crate) fn instances(alloc: Global, text: &str) -> Result<Option<Vec<Instance
         instances.push(instance)?;
     }
     Ok(Some(instances))
+}
+
+/// Returns equal trees of decimals that a text is read into, or `None` if there is none.
+pub(crate) fn decimal_trees(
+    alloc: Global,
+    text: &str,
+) -> Result<Option<Vec<DecimalTree>>, AllocError> {
+    let mut trees = Vec::new(alloc);
+    for _ in 0..COPIES {
+        match read_bytes(alloc, text.as_bytes()) {
+            Ok(tree) => trees.push(tree)?,
+            Err(ReadFault::Memory(error)) => return Err(error),
+            Err(_) => return Ok(None),
+        }
+    }
+    Ok(Some(trees))
 }
 
 /// What a batch of calls returned, and how long it took.
@@ -125,10 +142,10 @@ impl Row {
 }
 
 /// Times a test of the instances, as [`fastest`] does.
-pub(crate) fn time_test<F: Fn(&Instance) -> bool>(
+pub(crate) fn time_test<T, F: Fn(&T) -> bool>(
     rt: &HostRuntime,
     span: u128,
-    instances: &[Instance],
+    instances: &[T],
     accepts: F,
 ) -> io::Result<Timing>
     requires { F.IsAlwaysCallable accepts }
@@ -143,7 +160,7 @@ pub(crate) fn time_test<F: Fn(&Instance) -> bool>(
 
 // Returns how many calls accept their instance in `rounds` rounds over the instances. Where a round
 // begins depends on the results of those before, so that each call has to be made.
-fn accepted<F: Fn(&Instance) -> bool>(rounds: usize, instances: &[Instance], accepts: &F) -> usize
+fn accepted<T, F: Fn(&T) -> bool>(rounds: usize, instances: &[T], accepts: &F) -> usize
     requires { F.IsAlwaysCallable accepts.now }
 {
     let mut count = 0usize;

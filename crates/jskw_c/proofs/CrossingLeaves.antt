@@ -15,12 +15,12 @@ use Rattle.jskw_value.specs.contracts.nullability.NotNullable as not_nullable
 use Rattle.jskw_value.specs.contracts.nullability.NullableNullability.TheImpl as nullable'
 use Rattle.jskw_value.specs.contracts.nullability.NotNullableNullability.TheImpl as not_nullable'
 use Rattle.jskw_value.proofs.types.JsonTypeSet.TheSendSync as types
-use Rattle.jskw_report.proofs.paths.Location.TheSendSync as location
+use Rattle.jskw_report.proofs.paths.keyword_location.KeywordLocation.TheSendSync as location
 use Rattle.jskw_leaf.specs.declared.enum_.table.OptionTable as table
 use Rattle.jskw_leaf.specs.contracts.const_.ConstValueValidator as const
 use Rattle.jskw_leaf.specs.contracts.enum_.EnumValidator as any
 use Rattle.jskw_leaf.specs.contracts.enum_.SingleValueEnumValidator as single
-use Rattle.jskw_leaf.specs.contracts.enum_.values.PrintedValue as printed
+use Rattle.jskw_leaf.specs.contracts.enum_.values.FingerprintedValue as printed
 use Rattle.jskw_leaf.specs.contracts.enum_.values.SortedValues as values
 use Rattle.jskw_leaf.specs.contracts.enum_.values.SortedValuesOptionTable.TheImpl as values'
 use Rattle.jskw_leaf.specs.contracts.enum_.strings.FewStrings as few_strings''
@@ -137,17 +137,41 @@ module _
                 (
                   (single_send, tt),
                   (
-                    (among_send few_strings''.the_row not_nullable.the_row few_strings'.ghosts not_nullable'.ghosts few_strings.the_send, tt),
                     (
-                      (among_send few_strings''.the_row nullable.the_row few_strings'.ghosts nullable'.ghosts few_strings.the_send, tt),
+                      among_send few_strings''.the_row not_nullable.the_row few_strings'.ghosts not_nullable'.ghosts
+                          few_strings.the_send,
+                      tt,
+                    ),
+                    (
                       (
-                        (among_send strings''.the_row not_nullable.the_row strings'.ghosts not_nullable'.ghosts strings.the_send, tt),
+                        among_send few_strings''.the_row nullable.the_row few_strings'.ghosts nullable'.ghosts
+                            few_strings.the_send,
+                        tt,
+                      ),
+                      (
                         (
-                          (among_send strings''.the_row nullable.the_row strings'.ghosts nullable'.ghosts strings.the_send, tt),
+                          among_send strings''.the_row not_nullable.the_row strings'.ghosts not_nullable'.ghosts
+                              strings.the_send,
+                          tt,
+                        ),
+                        (
                           (
-                            (among_send integers''.the_row not_nullable.the_row integers'.ghosts not_nullable'.ghosts integers.the_send, tt),
+                            among_send strings''.the_row nullable.the_row strings'.ghosts nullable'.ghosts
+                                strings.the_send,
+                            tt,
+                          ),
+                          (
                             (
-                              (among_send integers''.the_row nullable.the_row integers'.ghosts nullable'.ghosts integers.the_send, tt),
+                              among_send integers''.the_row not_nullable.the_row integers'.ghosts not_nullable'.ghosts
+                                  integers.the_send,
+                              tt,
+                            ),
+                            (
+                              (
+                                among_send integers''.the_row nullable.the_row integers'.ghosts nullable'.ghosts
+                                    integers.the_send,
+                                tt,
+                              ),
                               ((unique.the_send, tt), ((required_send s, tt), ((required_few_send s, tt), tt))),
                             ),
                           ),
@@ -179,17 +203,41 @@ module _
                 (
                   (single_sync, tt),
                   (
-                    (among_sync few_strings''.the_row not_nullable.the_row few_strings'.ghosts not_nullable'.ghosts few_strings.the_sync, tt),
                     (
-                      (among_sync few_strings''.the_row nullable.the_row few_strings'.ghosts nullable'.ghosts few_strings.the_sync, tt),
+                      among_sync few_strings''.the_row not_nullable.the_row few_strings'.ghosts not_nullable'.ghosts
+                          few_strings.the_sync,
+                      tt,
+                    ),
+                    (
                       (
-                        (among_sync strings''.the_row not_nullable.the_row strings'.ghosts not_nullable'.ghosts strings.the_sync, tt),
+                        among_sync few_strings''.the_row nullable.the_row few_strings'.ghosts nullable'.ghosts
+                            few_strings.the_sync,
+                        tt,
+                      ),
+                      (
                         (
-                          (among_sync strings''.the_row nullable.the_row strings'.ghosts nullable'.ghosts strings.the_sync, tt),
+                          among_sync strings''.the_row not_nullable.the_row strings'.ghosts not_nullable'.ghosts
+                              strings.the_sync,
+                          tt,
+                        ),
+                        (
                           (
-                            (among_sync integers''.the_row not_nullable.the_row integers'.ghosts not_nullable'.ghosts integers.the_sync, tt),
+                            among_sync strings''.the_row nullable.the_row strings'.ghosts nullable'.ghosts
+                                strings.the_sync,
+                            tt,
+                          ),
+                          (
                             (
-                              (among_sync integers''.the_row nullable.the_row integers'.ghosts nullable'.ghosts integers.the_sync, tt),
+                              among_sync integers''.the_row not_nullable.the_row integers'.ghosts not_nullable'.ghosts
+                                  integers.the_sync,
+                              tt,
+                            ),
+                            (
+                              (
+                                among_sync integers''.the_row nullable.the_row integers'.ghosts nullable'.ghosts
+                                    integers.the_sync,
+                                tt,
+                              ),
                               ((unique.the_sync, tt), ((required_sync s, tt), ((required_few_sync s, tt), tt))),
                             ),
                           ),

@@ -1,8 +1,8 @@
 -- A compiled schema over exact decimals may cross threads, and be read in several at once.
 use denote.RattleType.{RattleType}
 use denote.Struct.Field.{bool-field, usize-field}
-use denote.Param.Send.{IsSend, IsSync, plain_send, plain_sync}
-use denote.Param.SendFields.{as_row_send, as_row_sync}
+use denote.Param.Send.{IsSend, IsSync, plain_send, plain_sync, view_send, view_sync}
+use denote.Param.SendFields.{as_row_send, as_row_sync, declared_send, declared_sync}
 use Rattle.std.proofs.Crossing as std
 use Rattle.std.specs.contracts.alloc.Global as heap
 use Rattle.std.specs.contracts.string.String as string
@@ -15,7 +15,8 @@ use Rattle.jskw_value.specs.contracts.decimal_tree.DecimalTree as tree
 use Rattle.jskw_value.specs.contracts.decimal_tree.DecimalTreeRooted.TheImpl as rooted
 use Rattle.jskw_value.specs.contracts.decimal_tree.DecimalTreeObject.TheImpl as object
 use Rattle.jskw_value.specs.contracts.decimal.DecimalJsonNumber.TheImpl as numbered
-use Rattle.jskw_report.proofs.paths.Location.TheSendSync as location
+use Rattle.jskw_report.proofs.paths.keyword_location.KeywordLocation.TheSendSync as location
+use Rattle.jskw_report.proofs.paths.Location.TheSendSync as text
 use Rattle.jskw_number.proofs.quick_set.QuickSet.TheSendSync as quick
 use Rattle.jskw_leaf.specs.contracts.type_.NumberType as of_number
 use Rattle.jskw_leaf.specs.contracts.type_.StringType as of_string
@@ -24,9 +25,11 @@ use Rattle.jskw_leaf.specs.contracts.type_.IntegerType as of_integer
 use Rattle.jskw_leaf.specs.contracts.legacy.type_draft_4.IntegerType as of_integer_4
 use Rattle.jskw_leaf.proofs.items.item_type.ItemsTypeValidator.TheSendSync as item_type
 use Rattle.jskw_leaf.proofs.items.absorbed.AbsorbedKeywords.TheSendSync as absorbed
-use Rattle.jskw_array.specs.contracts.node.SchemaNode as node
-use Rattle.jskw_array.proofs.node.SchemaNode.TheLaws.TheKnot as knot
-use Rattle.jskw_array.proofs.unit.BegunUnits.TheSendSync as begun
+use Rattle.jskw_array.specs.contracts.node.Subschema as node
+use Rattle.jskw_array.proofs.node.Subschema.TheLaws.TheKnot as knot
+use Rattle.jskw_array.specs.contracts.schema.SchemaNode as whole
+use Rattle.jskw_array.specs.contracts.schema.SchemaNode.TheInside as inside
+use Rattle.jskw_array.proofs.part.SettledParts.TheSendSync as begun
 use Rattle.jskw_array.proofs.additional_items.AdditionalItemsBooleanValidator.TheSendSync as additional
 use Rattle.jskw_array.proofs.matching.ItemBounds.TheSendSync as bounds
 use Rattle.jskw_c.proofs.CrossingValues.{row_send, row_sync}
@@ -52,11 +55,11 @@ name_send = string'.the_send heap.the_row ghosts std.send the_frees
 name_sync : IsSync K
 name_sync = string'.the_sync heap.the_row ghosts std.sync
 
-abbrev pub schema_row : RattleType
-schema_row = node.the_row S V N K rooted.ghosts object.ghosts numbered.ghosts
+abbrev subschema_row : RattleType
+subschema_row = node.the_row S V N K rooted.ghosts object.ghosts numbered.ghosts
 
-pub schema_send : IsSend schema_row
-schema_send = knot.send-SchemaNode S V N K rooted.ghosts object.ghosts numbered.ghosts
+subschema_send : IsSend subschema_row
+subschema_send = knot.send-Subschema S V N K rooted.ghosts object.ghosts numbered.ghosts
     (row_send location.the_send) (as_row_send bool-field (plain_send _ _ _ _ _)) quick.the_send begun.the_send
     std.Vec-send std.Box-send
     (leaf_send S V N K rooted.ghosts object.ghosts numbered.ghosts name_send)
@@ -65,8 +68,8 @@ schema_send = knot.send-SchemaNode S V N K rooted.ghosts object.ghosts numbered.
     (item_type.the_send of_integer_4.the_row S V N K)
     additional.the_send absorbed.the_send bounds.the_send (as_row_send usize-field (plain_send _ _ _ _ _))
 
-pub schema_sync : IsSync schema_row
-schema_sync = knot.sync-SchemaNode S V N K rooted.ghosts object.ghosts numbered.ghosts
+subschema_sync : IsSync subschema_row
+subschema_sync = knot.sync-Subschema S V N K rooted.ghosts object.ghosts numbered.ghosts
     (row_sync location.the_sync) (as_row_sync bool-field (plain_sync _ _ _ _ _)) quick.the_sync begun.the_sync
     std.Vec-sync std.Box-sync
     (leaf_sync S V N K rooted.ghosts object.ghosts numbered.ghosts name_sync)
@@ -74,3 +77,14 @@ schema_sync = knot.sync-SchemaNode S V N K rooted.ghosts object.ghosts numbered.
     (item_type.the_sync of_boolean.the_row S V N K) (item_type.the_sync of_integer.the_row S V N K)
     (item_type.the_sync of_integer_4.the_row S V N K)
     additional.the_sync absorbed.the_sync bounds.the_sync (as_row_sync usize-field (plain_sync _ _ _ _ _))
+
+abbrev pub schema_row : RattleType
+schema_row = whole.the_row S V N K rooted.ghosts object.ghosts numbered.ghosts
+
+pub schema_send : IsSend schema_row
+schema_send = view_send _ _ _ _ _ (declared_send (inside.the_type S V N K rooted.ghosts object.ghosts numbered.ghosts)
+    (row_send text.the_send, (row_send subschema_send, tt)))
+
+pub schema_sync : IsSync schema_row
+schema_sync = view_sync _ _ _ _ _ (declared_sync (inside.the_type S V N K rooted.ghosts object.ghosts numbered.ghosts)
+    (row_sync text.the_sync, (row_sync subschema_sync, tt)))

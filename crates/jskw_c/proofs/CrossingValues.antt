@@ -11,7 +11,7 @@ use Rattle.std.proofs.MapsCrossing as maps
 use Rattle.std.proofs.marker.PhantomData.TheSendSync as phantom
 use Rattle.serde_json.specs.contracts.value.Value as value
 use Rattle.serde_json.proofs.value.Value.TheLaws.TheKnot as value_knot
-use Rattle.jskw_report.proofs.paths.Location.TheSendSync as location
+use Rattle.jskw_report.proofs.paths.keyword_location.KeywordLocation.TheSendSync as location
 use Rattle.jskw_number.specs.contracts.minmax.Limit as limit
 use Rattle.jskw_number.specs.contracts.minmax.AtLeast as least
 use Rattle.jskw_number.specs.contracts.minmax.AtMost as most

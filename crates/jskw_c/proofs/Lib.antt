@@ -5,5 +5,5 @@ mod Handles
 mod Limits
 mod Lines
 mod Texts
-mod ToldAnswers
-mod ToldRefusals
+mod OutcomesOfInstances
+mod OutcomesOfRefusals

@@ -21,5 +21,6 @@ last_line all fs text none so_far =
     subst (AreErrorLines all) (append-nil text) (so_far [] (subst (λ gs. AreErrorLines gs []) (sym none) refl))
 
 -- one line
-pub only_line : (f : Failure) (text first : List ℕ) → IsErrorLine f first → text ≡ [] ++ first → AreErrorLines (f ∷ []) text
+pub only_line : (f : Failure) (text first : List ℕ) → IsErrorLine f first → text ≡ [] ++ first
+    → AreErrorLines (f ∷ []) text
 only_line f text first line is = (first, [], is ∙ sym (append-nil first), line, refl)

@@ -1,5 +1,6 @@
 -- What a schema in bytes compiles to, under a setting that numbers name.
-use Rattle.std.specs.Prelude.{◌≡◌, ◌⊎◌, ◌/◌, ◌%◌, ℕ, List, [], Bool, false, eqb, leb, length, if◌then◌else◌, Option, None, Some, Result, Ok, Err, option_and_then}
+use Rattle.std.specs.Prelude.{◌≡◌, ◌⊎◌, ◌/◌, ◌%◌, ℕ, List, [], Bool, false, eqb, leb, length, if◌then◌else◌, Option}
+use Rattle.std.specs.Prelude.{None, Some, Result, Ok, Err, option_and_then}
 use Rattle.serde_json.specs.Data.{Data}
 use Rattle.jskw_value.specs.Pointer.{Pointer}
 use Rattle.jskw_value.specs.Tree.{Tree}
@@ -14,8 +15,8 @@ use Rattle.jskw_report.specs.declared.settings.Vocabulary.{Vocabulary}
 use Rattle.jskw_report.specs.declared.settings.Vocabulary.TheVariants.{Core, Applicator, Validation}
 use Rattle.jskw_report.specs.declared.settings.VocabularySet.{VocabularySet}
 use Rattle.jskw_service.specs.Request.{overridden_of, setting_from, value_of}
-use Rattle.jskw_c.specs.Line.{IsPlaceLine, IsRefusalLine}
-use Rattle.jskw_c.specs.Told.{Nothing, Tells}
+use Rattle.jskw_c.specs.Line.{IsPositionLine, IsRefusalLine}
+use Rattle.jskw_c.specs.Buffer.{IsUnchanged, WritesOrRunsOut}
 use Rattle.jskw_c.specs.Status.{VALID, NOT_JSON, BAD_SCHEMA, BAD_SETTING, NO_SCHEMA, NO_MEMORY}
 
 -- ---- the setting
@@ -34,17 +35,21 @@ with_if b v vs = if b then with_vocabulary v vs else vs
 
 -- 1 for the core, 2 for the applicator and 4 for validation, added up
 abbrev pub vocabularies_in : ℕ → VocabularySet
-vocabularies_in n = with_if (eqb (n / 4) 1) Validation (with_if (eqb (n / 2 % 2) 1) Applicator (with_if (eqb (n % 2) 1) Core no_vocabulary))
+vocabularies_in n =
+    with_if (eqb (n / 4) 1) Validation
+    (with_if (eqb (n / 2 % 2) 1) Applicator (with_if (eqb (n % 2) 1) Core no_vocabulary))
 
 abbrev pub vocabularies_numbered : ℕ → Option VocabularySet
 vocabularies_numbered n = if leb n 7 then Some (vocabularies_in n) else None
 
 -- a JSON array of names, and none where there are no bytes
 abbrev pub overridden_in : List ℕ → Option (List (List ℕ))
-overridden_in bytes = if eqb (length bytes) 0 then Some [] else option_and_then (λ d. overridden_of (Some d)) (value_of bytes)
+overridden_in bytes =
+    if eqb (length bytes) 0 then Some [] else option_and_then (λ d. overridden_of (Some d)) (value_of bytes)
 
 abbrev pub setting_numbered : ℕ → ℕ → List ℕ → Option Setting
-setting_numbered draft vocabularies overridden = setting_from (draft_numbered draft) (vocabularies_numbered vocabularies) (overridden_in overridden)
+setting_numbered draft vocabularies overridden =
+    setting_from (draft_numbered draft) (vocabularies_numbered vocabularies) (overridden_in overridden)
 
 -- ---- the schema, read without an object layer, or why there is none
 
@@ -66,21 +71,22 @@ abbrev pub compiled_of : Option Setting → List ℕ → Result Schema Fault
 compiled_of None bytes = Err bad_setting
 compiled_of (Some s) bytes = compiled_from s bytes (value_of bytes)
 
-abbrev pub status_of : Fault → ℕ
-status_of bad_setting = BAD_SETTING
-status_of (not_json bytes) = NOT_JSON
-status_of (bad_schema e) = BAD_SCHEMA
+abbrev pub fault_status : Fault → ℕ
+fault_status bad_setting = BAD_SETTING
+fault_status (not_json bytes) = NOT_JSON
+fault_status (bad_schema e) = BAD_SCHEMA
 
--- where the reader of instances finds no JSON either, the line of a place; it takes numbers that `serde_json` does not, such
+-- where the reader of instances finds no JSON either, the line of a place; it takes numbers that `serde_json` does
+-- not, such
 -- as `1e999`, and then there is no text
-abbrev pub IsPlaceOf : List ℕ → Option (Result Tree Pointer) → List ℕ → Type 0
-IsPlaceOf bytes None text = IsPlaceLine bytes text
-IsPlaceOf bytes (Some r) text = text ≡ []
+abbrev pub IsPositionOf : List ℕ → Option (Result Tree Pointer) → List ℕ → Type 0
+IsPositionOf bytes None text = IsPositionLine bytes text
+IsPositionOf bytes (Some r) text = text ≡ []
 
 -- a refusal has its line, and a setting no text
 abbrev pub IsTextOf : Fault → List ℕ → Type 0
 IsTextOf bad_setting text = text ≡ []
-IsTextOf (not_json bytes) text = IsPlaceOf bytes (reading bytes) text
+IsTextOf (not_json bytes) text = IsPositionOf bytes (reading bytes) text
 IsTextOf (bad_schema e) text = IsRefusalLine e text
 
 -- ---- what a compile does to the handle, which had a schema before or had none, and to the buffer
@@ -89,9 +95,10 @@ IsTextOf (bad_schema e) text = IsRefusalLine e text
 abbrev pub Holds : Schema → ℕ → Option Schema → Option Schema → Type 0
 Holds s result before after = ((result ≡ VALID) × (after ≡ Some s)) ⊎ ((result ≡ NO_MEMORY) × (after ≡ before))
 
-abbrev pub Compiles : Result Schema Fault → ℕ → Option Schema → Option Schema → List ℕ → List ℕ → ℕ → Type 0
-Compiles (Ok s) result before after old new count = Holds s result before after × Nothing old new count
-Compiles (Err f) result before after old new count = (after ≡ before) × Tells (IsTextOf f) result (status_of f) old new count
+abbrev pub CompilesIntoHandle : Result Schema Fault → ℕ → Option Schema → Option Schema → List ℕ → List ℕ → ℕ → Type 0
+CompilesIntoHandle (Ok s) result before after old new count = Holds s result before after × IsUnchanged old new count
+CompilesIntoHandle (Err f) result before after old new count =
+    (after ≡ before) × WritesOrRunsOut (IsTextOf f) result (fault_status f) old new count
 
 -- ---- what sharing the schema of a handle does to another, which had a schema before or had none
 

@@ -2,7 +2,8 @@
 use Rattle.std.specs.Prelude.{ℕ, List, [], ◌∷◌, ◌++◌, Bool, true, false, codes, decimal, Option, Some, None}
 use Rattle.json.specs.Print.{quoted}
 use Rattle.jskw_value.specs.Pointer.{Pointer}
-use Rattle.jskw_report.specs.Evaluation.{Annotation, flag, index, indices, Evaluation, node, Evaluations, no_evaluations, evaluation}
+use Rattle.jskw_report.specs.Evaluation.{Annotation, flag, index, indices, Evaluation, node, Evaluations}
+use Rattle.jskw_report.specs.Evaluation.{no_evaluations, evaluation}
 
 -- a comma, where an item stands before
 abbrev pub comma_if : Bool → List ℕ
@@ -51,7 +52,8 @@ unit_text valid q p a ds = verdict_text valid q ++ (place_text p a ++ errors_tex
 abbrev mutual
   -- a node, and those below it
   pub evaluation_text : Evaluation → List ℕ
-  evaluation_text (node valid q p a ds es) = unit_text valid q p a ds ++ (codes ",\"details\":[" ++ (evaluations_text false es ++ codes "]}"))
+  evaluation_text (node valid q p a ds es) =
+      unit_text valid q p a ds ++ (codes ",\"details\":[" ++ (evaluations_text false es ++ codes "]}"))
 
   -- the items of an array of nodes
   pub evaluations_text : Bool → Evaluations → List ℕ

@@ -31,9 +31,9 @@ abbrev pub IsCompact : Data → List ℕ → Type 0
 IsCompact d text = has_float d ≡ false → text ≡ compact_text d
 
 -- the options of `enum`, or the names that `type` takes
-abbrev pub AreOptions : EnumOptions → List ℕ → Type 0
-AreOptions (kind.Listed d) text = IsCompact d text
-AreOptions kind.TypeNames text = text ≡ names_text all_types
+abbrev pub IsOptionsText : EnumOptions → List ℕ → Type 0
+IsOptionsText (kind.Listed d) text = IsCompact d text
+IsOptionsText kind.TypeNames text = text ≡ names_text all_types
 
 -- the limit, divisor, constant, options or name, or the type or types; nothing where the kind has none of these
 abbrev pub IsExpected : ErrorKind → List ℕ → Type 0
@@ -41,7 +41,7 @@ IsExpected (kind.AdditionalItems n) text = text ≡ decimal n
 IsExpected (kind.CompileError m) text = text ≡ []
 IsExpected (kind.Constant d) text = IsCompact d text
 IsExpected kind.Contains text = text ≡ []
-IsExpected (kind.Enum o) text = AreOptions o text
+IsExpected (kind.Enum o) text = IsOptionsText o text
 IsExpected (kind.ExclusiveMaximum z) text = text ≡ signed_decimal z
 IsExpected (kind.ExclusiveMinimum z) text = text ≡ signed_decimal z
 IsExpected kind.FalseSchema text = text ≡ []

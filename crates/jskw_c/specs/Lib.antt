@@ -6,5 +6,5 @@ pub mod Line
 pub mod Replies
 pub mod Slot
 pub mod Status
-pub mod Told
+pub mod Buffer
 pub mod Unchecked

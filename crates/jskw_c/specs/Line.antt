@@ -1,5 +1,6 @@
 -- Lines of words, with a tab between two words and a line feed at the end.
-use Rattle.std.specs.Prelude.{◌≡◌, ◌≤◌, ℕ, List, [], ◌∷◌, ◌++◌, codes, decimal, eqb, flat_map, length, map, if◌then◌else◌}
+use Rattle.std.specs.Prelude.{◌≡◌, ◌≤◌, ℕ, List, [], ◌∷◌, ◌++◌, codes, decimal, eqb, flat_map, length, map}
+use Rattle.std.specs.Prelude.{if◌then◌else◌}
 use Rattle.jskw_text.specs.Position.{line_at, column_at}
 use Rattle.jskw_report.specs.Fail.{Failure}
 use Rattle.jskw_report.specs.KeywordValue.{Refusal}
@@ -24,12 +25,13 @@ abbrev pub words_line : List (List ℕ) → List ℕ
 words_line words = line (map escaped words)
 
 -- the line of a place in a text: the offset in bytes, the line and the column
-abbrev pub place_line : ℕ → List ℕ → List ℕ
-place_line offset bytes = line (decimal offset ∷ decimal (line_at offset bytes) ∷ decimal (column_at offset bytes) ∷ [])
+abbrev pub position_line : ℕ → List ℕ → List ℕ
+position_line offset bytes =
+    line (decimal offset ∷ decimal (line_at offset bytes) ∷ decimal (column_at offset bytes) ∷ [])
 
 -- the text is the line of a place in the bytes, or at their end
-abbrev pub IsPlaceLine : List ℕ → List ℕ → Type 0
-IsPlaceLine bytes text = (offset : ℕ) × (offset ≤ length bytes) × (text ≡ place_line offset bytes)
+abbrev pub IsPositionLine : List ℕ → List ℕ → Type 0
+IsPositionLine bytes text = (offset : ℕ) × (offset ≤ length bytes) × (text ≡ position_line offset bytes)
 
 -- the text is the line of an error: its keyword, instance location, keyword location, some message, and what was
 -- expected
@@ -40,7 +42,8 @@ IsErrorLine f text = (message : List ℕ) × (expected : List ℕ) × IsExpected
 -- the text has the line of each error, in order
 abbrev pub AreErrorLines : List Failure → List ℕ → Type 0
 AreErrorLines [] text = text ≡ []
-AreErrorLines (f ∷ fs) text = (first : List ℕ) × (rest : List ℕ) × (text ≡ first ++ rest) × IsErrorLine f first × AreErrorLines fs rest
+AreErrorLines (f ∷ fs) text =
+    (first : List ℕ) × (rest : List ℕ) × (text ≡ first ++ rest) × IsErrorLine f first × AreErrorLines fs rest
 
 -- the text is the line of a refusal: its keyword, keyword location, some message, and what was expected
 abbrev pub IsRefusalLine : Refusal → List ℕ → Type 0

@@ -1,9 +1,9 @@
--- What is told of the members of a schema in bytes that are not checked, under a setting that numbers name.
+-- The lines for the members of a schema in bytes that are not checked, under a setting that numbers name.
 use Rattle.std.specs.Prelude.{◌≡◌, ℕ, List, [], ◌∷◌, false, flat_map, Option, None, Some, Result, Ok, Err}
 use Rattle.serde_json.specs.Data.{Data}
 use Rattle.jskw_report.specs.Setting.{Setting, with_object_layer}
 use Rattle.jskw_service.specs.Request.{value_of}
-use Rattle.jskw_unchecked.specs.Reason.{word_of}
+use Rattle.jskw_unchecked.specs.Reason.{reason_name}
 use Rattle.jskw_unchecked.specs.Unchecked.{unchecked}
 use Rattle.jskw_unchecked.specs.declared.member.UncheckedMember.{UncheckedMember}
 use Rattle.jskw_c.specs.Compiled.{Fault, bad_setting, not_json, IsTextOf}
@@ -30,11 +30,11 @@ status_of_members (m ∷ ms) = INVALID
 
 abbrev pub status_of_list : Result (List UncheckedMember) Fault → ℕ
 status_of_list (Ok ms) = status_of_members ms
-status_of_list (Err f) = compiled.status_of f
+status_of_list (Err f) = compiled.fault_status f
 
 -- the line of a member: its keyword location and the reason
 abbrev pub member_line : UncheckedMember → List ℕ
-member_line m = words_line (m.location ∷ word_of m.reason ∷ [])
+member_line m = words_line (m.location ∷ reason_name m.reason ∷ [])
 
 -- the lines of the members, in order
 abbrev pub member_lines : List UncheckedMember → List ℕ

@@ -7,16 +7,16 @@ ghost use Rattle.jskw_text.specs.Reading.{reading};
 ghost use Rattle.jskw_report.specs.Errors.{failures_of};
 ghost use Rattle.jskw_report.specs.Fail.{fail, is_empty};
 ghost use Rattle.jskw_report.specs.Observe.{limited};
-ghost use Rattle.jskw_c.specs.Asked.{Says, SaysErrors, SaysFirst, SaysTree, limit_of};
-ghost use Rattle.jskw_c.specs.Asked.{status_of, verdict};
-ghost use Rattle.jskw_c.specs.Compiled.{IsPlaceOf, compiled_of, setting_numbered};
-ghost use Rattle.jskw_c.specs.Line.{IsPlaceLine};
-ghost use Rattle.jskw_c.specs.Replies.{CompilesTo, IsTold, Reports, ReportsOf};
+ghost use Rattle.jskw_c.specs.Asked.{Says, SaysErrors, SaysFirst, SaysTree, limit_numbered};
+ghost use Rattle.jskw_c.specs.Asked.{asked_status, verdict_status};
+ghost use Rattle.jskw_c.specs.Compiled.{IsPositionOf, compiled_of, setting_numbered};
+ghost use Rattle.jskw_c.specs.Line.{IsPositionLine};
+ghost use Rattle.jskw_c.specs.Replies.{CompilesBytes, IsOutcome, IsOutcomeOnTree, IsOutcomeOnBytes};
 ghost use Rattle.jskw_c.specs.Status as status;
 
 use crate::compiled::CompiledSchema;
 use crate::evaluation::tree_text;
-use crate::line::{error_line, error_lines, place_line, refusal_line, word_line};
+use crate::line::{error_line, error_lines, position_line, refusal_line, word_line};
 use crate::settings::settings_numbered;
 use crate::status::{BAD_SCHEMA, BAD_SETTING, INEXACT, INVALID, NOT_JSON, VALID};
 use jskw_array::SchemaNode;
@@ -27,9 +27,9 @@ use jskw_text::{ReadFault, read_bytes};
 use jskw_value::{DecimalJson, DecimalTree};
 use std::alloc::{AllocError, Global};
 
-/// A status and a text.
+/// The status and the text of a call.
 #[derive(Drop)]
-pub(crate) struct Told {
+pub(crate) struct Outcome {
     pub(crate) status: u32,
     pub(crate) text: Vec<u8>,
 }
@@ -42,8 +42,8 @@ pub(crate) fn compile_schema(
     vocabularies: u32,
     overridden: &[u8],
     schema: &[u8],
-) -> Result<Result<Box<CompiledSchema>, Told>, AllocError>
-    ensures { IfOk result (λ compiled. CompilesTo (λ schema. schema.value) compiled
+) -> Result<Result<Box<CompiledSchema>, Outcome>, AllocError>
+    ensures { IfOk result (λ compiled. CompilesBytes (λ schema. schema.value) compiled
         (compiled_of (setting_numbered draft vocabularies overridden.now) schema.now)) }
 {
     let Some(settings) = settings_numbered(alloc, draft, vocabularies, overridden)? else {
@@ -56,7 +56,7 @@ pub(crate) fn compile_schema(
     let ctx = ctx.with_object_layer(false);
     match compile(alloc, &ctx, &value) {
         Ok(node) => Ok(Ok(CompiledSchema::new(alloc, node)?)),
-        Err(CompileFault::Bad(error)) => Ok(Err(Told {
+        Err(CompileFault::Bad(error)) => Ok(Err(Outcome {
             status: BAD_SCHEMA,
             text: refusal_line(alloc, &error)?,
         })),
@@ -64,10 +64,10 @@ pub(crate) fn compile_schema(
     }
 }
 
-// Returns what is told of a schema that is not JSON: its place, if the reader of instances finds one.
+// Returns the outcome for a schema that is not JSON: the place, if the reader of instances finds one.
 // That reader takes a number such as `1e999`, which no schema may have.
-pub(crate) fn no_json(alloc: Global, schema: &[u8]) -> Result<Told, AllocError>
-    ensures { IfOk result (IsTold status.NOT_JSON (IsPlaceOf schema.now (reading schema.now))) }
+pub(crate) fn no_json(alloc: Global, schema: &[u8]) -> Result<Outcome, AllocError>
+    ensures { IfOk result (IsOutcome status.NOT_JSON (IsPositionOf schema.now (reading schema.now))) }
 {
     match read_bytes(alloc, schema) {
         Err(ReadFault::NotJson(offset)) => no_json_at(alloc, schema, offset),
@@ -76,23 +76,23 @@ pub(crate) fn no_json(alloc: Global, schema: &[u8]) -> Result<Told, AllocError>
     }
 }
 
-// Returns what is told of bytes that stop being JSON at this offset.
-fn no_json_at(alloc: Global, bytes: &[u8], offset: usize) -> Result<Told, AllocError>
+// Returns the outcome for bytes that stop being JSON at this offset.
+fn no_json_at(alloc: Global, bytes: &[u8], offset: usize) -> Result<Outcome, AllocError>
     requires { offset ≤ length bytes.now }
-    ensures { IfOk result (IsTold status.NOT_JSON (IsPlaceLine bytes.now)) }
+    ensures { IfOk result (IsOutcome status.NOT_JSON (IsPositionLine bytes.now)) }
 {
-    Ok(Told {
+    Ok(Outcome {
         status: NOT_JSON,
-        text: place_line(alloc, bytes, offset)?,
+        text: position_line(alloc, bytes, offset)?,
     })
 }
 
 // Returns a status with no text.
-pub(crate) fn status_alone(alloc: Global, status: u32) -> Told
+pub(crate) fn status_alone(alloc: Global, status: u32) -> Outcome
     ensures status { result.status ≡ status }
     ensures text { result.text.items ≡ [] }
 {
-    Told {
+    Outcome {
         status,
         text: Vec::new(alloc),
     }
@@ -100,14 +100,14 @@ pub(crate) fn status_alone(alloc: Global, status: u32) -> Told
 
 // Returns the status of a verdict.
 fn verdict(is_valid: bool) -> u32
-    ensures { result ≡ verdict is_valid }
+    ensures { result ≡ verdict_status is_valid }
 {
     if is_valid { VALID } else { INVALID }
 }
 
 // Returns the status of an instance that has these errors.
 fn status_of_errors(errors: &[ValidationError<'_, DecimalJson>]) -> u32
-    ensures { result ≡ verdict (is_empty (failures_of decimal_tree errors.now)) }
+    ensures { result ≡ verdict_status (is_empty (failures_of decimal_tree errors.now)) }
 {
     match errors {
         [] => VALID,
@@ -121,7 +121,7 @@ pub(crate) fn validity(
     schema: &SchemaNode<DecimalJson>,
     instance: &[u8],
 ) -> Result<u32, AllocError>
-    ensures { IfOk result (λ status. status ≡ status_of (Some schema.now) instance.now) }
+    ensures { IfOk result (λ status. status ≡ asked_status (Some schema.now) instance.now) }
 {
     match read_bytes(alloc, instance) {
         Ok(tree) => Ok(verdict(schema.is_valid(&tree, &mut ValidationContext::new()))),
@@ -131,28 +131,28 @@ pub(crate) fn validity(
     }
 }
 
-// What is told of an instance, besides whether it is valid.
+// What a call asks of an instance, besides whether it is valid.
 #[derive(Clone, Copy)]
-pub(crate) enum Report {
+pub(crate) enum Detail {
     FirstError,
     // At most so many errors, or all for 0.
     Errors(u64),
     Evaluation,
 }
 
-// Returns the report on the instance of these bytes.
-pub(crate) fn report_of(
+// Returns the outcome on the instance of these bytes.
+pub(crate) fn outcome_of(
     alloc: Global,
-    report: Report,
+    detail: Detail,
     schema: &SchemaNode<DecimalJson>,
     instance: &[u8],
-) -> Result<Told, AllocError>
-    ensures { IfOk result (ReportsOf (Says report) schema.now instance.now) }
+) -> Result<Outcome, AllocError>
+    ensures { IfOk result (IsOutcomeOnBytes (Says detail) schema.now instance.now) }
 {
     match read_bytes(alloc, instance) {
-        Ok(tree) => report_on(alloc, report, schema, &tree),
+        Ok(tree) => outcome_on(alloc, detail, schema, &tree),
         Err(ReadFault::NotJson(offset)) => no_json_at(alloc, instance, offset),
-        Err(ReadFault::Inexact(location)) => Ok(Told {
+        Err(ReadFault::Inexact(location)) => Ok(Outcome {
             status: INEXACT,
             text: word_line(alloc, location.as_str())?,
         }),
@@ -160,19 +160,19 @@ pub(crate) fn report_of(
     }
 }
 
-// Returns the report on an instance.
-fn report_on(
+// Returns the outcome on an instance.
+fn outcome_on(
     alloc: Global,
-    report: Report,
+    detail: Detail,
     schema: &SchemaNode<DecimalJson>,
     instance: &DecimalTree,
-) -> Result<Told, AllocError>
-    ensures { IfOk result (Reports (Says report) schema.now (decimal_tree instance.now)) }
+) -> Result<Outcome, AllocError>
+    ensures { IfOk result (IsOutcomeOnTree (Says detail) schema.now (decimal_tree instance.now)) }
 {
-    match report {
-        Report::FirstError => first_error_of(alloc, schema, instance),
-        Report::Errors(limit) => errors_of(alloc, limit, schema, instance),
-        Report::Evaluation => evaluation_of(alloc, schema, instance),
+    match detail {
+        Detail::FirstError => first_error_of(alloc, schema, instance),
+        Detail::Errors(limit) => errors_of(alloc, limit, schema, instance),
+        Detail::Evaluation => evaluation_of(alloc, schema, instance),
     }
 }
 
@@ -183,11 +183,11 @@ fn errors_of(
     limit: u64,
     schema: &SchemaNode<DecimalJson>,
     instance: &DecimalTree,
-) -> Result<Told, AllocError>
-    ensures { IfOk result (Reports (SaysErrors limit) schema.now (decimal_tree instance.now)) }
+) -> Result<Outcome, AllocError>
+    ensures { IfOk result (IsOutcomeOnTree (SaysErrors limit) schema.now (decimal_tree instance.now)) }
 {
     let errors = collect(alloc, limit, schema, instance)?;
-    Ok(Told {
+    Ok(Outcome {
         status: status_of_errors(errors.as_slice()),
         text: error_lines(alloc, errors.as_slice())?,
     })
@@ -201,7 +201,7 @@ fn collect<'i>(
     instance: &'i DecimalTree,
 ) -> Result<Vec<ValidationError<'i, DecimalJson>>, AllocError>
     ensures { IfOk result (λ errors. failures_of decimal_tree errors.items
-        ≡ limited (limit_of limit) (fail schema.now (decimal_tree instance.now) [])) }
+        ≡ limited (limit_numbered limit) (fail schema.now (decimal_tree instance.now) [])) }
 {
     let mut errors = Vec::new(alloc);
     let mut location = LazyLocation::new(alloc);
@@ -220,13 +220,13 @@ fn first_error_of(
     alloc: Global,
     schema: &SchemaNode<DecimalJson>,
     instance: &DecimalTree,
-) -> Result<Told, AllocError>
-    ensures { IfOk result (Reports SaysFirst schema.now (decimal_tree instance.now)) }
+) -> Result<Outcome, AllocError>
+    ensures { IfOk result (IsOutcomeOnTree SaysFirst schema.now (decimal_tree instance.now)) }
 {
     let mut location = LazyLocation::new(alloc);
     match schema.validate(instance, &mut location, &mut ValidationContext::new()) {
         Ok(()) => Ok(status_alone(alloc, VALID)),
-        Err(Fault::Invalid(error)) => Ok(Told {
+        Err(Fault::Invalid(error)) => Ok(Outcome {
             status: INVALID,
             text: error_line(alloc, &error)?,
         }),
@@ -239,11 +239,11 @@ fn evaluation_of(
     alloc: Global,
     schema: &SchemaNode<DecimalJson>,
     instance: &DecimalTree,
-) -> Result<Told, AllocError>
-    ensures { IfOk result (Reports SaysTree schema.now (decimal_tree instance.now)) }
+) -> Result<Outcome, AllocError>
+    ensures { IfOk result (IsOutcomeOnTree SaysTree schema.now (decimal_tree instance.now)) }
 {
     let tree = schema.evaluate_instance(alloc, instance, &mut ValidationContext::new())?;
-    Ok(Told {
+    Ok(Outcome {
         status: verdict(tree.valid()),
         text: tree_text(alloc, &tree)?,
     })

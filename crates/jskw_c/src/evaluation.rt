@@ -25,7 +25,7 @@ pub(crate) fn tree_text(alloc: Global, root: &EvaluationNode) -> Result<Vec<u8>,
 fn push_node(alloc: Global, text: &mut Vec<u8>, node: &EvaluationNode) -> Result<(), AllocError>
     ensures { OnOk result (text.new.items ≡ text.old.items ++ evaluation_text node.now) }
 {
-    push_unit(alloc, text, node)?;
+    push_part(alloc, text, node)?;
     push_text(text, b",\"details\":[")?;
     push_nodes(alloc, text, node.children())?;
     push_text(text, b"]}")
@@ -48,7 +48,7 @@ fn push_nodes(alloc: Global, text: &mut Vec<u8>, nodes: &[EvaluationNode]) -> Re
 
 // Appends what a node says itself.
 #[tactic(auto, unfolding(crate::specs::Evaluated::unit_text))]
-fn push_unit(alloc: Global, text: &mut Vec<u8>, node: &EvaluationNode) -> Result<(), AllocError>
+fn push_part(alloc: Global, text: &mut Vec<u8>, node: &EvaluationNode) -> Result<(), AllocError>
     ensures { OnOk result (text.new.items ≡ text.old.items
         ++ unit_text (is_valid node.now) (keyword_location_at node.now)
         (instance_location_at node.now) (annotation_at node.now) (keywords_at node.now)) }

@@ -2,10 +2,10 @@
 ghost use Rattle.std.specs.Prelude.{◌≡◌, ◌++◌, IfOk, OnOk, decimal, false, filter, map};
 ghost use Rattle.std.specs.Fmt.{signed_decimal};
 ghost use Rattle.jskw_value.specs.Types.{contains, type_name};
-ghost use Rattle.jskw_report.specs.Errors.{kind_of, options_of};
+ghost use Rattle.jskw_report.specs.Errors.{kind_of, enum_options_of};
 ghost use Rattle.json.specs.Print.{quoted};
 ghost use Rattle.jskw_c.specs.Evaluated.{strings_text};
-ghost use Rattle.jskw_c.specs.Expected.{AreOptions, IsExpected, all_types, names_text, types_text};
+ghost use Rattle.jskw_c.specs.Expected.{IsOptionsText, IsExpected, all_types, names_text, types_text};
 
 use crate::json_parts::{push_comma, push_string, push_text};
 use jskw_report::{EnumOptions, TypeKind, ValidationErrorKind};
@@ -69,7 +69,7 @@ fn limit_text(alloc: Global, limit: i128) -> Result<Vec<u8>, AllocError>
 
 // Returns the array of `enum`, or that of the names of all types.
 fn options_text(alloc: Global, options: &EnumOptions<'_>) -> Result<Vec<u8>, AllocError>
-    ensures { IfOk result (λ text. AreOptions (options_of options.now) text.items) }
+    ensures { IfOk result (λ text. IsOptionsText (enum_options_of options.now) text.items) }
 {
     match options {
         EnumOptions::Listed(value) => value.to_vec(alloc),

@@ -18,12 +18,13 @@
 ghost use Rattle.std.specs.Prelude.{◌≡◌, codes, None};
 ghost use Rattle.jskw_service.specs.Answer.{output, verdict};
 ghost use Rattle.jskw_service.specs.Run.{status_of_verdict};
-ghost use Rattle.jskw_c.specs.Asked.{IsReport, Says, SaysErrors, SaysFirst, SaysTree, status_of};
-ghost use Rattle.jskw_c.specs.Compiled.{Compiles, Shares, compiled_of, setting_numbered};
-ghost use Rattle.jskw_c.specs.Told.{Gives, IsStatus, Tells};
+ghost use Rattle.jskw_c.specs.Asked.{IsDetail, Says, SaysErrors, SaysFirst, SaysTree, asked_status};
+ghost use Rattle.jskw_c.specs.Compiled.{CompilesIntoHandle, Shares, compiled_of, setting_numbered};
+ghost use Rattle.jskw_c.specs.Buffer.{WritesText, IsStatus, WritesOrRunsOut};
 ghost use Rattle.jskw_c.specs.Unchecked.{IsListText, status_of_list, unchecked_of};
 
 mod ask;
+mod buffer;
 mod compiled;
 mod evaluation;
 mod expected;
@@ -32,13 +33,12 @@ mod json_parts;
 mod line;
 mod settings;
 mod status;
-mod tell;
 mod unchecked;
 
-use crate::ask::{Report, compile_schema, report_of, validity};
+use crate::ask::{Detail, compile_schema, outcome_of, validity};
+use crate::buffer::{write_no_memory, write_text};
 use crate::handle::SchemaHandle;
 use crate::status::{INVALID, NO_MEMORY, NO_SCHEMA, REFUSED, VALID};
-use crate::tell::{tell, tell_no_memory};
 use crate::unchecked::unchecked_of;
 use jskw_service::{Verdict, reply_to};
 use std::alloc::{AllocError, Global};
@@ -46,10 +46,10 @@ use std::alloc::{AllocError, Global};
 /// Writes the version of this library and that of the logic that it is proved in, a line each.
 #[unsafe(no_mangle)]
 pub extern "C" fn jskw_version(buffer: &mut [u8], length: &mut usize) -> u32
-    ensures { Gives result 0 (codes "jskw 0.2.0\nrattle logic dac8208d650f15bf\n") buffer.old buffer.new
+    ensures { WritesText result 0 (codes "jskw 0.2.0\nrattle logic dac8208d650f15bf\n") buffer.old buffer.new
         length.new }
 {
-    tell(
+    write_text(
         VALID,
         b"jskw 0.2.0\nrattle logic dac8208d650f15bf\n",
         buffer,
@@ -65,12 +65,12 @@ pub extern "C" fn jskw_answer(
     buffer: &mut [u8],
     length: &mut usize,
 ) -> u32
-    ensures { Tells (λ text. text ≡ output request.now) result
+    ensures { WritesOrRunsOut (λ text. text ≡ output request.now) result
         (status_of_verdict (verdict request.now)) buffer.old buffer.new length.new }
 {
     match reply_to(alloc, request) {
-        Ok(reply) => tell(exit_status(reply.verdict()), reply.text(), buffer, length),
-        Err(AllocError) => tell_no_memory(length),
+        Ok(reply) => write_text(exit_status(reply.verdict()), reply.text(), buffer, length),
+        Err(AllocError) => write_no_memory(length),
     }
 }
 
@@ -100,7 +100,7 @@ pub extern "C" fn jskw_compile(
     buffer: &mut [u8],
     length: &mut usize,
 ) -> u32
-    ensures { Compiles
+    ensures { CompilesIntoHandle
         (compiled_of (setting_numbered draft vocabularies overridden.now) schema.now)
         result handle.old.schema handle.new.schema buffer.old buffer.new length.new }
 {
@@ -110,8 +110,8 @@ pub extern "C" fn jskw_compile(
             *length = 0;
             VALID
         }
-        Ok(Err(told)) => tell(told.status, told.text.as_slice(), buffer, length),
-        Err(AllocError) => tell_no_memory(length),
+        Ok(Err(outcome)) => write_text(outcome.status, outcome.text.as_slice(), buffer, length),
+        Err(AllocError) => write_no_memory(length),
     }
 }
 
@@ -131,11 +131,11 @@ pub extern "C" fn jskw_unchecked(
     length: &mut usize,
 ) -> u32
     ensures { let list = unchecked_of (setting_numbered draft vocabularies overridden.now) schema.now in
-        Tells (IsListText list) result (status_of_list list) buffer.old buffer.new length.new }
+        WritesOrRunsOut (IsListText list) result (status_of_list list) buffer.old buffer.new length.new }
 {
     match unchecked_of(alloc, draft, vocabularies, overridden, schema) {
-        Ok(list) => tell(list.status, list.text.as_slice(), buffer, length),
-        Err(AllocError) => tell_no_memory(length),
+        Ok(list) => write_text(list.status, list.text.as_slice(), buffer, length),
+        Err(AllocError) => write_no_memory(length),
     }
 }
 
@@ -166,7 +166,7 @@ pub extern "C" fn jskw_share(alloc: Global, from: &mut SchemaHandle, to: &mut Sc
 #[unsafe(no_mangle)]
 pub extern "C" fn jskw_is_valid(alloc: Global, handle: &mut SchemaHandle, instance: &[u8]) -> u32
     ensures kept { handle.new.schema ≡ handle.old.schema }
-    ensures status { IsStatus (status_of handle.old.schema instance.now) result }
+    ensures status { IsStatus (asked_status handle.old.schema instance.now) result }
 {
     let Some(schema) = handle.take(alloc) else {
         return NO_SCHEMA;
@@ -179,27 +179,27 @@ pub extern "C" fn jskw_is_valid(alloc: Global, handle: &mut SchemaHandle, instan
     }
 }
 
-// Writes the report on the instance.
-fn tell_report(
+// Writes the outcome on the instance.
+fn write_outcome(
     alloc: Global,
-    report: Report,
+    detail: Detail,
     handle: &mut SchemaHandle,
     instance: &[u8],
     buffer: &mut [u8],
     length: &mut usize,
 ) -> u32
     ensures kept { handle.new.schema ≡ handle.old.schema }
-    ensures told { Tells (IsReport (Says report) handle.old.schema instance.now) result
-        (status_of handle.old.schema instance.now) buffer.old buffer.new length.new }
+    ensures written { WritesOrRunsOut (IsDetail (Says detail) handle.old.schema instance.now) result
+        (asked_status handle.old.schema instance.now) buffer.old buffer.new length.new }
 {
     let Some(schema) = handle.take(alloc) else {
-        return tell(NO_SCHEMA, &[], buffer, length);
+        return write_text(NO_SCHEMA, &[], buffer, length);
     };
-    let answer = report_of(alloc, report, schema.node(), instance);
+    let answer = outcome_of(alloc, detail, schema.node(), instance);
     handle.put(alloc, schema);
     match answer {
-        Ok(told) => tell(told.status, told.text.as_slice(), buffer, length),
-        Err(AllocError) => tell_no_memory(length),
+        Ok(outcome) => write_text(outcome.status, outcome.text.as_slice(), buffer, length),
+        Err(AllocError) => write_no_memory(length),
     }
 }
 
@@ -214,10 +214,10 @@ pub extern "C" fn jskw_first_error(
     length: &mut usize,
 ) -> u32
     ensures kept { handle.new.schema ≡ handle.old.schema }
-    ensures told { Tells (IsReport SaysFirst handle.old.schema instance.now) result
-        (status_of handle.old.schema instance.now) buffer.old buffer.new length.new }
+    ensures written { WritesOrRunsOut (IsDetail SaysFirst handle.old.schema instance.now) result
+        (asked_status handle.old.schema instance.now) buffer.old buffer.new length.new }
 {
-    tell_report(alloc, Report::FirstError, handle, instance, buffer, length)
+    write_outcome(alloc, Detail::FirstError, handle, instance, buffer, length)
 }
 
 /// Writes the lines of the errors of the instance, in order: of the first `limit`, or of all if
@@ -232,12 +232,12 @@ pub extern "C" fn jskw_errors(
     length: &mut usize,
 ) -> u32
     ensures kept { handle.new.schema ≡ handle.old.schema }
-    ensures told { Tells (IsReport (SaysErrors limit) handle.old.schema instance.now) result
-        (status_of handle.old.schema instance.now) buffer.old buffer.new length.new }
+    ensures written { WritesOrRunsOut (IsDetail (SaysErrors limit) handle.old.schema instance.now) result
+        (asked_status handle.old.schema instance.now) buffer.old buffer.new length.new }
 {
-    tell_report(
+    write_outcome(
         alloc,
-        Report::Errors(limit),
+        Detail::Errors(limit),
         handle,
         instance,
         buffer,
@@ -255,10 +255,10 @@ pub extern "C" fn jskw_evaluate(
     length: &mut usize,
 ) -> u32
     ensures kept { handle.new.schema ≡ handle.old.schema }
-    ensures told { Tells (IsReport SaysTree handle.old.schema instance.now) result
-        (status_of handle.old.schema instance.now) buffer.old buffer.new length.new }
+    ensures written { WritesOrRunsOut (IsDetail SaysTree handle.old.schema instance.now) result
+        (asked_status handle.old.schema instance.now) buffer.old buffer.new length.new }
 {
-    tell_report(alloc, Report::Evaluation, handle, instance, buffer, length)
+    write_outcome(alloc, Detail::Evaluation, handle, instance, buffer, length)
 }
 
 /// Frees the schema of the handle, if it has one. It has none from then on.

@@ -4,7 +4,7 @@ ghost use Rattle.jskw_value.specs.DecimalTree.{decimal_tree};
 ghost use Rattle.jskw_report.specs.Compile.{refusal_of};
 ghost use Rattle.jskw_report.specs.Errors.{failure_of, failures_of};
 ghost use Rattle.jskw_c.specs.Line.{AreErrorLines, IsErrorLine, IsRefusalLine, escaped};
-ghost use Rattle.jskw_c.specs.Line.{place_line, words_line};
+ghost use Rattle.jskw_c.specs.Line.{position_line, words_line};
 ghost use Rattle.jskw_c.specs.Unchecked.{member_line};
 
 use crate::expected::expected_text;
@@ -49,9 +49,13 @@ pub(crate) fn word_line(alloc: Global, word: &str) -> Result<Vec<u8>, AllocError
 
 // Returns the line of a place in a text: the offset in bytes, which must be at most the length, the
 // line and the column.
-pub(crate) fn place_line(alloc: Global, text: &[u8], offset: usize) -> Result<Vec<u8>, AllocError>
+pub(crate) fn position_line(
+    alloc: Global,
+    text: &[u8],
+    offset: usize,
+) -> Result<Vec<u8>, AllocError>
     requires { offset ≤ length text.now }
-    ensures { IfOk result (λ line. line.items ≡ place_line offset text.now) }
+    ensures { IfOk result (λ line. line.items ≡ position_line offset text.now) }
 {
     let position = position_of(text, offset);
     let line = format!(in alloc; "{offset}\t{}\t{}\n", position.line, position.column)?;

@@ -1,11 +1,11 @@
 //! The members of a schema that are not checked, for callers in C.
 ghost use Rattle.std.specs.Prelude.{◌≡◌, IfOk};
 ghost use Rattle.jskw_c.specs.Compiled.{setting_numbered};
-ghost use Rattle.jskw_c.specs.Replies.{IsTold};
+ghost use Rattle.jskw_c.specs.Replies.{IsOutcome};
 ghost use Rattle.jskw_c.specs.Unchecked.{IsListText, member_lines, status_of_list};
 ghost use Rattle.jskw_c.specs.Unchecked.{status_of_members, unchecked_of};
 
-use crate::ask::{Told, no_json, status_alone};
+use crate::ask::{Outcome, no_json, status_alone};
 use crate::line::push_member;
 use crate::settings::settings_numbered;
 use crate::status::{BAD_SETTING, INVALID, VALID};
@@ -23,9 +23,9 @@ pub(crate) fn unchecked_of(
     vocabularies: u32,
     overridden: &[u8],
     schema: &[u8],
-) -> Result<Told, AllocError>
+) -> Result<Outcome, AllocError>
     ensures { let list = unchecked_of (setting_numbered draft vocabularies overridden.now) schema.now in
-        IfOk result (IsTold (status_of_list list) (IsListText list)) }
+        IfOk result (IsOutcome (status_of_list list) (IsListText list)) }
 {
     let Some(settings) = settings_numbered(alloc, draft, vocabularies, overridden)? else {
         return Ok(status_alone(alloc, BAD_SETTING));
@@ -36,7 +36,7 @@ pub(crate) fn unchecked_of(
     let ctx: Context<'_, DecimalJson> = Context::new(alloc, &settings);
     let ctx = ctx.with_object_layer(false);
     let members = unchecked(alloc, &ctx, &value)?;
-    Ok(Told {
+    Ok(Outcome {
         status: status_of_members(members.as_slice()),
         text: member_lines(alloc, members.as_slice())?,
     })

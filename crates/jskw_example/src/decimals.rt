@@ -5,7 +5,7 @@ ghost use Rattle.lotsibegn.specs.{decimal_tree, holds};
 use crate::node_of;
 use lotsibegn::{
     Decimal, DecimalJson, DecimalTree, Fault, LazyLocation, Member, Members, Node, SchemaNode,
-    ValidationContext, ValidationError, Value,
+    ValidationContext, ValidationError,
 };
 use std::alloc::{AllocError, Global};
 use std::io;

@@ -21,9 +21,12 @@ module _ (q : Pointer) (a : LocatedAssertion) where
       go true = refl
       go false = refl
 
-  pub bare_all_hold : (ts : List Tree) → list_all (holds (bare_schema q a)) ts ≡ list_all (assertion_holds a.assertion) ts
+  pub bare_all_hold : (ts : List Tree)
+      → list_all (holds (bare_schema q a)) ts ≡ list_all (assertion_holds a.assertion) ts
   bare_all_hold [] = refl
-  bare_all_hold (t ∷ ts) = ap (λ b. b && list_all (holds (bare_schema q a)) ts) (bare_holds t) ∙ ap (λ b. assertion_holds a.assertion t && b) (bare_all_hold ts)
+  bare_all_hold (t ∷ ts) =
+      ap (λ b. b && list_all (holds (bare_schema q a)) ts) (bare_holds t)
+      ∙ ap (λ b. assertion_holds a.assertion t && b) (bare_all_hold ts)
 
   pub bare_fail : (t : Tree) (p : Pointer) → fail (bare_schema q a) t p ≡ keyword_fail (as_keyword a) t p
   bare_fail t p = append-nil (keyword_fail (as_keyword a) t p)
@@ -32,4 +35,5 @@ module _ (q : Pointer) (a : LocatedAssertion) where
 pub type_fails_not : (j : JsonType) (rule : Integers) (q r : Pointer) (t : Tree) (p : Pointer)
     → assertion_holds (type_is (Single j) rule) t ≡ true → fail (bare_schema q (type_at j rule r)) t p ≡ []
 type_fails_not j rule q r t p h = bare_fail q (type_at j rule r) t p
-    ∙ ap (λ b. map (λ k. record { kind = k; instance_location = p; keyword_location = r; tree = t }) (unless b (WrongType (Single j)))) h
+    ∙ ap (λ b. map (λ k. record { kind = k; instance_location = p; keyword_location = r; tree = t })
+    (unless b (WrongType (Single j)))) h

@@ -2,15 +2,15 @@
 use Rattle.std.proofs.Common.{◌≡◌, false, refl}
 use Rattle.jskw_value.specs.Tree.{Tree}
 use Rattle.jskw_report.specs.Applications.{keyword_needed, keyword_pairs}
-use Rattle.jskw_report.specs.Keyword.{keyword_hands_on}
+use Rattle.jskw_report.specs.Keyword.{keyword_delegates}
 use Rattle.jskw_leaf.specs.Meaning.{leaf_keyword}
 use Rattle.jskw_leaf.specs.declared.leaf.LeafValidator.{LeafValidator}
 
 -- of every validator v
 module _ {F Node Number Key : Type 0} (v : LeafValidator F Node Number Key) where
-  -- it hands on nothing
-  pub leaf_hands_on_nothing : keyword_hands_on (leaf_keyword v) ≡ false
-  leaf_hands_on_nothing = refl
+  -- it delegates nothing
+  pub leaf_delegates_nothing : keyword_delegates (leaf_keyword v) ≡ false
+  leaf_delegates_nothing = refl
 
   -- it makes no schema and tree meet
   pub leaf_applies_nothing : (t : Tree) → keyword_pairs (leaf_keyword v) t ≡ 0

@@ -8,7 +8,7 @@ pub mod Lookups
 pub mod MissingNames
 pub mod NameMarks
 pub mod NamesOnce
-pub mod OptionPrints
+pub mod OptionFingerprints
 pub mod Options
 pub mod PassedFaults
 pub mod SortedTables

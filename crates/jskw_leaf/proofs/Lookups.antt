@@ -4,6 +4,7 @@ use Rattle.std.proofs.lemmas.Map.Made.{is_some-lookup}
 use Rattle.std.specs.Str.{bytes_eq}
 use Rattle.jskw_value.specs.Tree.{Tree, get, has_name, members}
 
-pub found_by_key : {N : Type 0} (tree : N → Tree) (r : Option N) (k : List ℕ) (t : Tree) → option_map tree r ≡ get k t → is_some r ≡ has_name t k
+pub found_by_key : {N : Type 0} (tree : N → Tree) (r : Option N) (k : List ℕ) (t : Tree) → option_map tree r ≡ get k t
+    → is_some r ≡ has_name t k
 found_by_key tree None k t e = ap is_some e ∙ is_some-lookup (bytes_eq k) (members t)
 found_by_key tree (Some x) k t e = ap is_some e ∙ is_some-lookup (bytes_eq k) (members t)

@@ -1,5 +1,6 @@
 -- The options of an `enum`, as the validators look for them.
-use Rattle.std.proofs.Common.{◌≡◌, ℕ, zero, ◌^◌, ℤ, pos, List, ◌∷◌, Bool, true, false, ◌&&◌, ◌||◌, if◌then◌else◌, nat_lt, Option, Some, None, is_some, refl, sym, ap, ◌∙◌, subst, inl, inr}
+use Rattle.std.proofs.Common.{◌≡◌, ℕ, zero, ◌^◌, ℤ, pos, List, ◌∷◌, Bool, true, false, ◌&&◌, ◌||◌, if◌then◌else◌}
+use Rattle.std.proofs.Common.{nat_lt, Option, Some, None, is_some, refl, sym, ap, ◌∙◌, subst, inl, inr}
 use Rattle.std.proofs.lemmas.Bool.{true≢false, and_parts, or_cases, or_parts, both_ways, false_from_ne_true}
 use Rattle.std.proofs.lemmas.List.Sorted.{list_any-IsPermutation}
 use Rattle.std.specs.Prelude.{IsSome}
@@ -22,7 +23,8 @@ use Rattle.jskw_value.specs.declared.types.JsonTypeSet.{JsonTypeSet}
 use Rattle.jskw_value.specs.Pointer.{Pointer}
 use Rattle.jskw_report.specs.KeywordValue.{map_ok, unless_float, const_value, enum_value, first_float_item}
 use Rattle.jskw_report.specs.Holds.{is_option}
-use Rattle.jskw_leaf.specs.Options.{options_of, option_types, AreOptions, has_text, has_integer, is_text, is_integer, picked, only, has_null, integer_of}
+use Rattle.jskw_leaf.specs.Options.{options_of, option_types, AreOptions, has_text, has_integer, is_text}
+use Rattle.jskw_leaf.specs.Options.{is_integer_option, picked, only, has_null, integer_of}
 
 -- an array lists its items
 pub listed : (d : Data) → IsSome (as_array d) → array (options_of d) ≡ d
@@ -62,18 +64,23 @@ of_equal (tree.object ms) (tree.object ns) h = refl
 of_equal a t h = absurd (true≢false (sym h))
 
 -- the type of an option is one of those
-type_of_option : (s : JsonTypeSet) (ds : Items) (t : Tree) → is_option ds t ≡ true → contains (option_types s ds) (json_type t) ≡ true
+type_of_option : (s : JsonTypeSet) (ds : Items) (t : Tree) → is_option ds t ≡ true
+    → contains (option_types s ds) (json_type t) ≡ true
 type_of_option s no_items t h = absurd (true≢false (sym h))
 type_of_option s (item d ds) t h =
     let j = json_type (tree_of d) in
     elim (or_cases (equal (tree_of d) t) (is_option ds t) h) [
-      | inl e ↦ subst (λ i. contains (option_types s (item d ds)) i ≡ true) (of_equal (tree_of d) t e) (all_stay (insert j s) ds j (inserted j s))
+      | inl e ↦ subst (λ i. contains (option_types s (item d ds)) i ≡ true) (of_equal (tree_of d) t e)
+          (all_stay (insert j s) ds j (inserted j s))
       | inr k ↦ type_of_option (insert j s) ds t k
     ]
 
 -- a tree of another type is no option
-pub no_option : (s : JsonTypeSet) (ds : Items) (t : Tree) → s ≡ option_types no_types ds → has_type_of s t ≡ false → is_option ds t ≡ false
-no_option s ds t e h = false_from_ne_true _ (λ k. both_ways _ (or_parts _ _ h).0 (subst (λ s. contains s (json_type t) ≡ true) (sym e) (type_of_option no_types ds t k)))
+pub no_option : (s : JsonTypeSet) (ds : Items) (t : Tree) → s ≡ option_types no_types ds → has_type_of s t ≡ false
+    → is_option ds t ≡ false
+no_option s ds t e h =
+    false_from_ne_true _ (λ k. both_ways _ (or_parts _ _ h).0
+    (subst (λ s. contains s (json_type t) ≡ true) (sym e) (type_of_option no_types ds t k)))
 
 -- ---- options of one kind, and null
 
@@ -87,19 +94,24 @@ apart false false true n true = refl
 apart false false true true false = refl
 apart false false true false false = refl
 
--- `each` says what one option accepts: where `kind` sees a string or a number, what is the same; and null, where it is null
+-- `each` says what one option accepts: where `kind` sees a string or a number, what is the same; and null, where it is
+-- null
 module _ {X Y : Type 0} (pick : Data → Option X) (kind : Tree → Option Y) (same : X → Y → Bool)
     (each : (d : Data) (t : Tree) → (is_some (pick d) || is_some (as_null d)) ≡ true
-    → equal (tree_of d) t ≡ (option_map_or (λ y. option_map_or (λ x. same x y) (pick d) false) (kind t) false || (is_some (as_null d) && tree.is_null t))) where
-  -- one option before others; z tells whether the tree is null, a and n whether null is the option and one of the others
+    → equal (tree_of d) t ≡ (option_map_or (λ y. option_map_or (λ x. same x y) (pick d) false) (kind t) false
+    || (is_some (as_null d) && tree.is_null t))) where
+  -- one option before others; z tells whether the tree is null, a and n whether null is the option and one of the
+  -- others
   one_more : (v : Option Y) (p : Option X) (xs : List X) (a n z : Bool)
-      → ((option_map_or (λ y. option_map_or (λ x. same x y) p false) v false || (a && z)) || (option_map_or (λ y. list_any (λ x. same x y) xs) v false || (n && z)))
+      → ((option_map_or (λ y. option_map_or (λ x. same x y) p false) v false || (a && z))
+      || (option_map_or (λ y. list_any (λ x. same x y) xs) v false || (n && z)))
       ≡ (option_map_or (λ y. list_any (λ x. same x y) (option_map_or (λ x. x ∷ xs) p xs)) v false || ((a || n) && z))
   one_more (Some y) (Some x) xs a n z = apart (same x y) (list_any (λ x. same x y) xs) a n z
   one_more (Some y) None xs a n z = apart false (list_any (λ x. same x y) xs) a n z
   one_more None p xs a n z = apart false false a n z
 
-  of_picked : (ds : Items) → only (λ d. is_some (pick d)) ds ≡ true → AreOptions (λ t. option_map_or (λ y. list_any (λ x. same x y) (picked pick ds)) (kind t) false) (has_null ds) ds
+  of_picked : (ds : Items) → only (λ d. is_some (pick d)) ds ≡ true
+      → AreOptions (λ t. option_map_or (λ y. list_any (λ x. same x y) (picked pick ds)) (kind t) false) (has_null ds) ds
   of_picked no_items h t = go (kind t)
     where
       go : (v : Option Y) → false ≡ (option_map_or (λ y. false) v false || false)
@@ -107,15 +119,19 @@ module _ {X Y : Type 0} (pick : Data → Option X) (kind : Tree → Option Y) (s
       go (Some y) = refl
   of_picked (item d ds) h t =
       let all = and_parts (is_some (pick d) || is_some (as_null d)) (only (λ d. is_some (pick d)) ds) h in
-      rw (each d t all.0, of_picked ds all.1 t) (one_more (kind t) (pick d) (picked pick ds) (is_some (as_null d)) (has_null ds) (tree.is_null t))
+      rw (each d t all.0, of_picked ds all.1 t)
+      (one_more (kind t) (pick d) (picked pick ds) (is_some (as_null d)) (has_null ds) (tree.is_null t))
 
   -- the options in any order
   are_options : (ds : Items) (xs : List X) → only (λ d. is_some (pick d)) ds ≡ true → IsPermutation (picked pick ds) xs
       → AreOptions (λ t. option_map_or (λ y. list_any (λ x. same x y) xs) (kind t) false) (has_null ds) ds
   are_options ds xs h p t = of_picked ds h t ∙ go (kind t)
     where
-      go : (v : Option Y) → (option_map_or (λ y. list_any (λ x. same x y) (picked pick ds)) v false || (has_null ds && tree.is_null t)) ≡ (option_map_or (λ y. list_any (λ x. same x y) xs) v false || (has_null ds && tree.is_null t))
-      go (Some y) = ap (λ b. b || (has_null ds && tree.is_null t)) (list_any-IsPermutation (λ x. same x y) (picked pick ds) xs p)
+      go : (v : Option Y) → (option_map_or (λ y. list_any (λ x. same x y) (picked pick ds)) v false
+          || (has_null ds && tree.is_null t))
+          ≡ (option_map_or (λ y. list_any (λ x. same x y) xs) v false || (has_null ds && tree.is_null t))
+      go (Some y) =
+          ap (λ b. b || (has_null ds && tree.is_null t)) (list_any-IsPermutation (λ x. same x y) (picked pick ds) xs p)
       go None = refl
 
 by_itself : (b : Bool) → b ≡ (b || false)
@@ -124,42 +140,49 @@ by_itself false = refl
 
 -- what a string among the options, or null, accepts
 text_option : (d : Data) (t : Tree) → (is_text d || is_some (as_null d)) ≡ true
-    → equal (tree_of d) t ≡ (option_map_or (λ s. option_map_or (λ n. bytes_eq n s) (as_str d) false) (tree.as_string t) false || (is_some (as_null d) && tree.is_null t))
+    → equal (tree_of d) t ≡ (option_map_or (λ s. option_map_or (λ n. bytes_eq n s) (as_str d) false)
+    (tree.as_string t) false || (is_some (as_null d) && tree.is_null t))
 text_option json.null tree.null h = refl
 text_option json.null t h = refl
 text_option (json.string n) (tree.string s) h = by_itself (bytes_eq n s)
 text_option (json.string n) t h = refl
 text_option d t h = absurd (true≢false (sym h))
 
-pub are_texts : (ds : Items) (names : List (List ℕ)) → only is_text ds ≡ true → IsPermutation (picked as_str ds) names → AreOptions (has_text names) (has_null ds) ds
+pub are_texts : (ds : Items) (names : List (List ℕ)) → only is_text ds ≡ true → IsPermutation (picked as_str ds) names
+    → AreOptions (has_text names) (has_null ds) ds
 are_texts = are_options as_str tree.as_string bytes_eq text_option
 
 -- an integer as a number
-number_option : (n : json.Num) (m : Num) → (is_some (as_i64 n) || false) ≡ true → num_equal (num_of n) m ≡ option_map_or (λ z. num_equal (exact z zero) m) (as_i64 n) false
+number_option : (n : json.Num) (m : Num) → (is_some (as_i64 n) || false) ≡ true
+    → num_equal (num_of n) m ≡ option_map_or (λ z. num_equal (exact z zero) m) (as_i64 n) false
 number_option (json.unsigned k) m h = go (nat_lt k (2 ^ 63)) h
   where
-    go : (b : Bool) → (is_some (if b then Some (pos k) else None) || false) ≡ true → num_equal (exact (pos k) zero) m ≡ option_map_or (λ z. num_equal (exact z zero) m) (if b then Some (pos k) else None) false
+    go : (b : Bool) → (is_some (if b then Some (pos k) else None) || false) ≡ true → num_equal (exact (pos k) zero) m
+        ≡ option_map_or (λ z. num_equal (exact z zero) m) (if b then Some (pos k) else None) false
     go true h = refl
     go false h = absurd (true≢false (sym h))
 number_option (json.negative w) m h = refl
 number_option (json.float x) m h = absurd (true≢false (sym h))
 
 -- what an integer among the options, or null, accepts
-integer_option : (d : Data) (t : Tree) → (is_integer d || is_some (as_null d)) ≡ true
-    → equal (tree_of d) t ≡ (option_map_or (λ m. option_map_or (λ z. num_equal (exact z zero) m) (integer_of d) false) (tree.as_number t) false || (is_some (as_null d) && tree.is_null t))
+integer_option : (d : Data) (t : Tree) → (is_integer_option d || is_some (as_null d)) ≡ true
+    → equal (tree_of d) t ≡ (option_map_or (λ m. option_map_or (λ z. num_equal (exact z zero) m) (integer_of d) false)
+    (tree.as_number t) false || (is_some (as_null d) && tree.is_null t))
 integer_option json.null tree.null h = refl
 integer_option json.null t h = refl
 integer_option (json.number n) (tree.number m) h = number_option n m h ∙ by_itself _
 integer_option (json.number n) t h = refl
 integer_option d t h = absurd (true≢false (sym h))
 
-pub are_integers : (ds : Items) (zs : List ℤ) → only is_integer ds ≡ true → IsPermutation (picked integer_of ds) zs → AreOptions (has_integer zs) (has_null ds) ds
+pub are_integers : (ds : Items) (zs : List ℤ) → only is_integer_option ds ≡ true
+    → IsPermutation (picked integer_of ds) zs → AreOptions (has_integer zs) (has_null ds) ds
 are_integers = are_options integer_of tree.as_number (λ z. num_equal (exact z zero)) integer_option
 
 -- ---- floats among the options
 
 -- an array of options is at fault as a value is
-pub as_value : (q : Pointer) (d : Data) (ds : Items) → d ≡ array ds → enum_value q d ≡ map_ok (λ e. ds) (const_value q d)
+pub as_value : (q : Pointer) (d : Data) (ds : Items) → d ≡ array ds
+    → enum_value q d ≡ map_ok (λ e. ds) (const_value q d)
 as_value q d ds h = rw h (go (first_float_item ds))
   where
     go : (o : Option Data) → unless_float q o ds ≡ map_ok (λ e. ds) (unless_float q o (array ds))

@@ -1,5 +1,7 @@
 -- A search by halves in a sorted table.
-use Rattle.std.proofs.Common.{◌≡◌, ℕ, zero, suc, ◌+◌, ◌^◌, ℤ, pos, ◌*ℤ◌, List, [], ◌∷◌, length, get_or, Bool, true, false, ◌||◌, cond, map, String, Global, string_bytes, string_cmp, refl, sym, ap, ◌∙◌, inl, inr, arith}
+use Rattle.std.proofs.Common.{◌≡◌, ℕ, zero, suc, ◌+◌, ◌^◌, ℤ, pos, ◌*ℤ◌, List, [], ◌∷◌, length, get_or, Bool, true}
+use Rattle.std.proofs.Common.{false, ◌||◌, cond, map, String, Global, string_bytes, string_cmp, refl, sym, ap, ◌∙◌, inl}
+use Rattle.std.proofs.Common.{inr, arith}
 use Rattle.std.specs.Prelude.{int_lt}
 use Rattle.std.proofs.Math.IntN.{*ℤ-one, *ℤ_comm, one, suc_ℤ-*ℤ, zero-*ℤ}
 use Rattle.std.proofs.lemmas.Bool.{cases_lt, false_from_ne_true}
@@ -23,8 +25,10 @@ use Rattle.jskw_leaf.specs.Options.{some_text, some_integer, text_against, integ
 -- ---- any table
 
 -- a search finds an entry exactly where one passes the test that ties with the order
-searched : {X : Type 0} (test : X → Bool) (ord : X → Ordering) (ties : (x : X) → is_eq (ord x) ≡ test x) (xs : List X) (r : Result ℕ ℕ)
-    → IsNonDecreasingBy (λ y. ordering_index (ord y)) xs → IsSearchInRange r (length xs) → IsBinarySearchResult ord xs r → is_ok r ≡ list_any test xs
+searched : {X : Type 0} (test : X → Bool) (ord : X → Ordering) (ties : (x : X) → is_eq (ord x) ≡ test x)
+    (xs : List X) (r : Result ℕ ℕ)
+    → IsNonDecreasingBy (λ y. ordering_index (ord y)) xs → IsSearchInRange r (length xs) → IsBinarySearchResult ord xs r
+    → is_ok r ≡ list_any test xs
 searched test ord ties [] (Ok i) s h e = absurd (omega (arith, h))
 searched test ord ties (x ∷ xs) (Ok i) s h e = sym (list_any_at test (x ∷ xs) i x h (sym (ties _) ∙ ap is_eq (e x)))
 searched test ord ties xs (Err i) s h e =
@@ -36,12 +40,16 @@ searched test ord ties xs (Err i) s h e =
 
 -- ---- texts
 
-pub searched_texts : (s : List ℕ) (ws : List (String Global)) (r : Result ℕ ℕ) → IsSorted string_cmp ws → IsSearchInRange r (length ws) → IsBinarySearchResult (text_against s) ws r → is_ok r ≡ some_text (map string_bytes ws) s
+pub searched_texts : (s : List ℕ) (ws : List (String Global)) (r : Result ℕ ℕ) → IsSorted string_cmp ws
+    → IsSearchInRange r (length ws) → IsBinarySearchResult (text_against s) ws r
+    → is_ok r ≡ some_text (map string_bytes ws) s
 searched_texts s ws r sorted h e =
-    searched (λ w. bytes_eq (string_bytes w) s) (text_against s) (λ w. is_eq-slice_cmp (string_bytes w) s) ws r (searchable_from_sorted nat_list_cmp_total string_bytes ws s sorted) h e
+    searched (λ w. bytes_eq (string_bytes w) s) (text_against s) (λ w. is_eq-slice_cmp (string_bytes w) s) ws r
+    (searchable_from_sorted nat_list_cmp_total string_bytes ws s sorted) h e
     ∙ mapped ws
   where
-    mapped : (ws : List (String Global)) → list_any (λ w. bytes_eq (string_bytes w) s) ws ≡ some_text (map string_bytes ws) s
+    mapped : (ws : List (String Global))
+        → list_any (λ w. bytes_eq (string_bytes w) s) ws ≡ some_text (map string_bytes ws) s
     mapped [] = refl
     mapped (w ∷ ws) = ap (λ b. bytes_eq (string_bytes w) s || b) (mapped ws)
 
@@ -61,25 +69,30 @@ is_lt_of a b = go (int_lt a b) (int_lt b a)
 -- a factor keeps an order
 scaled : (a b : ℤ) (p : ℕ) → int_lt a b ≡ false → int_lt (pos p *ℤ a) (pos p *ℤ b) ≡ false
 scaled a b zero h = rw (zero-*ℤ a, zero-*ℤ b) refl
-scaled a b (suc p) h = let r = scaled a b p h in rw (suc_ℤ-*ℤ (pos p) a, suc_ℤ-*ℤ (pos p) b) (false_from_ne_true _ (λ k. omega (arith, ints)))
+scaled a b (suc p) h = let r = scaled a b p h in
+    rw (suc_ℤ-*ℤ (pos p) a, suc_ℤ-*ℤ (pos p) b) (false_from_ne_true _ (λ k. omega (arith, ints)))
 
 sorted_scaled : (p : ℕ) (zs : List ℤ) → IsSorted int_cmp zs → IsSortedByKey (λ z. z *ℤ pos p) int_cmp zs
 sorted_scaled p zs sorted k d a b =
     let x : ℤ = get_or zs (k + 1) d in
     let y : ℤ = get_or zs k d in
-    is_lt_of (x *ℤ pos p) (y *ℤ pos p) ∙ rw (*ℤ_comm x (pos p), *ℤ_comm y (pos p)) (scaled x y p (sym (is_lt_of x y) ∙ sorted k d a b))
+    is_lt_of (x *ℤ pos p) (y *ℤ pos p)
+    ∙ rw (*ℤ_comm x (pos p), *ℤ_comm y (pos p)) (scaled x y p (sym (is_lt_of x y) ∙ sorted k d a b))
 
 by_value : (c : ℤ) (k : ℕ) (z : ℤ) → is_eq (integer_against c k z) ≡ num_equal (exact z zero) (exact c k)
 unfolding one
 by_value c k z = ap (int_eq (z *ℤ pos (10 ^ k))) (sym (*ℤ-one c))
 
-pub searched_integers : (c : ℤ) (k : ℕ) (zs : List ℤ) (r : Result ℕ ℕ) → IsSorted int_cmp zs → IsSearchInRange r (length zs) → IsBinarySearchResult (integer_against c k) zs r → is_ok r ≡ some_integer zs (exact c k)
+pub searched_integers : (c : ℤ) (k : ℕ) (zs : List ℤ) (r : Result ℕ ℕ) → IsSorted int_cmp zs
+    → IsSearchInRange r (length zs) → IsBinarySearchResult (integer_against c k) zs r
+    → is_ok r ≡ some_integer zs (exact c k)
 searched_integers c k zs r sorted h e =
     searched (λ z. num_equal (exact z zero) (exact c k)) (integer_against c k) (by_value c k) zs r
     (searchable_from_sorted int_cmp_total (λ z. z *ℤ pos (10 ^ k)) zs c (sorted_scaled (10 ^ k) zs sorted)) h e
 
 -- an integer among integers, without a scale
-pub searched_words : (c : ℤ) (zs : List ℤ) (r : Result ℕ ℕ) → IsSorted int_cmp zs → IsSearchInRange r (length zs) → IsBinarySearchResult (λ z. int_cmp z c) zs r → is_ok r ≡ some_integer zs (exact c zero)
+pub searched_words : (c : ℤ) (zs : List ℤ) (r : Result ℕ ℕ) → IsSorted int_cmp zs → IsSearchInRange r (length zs)
+    → IsBinarySearchResult (λ z. int_cmp z c) zs r → is_ok r ≡ some_integer zs (exact c zero)
 unfolding one
 searched_words c zs r sorted h e =
     searched (λ z. num_equal (exact z zero) (exact c zero)) (λ z. int_cmp z c) (λ z. rw (*ℤ-one z, *ℤ-one c) refl) zs r

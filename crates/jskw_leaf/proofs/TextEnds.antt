@@ -26,7 +26,8 @@ same_ends a b n l h first e =
     sym (take-append-drop 4 a) ∙ ap₂ (λ x y. x ++ y) first rest ∙ take-append-drop 4 b
 
 -- where the first four bytes are the same, the last four tell, as the numbers p and q
-pub last_tell : (a b : List ℕ) (n p q : ℕ) → 4 ≤ n → n ≤ 8 → take 4 a ≡ take 4 b → p ≡ from_le_bytes w32 (last n a) → to_le_bytes w32 p ≡ last n a
+pub last_tell : (a b : List ℕ) (n p q : ℕ) → 4 ≤ n → n ≤ 8 → take 4 a ≡ take 4 b → p ≡ from_le_bytes w32 (last n a)
+    → to_le_bytes w32 p ≡ last n a
     → q ≡ from_le_bytes w32 (last n b) → to_le_bytes w32 q ≡ last n b → (p == q) ≡ bytes_eq a b
 last_tell a b n p q l h first p_is p_of q_is q_of = same_from_decides (p == q) (bytes_eq a b) (
   λ e. same_ends a b n l h first (sym p_of ∙ ap (to_le_bytes w32) ((Decides-eqb p q).0 e) ∙ q_of),

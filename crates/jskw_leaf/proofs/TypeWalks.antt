@@ -1,5 +1,6 @@
 -- What a walk over items has left at an item, and what it may pass over.
-use Rattle.std.proofs.Common.{◌≡◌, ℕ, suc, ◌+◌, ◌<◌, List, [], ◌∷◌, ◌++◌, length, get_or, drop, nat_eq, Bool, true, false, Result, Ok, Err, IsErrAnd, ◌&&◌, if◌then◌else◌, refl, ap, subst, sym, ◌∙◌, arith}
+use Rattle.std.proofs.Common.{◌≡◌, ℕ, suc, ◌+◌, ◌<◌, List, [], ◌∷◌, ◌++◌, length, get_or, drop, nat_eq, Bool, true}
+use Rattle.std.proofs.Common.{false, Result, Ok, Err, IsErrAnd, ◌&&◌, if◌then◌else◌, refl, ap, subst, sym, ◌∙◌, arith}
 use Rattle.std.proofs.lemmas.List.{drop-drop}
 use Rattle.std.specs.List.{list_all}
 use Rattle.jskw_value.specs.Pointer.{Pointer, item_location}
@@ -23,11 +24,13 @@ use Rattle.jskw_leaf.specs.Meaning.{type_at}
 use Rattle.jskw_leaf.proofs.BareTypeChecks.{bare_fail, type_fails_not}
 
 -- where an item stands that was entered
-pub entered : {new now old : List ℕ} (i : ℕ) → new ≡ now ++ i ∷ [] → now ≡ old → path_of new ≡ item_location (path_of old) i
+pub entered : {new now old : List ℕ} (i : ℕ) → new ≡ now ++ i ∷ [] → now ≡ old
+    → path_of new ≡ item_location (path_of old) i
 entered {old = old} i pushed same = ap path_of (pushed ∙ ap (λ is. is ++ i ∷ []) same) ∙ path_of_push old i
 
 -- at an item
-pub fails_at : (ts : List Tree) (i : ℕ) (t : Tree) → i < length ts → t ≡ get_or ts i t → (f : Tree → Pointer → List Failure) (p : Pointer)
+pub fails_at : (ts : List Tree) (i : ℕ) (t : Tree) → i < length ts → t ≡ get_or ts i t
+    → (f : Tree → Pointer → List Failure) (p : Pointer)
     → each_item f i (drop i ts) p ≡ f t (item_location p i) ++ each_item f (i + 1) (drop (i + 1) ts) p
 fails_at ts i t within is f p = ap (λ us. each_item f i us p) (drop_here ts i t within is)
     ∙ ap (λ j. f t (item_location p i) ++ each_item f j (drop (i + 1) ts) p) (omega arith)
@@ -49,20 +52,28 @@ module _ {A : Type 0} (check : A → Bool) where
       go false rest = grind arith
 
 -- a walk passes over them, where nothing that passes the check fails
-module _ (check : Tree → Bool) (f : Tree → Pointer → List Failure) (p : Pointer) (quiet : (t : Tree) (q : Pointer) → check t ≡ true → f t q ≡ []) where
-  each_from : (ts : List Tree) (n : ℕ) → each_item f n ts p ≡ each_item f (n + leading check ts) (drop (leading check ts) ts) p
+module _ (check : Tree → Bool) (f : Tree → Pointer → List Failure) (p : Pointer)
+    (quiet : (t : Tree) (q : Pointer) → check t ≡ true → f t q ≡ []) where
+  each_from : (ts : List Tree) (n : ℕ)
+      → each_item f n ts p ≡ each_item f (n + leading check ts) (drop (leading check ts) ts) p
   each_from [] n = ap (λ m. each_item f m [] p) {x = n} {y = n + 0} (omega arith)
   each_from (t ∷ ts) n = go (check t) refl (each_from ts (suc n))
     where
-      go : (b : Bool) → check t ≡ b → each_item f (suc n) ts p ≡ each_item f (suc n + leading check ts) (drop (leading check ts) ts) p → each_item f n (t ∷ ts) p
-          ≡ each_item f (n + (if b then suc (leading check ts) else 0)) (drop (if b then suc (leading check ts) else 0) (t ∷ ts)) p
+      go : (b : Bool) → check t ≡ b
+          → each_item f (suc n) ts p ≡ each_item f (suc n + leading check ts) (drop (leading check ts) ts) p
+          → each_item f n (t ∷ ts) p
+          ≡ each_item f (n + (if b then suc (leading check ts) else 0))
+          (drop (if b then suc (leading check ts) else 0) (t ∷ ts)) p
       go true e rest = ap (λ fs. fs ++ each_item f (suc n) ts p) (quiet t (item_location p n) e) ∙ rest
-          ∙ ap (λ m. each_item f m (drop (leading check ts) ts) p) {x = suc n + leading check ts} {y = n + suc (leading check ts)} (omega arith)
+          ∙ ap (λ m. each_item f m (drop (leading check ts) ts) p) {x = suc n + leading check ts}
+          {y = n + suc (leading check ts)} (omega arith)
       go false e rest = ap (λ m. each_item f m (t ∷ ts) p) {x = n} {y = n + 0} (omega arith)
 
-  pub passed_over : (ts : List Tree) (i j : ℕ) → j ≡ i + leading check (drop i ts) → each_item f i (drop i ts) p ≡ each_item f j (drop j ts) p
+  pub passed_over : (ts : List Tree) (i j : ℕ) → j ≡ i + leading check (drop i ts)
+      → each_item f i (drop i ts) p ≡ each_item f j (drop j ts) p
   passed_over ts i j is =
-      each_from (drop i ts) i ∙ ap (λ us. each_item f (i + leading check (drop i ts)) us p) (drop-drop (leading check (drop i ts)) i ts)
+      each_from (drop i ts) i
+      ∙ ap (λ us. each_item f (i + leading check (drop i ts)) us p) (drop-drop (leading check (drop i ts)) i ts)
       ∙ ap (λ m. each_item f m (drop m ts) p) (sym is)
 
 -- ---- a walk over the items of an array at p, by the schema at q that has the type check alone
@@ -77,32 +88,50 @@ module _ (j : JsonType) (rule : Integers) (q r : Pointer) (ts : List Tree) (p : 
   fails_of t place = keyword_fail (as_keyword (type_at j rule r)) t place
 
   -- it passes over what is of the type
-  pub of_type_passed : (i n : ℕ) → n ≡ i + leading (assertion_holds (type_is (Single j) rule)) (drop i ts) → fails_from i ≡ fails_from n
-  of_type_passed i n is = passed_over (assertion_holds (type_is (Single j) rule)) (fail (bare_schema q (type_at j rule r))) p (λ t place h. type_fails_not j rule q r t place h) ts i n is
+  pub of_type_passed : (i n : ℕ) → n ≡ i + leading (assertion_holds (type_is (Single j) rule)) (drop i ts)
+      → fails_from i ≡ fails_from n
+  of_type_passed i n is =
+      passed_over (assertion_holds (type_is (Single j) rule)) (fail (bare_schema q (type_at j rule r))) p
+      (λ t place h. type_fails_not j rule q r t place h) ts i n is
 
   -- at an item
-  type_at_item : (i : ℕ) (t : Tree) (place : Pointer) → i < length ts → t ≡ get_or ts i t → place ≡ item_location p i → fails_from i ≡ fails_of t place ++ fails_from (i + 1)
+  type_at_item : (i : ℕ) (t : Tree) (place : Pointer) → i < length ts → t ≡ get_or ts i t → place ≡ item_location p i
+      → fails_from i ≡ fails_of t place ++ fails_from (i + 1)
   type_at_item i t place within is at = fails_at ts i t within is (fail (bare_schema q (type_at j rule r))) p
-      ∙ ap (λ fs. fs ++ fails_from (i + 1)) (bare_fail q (type_at j rule r) t (item_location p i) ∙ ap (fails_of t) (sym at))
+      ∙ ap (λ fs. fs ++ fails_from (i + 1))
+      (bare_fail q (type_at j rule r) t (item_location p i) ∙ ap (fails_of t) (sym at))
 
   module _ {F Node Number Key : Type 0} (tree : Node → Tree) where
     -- before the first item that is not of the type
-    pub type_begins : (old : Report F Node Number Key) (n : ℕ) → n ≡ 0 + leading (assertion_holds (type_is (Single j) rule)) (drop 0 ts) → Reported tree old old (fails_from n) (fails_from 0)
-    type_begins old n is = subst (λ fs. Reported tree old old fs (fails_from 0)) (of_type_passed 0 n is) (reported_nothing tree old (fails_from 0))
+    pub type_begins : (old : Report F Node Number Key) (n : ℕ)
+        → n ≡ 0 + leading (assertion_holds (type_is (Single j) rule)) (drop 0 ts)
+        → Reported tree old old (fails_from n) (fails_from 0)
+    type_begins old n is =
+        subst (λ fs. Reported tree old old fs (fails_from 0)) (of_type_passed 0 n is)
+        (reported_nothing tree old (fails_from 0))
 
-    left_at_item : {old now : Report F Node Number Key} (i : ℕ) (t : Tree) (place : Pointer) → i < length ts → t ≡ get_or ts i t → place ≡ item_location p i
-        → Reported tree old now (fails_from i) (fails_from 0) → Reported tree old now (fails_of t place ++ fails_from (i + 1)) (fails_from 0)
-    left_at_item {old} {now} i t place within is at left = subst (λ fs. Reported tree old now fs (fails_from 0)) (type_at_item i t place within is at) left
+    left_at_item : {old now : Report F Node Number Key} (i : ℕ) (t : Tree) (place : Pointer) → i < length ts
+        → t ≡ get_or ts i t → place ≡ item_location p i
+        → Reported tree old now (fails_from i) (fails_from 0)
+        → Reported tree old now (fails_of t place ++ fails_from (i + 1)) (fails_from 0)
+    left_at_item {old} {now} i t place within is at left =
+        subst (λ fs. Reported tree old now fs (fails_from 0)) (type_at_item i t place within is at) left
 
     -- the errors of an item are reported, and it goes on to the next that is not of the type
-    pub type_reported : {old now new : Report F Node Number Key} (i n : ℕ) (t : Tree) (place : Pointer) → i < length ts → t ≡ get_or ts i t → place ≡ item_location p i
+    pub type_reported : {old now new : Report F Node Number Key} (i n : ℕ) (t : Tree) (place : Pointer) → i < length ts
+        → t ≡ get_or ts i t → place ≡ item_location p i
         → n ≡ i + 1 + leading (assertion_holds (type_is (Single j) rule)) (drop (i + 1) ts)
-        → Reported tree old now (fails_from i) (fails_from 0) → Reports tree now new (fails_of t place) (Ok tt) → Reported tree old new (fails_from n) (fails_from 0)
+        → Reported tree old now (fails_from i) (fails_from 0) → Reports tree now new (fails_of t place) (Ok tt)
+        → Reported tree old new (fails_from n) (fails_from 0)
     type_reported {old} {new = new} i n t place within is at next left item =
-        subst (λ fs. Reported tree old new fs (fails_from 0)) (of_type_passed (i + 1) n next) (reported_more tree (fails_of t place) (fails_from (i + 1)) (left_at_item i t place within is at left) item)
+        subst (λ fs. Reported tree old new fs (fails_from 0)) (of_type_passed (i + 1) n next)
+        (reported_more tree (fails_of t place) (fails_from (i + 1)) (left_at_item i t place within is at left) item)
 
     -- the walk is stopped at an item
-    pub type_stopped : {old now new : Report F Node Number Key} (i : ℕ) (t : Tree) (place : Pointer) (r : Result Unit Stop) (x : Stop) → i < length ts → t ≡ get_or ts i t → place ≡ item_location p i
-        → Reported tree old now (fails_from i) (fails_from 0) → IsErrAnd r (λ y. y ≡ x) → Reports tree now new (fails_of t place) (Err x) → Reports tree old new (fails_from 0) r
+    pub type_stopped : {old now new : Report F Node Number Key} (i : ℕ) (t : Tree) (place : Pointer)
+        (r : Result Unit Stop) (x : Stop) → i < length ts → t ≡ get_or ts i t → place ≡ item_location p i
+        → Reported tree old now (fails_from i) (fails_from 0) → IsErrAnd r (λ y. y ≡ x)
+        → Reports tree now new (fails_of t place) (Err x) → Reports tree old new (fails_from 0) r
     type_stopped i t place r x within is at left gives item =
-        reported_stopped tree (fails_of t place) (fails_from (i + 1)) r x (left_at_item i t place within is at left) gives item
+        reported_stopped tree (fails_of t place) (fails_from (i + 1)) r x
+        (left_at_item i t place within is at left) gives item

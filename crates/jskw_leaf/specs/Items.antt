@@ -1,11 +1,13 @@
--- What the validators of `items` that apply no subschema stand for: bare type checks, and the keywords that the fused shape of
+-- What the validators of `items` that apply no subschema stand for: bare type checks, and the keywords that the fused
+-- shape of
 -- an array has beside `items`.
 use Rattle.std.specs.Prelude.{◌≡◌, ℕ, List, ◌++◌, length, true, Option, Some, None, Result, Ok, Err, if◌then◌else◌}
 use Rattle.jskw_value.specs.Pointer.{Pointer}
 use Rattle.jskw_value.specs.Tree.{Tree, is_array, items}
 use Rattle.jskw_value.specs.declared.types.JsonType.{JsonType}
 use Rattle.jskw_value.specs.declared.types.JsonType.TheVariants.{Array}
-use Rattle.jskw_report.specs.Keyword.{Schema, schema_object, no_marks, Keyword, Keywords, no_keywords, keyword, append_keywords, items_from, Integers, by_value}
+use Rattle.jskw_report.specs.Keyword.{Schema, schema_object, no_marks, Keyword, Keywords, no_keywords, keyword}
+use Rattle.jskw_report.specs.Keyword.{append_keywords, items_from, Integers, by_value}
 use Rattle.jskw_report.specs.Meaning.{LocatedAssertion, as_keyword}
 use Rattle.jskw_number.specs.Meaning.{min_items, max_items}
 use Rattle.jskw_leaf.specs.Meaning.{single_type}
@@ -23,7 +25,8 @@ abbrev pub bare_items : Pointer → LocatedAssertion → Keyword
 bare_items q a = items_from 0 (bare_schema q a) true
 
 -- T tests for the type j by the rule
-abbrev pub items_type : {T F Node Number Key : Type 0} → JsonType → Integers → ItemsTypeValidator T F Node Number Key → Keyword
+abbrev pub items_type : {T F Node Number Key : Type 0} → JsonType → Integers → ItemsTypeValidator T F Node Number Key
+    → Keyword
 items_type j rule v = bare_items v.location (single_type j rule v.validator)
 
 -- ---- the keywords beside `items`
@@ -33,9 +36,9 @@ abbrev pub count_of : Tree → Option ℕ
 count_of t = if is_array t then Some (length (items t)) else None
 
 -- the list is the old one followed by all of these, or, if memory ran out, by a beginning of them
-abbrev pub Extends : {A E : Type 0} → List A → List A → List A → Result Unit E → Type 0
-Extends old new all (Ok u) = new ≡ old ++ all
-Extends {A} old new all (Err e) = (done : List A) × (rest : List A) × (new ≡ old ++ done) × (done ++ rest ≡ all)
+abbrev pub AppendsItems : {A E : Type 0} → List A → List A → List A → Result Unit E → Type 0
+AppendsItems old new all (Ok u) = new ≡ old ++ all
+AppendsItems {A} old new all (Err e) = (done : List A) × (rest : List A) × (new ≡ old ++ done) × (done ++ rest ≡ all)
 
 -- the keyword of a validator that may not be there
 abbrev pub optional : {V : Type 0} → (V → LocatedAssertion) → Option V → Keywords

@@ -6,7 +6,8 @@ use Rattle.jskw_value.specs.Pointer.{Pointer}
 use Rattle.jskw_value.specs.declared.types.JsonType.{JsonType}
 use Rattle.jskw_report.specs.declared.error.TypeKind.{TypeKind}
 use Rattle.jskw_report.specs.declared.error.TypeKind.TheVariants.{Single}
-use Rattle.jskw_report.specs.Keyword.{Keyword, constant, among, unique, never, type_is, Integers, by_value, as_written, required}
+use Rattle.jskw_report.specs.Keyword.{Keyword, constant, among, unique, never, type_is, Integers, by_value, as_written}
+use Rattle.jskw_report.specs.Keyword.{required}
 use Rattle.jskw_report.specs.Meaning.{LocatedAssertion, as_keyword}
 use Rattle.jskw_number.specs.Meaning.{number_assertion}
 use Rattle.jskw_leaf.specs.declared.boolean.FalseValidator.{FalseValidator}
@@ -21,7 +22,12 @@ use Rattle.jskw_leaf.specs.declared.enum_.table.TableEnumValidator.{TableEnumVal
 use Rattle.jskw_leaf.specs.declared.unique_items.UniqueItemsValidator.{UniqueItemsValidator}
 use Rattle.jskw_leaf.specs.Options.{options_of}
 use Rattle.jskw_leaf.specs.declared.leaf.LeafValidator.{LeafValidator}
-use Rattle.jskw_leaf.specs.declared.leaf.LeafValidator.TheVariants.{False, Number as number, Types, Const, Enum, BigEnum, SingleValueEnum, SmallStringEnum, NullableSmallStringEnum, BigStringEnum, NullableBigStringEnum, IntegerEnum, NullableIntegerEnum, UniqueItems, Required, RequiredFew}
+use Rattle.jskw_leaf.specs.declared.leaf.LeafValidator.TheVariants.{False, Number as number, Types, Const, Enum}
+use Rattle.jskw_leaf.specs.declared.leaf.LeafValidator.TheVariants.{BigEnum, SingleValueEnum, SmallStringEnum}
+use Rattle.jskw_leaf.specs.declared.leaf.LeafValidator.TheVariants.{NullableSmallStringEnum, BigStringEnum}
+use Rattle.jskw_leaf.specs.declared.leaf.LeafValidator.TheVariants.{NullableBigStringEnum, IntegerEnum}
+use Rattle.jskw_leaf.specs.declared.leaf.LeafValidator.TheVariants.{NullableIntegerEnum, UniqueItems, Required}
+use Rattle.jskw_leaf.specs.declared.leaf.LeafValidator.TheVariants.{RequiredFew}
 use Rattle.jskw_leaf.specs.declared.required.RequiredNames.{RequiredNames}
 
 abbrev pub false_at : Pointer → LocatedAssertion
@@ -54,8 +60,8 @@ single_type j rule v = type_at j rule v.location
 
 -- ---- `const`
 
-abbrev pub const_value : ConstValueValidator → LocatedAssertion
-const_value v = record { location = v.location; assertion = constant (view v.value) }
+abbrev pub const_assertion : ConstValueValidator → LocatedAssertion
+const_assertion v = record { location = v.location; assertion = constant (view v.value) }
 
 -- ---- `enum`
 
@@ -85,7 +91,8 @@ abbrev pub required_at : Pointer → List (List ℕ) → LocatedAssertion
 required_at q names = record { location = q; assertion = required names }
 
 -- L holds names
-abbrev pub required_names : {F Node Number Key L : Type 0} → (L → List (List ℕ)) → RequiredNames F L Node Number Key → LocatedAssertion
+abbrev pub required_names : {F Node Number Key L : Type 0} → (L → List (List ℕ)) → RequiredNames F L Node Number Key
+    → LocatedAssertion
 required_names names v = required_at v.location (names v.names)
 
 -- ---- any of them
@@ -94,7 +101,7 @@ abbrev pub leaf_assertion : {F Node Number Key : Type 0} → LeafValidator F Nod
 leaf_assertion (False v) = false_schema v
 leaf_assertion (number v) = number_assertion v
 leaf_assertion (Types v) = named_types v
-leaf_assertion (Const v) = const_value v
+leaf_assertion (Const v) = const_assertion v
 leaf_assertion (Enum v) = enum_any v
 leaf_assertion (BigEnum v) = enum_table v
 leaf_assertion (SingleValueEnum v) = enum_single v

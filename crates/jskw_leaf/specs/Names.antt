@@ -1,4 +1,4 @@
--- The keywords of this library.
+-- Which keywords have no subschemas.
 use Rattle.std.specs.Prelude.{Bool, true, false, not}
 use Rattle.jskw_report.specs.Setting.{vocabulary_of}
 use Rattle.jskw_report.specs.declared.keyword.KeywordName.{KeywordName}

@@ -1,5 +1,6 @@
 -- The options of an `enum`, and tables of them.
-use Rattle.std.specs.Prelude.{◌≡◌, ℕ, zero, ◌^◌, ℤ, pos, ◌*ℤ◌, List, [], ◌∷◌, Bool, true, false, ◌&&◌, ◌||◌, Option, is_some, option_and_then, String, string_bytes}
+use Rattle.std.specs.Prelude.{◌≡◌, ℕ, zero, ◌^◌, ℤ, pos, ◌*ℤ◌, List, [], ◌∷◌, Bool, true, false, ◌&&◌, ◌||◌, Option}
+use Rattle.std.specs.Prelude.{is_some, option_and_then, String, string_bytes}
 use Rattle.std.specs.Cmp.Lexicographic.{slice_cmp}
 use Rattle.std.specs.List.{list_any}
 use Rattle.std.specs.Option.{option_map_or}
@@ -59,8 +60,8 @@ integer_of d = option_and_then as_i64 (json.as_number d)
 abbrev pub is_text : Data → Bool
 is_text d = is_some (as_str d)
 
-abbrev pub is_integer : Data → Bool
-is_integer d = is_some (integer_of d)
+abbrev pub is_integer_option : Data → Bool
+is_integer_option d = is_some (integer_of d)
 
 -- null is an option
 abbrev pub has_null : Items → Bool

@@ -17,8 +17,9 @@ abbrev pub is_among : List (List ℕ) → List ℕ → Bool
 is_among names name = list_any (bytes_eq name) names
 
 -- bit i of the mask is whether the tree has the name at index i
-abbrev pub Marks : ℕ → Tree → List (List ℕ) → Type 0
-Marks mask t names = (i : ℕ) (name : List ℕ) → slice_get names i ≡ Some name → bit_at mask i ≡ cond (has_name t name) 1 0
+abbrev pub MarksNames : ℕ → Tree → List (List ℕ) → Type 0
+MarksNames mask t names =
+    (i : ℕ) (name : List ℕ) → slice_get names i ≡ Some name → bit_at mask i ≡ cond (has_name t name) 1 0
 
 -- the error of a name that the tree t at p lacks, by the keyword at q
 abbrev pub required_fail : Pointer → Tree → Pointer → List ℕ → Failure

@@ -3,13 +3,13 @@ ghost use Rattle.std.specs.Prelude.{◌≡◌, refl};
 ghost use Rattle.jskw_report.specs.Kind as kind;
 ghost use Rattle.jskw_leaf.specs.Meaning.{false_at, false_schema};
 
-use jskw_report::{Assertion, Location, ValidationErrorKind};
+use jskw_report::{Assertion, KeywordLocation, Location, ValidationErrorKind};
 use jskw_value::Json;
 
 /// The validator of the schema `false`. It accepts no instance.
-#[derive(Drop)]
+#[derive(Debug, Drop)]
 pub struct FalseValidator {
-    location: Location,
+    location: KeywordLocation,
 }
 
 impl FalseValidator {
@@ -17,6 +17,7 @@ impl FalseValidator {
     pub fn new(location: Location) -> FalseValidator
         ensures { false_schema result ≡ false_at location }
     {
+        let location = KeywordLocation::from(location);
         FalseValidator { location }
     }
 }
@@ -36,7 +37,7 @@ impl Assertion for FalseValidator {
         ValidationErrorKind::FalseSchema
     }
 
-    fn location(&self) -> &Location {
+    fn location(&self) -> &KeywordLocation {
         &self.location
     }
 }

@@ -5,24 +5,28 @@ ghost use Rattle.serde_json.specs.View.{view};
 ghost use Rattle.jskw_value.specs.Equality.{equal};
 ghost use Rattle.jskw_value.specs.Serde.{value_tree};
 ghost use Rattle.jskw_report.specs.Kind as kind;
-ghost use Rattle.jskw_leaf.specs.Meaning.{const_value};
+ghost use Rattle.jskw_leaf.specs.Meaning.{const_assertion};
 
 mod compilation;
 
+pub use crate::upstream::{
+    ConstArrayValidator, ConstBooleanValidator, ConstNullValidator, ConstNumberValidator,
+    ConstObjectValidator, ConstStringValidator,
+};
 pub use compilation::compile;
-use jskw_report::{Assertion, Location, ValidationErrorKind};
+use jskw_report::{Assertion, KeywordLocation, ValidationErrorKind};
 use jskw_value::{Json, Node};
 use serde_json::Value;
 
 /// The validator of `const`. It accepts an instance that equals the value.
-#[derive(Drop)]
+#[derive(Debug, Drop)]
 pub struct ConstValueValidator {
     value: Value,
-    location: Location,
+    location: KeywordLocation,
 }
 
 impl Assertion for ConstValueValidator {
-    ghost asserts = { const_value };
+    ghost asserts = { const_assertion };
 
     ghost error = { λ v. kind.Constant (view v.value) };
 
@@ -43,7 +47,7 @@ impl Assertion for ConstValueValidator {
         ValidationErrorKind::Constant { expected_value }
     }
 
-    fn location(&self) -> &Location {
+    fn location(&self) -> &KeywordLocation {
         &self.location
     }
 }
@@ -56,21 +60,3 @@ fn is_string<F: Json>(value: &Value, instance: &F::Node) -> bool
 {
     instance.as_string() == value.as_str()
 }
-
-/// The validator of `const` with an array.
-pub type ConstArrayValidator = ConstValueValidator;
-
-/// The validator of `const` with a boolean.
-pub type ConstBooleanValidator = ConstValueValidator;
-
-/// The validator of `const` with null.
-pub type ConstNullValidator = ConstValueValidator;
-
-/// The validator of `const` with a number.
-pub type ConstNumberValidator = ConstValueValidator;
-
-/// The validator of `const` with an object.
-pub type ConstObjectValidator = ConstValueValidator;
-
-/// The validator of `const` with a string.
-pub type ConstStringValidator = ConstValueValidator;

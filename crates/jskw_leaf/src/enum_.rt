@@ -19,7 +19,7 @@ mod values;
 
 pub use compilation::compile;
 pub use integers::IntegerEnumValidator;
-use jskw_report::{Assertion, EnumOptions, Location, ValidationErrorKind};
+use jskw_report::{Assertion, EnumOptions, KeywordLocation, ValidationErrorKind};
 use jskw_value::{Json, JsonTypeSet, Node};
 use serde_json::Value;
 pub use strings::{BigStringEnumValidator, SmallStringEnumValidator};
@@ -32,7 +32,7 @@ pub use values::BigEnumValidator;
 pub struct EnumValidator {
     options: Value,
     types: JsonTypeSet,
-    location: Location,
+    location: KeywordLocation,
     ghost array: { IsSome (as_array (view options)) },
     ghost typed: { types ≡ option_types no_types (options_of (view options)) },
 }
@@ -54,7 +54,7 @@ impl Assertion for EnumValidator {
         not_among(&self.options)
     }
 
-    fn location(&self) -> &Location {
+    fn location(&self) -> &KeywordLocation {
         &self.location
     }
 }
@@ -64,7 +64,7 @@ impl Assertion for EnumValidator {
 pub struct SingleValueEnumValidator {
     options: Value,
     value: Value,
-    location: Location,
+    location: KeywordLocation,
     ghost array: { IsSome (as_array (view options)) },
     ghost one: { (t : Tree) → is_option (options_of (view options)) t
         ≡ equal (value_tree value) t },
@@ -88,7 +88,7 @@ impl Assertion for SingleValueEnumValidator {
         not_among(&self.options)
     }
 
-    fn location(&self) -> &Location {
+    fn location(&self) -> &KeywordLocation {
         &self.location
     }
 }

@@ -1,11 +1,11 @@
 //! Floats in the value of `const` or `enum`, which must contain none.
 ghost use Rattle.std.specs.Prelude.{◌≡◌, option_map};
 ghost use Rattle.serde_json.specs.View.{view, items_view, members_view};
-ghost use Rattle.jskw_report.specs.Compile.{Makes};
+ghost use Rattle.jskw_report.specs.Compile.{CompilesTo};
 ghost use Rattle.jskw_report.specs.KeywordValue.{const_value, first_float, first_float_item};
 ghost use Rattle.jskw_report.specs.KeywordValue.{first_float_member};
 
-use jskw_report::{CompilationResult, CompileFault, Location, ValidationErrorKind};
+use jskw_report::{CompilationResult, CompileFault, KeywordLocation, ValidationErrorKind};
 use serde_json::{Map, Value};
 use std::alloc::Global;
 
@@ -54,10 +54,10 @@ fn float_in_members(members: &Map<String, Value>) -> Option<&Value>
 // first float.
 pub(crate) fn refuse_floats<'a>(
     alloc: Global,
-    location: &Location,
+    location: &KeywordLocation,
     value: &'a Value,
 ) -> CompilationResult<'a, ()>
-    ensures { Makes (λ _. view value.now) result (const_value location.now (view value.now)) }
+    ensures { CompilesTo (λ _. view value.now) result (const_value location.now (view value.now)) }
 {
     let Some(float) = first_float(value) else {
         return Ok(());

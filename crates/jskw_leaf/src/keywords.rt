@@ -1,7 +1,7 @@
 //! Compiles the keywords without subschemas by their names.
 ghost use Rattle.std.specs.Prelude.{◌≡◌, true};
 ghost use Rattle.serde_json.specs.View.{view, members_view};
-ghost use Rattle.jskw_report.specs.Compile.{Compiles, reading};
+ghost use Rattle.jskw_report.specs.Compile.{CompilesKeyword, keyword_reading};
 ghost use Rattle.jskw_report.specs.Read.{Asserts};
 ghost use Rattle.jskw_number.specs.Meaning.{number_keyword};
 ghost use Rattle.jskw_leaf.specs.Meaning.{leaf_keyword};
@@ -33,7 +33,7 @@ pub fn is_leaf(keyword: KeywordName) -> bool
 /// `keyword` must be true.
 ///
 /// Returns `None` exactly if the keyword asserts nothing: for `uniqueItems` with any value but
-/// `true`, and for a `required` that is [handed on](crate::required::is_handed_on). The
+/// `true`, and for a `required` that is [delegated](crate::required::is_handed_on). The
 /// [crate's documentation](crate) has the other arguments and the errors.
 pub fn compile<'a, F: Json>(
     alloc: Global,
@@ -43,8 +43,8 @@ pub fn compile<'a, F: Json>(
     schema: &'a Value,
 ) -> Option<CompilationResult<'a, LeafValidator<F>>>
     requires { is_leaf keyword ≡ true }
-    ensures { Compiles leaf_keyword result
-        (reading keyword ctx.now (members_view parent.now.entries) (view schema.now)) }
+    ensures { CompilesKeyword leaf_keyword result
+        (keyword_reading keyword ctx.now (members_view parent.now.entries) (view schema.now)) }
 {
     match keyword {
         KeywordName::TypeKeyword => type_::compile(alloc, ctx, parent, schema),
@@ -60,8 +60,8 @@ pub fn compile<'a, F: Json>(
 fn of_number<'a, F: Json>(
     compiled: Option<CompilationResult<'a, NumberValidator>>,
 ) -> Option<CompilationResult<'a, LeafValidator<F>>>
-    ensures { (read : Asserts) → Compiles number_keyword compiled.entry read
-        → Compiles leaf_keyword result read }
+    ensures { (read : Asserts) → CompilesKeyword number_keyword compiled.entry read
+        → CompilesKeyword leaf_keyword result read }
 {
     match compiled? {
         Ok(validator) => Some(Ok(LeafValidator::Number(validator))),

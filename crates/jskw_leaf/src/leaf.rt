@@ -13,7 +13,10 @@ use crate::required::{Required3Validator, RequiredValidator};
 use crate::type_::TypeValidator;
 use crate::unique_items::UniqueItemsValidator;
 use jskw_number::{NumberValidator, QuickSet};
-use jskw_report::{EvaluationResult, LazyLocation, Report, Stop, Validate, ValidationContext};
+use jskw_report::{
+    Assertion, EvaluationResult, KeywordLocation, LazyLocation, Report, Stop, Validate,
+    ValidationContext,
+};
 use jskw_value::{Json, NotNullable, Nullable};
 use std::alloc::{AllocError, Global};
 
@@ -88,6 +91,13 @@ impl<F: Json> LeafValidator<F> {
             LeafValidator::RequiredFew(_) => QuickSet::but_objects(),
             _ => QuickSet::none(),
         }
+    }
+}
+
+impl<F: Json> LeafValidator<F> {
+    /// Returns the keyword location of the validator's errors.
+    pub fn location(&self) -> &KeywordLocation {
+        dispatch!(self, validator => validator.location())
     }
 }
 

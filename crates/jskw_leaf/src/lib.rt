@@ -11,19 +11,19 @@
 //!
 //! Each `compile` takes an object of the schema as `parent`, the value that the keyword has in it
 //! as `schema`, and the context of `parent` as `ctx`. The caller checks that the keyword is active,
-//! by [`stands`](jskw_report::KeywordName::stands). Only `required` and Draft 4's `minimum` and
+//! by [`is_active`](jskw_report::KeywordName::is_active). Only `required` and Draft 4's `minimum` and
 //! `maximum` read `parent`; the others take it to have the same signature.
 //!
 //! ```rust
 //! let schema = member_of(parent, keyword.as_str())?;
-//! if !jskw_leaf::is_leaf(keyword) || !keyword.stands(ctx) {
+//! if !jskw_leaf::is_leaf(keyword) || !keyword.is_active(ctx) {
 //!     return None;
 //! }
 //! jskw_leaf::compile(alloc, ctx, parent, keyword, schema)
 //! ```
 //!
 //! A `compile` returns `None` exactly if the keyword asserts nothing: for `uniqueItems` with any
-//! value but `true`, and for a `required` that is [handed on](required::is_handed_on).
+//! value but `true`, and for a `required` that is [delegated](required::is_handed_on).
 //!
 //! # Errors
 //!
@@ -47,6 +47,7 @@ pub mod required;
 mod text_table;
 pub mod type_;
 pub mod unique_items;
+pub mod upstream;
 
 pub use keywords::{compile, is_leaf};
 pub use leaf::LeafValidator;

@@ -10,11 +10,12 @@ mod missing;
 mod names;
 mod prepared;
 
+pub use crate::upstream::{Required2Validator, SingleItemRequiredValidator};
 pub use compilation::{compile, compile_with_path};
 pub use delegation::is_handed_on;
 use jskw_report::validator::evaluate_errors;
 use jskw_report::{
-    EvaluationResult, LazyLocation, Location, Report, Stop, Validate, ValidationContext,
+    EvaluationResult, KeywordLocation, LazyLocation, Report, Stop, Validate, ValidationContext,
 };
 use jskw_value::{Json, Node};
 use lookup::has_all;
@@ -29,13 +30,13 @@ use std::marker::PhantomData;
 #[derive(Drop)]
 pub struct RequiredNames<F: Json, L> {
     names: L,
-    location: Location,
+    location: KeywordLocation,
     representation: PhantomData<F>,
 }
 
 impl<F: Json, L> RequiredNames<F, L> {
     // Creates the validator. `location` is the keyword location of its errors.
-    fn new(names: L, location: Location) -> RequiredNames<F, L>
+    fn new(names: L, location: KeywordLocation) -> RequiredNames<F, L>
         ensures names { result.names ≡ names }
         ensures location { result.location ≡ location }
     {
@@ -45,18 +46,17 @@ impl<F: Json, L> RequiredNames<F, L> {
             representation: PhantomData,
         }
     }
+
+    // Returns the keyword location of the errors.
+    pub(crate) fn location(&self) -> &KeywordLocation {
+        &self.location
+    }
 }
 
-/// The validator of `required` with any number of names.
+/// The validator of `required` with any number of names but one to three.
 pub type RequiredValidator<F> = RequiredNames<F, NameList<F>>;
 
-/// The validator of `required` with one name.
-pub type SingleItemRequiredValidator<F> = RequiredNames<F, FewNames<F>>;
-
-/// The validator of `required` with two names.
-pub type Required2Validator<F> = RequiredNames<F, FewNames<F>>;
-
-/// The validator of `required` with three names.
+/// The validator of `required` with one to three names.
 pub type Required3Validator<F> = RequiredNames<F, FewNames<F>>;
 
 impl<F: Json, L: Names<F>> Validate<F> for RequiredNames<F, L> {

@@ -9,9 +9,9 @@ ghost use Rattle.jskw_value.specs.declared.types.JsonType.{JsonType};
 ghost use Rattle.jskw_value.specs.declared.types.JsonType.TheVariants.{Array, Boolean, Integer};
 ghost use Rattle.jskw_value.specs.declared.types.JsonType.TheVariants.{Null, Number, Object};
 ghost use Rattle.jskw_value.specs.declared.types.JsonType.TheVariants.{String};
-ghost use Rattle.jskw_report.specs.Compile.{Makes, Compiles, reading};
+ghost use Rattle.jskw_report.specs.Compile.{CompilesTo, CompilesKeyword, keyword_reading};
 ghost use Rattle.jskw_report.specs.Errors.{kind_of};
-ghost use Rattle.jskw_report.specs.Holds.{assertion_holds, is_integer as is_integer_by};
+ghost use Rattle.jskw_report.specs.Holds.{assertion_holds, is_integer_by};
 ghost use Rattle.jskw_report.specs.Keyword.{Integers, by_value, type_is};
 ghost use Rattle.jskw_report.specs.KeywordValue.{type_value, array_types, one_type, type_set};
 ghost use Rattle.jskw_report.specs.KeywordValue.{named_type};
@@ -27,8 +27,8 @@ use crate::leaf::LeafValidator;
 use crate::legacy::type_draft_4;
 use jskw_number::QuickSet;
 use jskw_report::{
-    Assertion, CompilationResult, CompileFault, Context, Draft, EnumOptions, KeywordName, Location,
-    TypeKind, ValidationErrorKind,
+    Assertion, CompilationResult, CompileFault, Context, Draft, EnumOptions, KeywordLocation,
+    KeywordName, Location, TypeKind, ValidationErrorKind,
 };
 use jskw_value::{Json, JsonNumber, JsonType, JsonTypeSet, Node};
 use serde_json::{Map, Value};
@@ -37,7 +37,7 @@ use std::marker::PhantomData;
 use std::str::FromStr;
 
 /// Which numbers are integers.
-#[derive(Clone, Copy)]
+#[derive(Clone, Copy, Debug)]
 pub enum IntegerRule {
     /// Those whose fractional part is zero: [`is_integer`].
     ByValue,
@@ -73,16 +73,16 @@ impl IntegerRule {
 }
 
 /// The validator of `type`. It accepts an instance of one of the types.
-#[derive(Drop)]
+#[derive(Debug, Drop)]
 pub struct TypeValidator {
     kind: TypeKind,
     rule: IntegerRule,
-    location: Location,
+    location: KeywordLocation,
 }
 
 impl TypeValidator {
     /// Creates the validator. `location` is the keyword location of its error.
-    pub fn new(kind: TypeKind, rule: IntegerRule, location: Location) -> TypeValidator
+    pub fn new(kind: TypeKind, rule: IntegerRule, location: KeywordLocation) -> TypeValidator
         ensures { named_types result ≡ types_at kind (rule_of rule) location }
     {
         TypeValidator {
@@ -120,7 +120,7 @@ impl Assertion for TypeValidator {
         ValidationErrorKind::WrongType { kind }
     }
 
-    fn location(&self) -> &Location {
+    fn location(&self) -> &KeywordLocation {
         &self.location
     }
 }
@@ -160,14 +160,22 @@ pub trait TypeTest {
 
 /// The validator of `type` with the one type that `T` tests for.
 #[derive(Drop)]
+#[derive_where(Debug)]
 pub struct SingleTypeValidator<T: TypeTest> {
-    location: Location,
+    location: KeywordLocation,
     test: PhantomData<T>,
 }
 
 impl<T: TypeTest> SingleTypeValidator<T> {
     /// Creates the validator. `location` is the keyword location of its error.
     pub fn new(location: Location) -> SingleTypeValidator<T>
+        ensures { single_type T.json_type T.rule result ≡ type_at T.json_type T.rule location }
+    {
+        SingleTypeValidator::at(KeywordLocation::from(location))
+    }
+
+    /// Creates the validator for the keyword location of its error in a schema.
+    pub fn at(location: KeywordLocation) -> SingleTypeValidator<T>
         ensures { single_type T.json_type T.rule result ≡ type_at T.json_type T.rule location }
     {
         let test = PhantomData;
@@ -197,13 +205,13 @@ impl<T: TypeTest> Assertion for SingleTypeValidator<T> {
         ValidationErrorKind::of_type(T::json_type())
     }
 
-    fn location(&self) -> &Location {
+    fn location(&self) -> &KeywordLocation {
         &self.location
     }
 }
 
 /// The type `null`.
-#[derive(Drop)]
+#[derive(Debug, Drop)]
 pub struct NullType;
 
 impl TypeTest for NullType {
@@ -224,7 +232,7 @@ impl TypeTest for NullType {
 pub type NullTypeValidator = SingleTypeValidator<NullType>;
 
 /// The type `boolean`.
-#[derive(Drop)]
+#[derive(Debug, Drop)]
 pub struct BooleanType;
 
 impl TypeTest for BooleanType {
@@ -245,7 +253,7 @@ impl TypeTest for BooleanType {
 pub type BooleanTypeValidator = SingleTypeValidator<BooleanType>;
 
 /// The type `integer`: a number whose fractional part is zero, such as `1` and `1.0`.
-#[derive(Drop)]
+#[derive(Debug, Drop)]
 pub struct IntegerType;
 
 impl TypeTest for IntegerType {
@@ -269,7 +277,7 @@ impl TypeTest for IntegerType {
 pub type IntegerTypeValidator = SingleTypeValidator<IntegerType>;
 
 /// The type `number`.
-#[derive(Drop)]
+#[derive(Debug, Drop)]
 pub struct NumberType;
 
 impl TypeTest for NumberType {
@@ -290,7 +298,7 @@ impl TypeTest for NumberType {
 pub type NumberTypeValidator = SingleTypeValidator<NumberType>;
 
 /// The type `string`.
-#[derive(Drop)]
+#[derive(Debug, Drop)]
 pub struct StringType;
 
 impl TypeTest for StringType {
@@ -311,7 +319,7 @@ impl TypeTest for StringType {
 pub type StringTypeValidator = SingleTypeValidator<StringType>;
 
 /// The type `array`.
-#[derive(Drop)]
+#[derive(Debug, Drop)]
 pub struct ArrayType;
 
 impl TypeTest for ArrayType {
@@ -332,7 +340,7 @@ impl TypeTest for ArrayType {
 pub type ArrayTypeValidator = SingleTypeValidator<ArrayType>;
 
 /// The type `object`.
-#[derive(Drop)]
+#[derive(Debug, Drop)]
 pub struct ObjectType;
 
 impl TypeTest for ObjectType {
@@ -383,8 +391,8 @@ pub fn compile<'a, F: Json>(
     parent: &'a Map<String, Value>,
     schema: &'a Value,
 ) -> Option<CompilationResult<'a, LeafValidator<F>>>
-    ensures { Compiles leaf_keyword result
-        (reading TypeKeyword ctx.now (members_view parent.now.entries) (view schema.now)) }
+    ensures { CompilesKeyword leaf_keyword result
+        (keyword_reading TypeKeyword ctx.now (members_view parent.now.entries) (view schema.now)) }
 {
     let _ = parent;
     Some(type_validator(alloc, ctx, schema))
@@ -396,7 +404,7 @@ fn type_validator<'a, F: Json>(
     ctx: &Context<'_, F>,
     schema: &'a Value,
 ) -> CompilationResult<'a, LeafValidator<F>>
-    ensures { Makes leaf_keyword result (type_keyword (integers_of ctx.now.setting.draft)
+    ensures { CompilesTo leaf_keyword result (type_keyword (integers_of ctx.now.setting.draft)
         (keyword_location ctx.now.location TypeKeyword) (view schema.now)) }
 {
     let location = ctx.keyword_location(alloc, KeywordName::TypeKeyword)?;
@@ -408,10 +416,10 @@ fn type_validator<'a, F: Json>(
 // Reads the value of `type`. Refuses it at `location` if it names no types.
 fn type_kind<'a>(
     alloc: Global,
-    location: &Location,
+    location: &KeywordLocation,
     schema: &'a Value,
 ) -> CompilationResult<'a, TypeKind>
-    ensures { Makes (λ k. k) result (type_value location.now (view schema.now)) }
+    ensures { CompilesTo (λ k. k) result (type_value location.now (view schema.now)) }
 {
     match schema {
         Value::String(_) => one_type(alloc, location, schema),
@@ -430,10 +438,10 @@ fn type_kind<'a>(
 #[tactic(auto, using(crate::proofs::TypeSets::array_of_one, crate::proofs::TypeSets::array_of_others))]
 fn array_types<'a>(
     alloc: Global,
-    location: &Location,
+    location: &KeywordLocation,
     items: &'a [Value],
 ) -> CompilationResult<'a, TypeKind>
-    ensures { Makes (λ k. k) result (array_types location.now (items_view items.now)) }
+    ensures { CompilesTo (λ k. k) result (array_types location.now (items_view items.now)) }
 {
     if items.len() == 1 {
         return one_type(alloc, location, &items[0]);
@@ -444,10 +452,10 @@ fn array_types<'a>(
 // Reads the name of the only type.
 fn one_type<'a>(
     alloc: Global,
-    location: &Location,
+    location: &KeywordLocation,
     value: &'a Value,
 ) -> CompilationResult<'a, TypeKind>
-    ensures { Makes (λ k. k) result (one_type location.now (view value.now)) }
+    ensures { CompilesTo (λ k. k) result (one_type location.now (view value.now)) }
 {
     let unknown = ValidationErrorKind::CompileError {
         message: "Unexpected type",
@@ -459,10 +467,10 @@ fn one_type<'a>(
 #[tactic(auto, using(crate::proofs::TypeSets::next_type, crate::proofs::TypeSets::with_no_types))]
 fn type_set<'a>(
     alloc: Global,
-    location: &Location,
+    location: &KeywordLocation,
     items: &'a [Value],
 ) -> CompilationResult<'a, JsonTypeSet>
-    ensures { Makes (λ s. s) result (type_set location.now (items_view items.now)) }
+    ensures { CompilesTo (λ s. s) result (type_set location.now (items_view items.now)) }
 {
     let mut types = JsonTypeSet::empty();
     for item in items {
@@ -478,10 +486,10 @@ fn type_set<'a>(
 fn named_type<'a>(
     alloc: Global,
     unknown: ValidationErrorKind<'a>,
-    location: &Location,
+    location: &KeywordLocation,
     value: &'a Value,
 ) -> CompilationResult<'a, JsonType>
-    ensures { Makes (λ j. j) result
+    ensures { CompilesTo (λ j. j) result
         (named_type (kind_of unknown.entry) location.now (view value.now)) }
 {
     let Value::String(name) = value else {

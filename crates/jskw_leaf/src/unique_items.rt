@@ -1,14 +1,15 @@
 //! `uniqueItems` (JSON Schema Validation 6.4.3): no two items of the array are equal.
 ghost use Rattle.std.specs.Prelude.{refl};
 ghost use Rattle.serde_json.specs.View.{view, members_view};
-ghost use Rattle.jskw_report.specs.Compile.{Compiles, reading};
+ghost use Rattle.jskw_report.specs.Compile.{CompilesKeyword, keyword_reading};
 ghost use Rattle.jskw_report.specs.Kind as kind;
 ghost use Rattle.jskw_report.specs.declared.keyword.KeywordName.TheVariants.{UniqueItems};
 ghost use Rattle.jskw_leaf.specs.Meaning.{unique_items, leaf_keyword};
 
 use crate::leaf::LeafValidator;
 use jskw_report::{
-    Assertion, CompilationResult, CompileFault, Context, KeywordName, Location, ValidationErrorKind,
+    Assertion, CompilationResult, CompileFault, Context, KeywordLocation, KeywordName,
+    ValidationErrorKind,
 };
 use jskw_value::{Array, Json, Node};
 use serde_json::{Map, Value};
@@ -16,9 +17,9 @@ use std::alloc::Global;
 
 /// The validator of `uniqueItems` with `true`. It accepts an array in which no two items are equal,
 /// and every non-array.
-#[derive(Drop)]
+#[derive(Debug, Drop)]
 pub struct UniqueItemsValidator {
-    location: Location,
+    location: KeywordLocation,
 }
 
 impl Assertion for UniqueItemsValidator {
@@ -38,7 +39,7 @@ impl Assertion for UniqueItemsValidator {
         ValidationErrorKind::UniqueItems
     }
 
-    fn location(&self) -> &Location {
+    fn location(&self) -> &KeywordLocation {
         &self.location
     }
 }
@@ -56,8 +57,8 @@ pub fn compile<'a, F: Json>(
     parent: &'a Map<String, Value>,
     schema: &'a Value,
 ) -> Option<CompilationResult<'a, LeafValidator<F>>>
-    ensures { Compiles leaf_keyword result
-        (reading UniqueItems ctx.now (members_view parent.now.entries) (view schema.now)) }
+    ensures { CompilesKeyword leaf_keyword result
+        (keyword_reading UniqueItems ctx.now (members_view parent.now.entries) (view schema.now)) }
 {
     let _ = parent;
     if !matches!(schema, Value::Bool(true)) {

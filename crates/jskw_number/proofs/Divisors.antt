@@ -13,7 +13,8 @@ use Rattle.jskw_report.specs.Holds.{multiple_holds}
 use Rattle.jskw_report.specs.Kind.{ExclusiveMinimum}
 
 -- what a decimal's `is_multiple_of` answers is what its tree says
-pub divides_number : (m : ℕ) (t : Tree) (n : Num) (d : Decimal) → as_number t ≡ Some n → value d ≡ n → multiple_holds m t ≡ is_multiple_of (coefficient d) d.scale m
+pub divides_number : (m : ℕ) (t : Tree) (n : Num) (d : Decimal) → as_number t ≡ Some n → value d ≡ n
+    → multiple_holds m t ≡ is_multiple_of (coefficient d) d.scale m
 divides_number m (number x) n d h e = let same : x ≡ value d = cc in ap (λ y. multiple_holds m (number y)) same
 divides_number m _ n d h e = cc
 
@@ -25,18 +26,21 @@ divides_other m _ h = refl
 pub ruleset divides = (divides_number, divides_other)
 
 -- a size above 0 is a divisor
-pub divisor_above_0 : (q : Pointer) (d : Data) (n : ℕ) → result_ok (size_value [] d) ≡ Some n → 0 < n → divisor_value q d ≡ Ok n
+pub divisor_above_0 : (q : Pointer) (d : Data) (n : ℕ) → result_ok (size_value [] d) ≡ Some n → 0 < n
+    → divisor_value q d ≡ Ok n
 divisor_above_0 q (json.number (unsigned (suc k))) n h p = ap Ok cc
 divisor_above_0 q (json.number (unsigned zero)) n h p = let none : 0 ≡ n = cc in absurd (omega (arith, none, p))
 divisor_above_0 q _ n h p = cc
 
-pub divisor_of_0 : (q : Pointer) (d : Data) (n : ℕ) → result_ok (size_value [] d) ≡ Some n → n ≤ 0 → divisor_value q d ≡ wrong (ExclusiveMinimum (pos 0)) q d
+pub divisor_of_0 : (q : Pointer) (d : Data) (n : ℕ) → result_ok (size_value [] d) ≡ Some n → n ≤ 0
+    → divisor_value q d ≡ wrong (ExclusiveMinimum (pos 0)) q d
 divisor_of_0 q (json.number (unsigned zero)) n h p = refl
 divisor_of_0 q (json.number (unsigned (suc k))) n h p = let some : suc k ≡ n = cc in absurd (omega (arith, some, p))
 divisor_of_0 q _ n h p = cc
 
 -- neither is a whole number that is no size
-pub divisor_below_0 : (q : Pointer) (d : Data) (z : ℤ) → limit_value q d ≡ Ok z → result_ok (size_value [] d) ≡ None → divisor_value q d ≡ wrong (ExclusiveMinimum (pos 0)) q d
+pub divisor_below_0 : (q : Pointer) (d : Data) (z : ℤ) → limit_value q d ≡ Ok z → result_ok (size_value [] d) ≡ None
+    → divisor_value q d ≡ wrong (ExclusiveMinimum (pos 0)) q d
 divisor_below_0 q (json.number (negative z)) w h e = refl
 divisor_below_0 q (json.number (unsigned n)) w h e = cc
 divisor_below_0 q _ w h e = cc

@@ -14,7 +14,8 @@ use Rattle.jskw_report.specs.Keyword.{Relation, Minimum, Maximum, ExclusiveMinim
 use Rattle.jskw_number.specs.Limit.{allows, stands_to}
 
 -- what a decimal's `cmp_whole` answers is how its tree stands to the whole number
-pub stands_number : (t : Tree) (n : Num) (d : Decimal) (z : ℤ) → as_number t ≡ Some n → value d ≡ n → stands_to z t ≡ Some (cmp_whole (coefficient d) d.scale z)
+pub stands_number : (t : Tree) (n : Num) (d : Decimal) (z : ℤ) → as_number t ≡ Some n → value d ≡ n
+    → stands_to z t ≡ Some (cmp_whole (coefficient d) d.scale z)
 stands_number (number x) n d z h e = let same : x ≡ value d = cc in ap (λ y. stands_to z (number y)) same
 stands_number _ n d z h e = cc
 
@@ -27,14 +28,16 @@ pub stands_as_number : (t : Tree) (n : Num) (z : ℤ) → as_number t ≡ Some n
 stands_as_number (number x) n z h = cc
 stands_as_number _ n z h = cc
 
-is_ge_of : (a b : ℤ) (x y z : Bool) → int_lt a b ≡ x → int_lt b a ≡ y → int_le b a ≡ z → is_ge (cond x Less (cond y Greater Equal)) ≡ z
+is_ge_of : (a b : ℤ) (x y z : Bool) → int_lt a b ≡ x → int_lt b a ≡ y → int_le b a ≡ z
+    → is_ge (cond x Less (cond y Greater Equal)) ≡ z
 is_ge_of a b true y true p q r = absurd (omega (arith, ints))
 is_ge_of a b true y false p q r = refl
 is_ge_of a b false true true p q r = refl
 is_ge_of a b false false true p q r = refl
 is_ge_of a b false y false p q r = absurd (omega (arith, ints))
 
-is_le_of : (a b : ℤ) (x y z : Bool) → int_lt a b ≡ x → int_lt b a ≡ y → int_le a b ≡ z → is_le (cond x Less (cond y Greater Equal)) ≡ z
+is_le_of : (a b : ℤ) (x y z : Bool) → int_lt a b ≡ x → int_lt b a ≡ y → int_le a b ≡ z
+    → is_le (cond x Less (cond y Greater Equal)) ≡ z
 is_le_of a b true y true p q r = refl
 is_le_of a b true y false p q r = absurd (omega (arith, ints))
 is_le_of a b false true true p q r = absurd (omega (arith, ints))
@@ -55,10 +58,14 @@ is_lt_of a b false false = refl
 
 -- a number is within a limit where its order to it is allowed
 pub by_order : (r : Relation) (z : ℤ) (t : Tree) → limit_holds r z t ≡ option_map_or (allows r) (stands_to z t) true
-by_order Minimum z (number (exact c k)) = let m : ℤ = z *ℤ pos (10 ^ k) in sym (is_ge_of c m (int_lt c m) (int_lt m c) (int_le m c) refl refl refl)
-by_order Maximum z (number (exact c k)) = let m : ℤ = z *ℤ pos (10 ^ k) in sym (is_le_of c m (int_lt c m) (int_lt m c) (int_le c m) refl refl refl)
-by_order ExclusiveMinimum z (number (exact c k)) = let m : ℤ = z *ℤ pos (10 ^ k) in sym (is_gt_of c m (int_lt c m) (int_lt m c) refl refl)
-by_order ExclusiveMaximum z (number (exact c k)) = let m : ℤ = z *ℤ pos (10 ^ k) in sym (is_lt_of c m (int_lt c m) (int_lt m c))
+by_order Minimum z (number (exact c k)) = let m : ℤ = z *ℤ pos (10 ^ k) in
+    sym (is_ge_of c m (int_lt c m) (int_lt m c) (int_le m c) refl refl refl)
+by_order Maximum z (number (exact c k)) = let m : ℤ = z *ℤ pos (10 ^ k) in
+    sym (is_le_of c m (int_lt c m) (int_lt m c) (int_le c m) refl refl refl)
+by_order ExclusiveMinimum z (number (exact c k)) = let m : ℤ = z *ℤ pos (10 ^ k) in
+    sym (is_gt_of c m (int_lt c m) (int_lt m c) refl refl)
+by_order ExclusiveMaximum z (number (exact c k)) = let m : ℤ = z *ℤ pos (10 ^ k) in
+    sym (is_lt_of c m (int_lt c m) (int_lt m c))
 by_order _ z _ = refl
 
 -- every limit holds of what is no number

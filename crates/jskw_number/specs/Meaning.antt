@@ -1,4 +1,5 @@
--- What each validator asserts, and where; and of any of them the keyword, the kind of its error, and the limit that it keeps.
+-- What each validator asserts, and where; and of any of them the keyword, the kind of its error, and the limit that it
+-- keeps.
 use Rattle.std.specs.Int.NonZero.{non_zero_u64_get}
 use Rattle.std.specs.Prelude.{◌≡◌, ℕ, ℤ, pos, Option, Some, None, refl}
 use Rattle.serde_json.specs.Data.{Data}
@@ -15,7 +16,11 @@ use Rattle.jskw_report.specs.Meaning.{LocatedAssertion, as_keyword}
 use Rattle.jskw_number.specs.declared.sizes.SizeLimit.{SizeLimit}
 use Rattle.jskw_number.specs.declared.multiple_of.MultipleOfIntegerValidator.{MultipleOfIntegerValidator}
 use Rattle.jskw_number.specs.declared.number.NumberValidator.{NumberValidator}
-use Rattle.jskw_number.specs.declared.number.NumberValidator.TheVariants.{MinItems, MaxItems, MinProperties, MaxProperties, MinimumU64, MinimumI64, MaximumU64, MaximumI64, ExclusiveMinimumU64, ExclusiveMinimumI64, ExclusiveMaximumU64, ExclusiveMaximumI64, MultipleOfInteger}
+use Rattle.jskw_number.specs.declared.number.NumberValidator.TheVariants.{MinItems, MaxItems, MinProperties}
+use Rattle.jskw_number.specs.declared.number.NumberValidator.TheVariants.{MaxProperties, MinimumU64, MinimumI64}
+use Rattle.jskw_number.specs.declared.number.NumberValidator.TheVariants.{MaximumU64, MaximumI64, ExclusiveMinimumU64}
+use Rattle.jskw_number.specs.declared.number.NumberValidator.TheVariants.{ExclusiveMinimumI64, ExclusiveMaximumU64}
+use Rattle.jskw_number.specs.declared.number.NumberValidator.TheVariants.{ExclusiveMaximumI64, MultipleOfInteger}
 
 -- ---- sizes
 

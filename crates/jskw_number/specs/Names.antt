@@ -1,7 +1,9 @@
 -- The keywords of this crate, by name.
 use Rattle.std.specs.Prelude.{Bool, true, false}
 use Rattle.jskw_report.specs.declared.keyword.KeywordName.{KeywordName}
-use Rattle.jskw_report.specs.declared.keyword.KeywordName.TheVariants.{MinItems, MaxItems, Minimum, Maximum, ExclusiveMinimum, ExclusiveMaximum, MultipleOf, MinProperties, MaxProperties}
+use Rattle.jskw_report.specs.declared.keyword.KeywordName.TheVariants.{MinItems, MaxItems, Minimum, Maximum}
+use Rattle.jskw_report.specs.declared.keyword.KeywordName.TheVariants.{ExclusiveMinimum, ExclusiveMaximum, MultipleOf}
+use Rattle.jskw_report.specs.declared.keyword.KeywordName.TheVariants.{MinProperties, MaxProperties}
 
 -- of numbers and sizes
 abbrev pub is_of_numbers : KeywordName → Bool

@@ -1,9 +1,10 @@
 -- Sets of values that a few instructions test, and what they say of a keyword.
 use Rattle.std.specs.Int.NonZero.{non_zero_u64_get}
 use Rattle.std.specs.Option.{option_and_then, option_map_or}
-use Rattle.std.specs.Prelude.{◌≡◌, ℕ, suc, List, [], ◌∷◌, get_or, if◌then◌else◌, ℤ, int_le, unsigned_abs, ◌%◌, ◌==◌, ◌&&◌, Bool, true, false}
+use Rattle.std.specs.Prelude.{◌≡◌, ℕ, suc, List, [], ◌∷◌, get_or, if◌then◌else◌, ℤ, int_le, unsigned_abs, ◌%◌, ◌==◌}
+use Rattle.std.specs.Prelude.{◌&&◌, Bool, true, false}
 use Rattle.std.specs.declared.num.NonZeroU64.{NonZeroU64}
-use Rattle.jskw_value.specs.Number.{Num, i64_of, whole}
+use Rattle.jskw_value.specs.Number.{Num, i64_of, written_integer}
 use Rattle.jskw_value.specs.Tree.{Tree, as_number}
 use Rattle.jskw_value.specs.Types.{json_type}
 use Rattle.jskw_value.specs.declared.types.JsonType.{JsonType}
@@ -23,21 +24,21 @@ in_range r z = int_le r.low z && int_le z r.high && divides r.divisor z
 
 -- the number is an integer of the range that is written without a fraction
 abbrev pub has_number : IntegerRange → Num → Bool
-has_number r n = option_map_or (in_range r) (option_and_then i64_of (whole n)) false
+has_number r n = option_map_or (in_range r) (option_and_then i64_of (written_integer n)) false
 
 -- the place of a type in a set
-abbrev pub place : JsonType → ℕ
-place Null = 0
-place Boolean = 1
-place Integer = 2
-place Number = 2
-place String = 3
-place Array = 4
-place Object = 5
+abbrev pub type_index : JsonType → ℕ
+type_index Null = 0
+type_index Boolean = 1
+type_index Integer = 2
+type_index Number = 2
+type_index String = 3
+type_index Array = 4
+type_index Object = 5
 
 -- values of the tree's type are in the set
 abbrev pub has_type : QuickSet → Tree → Bool
-has_type q t = get_or q.types (place (json_type t)) false
+has_type q t = get_or q.types (type_index (json_type t)) false
 
 -- the tree is in the set: a number of a limited set by the range, and all else by its type
 abbrev pub is_in : QuickSet → Tree → Bool

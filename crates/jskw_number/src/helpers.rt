@@ -4,7 +4,7 @@ ghost use Rattle.std.specs.Result.{result_ok};
 ghost use Rattle.serde_json.specs.Find.{get_member};
 ghost use Rattle.serde_json.specs.View.{view, members_view};
 ghost use Rattle.jskw_value.specs.Pointer.{member_location};
-ghost use Rattle.jskw_report.specs.Compile.{Compiles, Makes};
+ghost use Rattle.jskw_report.specs.Compile.{CompilesKeyword, CompilesTo};
 ghost use Rattle.jskw_report.specs.KeywordValue.{size_value, limit_value};
 ghost use Rattle.jskw_report.specs.Read.{keyword_location};
 ghost use Rattle.jskw_report.specs.Setting.{name_of};
@@ -14,8 +14,8 @@ ghost use Rattle.jskw_number.specs.Limit.{whole_of};
 
 use jskw_report::context::member_of;
 use jskw_report::{
-    CompilationResult, CompileFault, Context, KeywordName, Location, LocationSegment,
-    ValidationError, ValidationErrorKind,
+    CompilationResult, CompileFault, Context, KeywordLocation, KeywordName, Location,
+    LocationSegment, ValidationError, ValidationErrorKind,
 };
 use jskw_value::{Json, JsonType};
 use serde_json::{Map, Value};
@@ -43,7 +43,7 @@ pub fn map_get_u64<'a, F: Json>(
     ctx: &Context<'_, F>,
     name: &str,
 ) -> Option<CompilationResult<'a, u64>>
-    ensures { Compiles (λ n. n) result
+    ensures { CompilesKeyword (λ n. n) result
         (option_map (size_value (member_location ctx.now.location name.now))
         (get_member name.now (members_view parent.now.entries))) }
 {
@@ -60,7 +60,7 @@ fn bound<'a>(
     value: &'a Value,
 ) -> CompilationResult<'a, u64>
     ensures { let q = member_location parent.now name.now in
-        Makes (λ n. n) result (size_value q (view value.now)) }
+        CompilesTo (λ n. n) result (size_value q (view value.now)) }
 {
     if let Some(limit) = size_limit(value) {
         return Ok(limit);
@@ -80,7 +80,7 @@ pub fn fail_on_non_positive_integer<'a>(
     location: Location,
 ) -> CompileFault<'a>
     requires { result_ok (size_value [] (view value.now)) ≡ None }
-    ensures refused { Makes (λ n. n) (Err result) (size_value location (view value.now)) }
+    ensures refused { CompilesTo (λ n. n) (Err result) (size_value location (view value.now)) }
     ensures no_memory { result ≢ fault.Memory alloc_error }
 {
     let kind = if value.is_i64() {
@@ -98,16 +98,16 @@ pub(crate) fn bound_at<'a, F: Json>(
     ctx: &Context<'_, F>,
     keyword: KeywordName,
     value: &'a Value,
-) -> CompilationResult<'a, (u64, Location)>
+) -> CompilationResult<'a, (u64, KeywordLocation)>
     ensures bound { let q = keyword_location ctx.now.location keyword in
-        Makes (λ found. found.0) result (size_value q (view value.now)) }
+        CompilesTo (λ found. found.0) result (size_value q (view value.now)) }
     ensures location { IfOk result (λ found. found.1
         ≡ keyword_location ctx.now.location keyword) }
 {
     let location = ctx.keyword_location(alloc, keyword)?;
     match size_limit(value) {
         Some(limit) => Ok((limit, location)),
-        None => Err(fail_on_non_positive_integer(alloc, value, location)),
+        None => Err(fail_on_non_positive_integer(alloc, value, location.to_location(alloc)?)),
     }
 }
 
@@ -123,10 +123,10 @@ pub(crate) enum WholeNumber {
 // Reads an integer from -2^63 to 2^64-1. Refuses any other value at `location`.
 pub(crate) fn whole_number<'a>(
     alloc: Global,
-    location: &Location,
+    location: &KeywordLocation,
     value: &'a Value,
 ) -> CompilationResult<'a, WholeNumber>
-    ensures { Makes whole_of result (limit_value location.now (view value.now)) }
+    ensures { CompilesTo whole_of result (limit_value location.now (view value.now)) }
 {
     let Value::Number(number) = value else {
         let kind = ValidationErrorKind::of_type(JsonType::Number);

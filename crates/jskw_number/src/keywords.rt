@@ -1,7 +1,7 @@
 //! Compiles the keywords of this crate by their names.
 ghost use Rattle.std.specs.Prelude.{◌≡◌, true};
 ghost use Rattle.serde_json.specs.View.{view, members_view};
-ghost use Rattle.jskw_report.specs.Compile.{Compiles, reading};
+ghost use Rattle.jskw_report.specs.Compile.{CompilesKeyword, keyword_reading};
 ghost use Rattle.jskw_number.specs.Meaning.{number_keyword};
 ghost use Rattle.jskw_number.specs.Names.{is_of_numbers};
 
@@ -25,8 +25,8 @@ pub fn compile<'a, F: Json>(
     schema: &'a Value,
 ) -> Option<CompilationResult<'a, NumberValidator>>
     requires { is_of_numbers keyword ≡ true }
-    ensures { Compiles number_keyword result
-        (reading keyword ctx.now (members_view parent.now.entries) (view schema.now)) }
+    ensures { CompilesKeyword number_keyword result
+        (keyword_reading keyword ctx.now (members_view parent.now.entries) (view schema.now)) }
 {
     let is_draft_4 = ctx.draft() == Draft::Draft4;
     match keyword {

@@ -10,13 +10,13 @@
 //!
 //! Each `compile` takes an object of the schema as `parent`, the value that the keyword has in it
 //! as `schema`, and the context of `parent` as `ctx`. The caller checks that the keyword is active,
-//! by [`stands`](jskw_report::KeywordName::stands). Only Draft 4's `minimum` and `maximum` read
+//! by [`is_active`](jskw_report::KeywordName::is_active). Only Draft 4's `minimum` and `maximum` read
 //! `parent`; the others take it to have the same signature.
 //!
 //! ```rust
 //! let keyword = KeywordName::MinItems;
 //! let schema = member_of(parent, keyword.as_str())?;
-//! if !keyword.stands(ctx) {
+//! if !keyword.is_active(ctx) {
 //!     return None;
 //! }
 //! jskw_number::compile(alloc, ctx, parent, keyword, schema)

@@ -7,36 +7,33 @@
 //!
 //! - any other number, such as `1.5`, `2.0` or `-0`, with the kind `CompileError`;
 //! - any other value with the kind `WrongType` and the type number.
-#![tactic(auto, unfolding(jskw_report::specs::Read::asserted))]
-
 ghost use Rattle.std.specs.Prelude.{◌≡◌, ◌-◌, ◌^◌, ◌≤ℤ◌, ◌<ℤ◌, ℤ, pos, negsuc, true, refl, Some};
-ghost use Rattle.std.specs.Prelude.{IfOk, IfSome, IsTrue};
-ghost use Rattle.serde_json.specs.View.{view, members_view};
+ghost use Rattle.std.specs.Prelude.{IfSome, IsTrue};
+ghost use Rattle.serde_json.specs.View.{view};
 ghost use Rattle.jskw_value.specs.Number.{is_exact};
-ghost use Rattle.jskw_value.specs.Tree.{is_lawful, number as number_tree};
-ghost use Rattle.jskw_report.specs.Compile.{Compiles, Makes, reading};
+ghost use Rattle.jskw_value.specs.Tree.{number as number_tree};
 ghost use Rattle.jskw_report.specs.Errors.{kind_of};
 ghost use Rattle.jskw_report.specs.Fail.{limit_kind};
 ghost use Rattle.jskw_report.specs.Holds.{stands_in};
 ghost use Rattle.jskw_report.specs.Keyword.{Relation};
 ghost use Rattle.jskw_report.specs.Keyword as relation;
 ghost use Rattle.jskw_report.specs.Meaning.{as_keyword};
-ghost use Rattle.jskw_report.specs.Read.{limit_keyword, limit_word};
-ghost use Rattle.jskw_report.specs.Setting.{is_after_draft_4};
-ghost use Rattle.jskw_report.specs.declared.keyword.KeywordName.TheVariants as word;
+ghost use Rattle.jskw_report.specs.Read.{limit_keyword_name};
 ghost use Rattle.jskw_number.specs.Limit.{allows, stands_to};
 ghost use Rattle.jskw_number.specs.QuickSet.{Accepts, in_range};
-ghost use Rattle.jskw_number.specs.Meaning.{limit_at, limit_of, number_assertion, number_keyword};
+ghost use Rattle.jskw_number.specs.Meaning.{limit_at, limit_of, number_assertion};
 
-use crate::helpers::{WholeNumber, whole_number};
+mod compilation;
+
 use crate::number::NumberValidator;
 use crate::quick_set::{IntegerRange, QuickSet};
-use jskw_report::{
-    Assertion, CompilationResult, Context, KeywordName, Location, ValidationErrorKind,
+pub(crate) use compilation::compile_limit;
+pub use compilation::{
+    compile_exclusive_maximum, compile_exclusive_minimum, compile_maximum, compile_minimum,
 };
+use jskw_report::{Assertion, KeywordLocation, KeywordName, Location, ValidationErrorKind};
 use jskw_value::{Json, JsonNumber, Node};
-use serde_json::{Map, Value};
-use std::alloc::Global;
+use serde_json::Value;
 use std::cmp::Ordering;
 use std::marker::PhantomData;
 
@@ -91,7 +88,7 @@ pub trait LimitTest {
 
     /// Returns the keyword of the relation.
     fn keyword() -> KeywordName
-        ensures { result ≡ limit_word relation };
+        ensures { result ≡ limit_keyword_name relation };
 
     /// Returns whether a number is within the limit if it compares to the limit as `ordering` says.
     fn allows(ordering: Ordering) -> bool
@@ -109,13 +106,13 @@ pub trait LimitTest {
 
     /// Creates the validator of a limit that is a `u64`. `value` is the limit as the schema has it,
     /// `location` the keyword location of the error.
-    fn of_u64(limit: u64, value: Value, location: Location) -> NumberValidator
+    fn of_u64(limit: u64, value: Value, location: KeywordLocation) -> NumberValidator
         ensures assertion { number_assertion result ≡ limit_at relation (pos limit) location }
         ensures value { limit_of result ≡ Some (view value) };
 
     /// Creates the validator of a limit that is an `i64`. `value` is the limit as the schema has
     /// it, `location` the keyword location of the error.
-    fn of_i64(limit: i64, value: Value, location: Location) -> NumberValidator
+    fn of_i64(limit: i64, value: Value, location: KeywordLocation) -> NumberValidator
         ensures assertion { number_assertion result ≡ limit_at relation limit location }
         ensures value { limit_of result ≡ Some (view value) };
 }
@@ -126,7 +123,7 @@ pub trait LimitTest {
 pub struct Limit<T, R> {
     limit: T,
     limit_value: Value,
-    location: Location,
+    location: KeywordLocation,
     relation: PhantomData<R>,
 }
 
@@ -137,6 +134,17 @@ impl<T, R> From<(T, Value, Location)> for Limit<T, R> {
 
     fn from(parts: (T, Value, Location)) -> Limit<T, R> {
         let (limit, limit_value, location) = parts;
+        Limit::new(limit, limit_value, KeywordLocation::from(location))
+    }
+}
+
+impl<T, R> Limit<T, R> {
+    // Creates the validator from the limit, the limit as the schema has it, and the keyword location.
+    fn new(limit: T, limit_value: Value, location: KeywordLocation) -> Limit<T, R>
+        ensures limit { result.limit ≡ limit }
+        ensures value { result.limit_value ≡ limit_value }
+        ensures location { result.location ≡ location }
+    {
         Limit {
             limit,
             limit_value,
@@ -144,9 +152,7 @@ impl<T, R> From<(T, Value, Location)> for Limit<T, R> {
             relation: PhantomData,
         }
     }
-}
 
-impl<T, R> Limit<T, R> {
     /// Returns the limit as the schema has it.
     pub fn limit_value(&self) -> &Value
         ensures { result.now ≡ self.now.limit_value }
@@ -188,13 +194,13 @@ impl<T: Whole, R: LimitTest> Assertion for Limit<T, R> {
         R::kind(self.limit.to_i128())
     }
 
-    fn location(&self) -> &Location {
+    fn location(&self) -> &KeywordLocation {
         &self.location
     }
 }
 
 /// The relation of `minimum`: the number is at least the limit.
-#[derive(Drop)]
+#[derive(Debug, Drop)]
 pub struct AtLeast;
 
 impl LimitTest for AtLeast {
@@ -217,12 +223,12 @@ impl LimitTest for AtLeast {
         ValidationErrorKind::Minimum { limit }
     }
 
-    fn of_u64(limit: u64, value: Value, location: Location) -> NumberValidator {
-        NumberValidator::MinimumU64(Limit::from((limit, value, location)))
+    fn of_u64(limit: u64, value: Value, location: KeywordLocation) -> NumberValidator {
+        NumberValidator::MinimumU64(Limit::new(limit, value, location))
     }
 
-    fn of_i64(limit: i64, value: Value, location: Location) -> NumberValidator {
-        NumberValidator::MinimumI64(Limit::from((limit, value, location)))
+    fn of_i64(limit: i64, value: Value, location: KeywordLocation) -> NumberValidator {
+        NumberValidator::MinimumI64(Limit::new(limit, value, location))
     }
 }
 
@@ -231,7 +237,7 @@ impl LimitTest for AtLeast {
 pub type Minimum<T> = Limit<T, AtLeast>;
 
 /// The relation of `maximum`: the number is at most the limit.
-#[derive(Drop)]
+#[derive(Debug, Drop)]
 pub struct AtMost;
 
 impl LimitTest for AtMost {
@@ -254,12 +260,12 @@ impl LimitTest for AtMost {
         ValidationErrorKind::Maximum { limit }
     }
 
-    fn of_u64(limit: u64, value: Value, location: Location) -> NumberValidator {
-        NumberValidator::MaximumU64(Limit::from((limit, value, location)))
+    fn of_u64(limit: u64, value: Value, location: KeywordLocation) -> NumberValidator {
+        NumberValidator::MaximumU64(Limit::new(limit, value, location))
     }
 
-    fn of_i64(limit: i64, value: Value, location: Location) -> NumberValidator {
-        NumberValidator::MaximumI64(Limit::from((limit, value, location)))
+    fn of_i64(limit: i64, value: Value, location: KeywordLocation) -> NumberValidator {
+        NumberValidator::MaximumI64(Limit::new(limit, value, location))
     }
 }
 
@@ -268,7 +274,7 @@ impl LimitTest for AtMost {
 pub type Maximum<T> = Limit<T, AtMost>;
 
 /// The relation of `exclusiveMinimum`: the number is above the limit.
-#[derive(Drop)]
+#[derive(Debug, Drop)]
 pub struct Above;
 
 impl LimitTest for Above {
@@ -291,12 +297,12 @@ impl LimitTest for Above {
         ValidationErrorKind::ExclusiveMinimum { limit }
     }
 
-    fn of_u64(limit: u64, value: Value, location: Location) -> NumberValidator {
-        NumberValidator::ExclusiveMinimumU64(Limit::from((limit, value, location)))
+    fn of_u64(limit: u64, value: Value, location: KeywordLocation) -> NumberValidator {
+        NumberValidator::ExclusiveMinimumU64(Limit::new(limit, value, location))
     }
 
-    fn of_i64(limit: i64, value: Value, location: Location) -> NumberValidator {
-        NumberValidator::ExclusiveMinimumI64(Limit::from((limit, value, location)))
+    fn of_i64(limit: i64, value: Value, location: KeywordLocation) -> NumberValidator {
+        NumberValidator::ExclusiveMinimumI64(Limit::new(limit, value, location))
     }
 }
 
@@ -305,7 +311,7 @@ impl LimitTest for Above {
 pub type ExclusiveMinimum<T> = Limit<T, Above>;
 
 /// The relation of `exclusiveMaximum`: the number is below the limit.
-#[derive(Drop)]
+#[derive(Debug, Drop)]
 pub struct Below;
 
 impl LimitTest for Below {
@@ -328,125 +334,15 @@ impl LimitTest for Below {
         ValidationErrorKind::ExclusiveMaximum { limit }
     }
 
-    fn of_u64(limit: u64, value: Value, location: Location) -> NumberValidator {
-        NumberValidator::ExclusiveMaximumU64(Limit::from((limit, value, location)))
+    fn of_u64(limit: u64, value: Value, location: KeywordLocation) -> NumberValidator {
+        NumberValidator::ExclusiveMaximumU64(Limit::new(limit, value, location))
     }
 
-    fn of_i64(limit: i64, value: Value, location: Location) -> NumberValidator {
-        NumberValidator::ExclusiveMaximumI64(Limit::from((limit, value, location)))
+    fn of_i64(limit: i64, value: Value, location: KeywordLocation) -> NumberValidator {
+        NumberValidator::ExclusiveMaximumI64(Limit::new(limit, value, location))
     }
 }
 
 /// The validator of `exclusiveMaximum` (JSON Schema Validation 6.2.3). It accepts a number that is
 /// below the limit, and every non-number.
 pub type ExclusiveMaximum<T> = Limit<T, Below>;
-
-// Compiles the limit `schema` of the relation `R`. The error of the validator and a refusal are
-// both at the keyword of `R`.
-pub(crate) fn make<'a, F: Json, R: LimitTest>(
-    alloc: Global,
-    ctx: &Context<'_, F>,
-    schema: &'a Value,
-) -> CompilationResult<'a, NumberValidator>
-    ensures keyword { Makes number_keyword result
-        (limit_keyword R.relation ctx.now.location (view schema.now)) }
-    ensures value { IfOk result (λ v. limit_of v ≡ Some (view schema.now)) }
-{
-    let location = ctx.keyword_location(alloc, R::keyword())?;
-    let limit = whole_number(alloc, &location, schema)?;
-    let value = schema.clone()?;
-    Ok(match limit {
-        WholeNumber::Unsigned(limit) => R::of_u64(limit, value, location),
-        WholeNumber::Signed(limit) => R::of_i64(limit, value, location),
-    })
-}
-
-/// Compiles `minimum` for the drafts after Draft 4: the draft of `ctx` must not be Draft 4, which
-/// has a [`compile`](crate::legacy::minmax_draft_4::compile_minimum) of its own. Always returns `Some`.
-/// The validator keeps `schema`: [`limit_value`](Limit::limit_value) returns it.
-///
-/// # Errors
-///
-/// Fails if `schema` is not a limit, as the [module's documentation](self) says, or if memory runs
-/// out.
-pub fn compile_minimum<'a, F: Json>(
-    alloc: Global,
-    ctx: &Context<'_, F>,
-    parent: &'a Map<String, Value>,
-    schema: &'a Value,
-) -> Option<CompilationResult<'a, NumberValidator>>
-    requires { is_after_draft_4 ctx.now.setting.draft ≡ true }
-    ensures keyword { Compiles number_keyword result
-        (reading word.Minimum ctx.now (members_view parent.now.entries) (view schema.now)) }
-    ensures value { IfSome result (λ r. IfOk r (λ v. limit_of v ≡ Some (view schema.now))) }
-{
-    let _ = parent;
-    Some(make::<F, AtLeast>(alloc, ctx, schema))
-}
-
-/// Compiles `maximum` for the drafts after Draft 4: the draft of `ctx` must not be Draft 4, which
-/// has a [`compile`](crate::legacy::minmax_draft_4::compile_maximum) of its own. Always returns `Some`.
-/// The validator keeps `schema`: [`limit_value`](Limit::limit_value) returns it.
-///
-/// # Errors
-///
-/// Fails if `schema` is not a limit, as the [module's documentation](self) says, or if memory runs
-/// out.
-pub fn compile_maximum<'a, F: Json>(
-    alloc: Global,
-    ctx: &Context<'_, F>,
-    parent: &'a Map<String, Value>,
-    schema: &'a Value,
-) -> Option<CompilationResult<'a, NumberValidator>>
-    requires { is_after_draft_4 ctx.now.setting.draft ≡ true }
-    ensures keyword { Compiles number_keyword result
-        (reading word.Maximum ctx.now (members_view parent.now.entries) (view schema.now)) }
-    ensures value { IfSome result (λ r. IfOk r (λ v. limit_of v ≡ Some (view schema.now))) }
-{
-    let _ = parent;
-    Some(make::<F, AtMost>(alloc, ctx, schema))
-}
-
-/// Compiles `exclusiveMinimum`, which is not a keyword by itself in Draft 4. Always returns `Some`.
-/// The validator keeps `schema`: [`limit_value`](Limit::limit_value) returns it.
-///
-/// # Errors
-///
-/// Fails if `schema` is not a limit, as the [module's documentation](self) says, or if memory runs
-/// out.
-pub fn compile_exclusive_minimum<'a, F: Json>(
-    alloc: Global,
-    ctx: &Context<'_, F>,
-    parent: &'a Map<String, Value>,
-    schema: &'a Value,
-) -> Option<CompilationResult<'a, NumberValidator>>
-    ensures keyword { Compiles number_keyword result
-        (reading word.ExclusiveMinimum ctx.now (members_view parent.now.entries)
-        (view schema.now)) }
-    ensures value { IfSome result (λ r. IfOk r (λ v. limit_of v ≡ Some (view schema.now))) }
-{
-    let _ = parent;
-    Some(make::<F, Above>(alloc, ctx, schema))
-}
-
-/// Compiles `exclusiveMaximum`, which is not a keyword by itself in Draft 4. Always returns `Some`.
-/// The validator keeps `schema`: [`limit_value`](Limit::limit_value) returns it.
-///
-/// # Errors
-///
-/// Fails if `schema` is not a limit, as the [module's documentation](self) says, or if memory runs
-/// out.
-pub fn compile_exclusive_maximum<'a, F: Json>(
-    alloc: Global,
-    ctx: &Context<'_, F>,
-    parent: &'a Map<String, Value>,
-    schema: &'a Value,
-) -> Option<CompilationResult<'a, NumberValidator>>
-    ensures keyword { Compiles number_keyword result
-        (reading word.ExclusiveMaximum ctx.now (members_view parent.now.entries)
-        (view schema.now)) }
-    ensures value { IfSome result (λ r. IfOk r (λ v. limit_of v ≡ Some (view schema.now))) }
-{
-    let _ = parent;
-    Some(make::<F, Below>(alloc, ctx, schema))
-}

@@ -12,12 +12,12 @@
 ghost use Rattle.std.specs.Int.NonZero.{non_zero_u64_get};
 ghost use Rattle.std.specs.Prelude.{refl};
 ghost use Rattle.serde_json.specs.View.{view, members_view};
-ghost use Rattle.jskw_report.specs.Compile.{Compiles, Makes, reading};
+ghost use Rattle.jskw_report.specs.Compile.{CompilesKeyword, CompilesTo, keyword_reading};
 ghost use Rattle.jskw_report.specs.KeywordValue.{divisor_value};
 ghost use Rattle.jskw_report.specs.Kind as kind;
 ghost use Rattle.jskw_report.specs.Meaning.{as_keyword};
 ghost use Rattle.jskw_report.specs.Read.{divisor_keyword, keyword_location};
-ghost use Rattle.jskw_report.specs.declared.keyword.KeywordName.TheVariants as word;
+ghost use Rattle.jskw_report.specs.declared.keyword.KeywordName.TheVariants as keyword_name;
 ghost use Rattle.jskw_number.specs.QuickSet.{Accepts};
 ghost use Rattle.jskw_number.specs.Meaning.{multiple_of_integer, number_keyword};
 
@@ -25,7 +25,8 @@ use crate::helpers::{size_limit, whole_number};
 use crate::number::NumberValidator;
 use crate::quick_set::{IntegerRange, QuickSet};
 use jskw_report::{
-    Assertion, CompilationResult, CompileFault, Context, KeywordName, Location, ValidationErrorKind,
+    Assertion, CompilationResult, CompileFault, Context, KeywordLocation, KeywordName,
+    ValidationErrorKind,
 };
 use jskw_value::{Json, JsonNumber, Node};
 use serde_json::{Map, Value};
@@ -34,10 +35,10 @@ use std::num::NonZeroU64;
 
 /// The validator of `multipleOf`. It accepts a number that is the divisor times an integer, and
 /// every non-number.
-#[derive(Drop)]
+#[derive(Debug, Drop)]
 pub struct MultipleOfIntegerValidator {
     multiple_of: NonZeroU64,
-    location: Location,
+    location: KeywordLocation,
 }
 
 impl MultipleOfIntegerValidator {
@@ -47,8 +48,8 @@ impl MultipleOfIntegerValidator {
         ctx: &Context<'_, F>,
         schema: &'a Value,
     ) -> CompilationResult<'a, MultipleOfIntegerValidator>
-        ensures { Makes (λ v. as_keyword (multiple_of_integer v)) result (divisor_keyword
-            (keyword_location ctx.now.location word.MultipleOf) (view schema.now)) }
+        ensures { CompilesTo (λ v. as_keyword (multiple_of_integer v)) result (divisor_keyword
+            (keyword_location ctx.now.location keyword_name.MultipleOf) (view schema.now)) }
     {
         let location = ctx.keyword_location(alloc, KeywordName::MultipleOf)?;
         let multiple_of = divisor(alloc, &location, schema)?;
@@ -90,7 +91,7 @@ impl Assertion for MultipleOfIntegerValidator {
         ValidationErrorKind::MultipleOf { multiple_of }
     }
 
-    fn location(&self) -> &Location {
+    fn location(&self) -> &KeywordLocation {
         &self.location
     }
 }
@@ -107,8 +108,8 @@ pub fn compile<'a, F: Json>(
     parent: &'a Map<String, Value>,
     schema: &'a Value,
 ) -> Option<CompilationResult<'a, NumberValidator>>
-    ensures { Compiles number_keyword result
-        (reading word.MultipleOf ctx.now (members_view parent.now.entries) (view schema.now)) }
+    ensures { CompilesKeyword number_keyword result
+        (keyword_reading keyword_name.MultipleOf ctx.now (members_view parent.now.entries) (view schema.now)) }
 {
     let _ = parent;
     match MultipleOfIntegerValidator::compile(alloc, ctx, schema) {
@@ -121,10 +122,10 @@ pub fn compile<'a, F: Json>(
 #[tactic(auto, using(crate::proofs::Divisors::divisors))]
 fn divisor<'a>(
     alloc: Global,
-    location: &Location,
+    location: &KeywordLocation,
     value: &'a Value,
 ) -> CompilationResult<'a, NonZeroU64>
-    ensures { Makes non_zero_u64_get result (divisor_value location.now (view value.now)) }
+    ensures { CompilesTo non_zero_u64_get result (divisor_value location.now (view value.now)) }
 {
     whole_number(alloc, location, value)?;
     match size_limit(value).and_then(NonZeroU64::new) {

@@ -9,7 +9,7 @@ use crate::quick_set::QuickSet;
 use crate::sizes::{
     MaxItemsValidator, MaxPropertiesValidator, MinItemsValidator, MinPropertiesValidator,
 };
-use jskw_report::{Assertion, Location, ValidationErrorKind};
+use jskw_report::{Assertion, KeywordLocation, ValidationErrorKind};
 use jskw_value::Json;
 
 /// The validator of one keyword on numbers or sizes.
@@ -102,7 +102,7 @@ impl Assertion for NumberValidator {
         dispatch!(self, validator => validator.kind())
     }
 
-    fn location(&self) -> &Location {
+    fn location(&self) -> &KeywordLocation {
         dispatch!(self, validator => validator.location())
     }
 }

@@ -1,6 +1,6 @@
 //! Sets of values that a keyword is known to accept, and that a few instructions test. A keyword
 //! may accept more: a value that is not in its set is tested by the keyword itself.
-ghost use Rattle.std.specs.Prelude.{◌≡◌, ◌≤◌, ◌<◌, ◌+◌, ◌&&◌, ◌||◌, IsTrue, ℤ, int_le, true, false};
+ghost use Rattle.std.specs.Prelude.{◌≡◌, ◌≤◌, ◌<◌, ◌+◌, ◌%◌, ◌==◌, ◌&&◌, ◌||◌, IsTrue, ℤ, int_le, true, false};
 ghost use Rattle.std.specs.Prelude.{drop, get_or, length};
 ghost use Rattle.std.specs.Int.NonZero.{non_zero_u64_get};
 ghost use Rattle.jskw_value.specs.Number.{Num, is_exact, is_multiple_of};
@@ -9,13 +9,13 @@ ghost use Rattle.jskw_value.specs.Tree.{is_object, items, number, object};
 ghost use Rattle.jskw_value.specs.declared.types.JsonType.{JsonType};
 ghost use Rattle.jskw_report.specs.Holds.{is_of};
 ghost use Rattle.jskw_report.specs.Keyword.{Integers};
-ghost use Rattle.jskw_number.specs.QuickSet.{divides, has_number, in_range, is_in, leading, place};
+ghost use Rattle.jskw_number.specs.QuickSet.{divides, has_number, in_range, is_in, leading, type_index};
 
 use jskw_value::{Array, JsonNumber, JsonType, JsonTypeSet, Node};
 use std::num::NonZeroU64;
 
 /// The integers from `low` to `high` that are multiples of the divisor. That is 1 for all of them.
-#[derive(Clone, Copy)]
+#[derive(Clone, Copy, Debug)]
 pub struct IntegerRange {
     low: i64,
     high: i64,
@@ -102,6 +102,21 @@ impl IntegerRange {
         }
     }
 
+    // Returns the same as `has`, by a multiplication by `reciprocal`, which should be 2^64 divided by
+    // the divisor, rounded up.
+    #[inline(always)]
+    fn has_by_reciprocal<A: JsonNumber>(&self, reciprocal: u64, number: &A) -> bool
+        requires { IsTrue (is_exact (A.number number.now)) }
+        ensures { result ≡ has_number self.now (A.number number.now) }
+    {
+        match number.as_i64() {
+            Some(number) if self.low <= number && number <= self.high => {
+                is_multiple(number.unsigned_abs(), self.divisor.get(), reciprocal)
+            }
+            _ => false,
+        }
+    }
+
     // The integers of the range that are not below the other.
     fn from(self, other: IntegerRange) -> IntegerRange
         ensures { (z : ℤ) → in_range result z ≡ true
@@ -157,7 +172,7 @@ impl IntegerRange {
 
 /// A set of values by their types, in which the numbers may be limited to the integers of a range
 /// that are written without a fraction.
-#[derive(Clone, Copy)]
+#[derive(Clone, Copy, Debug)]
 pub struct QuickSet {
     // for each type, at its place, whether values of the type are in the set
     types: [bool; 6],
@@ -168,7 +183,7 @@ pub struct QuickSet {
 
 impl QuickSet {
     // Returns the set of all values of some types: those with a mark at their places.
-    fn of_places(types: [bool; 6]) -> QuickSet
+    fn of_marks(types: [bool; 6]) -> QuickSet
         ensures types { result.types ≡ types }
         ensures unlimited { result.is_limited ≡ false }
     {
@@ -194,28 +209,28 @@ impl QuickSet {
     pub fn none() -> QuickSet
         ensures { (t : Tree) → is_in result t ≡ false }
     {
-        QuickSet::of_places([false; 6])
+        QuickSet::of_marks([false; 6])
     }
 
     /// Returns the set of all values.
     pub fn all() -> QuickSet
         ensures { (t : Tree) → is_in result t ≡ true }
     {
-        QuickSet::of_places([true; 6])
+        QuickSet::of_marks([true; 6])
     }
 
     /// Returns the set of all values but arrays.
     pub fn but_arrays() -> QuickSet
         ensures { (t : Tree) → is_in result t ≡ true → is_array t ≡ false }
     {
-        QuickSet::of_places([true, true, true, true, false, true])
+        QuickSet::of_marks([true, true, true, true, false, true])
     }
 
     /// Returns the set of all values but objects.
     pub fn but_objects() -> QuickSet
         ensures { (t : Tree) → is_in result t ≡ true → is_object t ≡ false }
     {
-        QuickSet::of_places([true, true, true, true, true, false])
+        QuickSet::of_marks([true, true, true, true, true, false])
     }
 
     /// Returns values of these types (JSON Schema Validation 6.1.1), by whichever rule of integers:
@@ -251,28 +266,28 @@ impl QuickSet {
                 return self.integers.has(number);
             }
         }
-        self.types[place(instance.json_type())]
+        self.types[type_index(instance.json_type())]
     }
 
     /// Returns whether all arrays are in the set; if not, none is.
     pub fn has_arrays(&self) -> bool
         ensures { (ts : Items) → is_in self.now (array ts) ≡ result }
     {
-        self.types[place(JsonType::Array)]
+        self.types[type_index(JsonType::Array)]
     }
 
     /// Returns whether all objects are in the set; if not, none is.
     pub fn has_objects(&self) -> bool
         ensures { (ms : Members) → is_in self.now (object ms) ≡ result }
     {
-        self.types[place(JsonType::Object)]
+        self.types[type_index(JsonType::Object)]
     }
 
     // Returns a range whose numbers are in the set.
     fn numbers(self) -> IntegerRange
         ensures { (n : Num) → has_number result n ≡ true → is_in self (number n) ≡ true }
     {
-        if self.is_limited || self.types[place(JsonType::Number)] {
+        if self.is_limited || self.types[type_index(JsonType::Number)] {
             self.integers
         } else {
             IntegerRange::none()
@@ -294,9 +309,35 @@ impl QuickSet {
             return start;
         }
         let integers = self.integers;
+        if integers.divisor.get() != 1 {
+            return self.behind_multiples(start, count, instance);
+        }
         for index in start..count {
             match instance.item(index).as_number() {
                 Some(number) if integers.has(number) => {}
+                _ => return index,
+            }
+        }
+        count
+    }
+
+    // Returns the same as `behind_integers` of a limited set, whatever its divisor: a multiplication
+    // for each item, which takes a fifth of the time of a division.
+    #[inline(never)]
+    fn behind_multiples<N: Node>(&self, start: usize, count: usize, instance: &N) -> usize
+        requires limited { self.now.is_limited ≡ true }
+        requires lawful { IsTrue (is_lawful (N.tree instance.now)) }
+        requires count { count ≡ length (items (N.tree instance.now)) }
+        requires start { start ≤ count }
+        ensures passed { result + leading (is_in self.now) (drop result (items (N.tree instance.now)))
+            ≡ start + leading (is_in self.now) (drop start (items (N.tree instance.now))) }
+        ensures within { result ≤ count }
+    {
+        let integers = self.integers;
+        let reciprocal = (u64::MAX / integers.divisor.get()).wrapping_add(1);
+        for index in start..count {
+            match instance.item(index).as_number() {
+                Some(number) if integers.has_by_reciprocal(reciprocal, number) => {}
                 _ => return index,
             }
         }
@@ -336,10 +377,22 @@ impl QuickSet {
     }
 }
 
+// Returns whether the number is a multiple of the divisor, whatever `reciprocal` is. If that is 2^64
+// divided by the divisor, rounded up, the quotient of a multiple is right, and nothing is divided.
+#[inline(always)]
+#[tactic(auto, using(crate::proofs::QuickSets::by_quotient))]
+fn is_multiple(number: u64, divisor: u64, reciprocal: u64) -> bool
+    requires { 0 < divisor }
+    ensures { result ≡ (number % divisor == 0) }
+{
+    let quotient = (u128::from(number) * u128::from(reciprocal)) >> 64;
+    quotient * u128::from(divisor) == u128::from(number) || number % divisor == 0
+}
+
 // Returns the types that have a mark in both.
 fn in_both(types: &[bool; 6], others: &[bool; 6]) -> [bool; 6]
-    ensures { (j : JsonType) → get_or result (place j) false
-        ≡ (get_or types.now (place j) false && get_or others.now (place j) false) }
+    ensures { (j : JsonType) → get_or result (type_index j) false
+        ≡ (get_or types.now (type_index j) false && get_or others.now (type_index j) false) }
 {
     [
         types[0] && others[0],
@@ -353,8 +406,8 @@ fn in_both(types: &[bool; 6], others: &[bool; 6]) -> [bool; 6]
 
 // Returns the place of a type in a set. The order is that of the variants of `serde_json::Value`, so
 // that a value's variant is its place.
-fn place(json_type: JsonType) -> usize
-    ensures value { result ≡ place json_type }
+fn type_index(json_type: JsonType) -> usize
+    ensures value { result ≡ type_index json_type }
     ensures within { result < 6 }
 {
     match json_type {

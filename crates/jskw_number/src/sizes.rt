@@ -10,19 +10,19 @@
 ghost use Rattle.std.specs.Prelude.{◌≡◌, IsTrue, length, refl, true};
 ghost use Rattle.serde_json.specs.View.{view, members_view};
 ghost use Rattle.jskw_value.specs.Tree.{Tree, is_array, items};
-ghost use Rattle.jskw_report.specs.Compile.{Compiles, Makes, reading};
+ghost use Rattle.jskw_report.specs.Compile.{CompilesKeyword, CompilesTo, keyword_reading};
 ghost use Rattle.jskw_report.specs.Fail.{size_kind};
 ghost use Rattle.jskw_report.specs.Holds.{assertion_holds};
 ghost use Rattle.jskw_report.specs.Meaning.{as_keyword};
 ghost use Rattle.jskw_report.specs.Read.{keyword_location, size_keyword};
-ghost use Rattle.jskw_report.specs.declared.keyword.KeywordName.TheVariants as word;
+ghost use Rattle.jskw_report.specs.declared.keyword.KeywordName.TheVariants as keyword_name;
 ghost use Rattle.jskw_number.specs.Meaning.{number_keyword, sized};
-ghost use Rattle.jskw_number.specs.Size.{is_within, size_of, word_of};
+ghost use Rattle.jskw_number.specs.Size.{is_within, size_of, size_keyword_name};
 
 use crate::helpers::bound_at;
 use crate::number::NumberValidator;
 use jskw_report::{
-    Assertion, CompilationResult, Context, KeywordName, Location, ValidationErrorKind,
+    Assertion, CompilationResult, Context, KeywordLocation, KeywordName, ValidationErrorKind,
 };
 use jskw_value::{Array, Json, Node, Object};
 use serde_json::{Map, Value};
@@ -31,10 +31,10 @@ use std::alloc::Global;
 /// The validator of a bound on a size: on the number of items of an array if `OF_ARRAYS`, else on
 /// the number of members of an object; a lower bound if `IS_LEAST`, else an upper bound. It accepts
 /// a value of the other types too.
-#[derive(Drop)]
+#[derive(Debug, Drop)]
 pub struct SizeLimit<const OF_ARRAYS: bool, const IS_LEAST: bool> {
     limit: u64,
-    location: Location,
+    location: KeywordLocation,
 }
 
 /// The validator of `minItems` (JSON Schema Validation 6.4.2). It accepts an array with at least as
@@ -66,8 +66,8 @@ impl<const OF_ARRAYS: bool, const IS_LEAST: bool> SizeLimit<OF_ARRAYS, IS_LEAST>
         schema: &'a Value,
     ) -> CompilationResult<'a, SizeLimit<OF_ARRAYS, IS_LEAST>>
         ensures { let which = size_of OF_ARRAYS IS_LEAST in
-            Makes (λ v. as_keyword (sized which v)) result (size_keyword which
-            (keyword_location ctx.now.location (word_of which)) (view schema.now)) }
+            CompilesTo (λ v. as_keyword (sized which v)) result (size_keyword which
+            (keyword_location ctx.now.location (size_keyword_name which)) (view schema.now)) }
     {
         let keyword = match (OF_ARRAYS, IS_LEAST) {
             (true, true) => KeywordName::MinItems,
@@ -133,7 +133,7 @@ impl<const OF_ARRAYS: bool, const IS_LEAST: bool> Assertion for SizeLimit<OF_ARR
         }
     }
 
-    fn location(&self) -> &Location {
+    fn location(&self) -> &KeywordLocation {
         &self.location
     }
 }
@@ -149,8 +149,8 @@ pub fn compile_min_items<'a, F: Json>(
     parent: &'a Map<String, Value>,
     schema: &'a Value,
 ) -> Option<CompilationResult<'a, NumberValidator>>
-    ensures { Compiles number_keyword result
-        (reading word.MinItems ctx.now (members_view parent.now.entries) (view schema.now)) }
+    ensures { CompilesKeyword number_keyword result
+        (keyword_reading keyword_name.MinItems ctx.now (members_view parent.now.entries) (view schema.now)) }
 {
     let _ = parent;
     match MinItemsValidator::compile(alloc, ctx, schema) {
@@ -170,8 +170,8 @@ pub fn compile_max_items<'a, F: Json>(
     parent: &'a Map<String, Value>,
     schema: &'a Value,
 ) -> Option<CompilationResult<'a, NumberValidator>>
-    ensures { Compiles number_keyword result
-        (reading word.MaxItems ctx.now (members_view parent.now.entries) (view schema.now)) }
+    ensures { CompilesKeyword number_keyword result
+        (keyword_reading keyword_name.MaxItems ctx.now (members_view parent.now.entries) (view schema.now)) }
 {
     let _ = parent;
     match MaxItemsValidator::compile(alloc, ctx, schema) {
@@ -191,8 +191,8 @@ pub fn compile_min_properties<'a, F: Json>(
     parent: &'a Map<String, Value>,
     schema: &'a Value,
 ) -> Option<CompilationResult<'a, NumberValidator>>
-    ensures { Compiles number_keyword result
-        (reading word.MinProperties ctx.now (members_view parent.now.entries) (view schema.now)) }
+    ensures { CompilesKeyword number_keyword result
+        (keyword_reading keyword_name.MinProperties ctx.now (members_view parent.now.entries) (view schema.now)) }
 {
     let _ = parent;
     match MinPropertiesValidator::compile(alloc, ctx, schema) {
@@ -212,8 +212,8 @@ pub fn compile_max_properties<'a, F: Json>(
     parent: &'a Map<String, Value>,
     schema: &'a Value,
 ) -> Option<CompilationResult<'a, NumberValidator>>
-    ensures { Compiles number_keyword result
-        (reading word.MaxProperties ctx.now (members_view parent.now.entries) (view schema.now)) }
+    ensures { CompilesKeyword number_keyword result
+        (keyword_reading keyword_name.MaxProperties ctx.now (members_view parent.now.entries) (view schema.now)) }
 {
     let _ = parent;
     match MaxPropertiesValidator::compile(alloc, ctx, schema) {

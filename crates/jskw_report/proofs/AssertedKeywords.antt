@@ -4,15 +4,15 @@ use Rattle.std.proofs.Common.{ap}
 use Rattle.serde_json.specs.Data.{Members}
 use Rattle.jskw_value.specs.Pointer.{Pointer}
 use Rattle.jskw_report.specs.Keyword.{Keyword}
-use Rattle.jskw_report.specs.Read.{Asserts, Part, asserted, read_word}
-use Rattle.jskw_report.specs.Setting.{Setting, stands}
+use Rattle.jskw_report.specs.Read.{Asserts, ValueReadings, asserted, read_keyword}
+use Rattle.jskw_report.specs.Setting.{Setting, is_active}
 use Rattle.jskw_report.specs.declared.keyword.KeywordName.{KeywordName}
 
 -- a keyword that is read stands, and is asserted of its value
-pub asserted_if_read : (w : KeywordName) (s : Setting) (p : Pointer) (ms : Members) (part : Part) (k : Keyword)
-    → read_word w s p ms (Some part) ≡ Some (Ok k) → asserted w s p ms part ≡ Some (Ok k)
-unfolding read_word
-asserted_if_read w s p ms part k = go (stands s w)
+pub asserted_if_read : (w : KeywordName) (s : Setting) (p : Pointer) (ms : Members) (part : ValueReadings) (k : Keyword)
+    → read_keyword w s p ms (Some part) ≡ Some (Ok k) → asserted w s p ms part ≡ Some (Ok k)
+unfolding read_keyword
+asserted_if_read w s p ms part k = go (is_active s w)
   where
     go : (b : Bool) → (if b then asserted w s p ms part else None) ≡ Some (Ok k) → asserted w s p ms part ≡ Some (Ok k)
     go true e = e

@@ -5,10 +5,13 @@ use Rattle.std.proofs.Common.{refl, sym, ap}
 use Rattle.std.proofs.Math.Seq.{drop-nil}
 use Rattle.jskw_value.specs.Pointer.{Pointer, item_location}
 use Rattle.jskw_value.specs.Tree.{Tree, array, items, is_array}
-use Rattle.jskw_report.specs.Keyword.{Schema, false_schema, schema_object, Keywords, no_keywords, keyword, Keyword, assertion, contains, items_list, prefix_items, items_from, additional_items, Schemas, no_schemas, schema}
+use Rattle.jskw_report.specs.Keyword.{Schema, false_schema, schema_object, Keywords, no_keywords, keyword, Keyword}
+use Rattle.jskw_report.specs.Keyword.{assertion, contains, items_list, prefix_items, items_from, additional_items}
+use Rattle.jskw_report.specs.Keyword.{Schemas, no_schemas, schema}
 use Rattle.jskw_report.specs.Holds.{holds, all_hold, keyword_holds, each_holds}
 use Rattle.jskw_report.specs.Fail.{Failure, keyword_fail, is_empty}
-use Rattle.jskw_report.specs.Evaluation.{Evaluation, Result, is_valid, evaluate_each, tree, units, unit, evaluate_pairs, of_errors, valid_unit}
+use Rattle.jskw_report.specs.Evaluation.{Evaluation, Result, is_valid, evaluate_each, tree, units, unit, evaluate_pairs}
+use Rattle.jskw_report.specs.Evaluation.{of_errors, valid_unit}
 use Rattle.jskw_value.proofs.Booleans.{both}
 use Rattle.jskw_report.proofs.HoldsIsNoFailure.{keyword_empty}
 
@@ -47,14 +50,18 @@ mutual
   -- the result of a keyword
   pub unit_valid : (k : Keyword) (t : Tree) (p : Pointer) → (unit k t p).valid ≡ keyword_holds k t
   unit_valid (assertion q a) t p = sym (keyword_empty (assertion q a) t p)
-  unit_valid (contains s b) t p = contains_valid (keyword_holds (contains s b) t) (keyword_fail (contains s b) t p) _ (keyword_empty (contains s b) t p) refl
+  unit_valid (contains s b) t p =
+      contains_valid (keyword_holds (contains s b) t) (keyword_fail (contains s b) t p) _
+      (keyword_empty (contains s b) t p) refl
   unit_valid (items_list ss) t p = pairs_valid ss 0 (items t) p
   unit_valid (prefix_items ss) t p = pairs_valid ss 0 (items t) p
-  unit_valid (items_from n s bare) t p = items_valid (holds s) n t _ (each_valid (holds s) (tree s) (λ t p. tree_valid s t p) n (drop n (items t)) p)
+  unit_valid (items_from n s bare) t p =
+      items_valid (holds s) n t _ (each_valid (holds s) (tree s) (λ t p. tree_valid s t p) n (drop n (items t)) p)
   unit_valid (additional_items n s) t p = sym (keyword_empty (additional_items n s) t p)
 
   -- the nodes of schemas over the items of their indices
-  pub pairs_valid : (ss : Schemas) (i : ℕ) (ts : List Tree) (p : Pointer) → list_all is_valid (evaluate_pairs ss i ts p) ≡ each_holds ss ts
+  pub pairs_valid : (ss : Schemas) (i : ℕ) (ts : List Tree) (p : Pointer)
+      → list_all is_valid (evaluate_pairs ss i ts p) ≡ each_holds ss ts
   pairs_valid no_schemas i ts p = refl
   pairs_valid (schema s ss) i [] p = refl
   pairs_valid (schema s ss) i (t ∷ ts) p = both (tree_valid s t (item_location p i)) (pairs_valid ss (suc i) ts p)

@@ -1,5 +1,6 @@
 -- What a walk over items that gathers their nodes has left: at an item, and at the end.
-use Rattle.std.proofs.Common.{◌≡◌, ℕ, suc, ◌+◌, ◌<◌, ◌≤◌, List, [], ◌∷◌, ◌++◌, length, get_or, drop, Bool, true, false, if◌then◌else◌, refl, sym, ap, ◌∙◌, arith, append_assoc, append-nil}
+use Rattle.std.proofs.Common.{◌≡◌, ℕ, suc, ◌+◌, ◌<◌, ◌≤◌, List, [], ◌∷◌, ◌++◌, length, get_or, drop, Bool, true, false}
+use Rattle.std.proofs.Common.{if◌then◌else◌, refl, sym, ap, ◌∙◌, arith, append_assoc, append-nil}
 use Rattle.std.proofs.lemmas.List.{drop_more, drop_all}
 use Rattle.jskw_value.specs.Pointer.{Pointer, item_location}
 use Rattle.jskw_value.specs.Tree.{Tree}
@@ -32,9 +33,11 @@ drop_here xs i x within is = drop_more xs i x within ∙ ap (λ y. y ∷ drop (i
 module _ (ts : List Tree) (i : ℕ) (t : Tree) (within : i < length ts) (is : t ≡ get_or ts i t) where
   -- what a walk g gives from here on, by what it gives from the next item on
   at : {A : Type 0} (g : ℕ → List Tree → List A) (before : List A → List A)
-      → ((us : List Tree) → g i (t ∷ us) ≡ before (g (suc i) us)) → g i (drop i ts) ≡ before (g (i + 1) (drop (i + 1) ts))
+      → ((us : List Tree) → g i (t ∷ us) ≡ before (g (suc i) us))
+      → g i (drop i ts) ≡ before (g (i + 1) (drop (i + 1) ts))
   at g before step =
-      ap (g i) (drop_here ts i t within is) ∙ step (drop (i + 1) ts) ∙ ap (λ j. before (g j (drop (i + 1) ts))) (omega arith)
+      ap (g i) (drop_here ts i t within is) ∙ step (drop (i + 1) ts)
+      ∙ ap (λ j. before (g j (drop (i + 1) ts))) (omega arith)
 
   -- and where it gives x of an item that matches
   at_matching : {A : Type 0} (g : ℕ → List Tree → List A) (x : A) (matches b : Bool)

@@ -1,5 +1,6 @@
 -- `holds` says what `fail` says.
-use Rattle.std.specs.Prelude.{◌≡◌, ℕ, suc, ◌&&◌, ◌||◌, not, nat_le, nat_lt, List, [], ◌∷◌, ◌++◌, map, filter, drop, count_by, Bool, true, false, Option, Some, None, ◌⊎◌, ◌<◌, ◌≤◌, if◌then◌else◌}
+use Rattle.std.specs.Prelude.{◌≡◌, ℕ, suc, ◌&&◌, ◌||◌, not, nat_le, nat_lt, List, [], ◌∷◌, ◌++◌, map, filter, drop}
+use Rattle.std.specs.Prelude.{count_by, Bool, true, false, Option, Some, None, ◌⊎◌, ◌<◌, ◌≤◌, if◌then◌else◌}
 use Rattle.std.specs.List.{list_all}
 use Rattle.std.proofs.Common.{refl, sym, ◌∙◌, ap, inl, inr}
 use Rattle.std.proofs.lemmas.Bool.{cases_lt, lt-leb, lt-ltb, le-leb, le-ltb, not_from_true, not_from_false}
@@ -7,9 +8,14 @@ use Rattle.jskw_value.specs.Pointer.{Pointer, item_location}
 use Rattle.jskw_value.specs.Tree.{Tree, items, is_array, is_object, has_name}
 use Rattle.jskw_report.specs.Kind.{ErrorKind}
 use Rattle.jskw_report.specs.Kind as kind
-use Rattle.jskw_report.specs.Keyword.{Schema, false_schema, schema_object, Keywords, no_keywords, keyword, Keyword, assertion, contains, items_list, prefix_items, items_from, additional_items, Schemas, no_schemas, schema, Assertion, never, type_is, size, constant, among, limit, multiple_of, unique, required, at_most, Bounds}
-use Rattle.jskw_report.specs.Holds.{assertion_holds, required_holds, within, count_holds, holds, all_hold, keyword_holds, each_holds}
-use Rattle.jskw_report.specs.Fail.{Failure, unless, missing, error_kinds, passes, failing_bound, contains_fails, each_item, fail, all_fail, keyword_fail, each_fails, is_empty}
+use Rattle.jskw_report.specs.Keyword.{Schema, false_schema, schema_object, Keywords, no_keywords, keyword, Keyword}
+use Rattle.jskw_report.specs.Keyword.{assertion, contains, items_list, prefix_items, items_from, additional_items}
+use Rattle.jskw_report.specs.Keyword.{Schemas, no_schemas, schema, Assertion, never, type_is, size, constant, among}
+use Rattle.jskw_report.specs.Keyword.{limit, multiple_of, unique, required, at_most, Bounds}
+use Rattle.jskw_report.specs.Holds.{assertion_holds, required_holds, within, count_holds, holds, all_hold}
+use Rattle.jskw_report.specs.Holds.{keyword_holds, each_holds}
+use Rattle.jskw_report.specs.Fail.{Failure, unless, missing, error_kinds, passes, failing_bound, contains_fails}
+use Rattle.jskw_report.specs.Fail.{each_item, fail, all_fail, keyword_fail, each_fails, is_empty}
 
 -- ---- empty lists
 
@@ -40,12 +46,14 @@ unless_empty true k = refl
 unless_empty false k = refl
 
 -- every name is there exactly where none is missing
-all_named : (names : List (List ℕ)) (t : Tree) → list_all (has_name t) names ≡ is_empty (filter (λ name. not (has_name t name)) names)
+all_named : (names : List (List ℕ)) (t : Tree)
+    → list_all (has_name t) names ≡ is_empty (filter (λ name. not (has_name t name)) names)
 all_named [] t = refl
 all_named (n ∷ names) t = go (has_name t n) (all_named names t)
   where
     go : (b : Bool) → list_all (has_name t) names ≡ is_empty (filter (λ name. not (has_name t name)) names)
-        → (b && list_all (has_name t) names) ≡ is_empty (if not b then n ∷ filter (λ name. not (has_name t name)) names else filter (λ name. not (has_name t name)) names)
+        → (b && list_all (has_name t) names) ≡ is_empty (if not b then n ∷ filter (λ name. not (has_name t name)) names
+        else filter (λ name. not (has_name t name)) names)
     go true e = e
     go false e = refl
 
@@ -53,7 +61,8 @@ all_named (n ∷ names) t = go (has_name t n) (all_named names t)
 missing_empty : (names : List (List ℕ)) (t : Tree) → required_holds names t ≡ is_empty (missing names t)
 missing_empty names t = go (is_object t)
   where
-    go : (object : Bool) → (not object || list_all (has_name t) names) ≡ is_empty (if object then map kind.Required (filter (λ name. not (has_name t name)) names) else [])
+    go : (object : Bool) → (not object || list_all (has_name t) names)
+        ≡ is_empty (if object then map kind.Required (filter (λ name. not (has_name t name)) names) else [])
     go true = all_named names t ∙ sym (is_empty-map kind.Required (filter (λ name. not (has_name t name)) names))
     go false = refl
 
@@ -89,14 +98,16 @@ within_passes n (Some u) = nat_le-not_lt n u
 count_empty : (b : Bounds) (n : ℕ) → count_holds b n ≡ is_empty (failing_bound b n)
 count_empty b n = ap (λ w. nat_le b.lower n && w) (within_passes n b.upper) ∙ go (nat_le b.lower n) (passes n b.upper)
   where
-    go : (low over : Bool) → (low && not over) ≡ is_empty (if over then b.many ∷ [] else (if low then [] else b.few ∷ []))
+    go : (low over : Bool)
+        → (low && not over) ≡ is_empty (if over then b.many ∷ [] else (if low then [] else b.few ∷ []))
     go true true = refl
     go true false = refl
     go false true = refl
     go false false = refl
 
 -- `contains` holds where it has no errors
-contains_empty : (b : Bounds) (n : ℕ) (t : Tree) (p : Pointer) → (not (is_array t) || count_holds b n) ≡ is_empty (if is_array t then contains_fails b n t p else [])
+contains_empty : (b : Bounds) (n : ℕ) (t : Tree) (p : Pointer)
+    → (not (is_array t) || count_holds b n) ≡ is_empty (if is_array t then contains_fails b n t p else [])
 contains_empty b n t p = go (is_array t)
   where
     go : (array : Bool) → (not array || count_holds b n) ≡ is_empty (if array then contains_fails b n t p else [])
@@ -106,10 +117,13 @@ contains_empty b n t p = go (is_array t)
 -- ---- items
 
 -- a test of the items in turn, by their errors
-each_item_empty : (h : Tree → Bool) (f : Tree → Pointer → List Failure) → ((t : Tree) (p : Pointer) → h t ≡ is_empty (f t p))
+each_item_empty : (h : Tree → Bool) (f : Tree → Pointer → List Failure)
+    → ((t : Tree) (p : Pointer) → h t ≡ is_empty (f t p))
     → (i : ℕ) (ts : List Tree) (p : Pointer) → list_all h ts ≡ is_empty (each_item f i ts p)
 each_item_empty h f e i [] p = refl
-each_item_empty h f e i (t ∷ ts) p = joined (f t (item_location p i)) (each_item f (suc i) ts p) (e t (item_location p i)) (each_item_empty h f e (suc i) ts p)
+each_item_empty h f e i (t ∷ ts) p =
+    joined (f t (item_location p i)) (each_item f (suc i) ts p) (e t (item_location p i))
+    (each_item_empty h f e (suc i) ts p)
 
 -- ---- schemas
 
@@ -122,7 +136,8 @@ mutual
   -- keywords hold where they have no errors
   pub all_empty : (ks : Keywords) (t : Tree) (p : Pointer) → all_hold ks t ≡ is_empty (all_fail ks t p)
   all_empty no_keywords t p = refl
-  all_empty (keyword q k ks) t p = joined (keyword_fail k t p) (all_fail ks t p) (keyword_empty k t p) (all_empty ks t p)
+  all_empty (keyword q k ks) t p =
+      joined (keyword_fail k t p) (all_fail ks t p) (keyword_empty k t p) (all_empty ks t p)
 
   -- a keyword holds where it has no errors
   pub keyword_empty : (k : Keyword) (t : Tree) (p : Pointer) → keyword_holds k t ≡ is_empty (keyword_fail k t p)
@@ -130,11 +145,16 @@ mutual
   keyword_empty (contains s b) t p = contains_empty b (count_by (holds s) (items t)) t p
   keyword_empty (items_list ss) t p = each_empty ss 0 (items t) p
   keyword_empty (prefix_items ss) t p = each_empty ss 0 (items t) p
-  keyword_empty (items_from n s bare) t p = each_item_empty (holds s) (fail s) (λ t p. holds_empty s t p) n (drop n (items t)) p
-  keyword_empty (additional_items n s) t p = each_item_empty (holds s) (fail s) (λ t p. holds_empty s t p) n (drop n (items t)) p
+  keyword_empty (items_from n s bare) t p =
+      each_item_empty (holds s) (fail s) (λ t p. holds_empty s t p) n (drop n (items t)) p
+  keyword_empty (additional_items n s) t p =
+      each_item_empty (holds s) (fail s) (λ t p. holds_empty s t p) n (drop n (items t)) p
 
   -- schemas hold of the items of their indices where they have no errors
-  pub each_empty : (ss : Schemas) (i : ℕ) (ts : List Tree) (p : Pointer) → each_holds ss ts ≡ is_empty (each_fails ss i ts p)
+  pub each_empty : (ss : Schemas) (i : ℕ) (ts : List Tree) (p : Pointer)
+      → each_holds ss ts ≡ is_empty (each_fails ss i ts p)
   each_empty no_schemas i ts p = refl
   each_empty (schema s ss) i [] p = refl
-  each_empty (schema s ss) i (t ∷ ts) p = joined (fail s t (item_location p i)) (each_fails ss (suc i) ts p) (holds_empty s t (item_location p i)) (each_empty ss (suc i) ts p)
+  each_empty (schema s ss) i (t ∷ ts) p =
+      joined (fail s t (item_location p i)) (each_fails ss (suc i) ts p) (holds_empty s t (item_location p i))
+      (each_empty ss (suc i) ts p)

@@ -19,7 +19,8 @@ pub none_fail : (k : Keyword) (t : Tree) (p : Pointer) → keyword_holds k t ≡
 none_fail k t p holds = no_element (keyword_fail k t p) (sym (keyword_empty k t p) ∙ holds)
 
 -- then there are no errors behind none
-pub none_appended : {F Node Number Key : Type 0} (tree : Node → Tree) (k : Keyword) (t : Tree) (p : Pointer) (old new : List (ValidationError F Node Number Key))
+pub none_appended : {F Node Number Key : Type 0} (tree : Node → Tree) (k : Keyword) (t : Tree) (p : Pointer)
+    (old new : List (ValidationError F Node Number Key))
     → old ≡ [] → keyword_holds k t ≡ true → failures_of tree new ≡ failures_of tree old ++ keyword_fail k t p → new ≡ []
 none_appended tree k t p old new none holds all =
     maps_none (failure_of tree) new

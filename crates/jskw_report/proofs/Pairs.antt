@@ -1,12 +1,19 @@
 -- How many pairs meet.
-use Rattle.std.specs.Prelude.{◌≡◌, ℕ, zero, suc, ◌+◌, ◌*◌, ◌≤◌, List, [], ◌∷◌, drop, sum_by, Bool, true, false, if◌then◌else◌}
+use Rattle.std.specs.Prelude.{◌≡◌, ℕ, zero, suc, ◌+◌, ◌*◌, ◌≤◌, List, [], ◌∷◌, drop, sum_by, Bool, true, false}
+use Rattle.std.specs.Prelude.{if◌then◌else◌}
 use Rattle.std.proofs.Common.{refl, sym, ◌∙◌, ap, ap₂, subst, arith}
 use Rattle.std.proofs.lemmas.List.Sums.{sum_by-cons, sum_by-le-sum_by, sum_by-take-drop}
 use Rattle.std.proofs.Math.Nat.{le_refl, le_trans}
 use Rattle.jskw_value.specs.Tree.{Tree, array, Items, no_items, item, item_list, items}
-use Rattle.jskw_report.specs.Keyword.{Schema, false_schema, schema_object, Keywords, no_keywords, keyword, Keyword, assertion, contains, items_list, prefix_items, items_from, additional_items, Schemas, no_schemas, schema}
+use Rattle.jskw_report.specs.Keyword.{Schema, false_schema, schema_object, Keywords, no_keywords, keyword, Keyword}
+use Rattle.jskw_report.specs.Keyword.{assertion, contains, items_list, prefix_items, items_from, additional_items}
+use Rattle.jskw_report.specs.Keyword.{Schemas, no_schemas, schema}
 use Rattle.jskw_report.specs.Holds.{holds, keyword_holds}
-use Rattle.jskw_report.specs.Applications.{pairs, all_pairs, keyword_pairs, each_pairs, needed, all_needed, keyword_needed, each_needed, sum_to_failure, schemas_at, all_schemas_at, keyword_schemas_at, each_schemas_at, trees_at, items_at, pairs_at, all_pairs_at, keyword_pairs_at, each_pairs_at, height, all_height, keyword_height, each_height, sum_below}
+use Rattle.jskw_report.specs.Applications.{pairs, all_pairs, keyword_pairs, each_pairs, needed, all_needed}
+use Rattle.jskw_report.specs.Applications.{keyword_needed, each_needed, sum_to_failure, schemas_at, all_schemas_at}
+use Rattle.jskw_report.specs.Applications.{keyword_schemas_at, each_schemas_at, trees_at, items_at, pairs_at}
+use Rattle.jskw_report.specs.Applications.{all_pairs_at, keyword_pairs_at, each_pairs_at, height, all_height}
+use Rattle.jskw_report.specs.Applications.{keyword_height, each_height, sum_below}
 use Rattle.jskw_report.specs.Laws.{PairsMeetAtOneDepth}
 
 -- the sum of two numbers is no greater where neither number is
@@ -21,9 +28,12 @@ some_of true m n h = h
 some_of false m n h = omega arith
 
 -- a sum up to the first failure is part of the whole sum
-sum_to_failure-le : (h : Tree → Bool) (f g : Tree → ℕ) → ((t : Tree) → f t ≤ g t) → (ts : List Tree) → sum_to_failure h f ts ≤ sum_by g ts
+sum_to_failure-le : (h : Tree → Bool) (f g : Tree → ℕ) → ((t : Tree) → f t ≤ g t) → (ts : List Tree)
+    → sum_to_failure h f ts ≤ sum_by g ts
 sum_to_failure-le h f g e [] = omega arith
-sum_to_failure-le h f g e (t ∷ ts) = subst (λ n. sum_to_failure h f (t ∷ ts) ≤ n) (sym (sum_by-cons g t ts)) (sums-le (e t) (some_of (h t) (sum_to_failure h f ts) (sum_by g ts) (sum_to_failure-le h f g e ts)))
+sum_to_failure-le h f g e (t ∷ ts) =
+    subst (λ n. sum_to_failure h f (t ∷ ts) ≤ n) (sym (sum_by-cons g t ts))
+    (sums-le (e t) (some_of (h t) (sum_to_failure h f ts) (sum_by g ts) (sum_to_failure-le h f g e ts)))
 
 mutual
   -- of the pairs of a schema
@@ -34,7 +44,9 @@ mutual
   -- of the pairs of keywords
   all_needed-le : (ks : Keywords) (t : Tree) → all_needed ks t ≤ all_pairs ks t
   all_needed-le no_keywords t = le_refl 0
-  all_needed-le (keyword q k ks) t = sums-le (keyword_needed-le k t) (some_of (keyword_holds k t) (all_needed ks t) (all_pairs ks t) (all_needed-le ks t))
+  all_needed-le (keyword q k ks) t =
+      sums-le (keyword_needed-le k t)
+      (some_of (keyword_holds k t) (all_needed ks t) (all_pairs ks t) (all_needed-le ks t))
 
   -- of the pairs of a keyword
   keyword_needed-le : (k : Keyword) (t : Tree) → keyword_needed k t ≤ keyword_pairs k t
@@ -43,14 +55,17 @@ mutual
   keyword_needed-le (items_list ss) t = each_needed-le ss (items t)
   keyword_needed-le (prefix_items ss) t = each_needed-le ss (items t)
   keyword_needed-le (items_from n s true) t = le_refl 0
-  keyword_needed-le (items_from n s false) t = sum_to_failure-le (holds s) (needed s) (pairs s) (λ u. needed-le s u) (drop n (items t))
-  keyword_needed-le (additional_items n s) t = sum_to_failure-le (holds s) (needed s) (pairs s) (λ u. needed-le s u) (drop n (items t))
+  keyword_needed-le (items_from n s false) t =
+      sum_to_failure-le (holds s) (needed s) (pairs s) (λ u. needed-le s u) (drop n (items t))
+  keyword_needed-le (additional_items n s) t =
+      sum_to_failure-le (holds s) (needed s) (pairs s) (λ u. needed-le s u) (drop n (items t))
 
   -- of the pairs of schemas and the items of their indices
   each_needed-le : (ss : Schemas) (ts : List Tree) → each_needed ss ts ≤ each_pairs ss ts
   each_needed-le no_schemas ts = le_refl 0
   each_needed-le (schema s ss) [] = le_refl 0
-  each_needed-le (schema s ss) (t ∷ ts) = sums-le (needed-le s t) (some_of (holds s t) (each_needed ss ts) (each_pairs ss ts) (each_needed-le ss ts))
+  each_needed-le (schema s ss) (t ∷ ts) =
+      sums-le (needed-le s t) (some_of (holds s t) (each_needed ss ts) (each_pairs ss ts) (each_needed-le ss ts))
 
 -- ---- one depth
 
@@ -80,7 +95,8 @@ both-le : (a b x y : ℕ) {m n : ℕ} → m ≤ a * x → n ≤ b * y → m + n 
 both-le a b x y h k = omega arith
 
 -- of a schema, of which a lie d deep, and the items of a list: no more than a times the trees that lie d deep in them
-items_meet : (a d : ℕ) (c : Tree → ℕ) → ((t : Tree) → c t ≤ a * trees_at t d) → (ts : List Tree) → sum_by c ts ≤ a * total ts d
+items_meet : (a d : ℕ) (c : Tree → ℕ) → ((t : Tree) → c t ≤ a * trees_at t d) → (ts : List Tree)
+    → sum_by c ts ≤ a * total ts d
 unfolding total
 items_meet a d c e [] = omega arith
 items_meet a d c e (t ∷ ts) = step (trees_at t d) (total ts d) _ (e t) (items_meet a d c e ts) (sum_by-cons c t ts)
@@ -109,25 +125,34 @@ mutual
   -- of the pairs d deep of keywords, and the trees one deeper
   all_pairs_at-le : (ks : Keywords) (t : Tree) (d : ℕ) → all_pairs_at ks t d ≤ all_schemas_at ks d * trees_at t (suc d)
   all_pairs_at-le no_keywords t d = omega arith
-  all_pairs_at-le (keyword q k ks) t d = products-le (keyword_schemas_at k d) (all_schemas_at ks d) (trees_at t (suc d)) (keyword_pairs_at-le k t d) (all_pairs_at-le ks t d)
+  all_pairs_at-le (keyword q k ks) t d =
+      products-le (keyword_schemas_at k d) (all_schemas_at ks d) (trees_at t (suc d)) (keyword_pairs_at-le k t d)
+      (all_pairs_at-le ks t d)
 
   -- of the pairs d deep of a keyword, and the trees one deeper
-  keyword_pairs_at-le : (k : Keyword) (t : Tree) (d : ℕ) → keyword_pairs_at k t d ≤ keyword_schemas_at k d * trees_at t (suc d)
+  keyword_pairs_at-le : (k : Keyword) (t : Tree) (d : ℕ)
+      → keyword_pairs_at k t d ≤ keyword_schemas_at k d * trees_at t (suc d)
   keyword_pairs_at-le (assertion q a) t d = omega arith
-  keyword_pairs_at-le (contains s b) t d = below_items (schemas_at s d) d t (items_meet (schemas_at s d) d (λ u. pairs_at s u d) (λ u. pairs_at-le s u d) (items t))
+  keyword_pairs_at-le (contains s b) t d =
+      below_items (schemas_at s d) d t
+      (items_meet (schemas_at s d) d (λ u. pairs_at s u d) (λ u. pairs_at-le s u d) (items t))
   keyword_pairs_at-le (items_list ss) t d = below_items (each_schemas_at ss d) d t (each_pairs_at-le ss (items t) d)
   keyword_pairs_at-le (prefix_items ss) t d = below_items (each_schemas_at ss d) d t (each_pairs_at-le ss (items t) d)
   keyword_pairs_at-le (items_from n s true) t d = omega arith
   keyword_pairs_at-le (items_from n s false) t d = below_items (schemas_at s d) d t
-      (le_trans (drop-le (λ u. pairs_at s u d) (items t) n) (items_meet (schemas_at s d) d (λ u. pairs_at s u d) (λ u. pairs_at-le s u d) (items t)))
+      (le_trans (drop-le (λ u. pairs_at s u d) (items t) n)
+      (items_meet (schemas_at s d) d (λ u. pairs_at s u d) (λ u. pairs_at-le s u d) (items t)))
   keyword_pairs_at-le (additional_items n s) t d = below_items (schemas_at s d) d t
-      (le_trans (drop-le (λ u. pairs_at s u d) (items t) n) (items_meet (schemas_at s d) d (λ u. pairs_at s u d) (λ u. pairs_at-le s u d) (items t)))
+      (le_trans (drop-le (λ u. pairs_at s u d) (items t) n)
+      (items_meet (schemas_at s d) d (λ u. pairs_at s u d) (λ u. pairs_at-le s u d) (items t)))
 
   -- of the pairs d deep of schemas and the items of their indices
   each_pairs_at-le : (ss : Schemas) (ts : List Tree) (d : ℕ) → each_pairs_at ss ts d ≤ each_schemas_at ss d * total ts d
   each_pairs_at-le no_schemas ts d = omega arith
   each_pairs_at-le (schema s ss) [] d = omega arith
-  each_pairs_at-le (schema s ss) (t ∷ ts) d = both-le (schemas_at s d) (each_schemas_at ss d) (trees_at t d) (total ts d) (pairs_at-le s t d) (each_pairs_at-le ss ts d)
+  each_pairs_at-le (schema s ss) (t ∷ ts) d =
+      both-le (schemas_at s d) (each_schemas_at ss d) (trees_at t d) (total ts d) (pairs_at-le s t d)
+      (each_pairs_at-le ss ts d)
 
 -- ---- all depths
 
@@ -144,7 +169,8 @@ sum_below-add (suc n) f g = omega (arith, sum_below-add n (λ d. f (suc d)) (λ 
 -- a sum of equal numbers
 sum_below-same : (n : ℕ) (f g : ℕ → ℕ) → ((d : ℕ) → f d ≡ g d) → sum_below n f ≡ sum_below n g
 sum_below-same zero f g e = refl
-sum_below-same (suc n) f g e = ap₂ (λ x y. x + y) (e 0) (sum_below-same n (λ d. f (suc d)) (λ d. g (suc d)) (λ d. e (suc d)))
+sum_below-same (suc n) f g e =
+    ap₂ (λ x y. x + y) (e 0) (sum_below-same n (λ d. f (suc d)) (λ d. g (suc d)) (λ d. e (suc d)))
 
 -- a sum of numbers that are no greater
 sum_below-le : (n : ℕ) (f g : ℕ → ℕ) → ((d : ℕ) → f d ≤ g d) → sum_below n f ≤ sum_below n g
@@ -152,9 +178,11 @@ sum_below-le zero f g e = le_refl 0
 sum_below-le (suc n) f g e = sums-le (e 0) (sum_below-le n (λ d. f (suc d)) (λ d. g (suc d)) (λ d. e (suc d)))
 
 -- a sum over the depths of a sum over the items is the sum of what each item sums up to
-sum_below-items : (n : ℕ) (f : Tree → ℕ → ℕ) (c : Tree → ℕ) → ((t : Tree) → sum_below n (f t) ≡ c t) → (ts : List Tree) → sum_below n (λ d. sum_by (λ t. f t d) ts) ≡ sum_by c ts
+sum_below-items : (n : ℕ) (f : Tree → ℕ → ℕ) (c : Tree → ℕ) → ((t : Tree) → sum_below n (f t) ≡ c t) → (ts : List Tree)
+    → sum_below n (λ d. sum_by (λ t. f t d) ts) ≡ sum_by c ts
 sum_below-items n f c e [] = sum_below-zero n
-sum_below-items n f c e (t ∷ ts) = sum_below-same n _ _ (λ d. sum_by-cons (λ t. f t d) t ts) ∙ sum_below-add n (f t) (λ d. sum_by (λ t. f t d) ts)
+sum_below-items n f c e (t ∷ ts) =
+    sum_below-same n _ _ (λ d. sum_by-cons (λ t. f t d) t ts) ∙ sum_below-add n (f t) (λ d. sum_by (λ t. f t d) ts)
     ∙ ap₂ (λ x y. x + y) (e t) (sum_below-items n f c e ts) ∙ sym (sum_by-cons c t ts)
 
 mutual
@@ -166,23 +194,28 @@ mutual
   pairs-sum (schema_object q marks ks) t (suc n) h = ap (λ m. 1 + m) (all_pairs-sum ks t n (omega arith))
 
   -- the pairs of keywords, over the depths of their subschemas and any that lie deeper
-  all_pairs-sum : (ks : Keywords) (t : Tree) (n : ℕ) → all_height ks ≤ n → sum_below n (all_pairs_at ks t) ≡ all_pairs ks t
+  all_pairs-sum : (ks : Keywords) (t : Tree) (n : ℕ) → all_height ks ≤ n
+      → sum_below n (all_pairs_at ks t) ≡ all_pairs ks t
   all_pairs-sum no_keywords t n h = sum_below-zero n
   all_pairs-sum (keyword q k ks) t n h = sum_below-add n (keyword_pairs_at k t) (all_pairs_at ks t)
       ∙ ap₂ (λ x y. x + y) (keyword_pairs-sum k t n (omega arith)) (all_pairs-sum ks t n (omega arith))
 
   -- the pairs of a keyword, over the depths of its subschemas and any that lie deeper
-  keyword_pairs-sum : (k : Keyword) (t : Tree) (n : ℕ) → keyword_height k ≤ n → sum_below n (keyword_pairs_at k t) ≡ keyword_pairs k t
+  keyword_pairs-sum : (k : Keyword) (t : Tree) (n : ℕ) → keyword_height k ≤ n
+      → sum_below n (keyword_pairs_at k t) ≡ keyword_pairs k t
   keyword_pairs-sum (assertion q a) t n h = sum_below-zero n
   keyword_pairs-sum (contains s b) t n h = sum_below-items n (pairs_at s) (pairs s) (λ u. pairs-sum s u n h) (items t)
   keyword_pairs-sum (items_list ss) t n h = each_pairs-sum ss (items t) n h
   keyword_pairs-sum (prefix_items ss) t n h = each_pairs-sum ss (items t) n h
   keyword_pairs-sum (items_from i s true) t n h = sum_below-zero n
-  keyword_pairs-sum (items_from i s false) t n h = sum_below-items n (pairs_at s) (pairs s) (λ u. pairs-sum s u n h) (drop i (items t))
-  keyword_pairs-sum (additional_items i s) t n h = sum_below-items n (pairs_at s) (pairs s) (λ u. pairs-sum s u n h) (drop i (items t))
+  keyword_pairs-sum (items_from i s false) t n h =
+      sum_below-items n (pairs_at s) (pairs s) (λ u. pairs-sum s u n h) (drop i (items t))
+  keyword_pairs-sum (additional_items i s) t n h =
+      sum_below-items n (pairs_at s) (pairs s) (λ u. pairs-sum s u n h) (drop i (items t))
 
   -- the pairs of schemas and the items of their indices, over the depths of the schemas and any that lie deeper
-  each_pairs-sum : (ss : Schemas) (ts : List Tree) (n : ℕ) → each_height ss ≤ n → sum_below n (each_pairs_at ss ts) ≡ each_pairs ss ts
+  each_pairs-sum : (ss : Schemas) (ts : List Tree) (n : ℕ) → each_height ss ≤ n
+      → sum_below n (each_pairs_at ss ts) ≡ each_pairs ss ts
   each_pairs-sum no_schemas ts n h = sum_below-zero n
   each_pairs-sum (schema s ss) [] n h = sum_below-zero n
   each_pairs-sum (schema s ss) (t ∷ ts) n h = sum_below-add n (pairs_at s t) (each_pairs_at ss ts)
@@ -193,6 +226,8 @@ pub pairs_meet : PairsMeetAtOneDepth
 pairs_meet = record {
   over_depths = λ s t. pairs-sum s t (height s) (le_refl (height s));
   at_each = pairs_at-le;
-  at_all = λ s t. subst (λ n. n ≤ sum_below (height s) (λ d. schemas_at s d * trees_at t d)) (pairs-sum s t (height s) (le_refl (height s)))
+  at_all =
+      λ s t. subst (λ n. n ≤ sum_below (height s) (λ d. schemas_at s d * trees_at t d))
+      (pairs-sum s t (height s) (le_refl (height s)))
       (sum_below-le (height s) (pairs_at s t) (λ d. schemas_at s d * trees_at t d) (pairs_at-le s t));
 }

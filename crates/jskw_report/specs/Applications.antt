@@ -2,7 +2,9 @@
 -- observation of such a pair; the code makes no more of them than there are pairs.
 use Rattle.std.specs.Prelude.{ℕ, zero, suc, ◌+◌, max, List, [], ◌∷◌, drop, sum_by, Bool, true, false, if◌then◌else◌}
 use Rattle.jskw_value.specs.Tree.{Tree, array, Items, no_items, item, items}
-use Rattle.jskw_report.specs.Keyword.{Schema, false_schema, schema_object, Keywords, no_keywords, keyword, Keyword, assertion, contains, items_list, prefix_items, items_from, additional_items, Schemas, no_schemas, schema}
+use Rattle.jskw_report.specs.Keyword.{Schema, false_schema, schema_object, Keywords, no_keywords, keyword, Keyword}
+use Rattle.jskw_report.specs.Keyword.{assertion, contains, items_list, prefix_items, items_from, additional_items}
+use Rattle.jskw_report.specs.Keyword.{Schemas, no_schemas, schema}
 use Rattle.jskw_report.specs.Holds.{holds, keyword_holds}
 
 -- ---- all pairs
@@ -113,7 +115,8 @@ abbrev mutual
   each_pairs_at (schema s ss) (t ∷ ts) d = pairs_at s t d + each_pairs_at ss ts d
 
 abbrev mutual
-  -- the number of schemas that lie d deep: a subschema of a keyword lies one deeper than the schema that has the keyword
+  -- the number of schemas that lie d deep: a subschema of a keyword lies one deeper than the schema that has the
+  -- keyword
   pub schemas_at : Schema → ℕ → ℕ
   schemas_at (false_schema q) zero = 1
   schemas_at (false_schema q) (suc d) = 0

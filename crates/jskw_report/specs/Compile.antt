@@ -5,7 +5,7 @@ use Rattle.serde_json.specs.View.{view}
 use Rattle.serde_json.specs.declared.value.Value.{Value}
 use Rattle.jskw_report.specs.Errors.{kind_of, schema_path_of}
 use Rattle.jskw_report.specs.KeywordValue.{Refusal}
-use Rattle.jskw_report.specs.Read.{Asserts, asserted, part}
+use Rattle.jskw_report.specs.Read.{Asserts, asserted, readings}
 use Rattle.jskw_report.specs.Setting.{CompilePoint}
 use Rattle.jskw_report.specs.declared.keyword.KeywordName.{KeywordName}
 use Rattle.jskw_report.specs.declared.error.ValidationError.{ValidationError}
@@ -16,24 +16,27 @@ use Rattle.jskw_report.specs.declared.error.CompileFault.TheVariants.{Bad, Memor
 abbrev pub refusal_of : {F Number Key : Type 0} → ValidationError F Value Number Key → Refusal
 refusal_of e = record { kind = kind_of e.kind; location = schema_path_of e.schema_path; value = view e.instance.now }
 
--- what the keyword w asserts: the schema that has it stands at the point, ms are its members, and d is the keyword's value
-abbrev pub reading : KeywordName → CompilePoint → Members → Data → Asserts
-reading w point ms d = asserted w point.setting point.location ms (part d)
+-- what the keyword w asserts: the schema that has it stands at the point, ms are its members, and d is the keyword's
+-- value
+abbrev pub keyword_reading : KeywordName → CompilePoint → Members → Data → Asserts
+keyword_reading w point ms d = asserted w point.setting point.location ms (readings d)
 
 -- the fault is this refusal, with an empty instance location; or memory ran out
 abbrev pub Refuses : CompileFault → Refusal → Type 0
 Refuses (Bad e) r = (refusal_of e ≡ r) × (e.instance_path ≡ [])
 Refuses (Memory e) r = ⊤
 
--- the fault is the refusal that is read, with an empty instance location; or memory ran out; or what was made means what is read
-abbrev pub Makes : {V K : Type 0} → (V → K) → Result V CompileFault → Result K Refusal → Type 0
-Makes means (Ok v) read = read ≡ Ok (means v)
-Makes means (Err (Bad e)) read = (read ≡ Err (refusal_of e)) × (e.instance_path ≡ [])
-Makes means (Err (Memory e)) read = ⊤
+-- the fault is the refusal that is read, with an empty instance location; or memory ran out; or what was made means
+-- what is read
+abbrev pub CompilesTo : {V K : Type 0} → (V → K) → Result V CompileFault → Result K Refusal → Type 0
+CompilesTo means (Ok v) read = read ≡ Ok (means v)
+CompilesTo means (Err (Bad e)) read = (read ≡ Err (refusal_of e)) × (e.instance_path ≡ [])
+CompilesTo means (Err (Memory e)) read = ⊤
 
 -- nothing is made exactly where nothing is asserted
-abbrev pub Compiles : {V K : Type 0} → (V → K) → Option (Result V CompileFault) → Option (Result K Refusal) → Type 0
-Compiles means None None = ⊤
-Compiles means (Some made) (Some read) = Makes means made read
-Compiles means None (Some read) = ⊥
-Compiles means (Some made) None = ⊥
+abbrev pub CompilesKeyword : {V K : Type 0} → (V → K) → Option (Result V CompileFault) → Option (Result K Refusal)
+    → Type 0
+CompilesKeyword means None None = ⊤
+CompilesKeyword means (Some made) (Some read) = CompilesTo means made read
+CompilesKeyword means None (Some read) = ⊥
+CompilesKeyword means (Some made) None = ⊥

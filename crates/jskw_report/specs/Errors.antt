@@ -9,15 +9,20 @@ use Rattle.jskw_report.specs.Kind as kind
 use Rattle.jskw_report.specs.declared.error.EnumOptions as declared_options
 use Rattle.jskw_report.specs.declared.error.EnumOptions.TheVariants as options
 use Rattle.jskw_report.specs.declared.error.ValidationErrorKind.{ValidationErrorKind}
-use Rattle.jskw_report.specs.declared.error.ValidationErrorKind.TheVariants.{AdditionalItems, CompileError, Constant, Contains, Enum, ExclusiveMaximum, ExclusiveMinimum, FalseSchema, MaxItems, Maximum, MaxProperties, MinItems, Minimum, MinProperties, MultipleOf, Required, WrongType, UniqueItems}
+use Rattle.jskw_report.specs.declared.error.ValidationErrorKind.TheVariants.{AdditionalItems, CompileError, Constant}
+use Rattle.jskw_report.specs.declared.error.ValidationErrorKind.TheVariants.{Contains, Enum, ExclusiveMaximum}
+use Rattle.jskw_report.specs.declared.error.ValidationErrorKind.TheVariants.{ExclusiveMinimum, FalseSchema, MaxItems}
+use Rattle.jskw_report.specs.declared.error.ValidationErrorKind.TheVariants.{Maximum, MaxProperties, MinItems, Minimum}
+use Rattle.jskw_report.specs.declared.error.ValidationErrorKind.TheVariants.{MinProperties, MultipleOf, Required}
+use Rattle.jskw_report.specs.declared.error.ValidationErrorKind.TheVariants.{WrongType, UniqueItems}
 use Rattle.jskw_report.specs.declared.error.ValidationError.{ValidationError}
 use Rattle.jskw_report.specs.declared.error.SchemaPath.{SchemaPath}
 use Rattle.jskw_report.specs.declared.error.SchemaPath.TheVariants.{Lent, Owned}
 
 -- the options that an error names
-abbrev pub options_of : declared_options.EnumOptions → kind.EnumOptions
-options_of (options.Listed v) = kind.Listed (view v.now)
-options_of options.TypeNames = kind.TypeNames
+abbrev pub enum_options_of : declared_options.EnumOptions → kind.EnumOptions
+enum_options_of (options.Listed v) = kind.Listed (view v.now)
+enum_options_of options.TypeNames = kind.TypeNames
 
 -- the kind of an error, with what the keyword asked for
 abbrev pub kind_of : ValidationErrorKind → ErrorKind
@@ -25,7 +30,7 @@ kind_of (AdditionalItems n) = kind.AdditionalItems n
 kind_of (CompileError m) = kind.CompileError m.now
 kind_of (Constant v) = kind.Constant (view v.now)
 kind_of Contains = kind.Contains
-kind_of (Enum o) = kind.Enum (options_of o)
+kind_of (Enum o) = kind.Enum (enum_options_of o)
 kind_of (ExclusiveMaximum n) = kind.ExclusiveMaximum n
 kind_of (ExclusiveMinimum n) = kind.ExclusiveMinimum n
 kind_of FalseSchema = kind.FalseSchema
@@ -49,8 +54,17 @@ schema_path_of (Owned p) = p
 
 -- what an error says
 abbrev pub failure_of : {F Node Number Key : Type 0} → (Node → Tree) → ValidationError F Node Number Key → Failure
-failure_of tree e = record { kind = kind_of e.kind; instance_location = e.instance_path; keyword_location = schema_path_of e.schema_path; tree = tree e.instance.now }
+failure_of tree e =
+    record {
+      kind =
+          kind_of e.kind;
+      instance_location =
+          e.instance_path;
+      keyword_location = schema_path_of e.schema_path;
+      tree = tree e.instance.now;
+    }
 
 -- what a list of errors says
-abbrev pub failures_of : {F Node Number Key : Type 0} → (Node → Tree) → List (ValidationError F Node Number Key) → List Failure
+abbrev pub failures_of : {F Node Number Key : Type 0} → (Node → Tree) → List (ValidationError F Node Number Key)
+    → List Failure
 failures_of tree es = map (failure_of tree) es

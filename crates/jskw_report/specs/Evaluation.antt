@@ -1,11 +1,14 @@
 -- The evaluation tree of a schema over an instance: a node for each schema and each keyword (Core 12.3).
-use Rattle.std.specs.Prelude.{ℕ, zero, suc, nat_lt, nat_le, List, [], ◌∷◌, map, drop, length, Bool, true, false, Option, Some, None, if◌then◌else◌}
+use Rattle.std.specs.Prelude.{ℕ, zero, suc, nat_lt, nat_le, List, [], ◌∷◌, map, drop, length, Bool, true, false, Option}
+use Rattle.std.specs.Prelude.{Some, None, if◌then◌else◌}
 use Rattle.std.specs.List.{list_all}
 use Rattle.jskw_value.specs.Pointer.{Pointer, item_location}
 use Rattle.jskw_value.specs.Tree.{Tree, items, is_array}
 use Rattle.jskw_report.specs.Fail.{Failure, keyword_fail, is_empty}
 use Rattle.jskw_report.specs.Holds.{holds, keyword_holds}
-use Rattle.jskw_report.specs.Keyword.{Schema, false_schema, schema_object, Keywords, no_keywords, keyword, Keyword, assertion, contains, items_list, prefix_items, items_from, additional_items, Schemas, no_schemas, schema}
+use Rattle.jskw_report.specs.Keyword.{Schema, false_schema, schema_object, Keywords, no_keywords, keyword, Keyword}
+use Rattle.jskw_report.specs.Keyword.{assertion, contains, items_list, prefix_items, items_from, additional_items}
+use Rattle.jskw_report.specs.Keyword.{Schemas, no_schemas, schema}
 use Rattle.jskw_report.specs.Kind.{FalseSchema, keyword_of}
 
 -- an annotation (Core 7.7): a boolean, the largest index, or indices
@@ -76,7 +79,8 @@ invalid_unit ks = record { valid = false; annotation = None; descriptions = ks; 
 
 -- valid where there are no errors; one description for each, and no nodes below
 unfoldable pub of_errors : List Failure → Result
-of_errors fs = record { valid = is_empty fs; annotation = None; descriptions = map (λ f. keyword_of f.kind) fs; children = [] }
+of_errors fs =
+    record { valid = is_empty fs; annotation = None; descriptions = map (λ f. keyword_of f.kind) fs; children = [] }
 
 -- valid where every node below is
 abbrev pub of_children : Option Annotation → List Evaluation → Result
@@ -104,12 +108,15 @@ evaluate_each f i (t ∷ ts) p = f t (item_location p i) ∷ evaluate_each f (su
 -- the nodes that f gives of each item that matches, in turn, the first being item i of the array at p
 abbrev pub evaluate_matching : (Tree → Bool) → (Tree → Pointer → Evaluation) → ℕ → List Tree → Pointer → List Evaluation
 evaluate_matching matches f i [] p = []
-evaluate_matching matches f i (t ∷ ts) p = if matches t then f t (item_location p i) ∷ evaluate_matching matches f (suc i) ts p else evaluate_matching matches f (suc i) ts p
+evaluate_matching matches f i (t ∷ ts) p =
+    if matches t then f t (item_location p i) ∷ evaluate_matching matches f (suc i) ts p
+    else evaluate_matching matches f (suc i) ts p
 
 -- the indices of the items that match, the first item having index i (Core 10.3.1.3)
 abbrev pub matching_indices : (Tree → Bool) → ℕ → List Tree → List ℕ
 matching_indices matches i [] = []
-matching_indices matches i (t ∷ ts) = if matches t then i ∷ matching_indices matches (suc i) ts else matching_indices matches (suc i) ts
+matching_indices matches i (t ∷ ts) =
+    if matches t then i ∷ matching_indices matches (suc i) ts else matching_indices matches (suc i) ts
 
 -- ---- keywords and schemas
 
@@ -124,15 +131,25 @@ abbrev mutual
   units no_keywords t p = []
   units (keyword q k ks) t p = node_at q p (unit k t p) ∷ units ks t p
 
-  -- the keyword's result, annotated for `items` by whether it was applied to any item (Core 10.3.1.2) and for `contains`
+  -- the keyword's result, annotated for `items` by whether it was applied to any item (Core 10.3.1.2) and for
+  -- `contains`
   -- by the indices that match (Core 10.3.1.3); a `contains` that fails tells its error alone
   pub unit : Keyword → Tree → Pointer → Result
   unit (assertion q a) t p = of_errors (keyword_fail (assertion q a) t p)
   unit (contains s b) t p = if keyword_holds (contains s b) t
-      then record { valid = true; annotation = Some (indices (matching_indices (holds s) 0 (items t))); descriptions = []; children = evaluate_matching (holds s) (tree s) 0 (items t) p }
+      then record {
+        valid =
+            true;
+        annotation =
+            Some (indices (matching_indices (holds s) 0 (items t)));
+        descriptions =
+            [];
+        children = evaluate_matching (holds s) (tree s) 0 (items t) p;
+      }
       else of_errors (keyword_fail (contains s b) t p)
   unit (items_list ss) t p = of_children None (evaluate_pairs ss 0 (items t) p)
-  unit (prefix_items ss) t p = of_children (prefix_annotation (schema_count ss) (length (items t))) (evaluate_pairs ss 0 (items t) p)
+  unit (prefix_items ss) t p =
+      of_children (prefix_annotation (schema_count ss) (length (items t))) (evaluate_pairs ss 0 (items t) p)
   unit (items_from n s bare) t p = if is_array t
       then of_children (Some (flag (nat_lt n (length (items t))))) (evaluate_each (tree s) n (drop n (items t)) p)
       else valid_unit

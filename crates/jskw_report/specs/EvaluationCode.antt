@@ -3,7 +3,8 @@ use Rattle.std.specs.Prelude.{ℕ, ◌≡◌, refl, List, [], Bool, true, Option
 use Rattle.std.specs.Coded.{Coded, code_by, coded_ℕ, coded_bool, coded_list, coded_option, coded×, coded⊎}
 use mathlib.Core.Logic.{inl, inr}
 use Rattle.jskw_value.specs.Pointer.{Pointer}
-use Rattle.jskw_report.specs.Evaluation.{Annotation, flag, index, indices, Evaluation, node, Evaluations, no_evaluations, evaluation}
+use Rattle.jskw_report.specs.Evaluation.{Annotation, flag, index, indices, Evaluation, node, Evaluations}
+use Rattle.jskw_report.specs.Evaluation.{no_evaluations, evaluation}
 use Rattle.jskw_report.specs.LabelTree.{LabelTree, leaf, fork, label_tree_code}
 
 -- the code of an annotation
@@ -15,22 +16,22 @@ annotation_code =
     (elim [ flag b ↦ refl | index i ↦ refl | indices is ↦ refl ])
 
 -- a node but for the nodes below
-abbrev Label : Type 0
-Label = Bool × (Pointer × (Pointer × (Option Annotation × List (List ℕ))))
+abbrev EvaluationLabel : Type 0
+EvaluationLabel = Bool × (Pointer × (Pointer × (Option Annotation × List (List ℕ))))
 
 -- its code
-abbrev label_code : Coded Label
-label_code =
+abbrev evaluation_label_code : Coded EvaluationLabel
+evaluation_label_code =
     coded× coded_bool (coded× (coded_list coded_ℕ) (coded× (coded_list coded_ℕ)
     (coded× (coded_option annotation_code) (coded_list (coded_list coded_ℕ)))))
 
 -- the tree of the nodes
-abbrev tree : Evaluations → LabelTree Label
+abbrev tree : Evaluations → LabelTree EvaluationLabel
 tree no_evaluations = leaf
 tree (evaluation (node valid q p a ds es) more) = fork (valid, (q, (p, (a, ds)))) (tree es) (tree more)
 
 -- the nodes of the tree
-abbrev nodes : LabelTree Label → Evaluations
+abbrev nodes : LabelTree EvaluationLabel → Evaluations
 nodes leaf = no_evaluations
 nodes (fork l t u) = evaluation (node l.0 l.1.0 l.1.1.0 l.1.1.1.0 l.1.1.1.1 (nodes t)) (nodes u)
 
@@ -42,7 +43,7 @@ nodes_tree (evaluation (node valid q p a ds es) more) =
 
 -- the code of nodes
 abbrev pub evaluations_code : Coded Evaluations
-evaluations_code = code_by (LabelTree Label) (label_tree_code label_code) tree nodes nodes_tree
+evaluations_code = code_by (LabelTree EvaluationLabel) (label_tree_code evaluation_label_code) tree nodes nodes_tree
 
 -- the first node, where there is one
 abbrev first : Evaluations → Evaluation

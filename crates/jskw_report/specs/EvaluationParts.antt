@@ -2,7 +2,8 @@
 use Rattle.std.specs.Prelude.{◌≡◌, ℕ, suc, ◌+◌, ◌≤◌, ◌<◌, List, [], ◌∷◌, length, map, slice_index_or}
 use Rattle.std.proofs.Common.{arith}
 use denote.Param.Weighed.{most}
-use Rattle.jskw_report.specs.Evaluation.{Annotation, flag, index, indices, Evaluation, node, Evaluations, no_evaluations, evaluation, evaluations}
+use Rattle.jskw_report.specs.Evaluation.{Annotation, flag, index, indices, Evaluation, node, Evaluations}
+use Rattle.jskw_report.specs.Evaluation.{no_evaluations, evaluation, evaluations}
 use Rattle.jskw_report.specs.declared.evaluation.Annotations.{Annotations}
 use Rattle.jskw_report.specs.declared.evaluation.Annotations.TheVariants.{Bool, Index, Indices}
 

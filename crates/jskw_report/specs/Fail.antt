@@ -1,10 +1,16 @@
 -- What is wrong with an instance: the errors of a schema, in the order of its keywords.
-use Rattle.std.specs.Prelude.{ℕ, ℤ, suc, nat_lt, nat_le, List, [], ◌∷◌, ◌++◌, map, drop, filter, count_by, Bool, true, false, not, Option, Some, None, if◌then◌else◌}
+use Rattle.std.specs.Prelude.{ℕ, ℤ, suc, nat_lt, nat_le, List, [], ◌∷◌, ◌++◌, map, drop, filter, count_by, Bool, true}
+use Rattle.std.specs.Prelude.{false, not, Option, Some, None, if◌then◌else◌}
 use Rattle.serde_json.specs.Data as value
 use Rattle.jskw_value.specs.Pointer.{Pointer, item_location}
 use Rattle.jskw_value.specs.Tree.{Tree, items, is_array, is_object, has_name}
 use Rattle.jskw_report.specs.Holds.{assertion_holds, holds}
-use Rattle.jskw_report.specs.Keyword.{Schema, false_schema, schema_object, Keywords, no_keywords, keyword, Keyword, assertion, contains, items_list, prefix_items, items_from, additional_items, Schemas, no_schemas, schema, Assertion, never, type_is, size, constant, among, limit, multiple_of, unique, required, at_most, Bounds, Size, MinItems, MaxItems, MinProperties, MaxProperties, Relation, Minimum, Maximum, ExclusiveMinimum, ExclusiveMaximum}
+use Rattle.jskw_report.specs.Keyword.{Schema, false_schema, schema_object, Keywords, no_keywords, keyword, Keyword}
+use Rattle.jskw_report.specs.Keyword.{assertion, contains, items_list, prefix_items, items_from, additional_items}
+use Rattle.jskw_report.specs.Keyword.{Schemas, no_schemas, schema, Assertion, never, type_is, size, constant, among}
+use Rattle.jskw_report.specs.Keyword.{limit, multiple_of, unique, required, at_most, Bounds, Size, MinItems, MaxItems}
+use Rattle.jskw_report.specs.Keyword.{MinProperties, MaxProperties, Relation, Minimum, Maximum, ExclusiveMinimum}
+use Rattle.jskw_report.specs.Keyword.{ExclusiveMaximum}
 use Rattle.jskw_report.specs.Kind.{ErrorKind, Listed, WrongType}
 use Rattle.jskw_report.specs.Kind as kind
 
@@ -32,7 +38,7 @@ limit_kind Maximum n = kind.Maximum n
 limit_kind ExclusiveMinimum n = kind.ExclusiveMinimum n
 limit_kind ExclusiveMaximum n = kind.ExclusiveMaximum n
 
--- one error of the kind, but none where it holds
+-- no error if the keyword holds, else one of the kind
 abbrev pub unless : Bool → ErrorKind → List ErrorKind
 unless true k = []
 unless false k = k ∷ []
@@ -67,7 +73,9 @@ failing_bound b n = if passes n b.upper then b.many ∷ [] else (if nat_le b.low
 
 -- the error of `contains` of the array t at p, if n of its items match
 abbrev pub contains_fails : Bounds → ℕ → Tree → Pointer → List Failure
-contains_fails b n t p = map (λ q. record { kind = kind.Contains; instance_location = p; keyword_location = q; tree = t }) (failing_bound b n)
+contains_fails b n t p =
+    map (λ q. record { kind = kind.Contains; instance_location = p; keyword_location = q; tree = t })
+    (failing_bound b n)
 
 -- ---- keywords and schemas
 
@@ -79,7 +87,8 @@ each_item f i (t ∷ ts) p = f t (item_location p i) ++ each_item f (suc i) ts p
 abbrev mutual
   -- the errors of the schema over the tree t at p: those of its keywords, or the one of `false`
   pub fail : Schema → Tree → Pointer → List Failure
-  fail (false_schema q) t p = record { kind = kind.FalseSchema; instance_location = p; keyword_location = q; tree = t } ∷ []
+  fail (false_schema q) t p =
+      record { kind = kind.FalseSchema; instance_location = p; keyword_location = q; tree = t } ∷ []
   fail (schema_object q marks ks) t p = all_fail ks t p
 
   -- the errors of the keywords in turn
@@ -89,7 +98,8 @@ abbrev mutual
 
   -- the errors of the keyword: its own, or those of its subschemas over the items in turn
   pub keyword_fail : Keyword → Tree → Pointer → List Failure
-  keyword_fail (assertion q a) t p = map (λ k. record { kind = k; instance_location = p; keyword_location = q; tree = t }) (error_kinds a t)
+  keyword_fail (assertion q a) t p =
+      map (λ k. record { kind = k; instance_location = p; keyword_location = q; tree = t }) (error_kinds a t)
   keyword_fail (contains s b) t p = if is_array t then contains_fails b (count_by (holds s) (items t)) t p else []
   keyword_fail (items_list ss) t p = each_fails ss 0 (items t) p
   keyword_fail (prefix_items ss) t p = each_fails ss 0 (items t) p

@@ -1,6 +1,7 @@
 -- When an instance is valid against a schema (Core 7.6): the assertions of Validation 6, and the keywords with
 -- subschemas of Core 10.3.1.
-use Rattle.std.specs.Prelude.{ℕ, ◌^◌, ℤ, pos, ◌*ℤ◌, int_le, int_lt, nat_le, List, [], ◌∷◌, drop, length, count_by, Bool, true, false, not, ◌&&◌, ◌||◌, Option, Some, None}
+use Rattle.std.specs.Prelude.{ℕ, ◌^◌, ℤ, pos, ◌*ℤ◌, int_le, int_lt, nat_le, List, [], ◌∷◌, drop, length, count_by, Bool}
+use Rattle.std.specs.Prelude.{true, false, not, ◌&&◌, ◌||◌, Option, Some, None}
 use Rattle.std.specs.List.{list_all}
 use Rattle.std.specs.Option.{option_map_or}
 use Rattle.serde_json.specs.Data.{Items, no_items, item}
@@ -13,19 +14,24 @@ use Rattle.jskw_value.specs.Types as types
 use Rattle.jskw_value.specs.Types.{json_type, holds_integer}
 use Rattle.jskw_value.specs.declared.types.JsonType.TheVariants.{Integer}
 use Rattle.jskw_value.specs.declared.types.JsonTypeSet.{JsonTypeSet}
-use Rattle.jskw_report.specs.Keyword.{Schema, false_schema, schema_object, Keywords, no_keywords, keyword, Keyword, assertion, contains, items_list, prefix_items, items_from, additional_items, Schemas, no_schemas, schema, Integers, by_value, as_written, Assertion, never, type_is, size, constant, among, limit, multiple_of, unique, required, at_most, Bounds, Size, MinItems, MaxItems, MinProperties, MaxProperties, Relation, Minimum, Maximum, ExclusiveMinimum, ExclusiveMaximum}
+use Rattle.jskw_report.specs.Keyword.{Schema, false_schema, schema_object, Keywords, no_keywords, keyword, Keyword}
+use Rattle.jskw_report.specs.Keyword.{assertion, contains, items_list, prefix_items, items_from, additional_items}
+use Rattle.jskw_report.specs.Keyword.{Schemas, no_schemas, schema, Integers, by_value, as_written, Assertion, never}
+use Rattle.jskw_report.specs.Keyword.{type_is, size, constant, among, limit, multiple_of, unique, required, at_most}
+use Rattle.jskw_report.specs.Keyword.{Bounds, Size, MinItems, MaxItems, MinProperties, MaxProperties, Relation, Minimum}
+use Rattle.jskw_report.specs.Keyword.{Maximum, ExclusiveMinimum, ExclusiveMaximum}
 use Rattle.jskw_report.specs.Kind.{types_of}
 
 -- ---- assertions
 
 -- the tree is an integer by the rule
-abbrev pub is_integer : Integers → Tree → Bool
-is_integer by_value t = holds_integer t
-is_integer as_written t = option_map_or is_written_as_integer (as_number t) false
+abbrev pub is_integer_by : Integers → Tree → Bool
+is_integer_by by_value t = holds_integer t
+is_integer_by as_written t = option_map_or is_written_as_integer (as_number t) false
 
 -- the tree is of some type of the set (Validation 6.1.1)
 abbrev pub is_of : Integers → JsonTypeSet → Tree → Bool
-is_of rule s t = types.contains s (json_type t) || (types.contains s Integer && is_integer rule t)
+is_of rule s t = types.contains s (json_type t) || (types.contains s Integer && is_integer_by rule t)
 
 -- the number of items of an array (Validation 6.4.1, 6.4.2), or of members of an object (Validation 6.5.1, 6.5.2), is
 -- within the bound; other trees have no such number

@@ -45,15 +45,15 @@ pub record Bounds : Type 0 where
   pub few : Pointer
   pub many : Pointer
 
--- what is marked of an object: its `required` is handed on to the keywords of objects; and its `type`, `minItems`,
+-- what is marked of an object: its `required` is delegated to the keywords of objects; and its `type`, `minItems`,
 -- `maxItems` and `items` are checked together. What the schema asserts is its keywords alone
 pub record Marks : Type 0 where
-  pub hands_on : Bool
+  pub delegates : Bool
   pub fused : Bool
 
 -- nothing is marked
 abbrev pub no_marks : Marks
-no_marks = record { hands_on = false; fused = false }
+no_marks = record { delegates = false; fused = false }
 
 mutual
   -- a boolean or an object (Core 4.3); a boolean in Draft 4 too, by this project's own rule
@@ -110,26 +110,26 @@ append_keywords no_keywords ks = ks
 append_keywords (keyword q k js) ks = keyword q k (append_keywords js ks)
 
 abbrev mutual
-  -- the `required` of the schema or of a subschema is handed on to the keywords of objects
+  -- the `required` of the schema or of a subschema is delegated to the keywords of objects
   pub hands_on_required : Schema → Bool
   hands_on_required (false_schema q) = false
-  hands_on_required (schema_object q marks ks) = marks.hands_on || all_hand_on ks
+  hands_on_required (schema_object q marks ks) = marks.delegates || keywords_delegate ks
 
-  -- the `required` of a subschema of some keyword is handed on
-  pub all_hand_on : Keywords → Bool
-  all_hand_on no_keywords = false
-  all_hand_on (keyword q k ks) = keyword_hands_on k || all_hand_on ks
+  -- the `required` of a subschema of some keyword is delegated
+  pub keywords_delegate : Keywords → Bool
+  keywords_delegate no_keywords = false
+  keywords_delegate (keyword q k ks) = keyword_delegates k || keywords_delegate ks
 
-  -- the `required` of a subschema of the keyword is handed on
-  pub keyword_hands_on : Keyword → Bool
-  keyword_hands_on (assertion q a) = false
-  keyword_hands_on (contains s b) = hands_on_required s
-  keyword_hands_on (items_list ss) = each_hands_on ss
-  keyword_hands_on (prefix_items ss) = each_hands_on ss
-  keyword_hands_on (items_from n s bare) = hands_on_required s
-  keyword_hands_on (additional_items n s) = hands_on_required s
+  -- the `required` of a subschema of the keyword is delegated
+  pub keyword_delegates : Keyword → Bool
+  keyword_delegates (assertion q a) = false
+  keyword_delegates (contains s b) = hands_on_required s
+  keyword_delegates (items_list ss) = schemas_delegate ss
+  keyword_delegates (prefix_items ss) = schemas_delegate ss
+  keyword_delegates (items_from n s bare) = hands_on_required s
+  keyword_delegates (additional_items n s) = hands_on_required s
 
-  -- the `required` of some schema of the list, or of a subschema of it, is handed on
-  pub each_hands_on : Schemas → Bool
-  each_hands_on no_schemas = false
-  each_hands_on (schema s ss) = hands_on_required s || each_hands_on ss
+  -- the `required` of some schema of the list, or of a subschema of it, is delegated
+  pub schemas_delegate : Schemas → Bool
+  schemas_delegate no_schemas = false
+  schemas_delegate (schema s ss) = hands_on_required s || schemas_delegate ss

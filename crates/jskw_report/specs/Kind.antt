@@ -6,7 +6,7 @@ pub use Rattle.jskw_report.specs.declared.error.TypeKind.TheVariants.{Single, Mu
 use Rattle.jskw_value.specs.Types.{no_types, insert}
 use Rattle.jskw_value.specs.declared.types.JsonTypeSet.{JsonTypeSet}
 use Rattle.jskw_report.specs.Setting.{name_of}
-use Rattle.jskw_report.specs.declared.keyword.KeywordName.TheVariants as word
+use Rattle.jskw_report.specs.declared.keyword.KeywordName.TheVariants as keyword_name
 
 -- the types that an instance is to be one of
 abbrev pub types_of : TypeKind → JsonTypeSet
@@ -40,23 +40,23 @@ pub data ErrorKind : Type 0 where
   WrongType : TypeKind → ErrorKind
   UniqueItems : ErrorKind
 
--- the keyword that the kind is told by
+-- the keyword of an error of the kind
 abbrev pub keyword_of : ErrorKind → List ℕ
-keyword_of (AdditionalItems n) = name_of word.AdditionalItems
+keyword_of (AdditionalItems n) = name_of keyword_name.AdditionalItems
 keyword_of (CompileError m) = codes "compileError"
-keyword_of (Constant d) = name_of word.Const
-keyword_of Contains = name_of word.Contains
-keyword_of (Enum o) = name_of word.Enum
-keyword_of (ExclusiveMaximum z) = name_of word.ExclusiveMaximum
-keyword_of (ExclusiveMinimum z) = name_of word.ExclusiveMinimum
+keyword_of (Constant d) = name_of keyword_name.Const
+keyword_of Contains = name_of keyword_name.Contains
+keyword_of (Enum o) = name_of keyword_name.Enum
+keyword_of (ExclusiveMaximum z) = name_of keyword_name.ExclusiveMaximum
+keyword_of (ExclusiveMinimum z) = name_of keyword_name.ExclusiveMinimum
 keyword_of FalseSchema = codes "falseSchema"
-keyword_of (MaxItems n) = name_of word.MaxItems
-keyword_of (Maximum z) = name_of word.Maximum
-keyword_of (MaxProperties n) = name_of word.MaxProperties
-keyword_of (MinItems n) = name_of word.MinItems
-keyword_of (Minimum z) = name_of word.Minimum
-keyword_of (MinProperties n) = name_of word.MinProperties
-keyword_of (MultipleOf n) = name_of word.MultipleOf
-keyword_of (Required name) = name_of word.Required
-keyword_of (WrongType k) = name_of word.TypeKeyword
-keyword_of UniqueItems = name_of word.UniqueItems
+keyword_of (MaxItems n) = name_of keyword_name.MaxItems
+keyword_of (Maximum z) = name_of keyword_name.Maximum
+keyword_of (MaxProperties n) = name_of keyword_name.MaxProperties
+keyword_of (MinItems n) = name_of keyword_name.MinItems
+keyword_of (Minimum z) = name_of keyword_name.Minimum
+keyword_of (MinProperties n) = name_of keyword_name.MinProperties
+keyword_of (MultipleOf n) = name_of keyword_name.MultipleOf
+keyword_of (Required name) = name_of keyword_name.Required
+keyword_of (WrongType k) = name_of keyword_name.TypeKeyword
+keyword_of UniqueItems = name_of keyword_name.UniqueItems

@@ -1,7 +1,9 @@
 -- What the definitions have in common. Each law is the contract of a function.
-use Rattle.std.specs.Prelude.{⊤, List, ◌≡◌, ◌≢◌, ℕ, suc, ◌++◌, [], ◌∷◌, map, find, ◌↔◌, IsTrue, Bool, true, false, codes, Option, Some, None, option_map, Ok, Err, ◌≤◌, ◌*◌}
+use Rattle.std.specs.Prelude.{⊤, List, ◌≡◌, ◌≢◌, ℕ, suc, ◌++◌, [], ◌∷◌, map, find, ◌↔◌, IsTrue, Bool, true, false}
+use Rattle.std.specs.Prelude.{codes, Option, Some, None, option_map, Ok, Err, ◌≤◌, ◌*◌}
 use Rattle.std.specs.List.{list_any}
-use Rattle.serde_json.specs.Data.{Data, unsigned, float, number, array, object, Items, no_items, item, Members, no_members, member}
+use Rattle.serde_json.specs.Data.{Data, unsigned, float, number, array, object, Items, no_items, item, Members}
+use Rattle.serde_json.specs.Data.{no_members, member}
 use Rattle.serde_json.specs.Find.{get_member}
 use Rattle.jskw_value.specs.Equality.{same}
 use Rattle.jskw_value.specs.FirstFloat as location_of
@@ -16,10 +18,11 @@ use Rattle.jskw_report.specs.Fail.{Failure, fail, keyword_fail}
 use Rattle.jskw_report.specs.KeywordValue.{first_float}
 use Rattle.jskw_report.specs.Holds.{holds, keyword_holds}
 use Rattle.jskw_report.specs.Keyword.{Schema, Keyword, contains}
-use Rattle.jskw_report.specs.Read.{Reading, read, read_word, part_named, bound_beside, min_contains, max_contains}
-use Rattle.jskw_report.specs.Setting.{Setting, name_of, concerns, stands}
+use Rattle.jskw_report.specs.Read.{Reading, read, read_keyword, readings_named, bound_beside, min_contains}
+use Rattle.jskw_report.specs.Read.{max_contains}
+use Rattle.jskw_report.specs.Setting.{Setting, name_of, concerns, is_active}
 use Rattle.jskw_report.specs.declared.keyword.KeywordName.{KeywordName}
-use Rattle.jskw_report.specs.declared.keyword.KeywordName.TheVariants as word
+use Rattle.jskw_report.specs.declared.keyword.KeywordName.TheVariants as keyword_name
 
 -- ---- verdicts, errors and evaluations
 
@@ -29,7 +32,8 @@ HoldsWhereNothingFails = (s : Schema) (t : Tree) (p : Pointer) → IsTrue (holds
 
 -- a keyword holds of a tree exactly where it has no errors, wherever the tree stands
 abbrev pub KeywordHoldsWhereNothingFails : Type 0
-KeywordHoldsWhereNothingFails = (k : Keyword) (t : Tree) (p : Pointer) → IsTrue (keyword_holds k t) ↔ (keyword_fail k t p ≡ [])
+KeywordHoldsWhereNothingFails =
+    (k : Keyword) (t : Tree) (p : Pointer) → IsTrue (keyword_holds k t) ↔ (keyword_fail k t p ≡ [])
 
 -- the evaluation tree is valid exactly where the schema holds
 abbrev pub TreeIsValidWhereHolds : Type 0
@@ -51,7 +55,7 @@ FailsAlikeBelow = (s : Schema) (t : Tree) (r p : Pointer) → fail s t (r ++ p) 
 
 -- k is what the keyword w of the object schema ms at p asserts under s
 abbrev pub IsKeywordOf : KeywordName → Setting → Pointer → Members → Keyword → Type 0
-IsKeywordOf w s p ms k = read_word w s p ms (part_named (name_of w) ms) ≡ Some (Ok k)
+IsKeywordOf w s p ms k = read_keyword w s p ms (readings_named (name_of w) ms) ≡ Some (Ok k)
 
 -- a keyword that concerns the instances of one type holds of every other (Core 7.6.1)
 abbrev pub HoldsElsewhere : Type 0
@@ -71,10 +75,13 @@ accepts s d t = reading_accepts (read d s []) t
 pub record ConstIsOneOption : Type 0 where
   -- wherever the two keywords stand, and whatever stands beside them
   pub anywhere : (r s : Setting) (p q : Pointer) (ms ns : Members) (d : Data) (k j : Keyword) (t : Tree)
-      → get_member (name_of word.Const) ms ≡ Some d → get_member (name_of word.Enum) ns ≡ Some (array (item d no_items))
-      → IsKeywordOf word.Const r p ms k → IsKeywordOf word.Enum s q ns j → keyword_holds k t ≡ keyword_holds j t
+      → get_member (name_of keyword_name.Const) ms ≡ Some d
+      → get_member (name_of keyword_name.Enum) ns ≡ Some (array (item d no_items))
+      → IsKeywordOf keyword_name.Const r p ms k → IsKeywordOf keyword_name.Enum s q ns j
+      → keyword_holds k t ≡ keyword_holds j t
   -- and where each is all that a schema has, both are schemas or neither is
-  pub alone : (s : Setting) (d : Data) (t : Tree) → IsTrue (stands s word.Const) → IsTrue (stands s word.Enum)
+  pub alone : (s : Setting) (d : Data) (t : Tree) → IsTrue (is_active s keyword_name.Const)
+      → IsTrue (is_active s keyword_name.Enum)
       → accepts s (object (member (codes "const") d no_members)) t
       ≡ accepts s (object (member (codes "enum") (array (item d no_items)) no_members)) t
 
@@ -86,14 +93,19 @@ has_match _ t = false
 -- what `contains` asks for by the bounds that are read beside it (Core 10.3.1.3, Validation 6.4.4, 6.4.5)
 pub record ContainsMatches : Type 0 where
   -- with `minContains` 0 and no `maxContains` it holds of every tree
-  pub no_match_needed : (s : Setting) (p : Pointer) (ms : Members) (k : Keyword) (t : Tree) → IsKeywordOf word.Contains s p ms k
-      → bound_beside s ms min_contains ≡ Some (number (unsigned 0)) → bound_beside s ms max_contains ≡ None → IsTrue (keyword_holds k t)
+  pub no_match_needed : (s : Setting) (p : Pointer) (ms : Members) (k : Keyword) (t : Tree)
+      → IsKeywordOf keyword_name.Contains s p ms k
+      → bound_beside s ms min_contains ≡ Some (number (unsigned 0)) → bound_beside s ms max_contains ≡ None
+      → IsTrue (keyword_holds k t)
   -- without `minContains` it needs a match in every array
-  pub match_needed : (s : Setting) (p : Pointer) (ms : Members) (k : Keyword) (t : Tree) → IsKeywordOf word.Contains s p ms k
+  pub match_needed : (s : Setting) (p : Pointer) (ms : Members) (k : Keyword) (t : Tree)
+      → IsKeywordOf keyword_name.Contains s p ms k
       → bound_beside s ms min_contains ≡ None → is_array t ≡ true → IsTrue (keyword_holds k t) → IsTrue (has_match k t)
   -- with neither bound it needs no more than that match
-  pub match_suffices : (s : Setting) (p : Pointer) (ms : Members) (k : Keyword) (t : Tree) → IsKeywordOf word.Contains s p ms k
-      → bound_beside s ms min_contains ≡ None → bound_beside s ms max_contains ≡ None → is_array t ≡ true → keyword_holds k t ≡ has_match k t
+  pub match_suffices : (s : Setting) (p : Pointer) (ms : Members) (k : Keyword) (t : Tree)
+      → IsKeywordOf keyword_name.Contains s p ms k
+      → bound_beside s ms min_contains ≡ None → bound_beside s ms max_contains ≡ None → is_array t ≡ true
+      → keyword_holds k t ≡ has_match k t
 
 -- ---- the first float
 
@@ -185,4 +197,6 @@ CannotBeToldApart t u = (s : Schema) → SaysTheSame s t u
 
 -- trees written alike, whatever the order of their members
 abbrev pub SameTreesAreOne : Type 0
-SameTreesAreOne = (t u : Tree) → IsTrue (has_distinct_names t) → IsTrue (has_distinct_names u) → IsTrue (same t u) → CannotBeToldApart t u
+SameTreesAreOne =
+    (t u : Tree) → IsTrue (has_distinct_names t) → IsTrue (has_distinct_names u) → IsTrue (same t u)
+    → CannotBeToldApart t u

@@ -11,6 +11,8 @@ pub mod Evaluation
 pub mod Applications
 pub mod Laws
 pub mod Paths
+pub mod LocationText
+pub mod KeywordPlace
 pub mod Errors
 pub mod Observe
 pub mod Meaning

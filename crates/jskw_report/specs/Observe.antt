@@ -1,5 +1,6 @@
 -- What an observer owes to the failures of its keyword, and to the count of applications.
-use Rattle.std.specs.Prelude.{◌≡◌, ◌≤◌, ◌<◌, ◌+◌, ◌-◌, max, ℕ, List, [], ◌∷◌, ◌++◌, length, take, map, Bool, true, false, Option, Some, None, Result, Ok, Err, OnOk, ⊤}
+use Rattle.std.specs.Prelude.{◌≡◌, ◌≤◌, ◌<◌, ◌+◌, ◌-◌, max, ℕ, List, [], ◌∷◌, ◌++◌, length, take, map, Bool, true}
+use Rattle.std.specs.Prelude.{false, Option, Some, None, Result, Ok, Err, OnOk, ⊤}
 use Rattle.jskw_value.specs.Pointer.{Pointer}
 use Rattle.jskw_value.specs.Tree.{Tree}
 use Rattle.jskw_report.specs.Kind.{ErrorKind}
@@ -15,13 +16,14 @@ use Rattle.jskw_report.specs.declared.report.Report.TheVariants.{First, Listed}
 
 -- F is a representation, with its types of nodes, of numbers and of prepared keys; a node stands for a tree
 
--- Ok where nothing fails, and else the first failure; want of memory says nothing
-abbrev pub IsFirst : {F Node Number Key : Type 0} → (Node → Tree) → List Failure → Result Unit (Fault F Node Number Key) → Type 0
+-- Ok if nothing fails, else the first failure; a lack of memory says nothing
+abbrev pub IsFirst : {F Node Number Key : Type 0} → (Node → Tree) → List Failure → Result Unit (Fault F Node Number Key)
+    → Type 0
 IsFirst tree fs (Ok u) = fs ≡ []
 IsFirst tree fs (Err (fault.Invalid e)) = (rest : List Failure) × (fs ≡ failure_of tree e ∷ rest)
 IsFirst tree fs (Err (fault.Memory e)) = ⊤
 
--- from `old` the list came to `now`, and `rest` of `all` is still to come
+-- `now` is `old` followed by the beginning of `all` before `rest`
 pub record Collects (old now rest all : List Failure) : Type 0 where
   pub so_far : List Failure
   pub is_now : now ≡ old ++ so_far
@@ -32,13 +34,14 @@ pub record AppendsBeginning (old new all : List Failure) : Type 0 where
   pub rest : List Failure
   pub collects : Collects old new rest all
 
--- `new` is `old` followed by all, or, where memory was wanting, by a beginning of all
+-- `new` is `old` followed by all, or, if memory ran out, by a beginning of all
 abbrev pub AppendsFailures : {E : Type 0} → List Failure → List Failure → List Failure → Result Unit E → Type 0
 AppendsFailures old new all (Ok u) = new ≡ old ++ all
 AppendsFailures old new all (Err e) = AppendsBeginning old new all
 
--- the errors are the old ones followed by all these failures, or, where memory was wanting, by a beginning of them
-abbrev pub Appends : {F Node Number Key E : Type 0} → (Node → Tree) → List (ValidationError F Node Number Key) → List (ValidationError F Node Number Key) → List Failure → Result Unit E → Type 0
+-- the errors are the old ones followed by all these failures, or, if memory ran out, by a beginning of them
+abbrev pub Appends : {F Node Number Key E : Type 0} → (Node → Tree) → List (ValidationError F Node Number Key)
+    → List (ValidationError F Node Number Key) → List Failure → Result Unit E → Type 0
 Appends tree old new fs r = AppendsFailures (failures_of tree old) (failures_of tree new) fs r
 
 -- whether a report keeps a list of errors; otherwise it keeps the first alone
@@ -85,7 +88,8 @@ Leaves n old new fs (Err Invalid) = (new ≡ old ++ limited n fs) × Fills n fs
 Leaves n old new fs (Err (Memory e)) = AppendsBeginning old new (limited n fs)
 
 -- the failures were reported, as far as they are wanted
-pub record Reports {F Node Number Key : Type 0} (tree : Node → Tree) (old new : Report F Node Number Key) (fs : List Failure) (r : Result Unit Stop) : Type 0 where
+pub record Reports {F Node Number Key : Type 0} (tree : Node → Tree) (old new : Report F Node Number Key)
+    (fs : List Failure) (r : Result Unit Stop) : Type 0 where
   pub same : keeps_list new ≡ keeps_list old
   pub leaves : Leaves (room old) (found tree old) (found tree new) fs r
   pub less : OnOk r (room new ≡ room_behind fs (room old))
@@ -95,6 +99,8 @@ pub record CountsUpTo (old new bound : ℕ) : Type 0 where
   pub from : old ≤ new
   pub to : new ≤ old + bound
 
--- the failure of one kind at the keyword location q, where the assertion does not hold of t, whose instance location is p
+-- the failure of one kind at the keyword location q, where the assertion does not hold of t, whose instance location
+-- is p
 abbrev pub failures_unless : Bool → ErrorKind → Pointer → Tree → Pointer → List Failure
-failures_unless holds kind q t p = map (λ k. record { kind = k; instance_location = p; keyword_location = q; tree = t }) (unless holds kind)
+failures_unless holds kind q t p =
+    map (λ k. record { kind = k; instance_location = p; keyword_location = q; tree = t }) (unless holds kind)

@@ -1,19 +1,25 @@
 -- The code by which a proof tells schemas apart: each is the tree of what it has.
-use Rattle.std.specs.Prelude.{ℕ, ℤ, pos, nat_abs, ◌≡◌, refl, List, [], ◌∷◌, get_or, Bool, true, false, if◌then◌else◌, ◌⊎◌}
+use Rattle.std.specs.Prelude.{ℕ, ℤ, pos, nat_abs, ◌≡◌, refl, List, [], ◌∷◌, get_or, Bool, true, false, if◌then◌else◌}
+use Rattle.std.specs.Prelude.{◌⊎◌}
 use Rattle.std.specs.Coded.{Coded, code_by, coded_ℕ, coded_ℤ, coded_bool, coded_list, coded_option, coded×, coded⊎}
 use mathlib.Core.Path.{ap}
 use mathlib.Core.Logic.{inl, inr}
 use Rattle.serde_json.specs.Data.{Data, Items}
 use Rattle.jskw_value.specs.Pointer.{Pointer}
 use Rattle.jskw_report.specs.DataCode.{data_code, items_code}
-use Rattle.jskw_report.specs.Keyword.{by_value, as_written, MinItems, MaxItems, MinProperties, MaxProperties, Minimum, Maximum, ExclusiveMinimum, ExclusiveMaximum, Assertion, never, type_is, size, constant, among, limit, multiple_of, unique, required, at_most, Bounds, Marks, Schema, false_schema, schema_object, Keywords, no_keywords, keyword, Keyword, assertion, contains, items_list, prefix_items, items_from, additional_items, Schemas, no_schemas, schema}
+use Rattle.jskw_report.specs.Keyword.{by_value, as_written, MinItems, MaxItems, MinProperties, MaxProperties, Minimum}
+use Rattle.jskw_report.specs.Keyword.{Maximum, ExclusiveMinimum, ExclusiveMaximum, Assertion, never, type_is, size}
+use Rattle.jskw_report.specs.Keyword.{constant, among, limit, multiple_of, unique, required, at_most, Bounds, Marks}
+use Rattle.jskw_report.specs.Keyword.{Schema, false_schema, schema_object, Keywords, no_keywords, keyword, Keyword}
+use Rattle.jskw_report.specs.Keyword.{assertion, contains, items_list, prefix_items, items_from, additional_items}
+use Rattle.jskw_report.specs.Keyword.{Schemas, no_schemas, schema}
 use Rattle.jskw_report.specs.declared.error.TypeKind.{TypeKind}
 use Rattle.jskw_report.specs.LabelTree.{LabelTree, leaf, fork, label_tree_code}
 use Rattle.jskw_report.specs.contracts.error.TypeKind as type_kind
 
 -- ---- assertions
 
--- names; types, and whether integers are told by value; a value; values; or a place in the list below, and a number
+-- names; types, and whether integers go by their value; a value; values; or a place in the list below, and a number
 abbrev Asked : Type 0
 Asked = (List (List ℕ) ⊎ (TypeKind × Bool)) ⊎ ((Data ⊎ Items) ⊎ (ℕ × ℤ))
 
@@ -67,33 +73,35 @@ bounds_code =
 
 -- the code of marks
 abbrev marks_code : Coded Marks
-marks_code = code_by _ (coded× coded_bool coded_bool) (λ m. (m.hands_on, m.fused)) (λ p. record { hands_on = p.0; fused = p.1 }) (λ _. refl)
+marks_code =
+    code_by _ (coded× coded_bool coded_bool) (λ m. (m.delegates, m.fused))
+    (λ p. record { delegates = p.0; fused = p.1 }) (λ _. refl)
 
 -- what stands at a fork: a location, alone or with marks or an assertion; bounds; a boolean; or an index, with a
 -- boolean or alone
-abbrev Label : Type 0
-Label = (Pointer ⊎ ((Pointer × Marks) ⊎ (Pointer × Assertion))) ⊎ ((Bounds ⊎ Bool) ⊎ ((ℕ × Bool) ⊎ ℕ))
+abbrev SchemaLabel : Type 0
+SchemaLabel = (Pointer ⊎ ((Pointer × Marks) ⊎ (Pointer × Assertion))) ⊎ ((Bounds ⊎ Bool) ⊎ ((ℕ × Bool) ⊎ ℕ))
 
 -- its code
-abbrev label_code : Coded Label
-label_code =
+abbrev schema_label_code : Coded SchemaLabel
+schema_label_code =
     coded⊎ (coded⊎ (coded_list coded_ℕ)
     (coded⊎ (coded× (coded_list coded_ℕ) marks_code) (coded× (coded_list coded_ℕ) assertion_code)))
     (coded⊎ (coded⊎ bounds_code coded_bool) (coded⊎ (coded× coded_ℕ coded_bool) coded_ℕ))
 
 abbrev mutual
   -- the tree of the schema
-  schema_tree : Schema → LabelTree Label
+  schema_tree : Schema → LabelTree SchemaLabel
   schema_tree (false_schema q) = fork (inl (inl q)) leaf leaf
   schema_tree (schema_object q marks ks) = fork (inl (inr (inl (q, marks)))) (keywords_tree ks) leaf
 
   -- the tree of the keywords, under their locations
-  keywords_tree : Keywords → LabelTree Label
+  keywords_tree : Keywords → LabelTree SchemaLabel
   keywords_tree no_keywords = leaf
   keywords_tree (keyword q k ks) = fork (inl (inl q)) (keyword_tree k) (keywords_tree ks)
 
   -- the tree of the keyword
-  keyword_tree : Keyword → LabelTree Label
+  keyword_tree : Keyword → LabelTree SchemaLabel
   keyword_tree (assertion q a) = fork (inl (inr (inr (q, a)))) leaf leaf
   keyword_tree (contains s b) = fork (inr (inl (inl b))) (schema_tree s) leaf
   keyword_tree (items_list ss) = fork (inr (inl (inr false))) (schemas_tree ss) leaf
@@ -102,24 +110,24 @@ abbrev mutual
   keyword_tree (additional_items n s) = fork (inr (inr (inr n))) (schema_tree s) leaf
 
   -- the tree of the schemas, under empty locations
-  schemas_tree : Schemas → LabelTree Label
+  schemas_tree : Schemas → LabelTree SchemaLabel
   schemas_tree no_schemas = leaf
   schemas_tree (schema s ss) = fork (inl (inl [])) (schema_tree s) (schemas_tree ss)
 
 abbrev mutual
   -- the schema of the tree
-  schema_of : LabelTree Label → Schema
+  schema_of : LabelTree SchemaLabel → Schema
   schema_of (fork (inl (inl q)) t u) = false_schema q
   schema_of (fork (inl (inr (inl l))) t u) = schema_object l.0 l.1 (keywords_of t)
   schema_of _ = false_schema []
 
   -- the keywords of the tree
-  keywords_of : LabelTree Label → Keywords
+  keywords_of : LabelTree SchemaLabel → Keywords
   keywords_of (fork (inl (inl q)) t u) = keyword q (keyword_of t) (keywords_of u)
   keywords_of _ = no_keywords
 
   -- the keyword of the tree
-  keyword_of : LabelTree Label → Keyword
+  keyword_of : LabelTree SchemaLabel → Keyword
   keyword_of (fork (inl (inr (inr l))) t u) = assertion l.0 l.1
   keyword_of (fork (inr (inl (inl b))) t u) = contains (schema_of t) b
   keyword_of (fork (inr (inl (inr false))) t u) = items_list (schemas_of t)
@@ -129,7 +137,7 @@ abbrev mutual
   keyword_of _ = assertion [] never
 
   -- the schemas of the tree
-  schemas_of : LabelTree Label → Schemas
+  schemas_of : LabelTree SchemaLabel → Schemas
   schemas_of leaf = no_schemas
   schemas_of (fork l t u) = schema (schema_of t) (schemas_of u)
 
@@ -157,4 +165,4 @@ mutual
 
 -- the code of a schema
 abbrev pub schema_code : Coded Schema
-schema_code = code_by (LabelTree Label) (label_tree_code label_code) schema_tree schema_of schema_back
+schema_code = code_by (LabelTree SchemaLabel) (label_tree_code schema_label_code) schema_tree schema_of schema_back

@@ -6,7 +6,11 @@ use Rattle.jskw_value.specs.Pointer.{Pointer}
 use Rattle.jskw_value.specs.declared.types.JsonType.{JsonType}
 use Rattle.jskw_value.specs.declared.types.JsonType.TheVariants.{Array, Number, Object}
 use Rattle.jskw_report.specs.declared.keyword.KeywordName.{KeywordName}
-use Rattle.jskw_report.specs.declared.keyword.KeywordName.TheVariants.{TypeKeyword, MinItems, MaxItems, Items, PrefixItems, AdditionalItems, Contains, UniqueItems, Const, Enum, Minimum, Maximum, ExclusiveMinimum, ExclusiveMaximum, MultipleOf, MinProperties, MaxProperties, Required}
+use Rattle.jskw_report.specs.declared.keyword.KeywordName.TheVariants.{TypeKeyword, MinItems, MaxItems, Items}
+use Rattle.jskw_report.specs.declared.keyword.KeywordName.TheVariants.{PrefixItems, AdditionalItems, Contains}
+use Rattle.jskw_report.specs.declared.keyword.KeywordName.TheVariants.{UniqueItems, Const, Enum, Minimum, Maximum}
+use Rattle.jskw_report.specs.declared.keyword.KeywordName.TheVariants.{ExclusiveMinimum, ExclusiveMaximum, MultipleOf}
+use Rattle.jskw_report.specs.declared.keyword.KeywordName.TheVariants.{MinProperties, MaxProperties, Required}
 use Rattle.jskw_report.specs.declared.settings.Draft.{Draft}
 use Rattle.jskw_report.specs.declared.settings.Draft.TheVariants.{Draft4, Draft201909, Draft202012}
 use Rattle.jskw_report.specs.declared.settings.Vocabulary.{Vocabulary}
@@ -78,8 +82,10 @@ has_vocabulary s v = not (is_after_draft_7 s.draft) || has s.vocabularies v
 
 -- every keyword, in the order in which a schema is read
 abbrev pub keywords : List KeywordName
-keywords = TypeKeyword ∷ MinItems ∷ MaxItems ∷ Items ∷ PrefixItems ∷ AdditionalItems ∷ Contains ∷ UniqueItems ∷ Const ∷ Enum
-    ∷ Minimum ∷ Maximum ∷ ExclusiveMinimum ∷ ExclusiveMaximum ∷ MultipleOf ∷ MinProperties ∷ MaxProperties ∷ Required ∷ []
+keywords =
+    TypeKeyword ∷ MinItems ∷ MaxItems ∷ Items ∷ PrefixItems ∷ AdditionalItems ∷ Contains ∷ UniqueItems ∷ Const ∷ Enum
+    ∷ Minimum ∷ Maximum ∷ ExclusiveMinimum ∷ ExclusiveMaximum ∷ MultipleOf ∷ MinProperties ∷ MaxProperties ∷ Required
+    ∷ []
 
 -- the keyword's name
 abbrev pub name_of : KeywordName → List ℕ
@@ -124,25 +130,25 @@ vocabulary_of MaxProperties = Validation
 vocabulary_of Required = Validation
 
 -- the draft defines the keyword: every draft does, but for the first six keywords
-abbrev pub is_in : Draft → KeywordName → Bool
-is_in d PrefixItems = is_2020_12 d
-is_in d AdditionalItems = not (is_2020_12 d)
-is_in d Contains = is_after_draft_4 d
-is_in d Const = is_after_draft_4 d
-is_in d ExclusiveMinimum = is_after_draft_4 d
-is_in d ExclusiveMaximum = is_after_draft_4 d
-is_in d TypeKeyword = true
-is_in d MinItems = true
-is_in d MaxItems = true
-is_in d Items = true
-is_in d UniqueItems = true
-is_in d Enum = true
-is_in d Minimum = true
-is_in d Maximum = true
-is_in d MultipleOf = true
-is_in d MinProperties = true
-is_in d MaxProperties = true
-is_in d Required = true
+abbrev pub is_in_draft : Draft → KeywordName → Bool
+is_in_draft d PrefixItems = is_2020_12 d
+is_in_draft d AdditionalItems = not (is_2020_12 d)
+is_in_draft d Contains = is_after_draft_4 d
+is_in_draft d Const = is_after_draft_4 d
+is_in_draft d ExclusiveMinimum = is_after_draft_4 d
+is_in_draft d ExclusiveMaximum = is_after_draft_4 d
+is_in_draft d TypeKeyword = true
+is_in_draft d MinItems = true
+is_in_draft d MaxItems = true
+is_in_draft d Items = true
+is_in_draft d UniqueItems = true
+is_in_draft d Enum = true
+is_in_draft d Minimum = true
+is_in_draft d Maximum = true
+is_in_draft d MultipleOf = true
+is_in_draft d MinProperties = true
+is_in_draft d MaxProperties = true
+is_in_draft d Required = true
 
 -- the type of the instances that a keyword concerns, if it isn't all of them (Validation 6.1):
 -- numbers (Validation 6.2), arrays (Validation 6.4, Core 10.3.1), or objects (Validation 6.5)
@@ -171,5 +177,5 @@ abbrev pub is_overridden : Setting → List ℕ → Bool
 is_overridden s name = list_any (bytes_eq name) s.overridden
 
 -- the keyword is read: the draft defines it, its vocabulary is present, and its name isn't overridden
-abbrev pub stands : Setting → KeywordName → Bool
-stands s w = is_in s.draft w && has_vocabulary s (vocabulary_of w) && not (is_overridden s (name_of w))
+abbrev pub is_active : Setting → KeywordName → Bool
+is_active s w = is_in_draft s.draft w && has_vocabulary s (vocabulary_of w) && not (is_overridden s (name_of w))

@@ -1,6 +1,7 @@
 -- What a keyword reads of the members beside it (Core 10.1): bare type checks, the fused shape of an array, and a
--- `required` that is handed on.
-use Rattle.std.specs.Prelude.{ℕ, ◌==◌, nat_lt, List, [], ◌∷◌, Bool, true, false, not, ◌&&◌, ◌||◌, codes, bytes_eq, is_none, is_ok}
+-- `required` that is delegated.
+use Rattle.std.specs.Prelude.{ℕ, ◌==◌, nat_lt, List, [], ◌∷◌, Bool, true, false, not, ◌&&◌, ◌||◌, codes, bytes_eq}
+use Rattle.std.specs.Prelude.{is_none, is_ok}
 use Rattle.std.specs.List.{list_any, list_all}
 use Rattle.std.specs.Option.{option_map_or}
 use Rattle.serde_json.specs.Data.{Data, boolean, string, array, object, Members, no_members, member}
@@ -10,9 +11,9 @@ use Rattle.jskw_value.specs.Types.{type_name}
 use Rattle.jskw_value.specs.declared.types.JsonType.TheVariants.{Array, Boolean, Integer, Number, String}
 use Rattle.jskw_report.specs.declared.settings.Vocabulary.TheVariants.{Applicator}
 use Rattle.jskw_report.specs.KeywordValue.{size_value}
-use Rattle.jskw_report.specs.Setting.{Setting, has_vocabulary, is_overridden, stands, name_of, is_2020_12}
+use Rattle.jskw_report.specs.Setting.{Setting, has_vocabulary, is_overridden, is_active, name_of, is_2020_12}
 use Rattle.jskw_report.specs.declared.keyword.KeywordName.{KeywordName}
-use Rattle.jskw_report.specs.declared.keyword.KeywordName.TheVariants as word
+use Rattle.jskw_report.specs.declared.keyword.KeywordName.TheVariants as keyword_name
 
 -- ---- values
 
@@ -27,14 +28,14 @@ is_false (boolean b) = not b
 is_false _ = false
 
 -- the value is an array
-abbrev pub is_array : Data → Bool
-is_array (array ds) = true
-is_array _ = false
+abbrev pub is_array_value : Data → Bool
+is_array_value (array ds) = true
+is_array_value _ = false
 
 -- the value is an object
-abbrev pub is_object : Data → Bool
-is_object (object ms) = true
-is_object _ = false
+abbrev pub is_object_value : Data → Bool
+is_object_value (object ms) = true
+is_object_value _ = false
 
 -- the number of items of an array; nothing else has any
 abbrev pub item_count : Data → ℕ
@@ -64,13 +65,15 @@ is_inlined_type d = list_any (λ j. is_string (type_name j) d) (Number ∷ Strin
 
 -- an object of a single member: `type`, with a name that items are checked against in place
 abbrev pub is_only_type : Data → Bool
-is_only_type (object (member k d no_members)) = bytes_eq k (name_of word.TypeKeyword) && is_inlined_type d
+is_only_type (object (member k d no_members)) = bytes_eq k (name_of keyword_name.TypeKeyword) && is_inlined_type d
 is_only_type _ = false
 
 -- the schema d of `items` is checked in place: it is a `type` alone, which stands, and no array of schemas of
 -- `prefixItems` comes before it
 abbrev pub is_bare : Setting → Members → Data → Bool
-is_bare s ms d = is_only_type d && stands s word.TypeKeyword && not (is_2020_12 s.draft && member_passes is_array (name_of word.PrefixItems) ms)
+is_bare s ms d =
+    is_only_type d && is_active s keyword_name.TypeKeyword
+    && not (is_2020_12 s.draft && member_passes is_array_value (name_of keyword_name.PrefixItems) ms)
 
 -- ---- the fused shape
 
@@ -85,7 +88,7 @@ is_size d = is_ok (size_value [] d)
 
 -- the keyword is there and stands, and its value passes the test
 abbrev pub has_keyword : Setting → Members → KeywordName → (Data → Bool) → Bool
-has_keyword s ms w test = member_passes test (name_of w) ms && stands s w
+has_keyword s ms w test = member_passes test (name_of w) ms && is_active s w
 
 -- the keyword is absent, or stands and is a bound on a number of items
 abbrev pub takes_size : Setting → Members → KeywordName → Bool
@@ -93,20 +96,24 @@ takes_size s ms w = is_absent (name_of w) ms || has_keyword s ms w is_size
 
 -- the other keywords of items, none of which may be there in any draft
 abbrev pub unfused_names : List (List ℕ)
-unfused_names = name_of word.PrefixItems ∷ name_of word.AdditionalItems ∷ name_of word.Contains ∷ codes "unevaluatedItems" ∷ name_of word.UniqueItems ∷ []
+unfused_names =
+    name_of keyword_name.PrefixItems ∷ name_of keyword_name.AdditionalItems ∷ name_of keyword_name.Contains
+    ∷ codes "unevaluatedItems" ∷ name_of keyword_name.UniqueItems ∷ []
 
 -- `type`, `minItems`, `maxItems` and `items` are checked together: `type` is `array`, `items` is one schema, and there
 -- is no other keyword of items
 unfoldable pub is_fused : Setting → Members → Bool
-is_fused s ms = has_keyword s ms word.TypeKeyword (is_string (type_name Array)) && has_keyword s ms word.Items is_items_schema
-    && takes_size s ms word.MinItems && takes_size s ms word.MaxItems
+is_fused s ms =
+    has_keyword s ms keyword_name.TypeKeyword (is_string (type_name Array))
+    && has_keyword s ms keyword_name.Items is_items_schema
+    && takes_size s ms keyword_name.MinItems && takes_size s ms keyword_name.MaxItems
     && list_all (λ name. is_absent name ms) unfused_names
 
--- ---- what is handed on
+-- ---- what is delegated
 
 -- an array of so many items
 abbrev pub has_items : ℕ → Data → Bool
-has_items n d = is_array d && (item_count d == n)
+has_items n d = is_array_value d && (item_count d == n)
 
 -- an object of fewer than 15 members
 abbrev pub has_few_members : Data → Bool
@@ -115,18 +122,20 @@ has_few_members _ = false
 
 -- one name is required beside `properties`, and `additionalProperties` is `false`
 abbrev pub requires_one_of_properties : Setting → Members → Bool
-requires_one_of_properties s ms = member_passes (has_items 1) (name_of word.Required) ms && not (is_absent (codes "properties") ms)
+requires_one_of_properties s ms =
+    member_passes (has_items 1) (name_of keyword_name.Required) ms && not (is_absent (codes "properties") ms)
     && member_passes is_false (codes "additionalProperties") ms && not (is_overridden s (codes "additionalProperties"))
 
 -- two names are required beside a few `properties`, and `additionalProperties` isn't `false` and no object
 abbrev pub requires_two_of_properties : Setting → Members → Bool
-requires_two_of_properties s ms = member_passes (has_items 2) (name_of word.Required) ms
+requires_two_of_properties s ms = member_passes (has_items 2) (name_of keyword_name.Required) ms
     && member_passes has_few_members (codes "properties") ms && not (is_overridden s (codes "properties"))
-    && not (member_passes is_false (codes "additionalProperties") ms) && not (member_passes is_object (codes "additionalProperties") ms)
+    && not (member_passes is_false (codes "additionalProperties") ms)
+    && not (member_passes is_object_value (codes "additionalProperties") ms)
 
 -- `required` is left to the keywords of objects beside it, which an object layer asserts: here it asserts nothing, and
 -- its items aren't judged
 unfoldable pub is_handed_on : Setting → Members → Bool
-is_handed_on s ms = stands s word.Required && s.object_layer && has_vocabulary s Applicator
+is_handed_on s ms = is_active s keyword_name.Required && s.object_layer && has_vocabulary s Applicator
     && is_absent (codes "patternProperties") ms
     && (requires_one_of_properties s ms || requires_two_of_properties s ms)

@@ -1,7 +1,9 @@
 //! The trait of validators that give at most one error: those of the keywords without subschemas
 //! (JSON Schema Core 7.6) other than `required`, of the schema `false`, and of `additionalItems`
 //! with `false`.
-ghost use Rattle.std.specs.Prelude.{◌≡◌, IsOk, IsTrue, false};
+ghost use Rattle.std.specs.Prelude.{◌≡◌, IfOk, IsOk, IsTrue, false};
+ghost use Rattle.jskw_report.specs.Evaluation.{of_errors};
+ghost use Rattle.jskw_report.specs.EvaluationView.{result_of};
 ghost use Rattle.jskw_value.specs.Tree.{Tree, is_lawful};
 ghost use Rattle.jskw_report.specs.Errors.{kind_of};
 ghost use Rattle.jskw_report.specs.Fail.{error_kinds, keyword_fail, unless};
@@ -13,7 +15,7 @@ ghost use Rattle.jskw_report.specs.Paths.{path_of};
 
 use crate::error::{Stop, ValidationError, ValidationErrorKind};
 use crate::evaluation::EvaluationResult;
-use crate::paths::{LazyLocation, Location};
+use crate::paths::{KeywordLocation, LazyLocation};
 use crate::report::Report;
 use crate::validator::{Validate, ValidationContext, evaluate_first, report_error};
 use jskw_value::Json;
@@ -41,7 +43,7 @@ pub trait Assertion {
         ensures { kind_of result ≡ error self.now };
 
     /// Returns the keyword location of the error (JSON Schema Core 12.3.1).
-    fn location(&self) -> &Location
+    fn location(&self) -> &KeywordLocation
         ensures { result.now ≡ (asserts self.now).location };
 
     /// The law of an assertion: it has one error, of the kind `error`, if it does not hold, and
@@ -75,7 +77,7 @@ impl<F: Json, A: Assertion> Validate<F> for A {
         ctx: &mut ValidationContext,
         errors: &mut Vec<ValidationError<'i, F>>,
     ) -> Result<(), AllocError> {
-        let mut report = Report::behind(errors, None);
+        let mut report = Report::appending_to(errors, None);
         let reported = Validate::<F>::report_errors(self, instance, location, ctx, &mut report);
         report.into_list(reported, errors)
     }
@@ -85,12 +87,12 @@ impl<F: Json, A: Assertion> Validate<F> for A {
         alloc: Global,
         instance: &F::Node,
         location: &mut LazyLocation,
-        ctx: &mut ValidationContext,
+        _ctx: &mut ValidationContext,
     ) -> Result<EvaluationResult, AllocError> {
-        evaluate_first(
-            alloc,
-            Validate::<F>::validate(self, instance, location, ctx),
-        )
+        if self.holds::<F>(instance) {
+            return Ok(EvaluationResult::valid_empty(alloc));
+        }
+        evaluate_failure::<F, A>(alloc, self, instance, location)
     }
 }
 
@@ -131,4 +133,21 @@ fn report_failure<'i, F: Json, A: Assertion>(
 {
     let schema_path = assertion.location();
     report_error(assertion.kind(), schema_path, instance, location, report)
+}
+
+// Returns the unit of an assertion that does not hold of the instance.
+#[inline(never)]
+fn evaluate_failure<'i, F: Json, A: Assertion>(
+    alloc: Global,
+    assertion: &'i A,
+    instance: &'i F::Node,
+    location: &LazyLocation,
+) -> Result<EvaluationResult, AllocError>
+    ensures { let a = A.asserts assertion.now in IfOk result (λ r. result_of r
+        ≡ of_errors (failures_unless false (A.error assertion.now) a.location
+        (F.Node.tree instance.now) (path_of location.now))) }
+{
+    let mut report: Report<F> = Report::First(None);
+    let reported = report_failure(assertion, instance, location, &mut report);
+    evaluate_first(alloc, report.first_result(reported))
 }

@@ -1,5 +1,6 @@
 //! The context in which a schema is compiled.
-ghost use Rattle.std.specs.Prelude.{◌≡◌, [], IfOk, option_map, true};
+ghost use Rattle.std.specs.Prelude.{◌≡◌, ◌++◌, [], IfOk, option_map, true};
+ghost use Rattle.jskw_value.specs.Pointer.{escape, member_location};
 ghost use Rattle.serde_json.specs.Find.{get_member};
 ghost use Rattle.serde_json.specs.View.{view, members_view};
 ghost use Rattle.jskw_report.specs.Setting.{has_vocabulary, is_overridden, name_of};
@@ -8,7 +9,7 @@ ghost use Rattle.jskw_report.specs.Paths.{segment_location};
 ghost use Rattle.jskw_report.specs.Read.{keyword_location};
 
 use crate::keyword::KeywordName;
-use crate::paths::{Location, LocationSegment};
+use crate::paths::{KeywordLocation, Location, LocationSegment, name_step, step};
 use crate::settings::{Draft, Settings, Vocabulary};
 use jskw_value::Json;
 use serde_json::{Map, Value};
@@ -22,6 +23,8 @@ pub struct Context<'s, F: Json> {
     settings: &'s Settings,
     object_layer: bool,
     location: Location,
+    // the same as it is kept
+    place: KeywordLocation,
     representation: PhantomData<F>,
 }
 
@@ -34,6 +37,10 @@ impl<'s, F: Json> Model for Context<'s, F> {
       setting = with_object_layer c.object_layer c.settings.now;
       location = c.location;
     } };
+
+    ghost use Rattle.std.specs.Prelude.{◌≡◌};
+
+    ghost invariant = { λ c. c.place ≡ c.location };
 }
 
 impl<'s, F: Json> Context<'s, F> {
@@ -49,6 +56,7 @@ impl<'s, F: Json> Context<'s, F> {
             settings,
             object_layer: true,
             location: Location::new(alloc),
+            place: KeywordLocation::from(Location::new(alloc)),
             representation: PhantomData,
         }
     }
@@ -56,7 +64,7 @@ impl<'s, F: Json> Context<'s, F> {
     /// Returns the context with an object layer, or without one.
     ///
     /// An object layer is other code that asserts the keywords of objects, such as `properties`.
-    /// With one, a `required` beside certain keywords of objects is handed on to it: no validator
+    /// With one, a `required` beside certain keywords of objects is delegated to it: no validator
     /// is made of it (`jskw_leaf::required::is_handed_on` has the rule). Without one, this library
     /// asserts every active `required`.
     #[must_use]
@@ -105,20 +113,49 @@ impl<'s, F: Json> Context<'s, F> {
           location = segment_location self.now.location segment.entry;
         }) }
     {
-        Ok(self.at(self.location.join(alloc, segment)?))
+        self.below(alloc, step(alloc, segment)?.as_str())
     }
 
-    /// Returns the context of a schema at this keyword location, with the same settings and object
-    /// layer.
-    pub fn at(&self, location: Location) -> Context<'s, F>
-        ensures { result ≡ record { setting = self.now.setting; location = location } }
+    /// Returns the context of the value of `keyword`, with the same settings and object layer.
+    pub fn new_at_keyword(
+        &self,
+        alloc: Global,
+        keyword: KeywordName,
+    ) -> Result<Context<'s, F>, AllocError>
+        ensures { IfOk result (λ c. c ≡ record {
+          setting = self.now.setting;
+          location = keyword_location self.now.location keyword;
+        }) }
     {
-        Context {
+        self.below(alloc, name_step(alloc, keyword.as_str())?.as_str())
+    }
+
+    // Returns the context that a step leads to.
+    fn below(&self, alloc: Global, step: &str) -> Result<Context<'s, F>, AllocError>
+        ensures { IfOk result (λ c. c ≡ record {
+          setting = self.now.setting;
+          location = self.now.location ++ step.now;
+        }) }
+    {
+        let location = self.location.join_text(alloc, step)?;
+        let place = match self.place.below(&self.location, step)? {
+            Some(place) => place,
+            None => KeywordLocation::from(location.copy()?),
+        };
+        Ok(Context {
             settings: self.settings,
             object_layer: self.object_layer,
             location,
+            place,
             representation: PhantomData,
-        }
+        })
+    }
+
+    /// Returns the keyword location as a compiled schema keeps it.
+    pub fn place(&self) -> &KeywordLocation
+        ensures { result.now ≡ self.now.location }
+    {
+        &self.place
     }
 
     /// Returns the keyword location of `keyword` in the schema that is compiled here: the location
@@ -127,11 +164,32 @@ impl<'s, F: Json> Context<'s, F> {
         &self,
         alloc: Global,
         keyword: KeywordName,
-    ) -> Result<Location, AllocError>
+    ) -> Result<KeywordLocation, AllocError>
         ensures { IfOk result (λ location. location
             ≡ keyword_location self.now.location keyword) }
     {
-        self.location.join_name(alloc, keyword.as_str())
+        self.member_location(alloc, keyword.as_str())
+    }
+
+    /// Returns the keyword location of the member `name` of the schema that is compiled here. The
+    /// name must have neither `~` nor `/` in it.
+    pub fn member_location(&self, alloc: Global, name: &str) -> Result<KeywordLocation, AllocError>
+        requires { escape name.now ≡ name.now }
+        ensures { IfOk result (λ location. location
+            ≡ member_location self.now.location name.now) }
+    {
+        if KeywordLocation::is_whole(&self.location, name) {
+            let location = self.location.join_name(alloc, name)?;
+            return Ok(KeywordLocation::from(location));
+        }
+        let step = name_step(alloc, name)?;
+        match self.place.below(&self.location, step.as_str())? {
+            Some(place) => Ok(place),
+            None => {
+                let location = self.location.join_name(alloc, name)?;
+                Ok(KeywordLocation::from(location))
+            }
+        }
     }
 
     /// Returns whether the vocabulary is present: always in Drafts 4, 6 and 7, otherwise if the

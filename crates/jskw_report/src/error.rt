@@ -1,5 +1,5 @@
 //! The errors of an instance, and those of a schema that does not compile.
-ghost use Rattle.std.specs.Prelude.{◌≡◌, [], alloc_error};
+ghost use Rattle.std.specs.Prelude.{◌≡◌, [], IfOk, alloc_error};
 ghost use Rattle.jskw_report.specs.Kind.{keyword_of, Single, Multiple, WrongType};
 ghost use Rattle.jskw_report.specs.KeywordValue.{not_whole};
 ghost use Rattle.serde_json.specs.View.{view};
@@ -10,7 +10,7 @@ ghost use Rattle.jskw_report.specs.declared.error.CompileFault.TheVariants as co
 ghost use Rattle.jskw_report.specs.declared.error.Fault.TheVariants as fault;
 ghost use Rattle.jskw_report.specs.declared.error.Stop.TheVariants as stop;
 
-use crate::paths::Location;
+use crate::paths::{KeywordLocation, Location};
 use jskw_value::types::{JsonType, JsonTypeSet};
 use jskw_value::{Json, SerdeJson};
 use serde_json::Value;
@@ -142,7 +142,7 @@ impl<'i> ValidationErrorKind<'i> {
 }
 
 /// A keyword location: borrowed from a validator, or owned by a compile error.
-#[derive(Drop)]
+#[derive(Debug, Drop)]
 enum SchemaPath<'i> {
     Lent(&'i Location),
     Owned(Location),
@@ -155,10 +155,12 @@ enum SchemaPath<'i> {
 /// the value at fault from the schema and owns its keyword location; its instance location is the
 /// empty pointer.
 #[derive(Drop)]
+#[derive_where(Debug)]
 pub struct ValidationError<'i, F: Json> {
     kind: ValidationErrorKind<'i>,
     instance_path: Location,
     schema_path: SchemaPath<'i>,
+    #[derive_where(skip)]
     instance: &'i F::Node,
 }
 
@@ -183,6 +185,34 @@ impl<'i, F: Json> ValidationError<'i, F> {
             schema_path: SchemaPath::Lent(schema_path),
             instance,
         }
+    }
+
+    /// Creates the error of an instance for the keyword location of a validator. Fails only if
+    /// memory runs out.
+    pub fn at_keyword(
+        alloc: Global,
+        kind: ValidationErrorKind<'i>,
+        instance_path: Location,
+        schema_path: &'i KeywordLocation,
+        instance: &'i F::Node,
+    ) -> Result<ValidationError<'i, F>, AllocError>
+        ensures { IfOk result (λ error. failure_of F.Node.tree error ≡ record {
+          kind = kind_of kind.entry;
+          instance_location = instance_path;
+          keyword_location = schema_path.now;
+          tree = F.Node.tree instance.now;
+        }) }
+    {
+        let schema_path = match schema_path.whole() {
+            Some(whole) => SchemaPath::Lent(whole),
+            None => SchemaPath::Owned(schema_path.to_location(alloc)?),
+        };
+        Ok(ValidationError {
+            kind,
+            instance_path,
+            schema_path,
+            instance,
+        })
     }
 
     /// Returns what the error is about, with what the keyword expected.
@@ -254,6 +284,7 @@ impl<'a> ValidationError<'a, SerdeJson> {
 
 /// Why [`validate`](crate::Validate::validate) did not return `Ok`.
 #[derive(Drop)]
+#[derive_where(Debug)]
 pub enum Fault<'i, F: Json> {
     /// The instance is invalid, and this is the first error.
     Invalid(ValidationError<'i, F>),
@@ -271,7 +302,7 @@ pub enum Stop {
 }
 
 /// Why a schema or a keyword was not compiled.
-#[derive(Drop)]
+#[derive(Debug, Drop)]
 pub enum CompileFault<'a> {
     /// The schema or a subschema is neither a boolean nor an object, or has a value that its
     /// keyword does not accept. This is the error of the first such value.
@@ -282,12 +313,12 @@ pub enum CompileFault<'a> {
 
 impl<'a> CompileFault<'a> {
     /// Returns the fault for a value of a schema that its keyword does not accept: `Bad` with an
-    /// error of the kind at the keyword location, or `Memory` if memory runs out when the location
-    /// is copied.
+    /// error of the kind at the keyword location, or `Memory` if memory runs out when the text of
+    /// the location is made.
     pub fn wrong(
         alloc: Global,
         kind: ValidationErrorKind<'a>,
-        location: &Location,
+        location: &KeywordLocation,
         value: &'a Value,
     ) -> CompileFault<'a>
         ensures { Refuses result (record {
@@ -296,7 +327,7 @@ impl<'a> CompileFault<'a> {
           value = view value.now;
         }) }
     {
-        match location.copy(alloc) {
+        match location.to_location(alloc) {
             Ok(location) => {
                 CompileFault::Bad(ValidationError::refused(alloc, kind, location, value))
             }

@@ -1,7 +1,7 @@
 //! The keywords by name, and which of them are active under given settings.
 ghost use Rattle.std.specs.Prelude.{◌≡◌};
-ghost use Rattle.jskw_report.specs.Overridden.{place_of};
-ghost use Rattle.jskw_report.specs.Setting.{is_in, name_of, stands, vocabulary_of};
+ghost use Rattle.jskw_report.specs.Overridden.{keyword_index};
+ghost use Rattle.jskw_report.specs.Setting.{is_in_draft, name_of, is_active, vocabulary_of};
 
 use crate::context::Context;
 use crate::settings::{Draft, Vocabulary};
@@ -107,34 +107,25 @@ impl KeywordName {
     /// Returns whether the keyword is active: the draft of `ctx` defines it, its vocabulary is
     /// present (JSON Schema Core 8.1.2), and its name is not overridden.
     ///
-    /// A keyword that is not active asserts nothing, and its value is not checked. Other keywords
-    /// still read the value of such a name:
-    ///
-    /// - `items` reads `prefixItems` (in 2020-12), to know the index where it starts.
-    /// - `additionalItems` reads `items`, for the same reason.
-    /// - `contains` reads `minContains` and `maxContains` (from 2019-09 on, if the validation
-    ///   vocabulary is present). An overridden `minContains` still bounds `contains`, and is still
-    ///   refused if it is malformed.
-    /// - In Draft 4, `minimum` reads `exclusiveMinimum` and `maximum` reads `exclusiveMaximum`.
-    /// - `required` reads `properties`, `patternProperties` and `additionalProperties`, to know
-    ///   whether it is handed on to an object layer (see
-    ///   [`with_object_layer`](Context::with_object_layer)).
-    pub fn stands<F: Json>(self, ctx: &Context<'_, F>) -> bool
-        ensures { result ≡ stands ctx.now.setting self }
+    /// A keyword that is not active asserts nothing, and its value is not checked. Keywords beside
+    /// it still read its value: an overridden `minContains` still bounds `contains`. The repository's
+    /// docs/USE.md lists which keyword reads what, under "Settings".
+    pub fn is_active<F: Json>(self, ctx: &Context<'_, F>) -> bool
+        ensures { result ≡ is_active ctx.now.setting self }
     {
         self.is_in(ctx.draft()) && ctx.has_vocabulary(self.vocabulary()) && !ctx.overrides(self)
     }
 
     // The place of the keyword in `ALL`, counted from 0.
-    pub(crate) fn place(self) -> usize
-        ensures { result ≡ place_of self }
+    pub(crate) fn index(self) -> usize
+        ensures { result ≡ keyword_index self }
     {
         self as usize
     }
 
     // Returns whether the draft has the keyword.
     fn is_in(self, draft: Draft) -> bool
-        ensures { result ≡ is_in draft self }
+        ensures { result ≡ is_in_draft draft self }
     {
         match self {
             KeywordName::PrefixItems => draft == Draft::Draft202012,

@@ -1,5 +1,6 @@
-//! The parts that all keyword validators share: settings, errors, evaluations, and the traits
-//! [`Validate`] and [`Assertion`].
+//! The core of the library: the definitions of what a schema says and of what it says of an instance
+//! (`specs/`), their laws, and what all keyword validators share: settings, locations, errors,
+//! evaluations, and the traits [`Validate`] and [`Assertion`].
 //!
 //! The prefix `jskw` is short for "JSON Schema keywords". This crate covers the keywords on values
 //! and arrays of Drafts 4, 6, 7, 2019-09 and 2020-12, which [`KeywordName`] lists.
@@ -22,7 +23,7 @@
 //! # Words and sections
 //!
 //! `docs/GLOSSARY.md` explains the words that this project uses in a sense of its own, such as
-//! lawful, unit and handed on.
+//! lawful, unit and delegated.
 //!
 //! Section numbers are those of JSON Schema Core and JSON Schema Validation, Draft 2020-12, unless
 //! another draft is named.
@@ -48,7 +49,7 @@ pub use error::{
 };
 pub use evaluation::{Annotations, ErrorDescription, EvaluationNode, EvaluationResult};
 pub use keyword::KeywordName;
-pub use paths::{LazyLocation, Location, LocationSegment};
+pub use paths::{KeywordLocation, LazyLocation, Location, LocationSegment};
 pub use report::{ErrorList, Report};
 pub use settings::{Draft, Settings, Vocabulary, VocabularySet};
 pub use validator::{Validate, ValidationContext};

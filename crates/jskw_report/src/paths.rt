@@ -1,12 +1,19 @@
 //! Locations in schemas and instances: JSON pointers (RFC 6901).
 ghost use Rattle.std.specs.Prelude.{◌≡◌, ◌-◌, List, ℕ, [], ◌∷◌, ◌++◌, IfOk, OnOk, OnErr, length};
 ghost use Rattle.std.specs.Prelude.{take, string_bytes};
-ghost use Rattle.jskw_value.specs.Pointer.{escape, member_location};
-ghost use Rattle.jskw_report.specs.Paths.{segment_location, path_of};
+ghost use Rattle.jskw_value.specs.Pointer.{escape, member_location, name_token};
+ghost use Rattle.jskw_report.specs.LocationText.{written};
+ghost use Rattle.jskw_report.specs.Paths.{segment_location, segment_token, path_of};
 
-use jskw_value::pointer::{push_index, push_name};
+mod keyword_location;
+mod short_text;
+mod text;
+
+use jskw_value::pointer::push_name;
+pub use keyword_location::KeywordLocation;
 use std::alloc::{AllocError, Global};
 use std::marker::Model;
+use text::{LocationText, Writing};
 
 /// One step of a location: into a member of an object by its name, or into an item of an array by
 /// its index.
@@ -20,18 +27,20 @@ pub enum LocationSegment<'s> {
 
 /// A location in a JSON value, as a JSON pointer (RFC 6901). The empty text is the location of the
 /// whole value. Two locations are equal if their texts are.
+///
+/// A text of up to 23 bytes takes no memory of its own; copies share a longer one.
 #[derive(Debug, Drop)]
 pub struct Location {
-    text: String,
+    text: LocationText,
 }
 
 impl Model for Location {
-    ghost use Rattle.std.specs.Prelude.{string_bytes};
     ghost use Rattle.jskw_value.specs.Pointer.{Pointer};
+    ghost use Rattle.jskw_report.specs.LocationText.{text_bytes};
 
     ghost Value = { Pointer };
 
-    ghost view = { λ l. string_bytes l.text };
+    ghost view = { λ l. text_bytes l.text };
 }
 
 impl Location {
@@ -39,8 +48,9 @@ impl Location {
     pub fn new(alloc: Global) -> Location
         ensures { result ≡ [] }
     {
+        let _ = alloc;
         Location {
-            text: String::new(alloc),
+            text: LocationText::empty(),
         }
     }
 
@@ -57,46 +67,36 @@ impl Location {
     pub fn join(&self, alloc: Global, segment: LocationSegment) -> Result<Location, AllocError>
         ensures { IfOk result (λ l. l ≡ segment_location self.now segment.entry) }
     {
-        // with room for the segment, so that the text seldom grows
-        let room = self.text.len().saturating_add(room_for(segment));
-        let mut text = String::with_capacity(alloc, room)?;
-        text.push_str(self.text.as_str())?;
-        match segment {
-            LocationSegment::Name(name) => push_name(&mut text, name)?,
-            LocationSegment::Index(index) => push_index(&mut text, index)?,
-        }
-        Ok(Location { text })
+        self.join_text(alloc, step(alloc, segment)?.as_str())
     }
 
-    // Returns the location of the member of this name, in which nothing is to be escaped. The text has
-    // just this size.
+    // Returns the location that a step leads to: the text of this one, and that of the step.
+    pub(crate) fn join_text(&self, alloc: Global, step: &str) -> Result<Location, AllocError>
+        ensures { IfOk result (λ l. l ≡ self.now ++ step.now) }
+    {
+        joined(alloc, self.as_str(), step)
+    }
+
+    // Returns the location of the member of this name, in which nothing is to be escaped.
     pub(crate) fn join_name(&self, alloc: Global, name: &str) -> Result<Location, AllocError>
         requires { escape name.now ≡ name.now }
         ensures { IfOk result (λ l. l ≡ member_location self.now name.now) }
     {
-        let size = self.text.len().saturating_add(name.len());
-        let mut text = String::with_capacity(alloc, size.saturating_add(1))?;
-        text.push_str(self.text.as_str())?;
-        text.push_str("/")?;
-        text.push_str(name)?;
-        Ok(Location { text })
+        let mut text = Writing::begin(alloc, self.as_str())?;
+        text.push(alloc, "/")?;
+        text.push(alloc, name)?;
+        Ok(Location {
+            text: text.finish()?,
+        })
     }
 
-    /// Returns a copy of the location.
-    pub fn copy(&self, alloc: Global) -> Result<Location, AllocError>
+    /// Returns a copy of the location, which shares its text if that is long.
+    pub fn copy(&self) -> Result<Location, AllocError>
         ensures { IfOk result (λ l. l ≡ self.now) }
     {
         Ok(Location {
-            text: String::from_str(alloc, self.text.as_str())?,
+            text: self.text.copy()?,
         })
-    }
-}
-
-// The bytes of the segment in a pointer, if it is a short index or a name without escapes.
-fn room_for(segment: LocationSegment) -> usize {
-    match segment {
-        LocationSegment::Name(name) => name.len().saturating_add(1),
-        LocationSegment::Index(_) => 7,
     }
 }
 
@@ -110,7 +110,7 @@ impl PartialEq for Location {
     ghost laws = { Prim.search (comparing, rules) };
 
     fn eq(&self, other: &Location) -> bool {
-        self.text.as_str() == other.text.as_str()
+        self.as_str() == other.as_str()
     }
 }
 
@@ -170,10 +170,57 @@ impl LazyLocation {
     pub fn render(&self) -> Result<Location, AllocError>
         ensures { IfOk result (λ l. l ≡ path_of self.now) }
     {
-        let mut text = String::new(*self.indices.allocator());
+        let alloc = self.alloc();
+        let mut text = Writing::begin(alloc, "")?;
         for index in &self.indices {
-            push_index(&mut text, *index)?;
+            text.push_index(alloc, *index)?;
         }
-        Ok(Location { text })
+        Ok(Location {
+            text: text.finish()?,
+        })
     }
+
+    // Returns the allocator.
+    pub(crate) fn alloc(&self) -> Global {
+        *self.indices.allocator()
+    }
+}
+
+// Returns the location whose text is that of the two.
+fn joined(alloc: Global, above: &str, rest: &str) -> Result<Location, AllocError>
+    ensures { IfOk result (λ l. l ≡ above.now ++ rest.now) }
+{
+    let mut text = Writing::begin(alloc, above)?;
+    text.push(alloc, rest)?;
+    Ok(Location {
+        text: text.finish()?,
+    })
+}
+
+// Returns the text of a step: a slash, and the name, escaped, or the index (RFC 6901, section 3).
+pub(crate) fn step(alloc: Global, segment: LocationSegment) -> Result<Writing, AllocError>
+    ensures { IfOk result (λ w. written w ≡ segment_token segment.entry) }
+{
+    match segment {
+        LocationSegment::Name(name) => {
+            let mut token = String::new(alloc);
+            push_name(&mut token, name)?;
+            Ok(Writing::Long(token))
+        }
+        LocationSegment::Index(index) => {
+            let mut token = Writing::begin(alloc, "")?;
+            token.push_index(alloc, index)?;
+            Ok(token)
+        }
+    }
+}
+
+// Returns the text of the step into the member of this name, in which nothing is to be escaped.
+pub(crate) fn name_step(alloc: Global, name: &str) -> Result<Writing, AllocError>
+    requires { escape name.now ≡ name.now }
+    ensures { IfOk result (λ w. written w ≡ name_token name.now) }
+{
+    let mut token = Writing::begin(alloc, "/")?;
+    token.push(alloc, name)?;
+    Ok(token)
 }

@@ -52,7 +52,10 @@ impl<'i, F: Json> Report<'i, F> {
 
     /// Takes the errors out of a list, to report others behind them: at most `room`, or all if it is
     /// `None`.
-    pub fn behind(errors: &mut Vec<ValidationError<'i, F>>, room: Option<usize>) -> Report<'i, F>
+    pub fn appending_to(
+        errors: &mut Vec<ValidationError<'i, F>>,
+        room: Option<usize>,
+    ) -> Report<'i, F>
         ensures list { keeps_list result ≡ true }
         ensures room { room_of result ≡ room }
         ensures found { found F.Node.tree result ≡ failures_of F.Node.tree errors.old.items }
@@ -63,7 +66,7 @@ impl<'i, F: Json> Report<'i, F> {
     }
 
     /// Returns the result of `validate` for that of `report_errors`. The report must not be a list.
-    pub fn into_first(self, reported: Result<(), Stop>) -> Result<(), Fault<'i, F>>
+    pub fn first_result(self, reported: Result<(), Stop>) -> Result<(), Fault<'i, F>>
         requires { keeps_list self ≡ false }
         ensures first { (fs : List Failure) → Reports F.Node.tree (First None) self.entry fs reported
             → IsFirst F.Node.tree fs result }
@@ -79,7 +82,7 @@ impl<'i, F: Json> Report<'i, F> {
         }
     }
 
-    /// Puts the errors into the list from which [`behind`](Report::behind) took them, and returns the
+    /// Puts the errors into the list from which [`behind`](Report::appending_to) took them, and returns the
     /// result of `collect_errors` for that of `report_errors`. The report must be a list.
     pub fn into_list(
         self,

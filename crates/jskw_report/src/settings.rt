@@ -99,7 +99,7 @@ impl VocabularySet {
 /// The settings of a compile: the draft, the vocabularies, and the names of the overridden
 /// keywords, which this library does not assert, so that a caller can assert them in another way.
 /// Other keywords still read the values of overridden ones: see
-/// [`KeywordName::stands`](crate::KeywordName::stands).
+/// [`KeywordName::is_active`](crate::KeywordName::is_active).
 #[derive(Debug, Drop)]
 pub struct Settings {
     draft: Draft,
@@ -129,7 +129,7 @@ impl Model for Settings {
 impl Settings {
     /// Creates the settings from these three parts. An overridden name may be any text, and may be
     /// there twice. Takes time in proportion to the number of names;
-    /// [`KeywordName::stands`](crate::KeywordName::stands) then takes the same time for any number.
+    /// [`KeywordName::is_active`](crate::KeywordName::is_active) then takes the same time for any number.
     pub fn new(draft: Draft, vocabularies: VocabularySet, overridden: Vec<String>) -> Settings
         ensures { result ≡ record {
           draft = draft;
@@ -178,7 +178,7 @@ impl Settings {
     pub fn overrides(&self, keyword: KeywordName) -> bool
         ensures { result ≡ is_overridden self.now (name_of keyword) }
     {
-        self.marks[keyword.place()]
+        self.marks[keyword.index()]
     }
 }
 

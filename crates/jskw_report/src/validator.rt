@@ -16,7 +16,7 @@ ghost use Rattle.jskw_report.specs.Paths.{path_of};
 
 use crate::error::{Fault, Stop, ValidationError, ValidationErrorKind};
 use crate::evaluation::{ErrorDescription, EvaluationResult};
-use crate::paths::{LazyLocation, Location};
+use crate::paths::{KeywordLocation, LazyLocation};
 use crate::report::Report;
 use jskw_value::Json;
 use std::alloc::{AllocError, Global};
@@ -52,7 +52,7 @@ impl ValidationContext {
         self.applications = self.applications.saturating_add(1);
     }
 
-    /// Counts so many applications more. The count stops at 2^64-1.
+    /// Counts `number` more applications. The count stops at 2^64-1.
     pub fn count_more(&mut self, number: usize)
         ensures applied { min (self.old + number) u64.MAX ≤ self.new }
         ensures counted { CountsUpTo self.old self.new number }
@@ -144,7 +144,7 @@ pub trait Validate<F: Json> {
     {
         let mut report = Report::First(None);
         let reported = self.report_errors(instance, location, ctx, &mut report);
-        report.into_first(reported)
+        report.first_result(reported)
     }
 
     /// Appends all errors of the instance to `errors`, in order. If memory runs out, `errors` keeps
@@ -168,7 +168,7 @@ pub trait Validate<F: Json> {
         ensures counted { CountsUpTo ctx.old ctx.new
             (meaning_pairs (meaning self.now) (F.Node.tree instance.now)) }
     {
-        let mut report = Report::behind(errors, None);
+        let mut report = Report::appending_to(errors, None);
         let reported = self.report_errors(instance, location, ctx, &mut report);
         report.into_list(reported, errors)
     }
@@ -201,7 +201,7 @@ pub trait Validate<F: Json> {
 /// - [`Stop::Memory`] if memory runs out. The report is unchanged then.
 pub fn report_error<'i, F: Json>(
     kind: ValidationErrorKind<'i>,
-    schema_path: &'i Location,
+    schema_path: &'i KeywordLocation,
     instance: &'i F::Node,
     location: &LazyLocation,
     report: &mut Report<'i, F>,
@@ -210,7 +210,8 @@ pub fn report_error<'i, F: Json>(
         schema_path.now (F.Node.tree instance.now) (path_of location.now)) result }
 {
     let instance_path = location.render()?;
-    report.add(ValidationError::new(kind, instance_path, schema_path, instance))
+    let alloc = location.alloc();
+    report.add(ValidationError::at_keyword(alloc, kind, instance_path, schema_path, instance)?)
 }
 
 /// Returns the unit for the result of `validate`. This is `evaluate` for a validator that gives at

@@ -126,7 +126,7 @@ fn keywords_of<'s>(alloc: Global, settings: &Settings, schema: &'s Value) -> Opt
     let ctx: Context<SerdeJson> = Context::new(alloc, settings);
     let is_alone = KeywordName::ALL.iter().all(|k| is_leaf(*k)
         || !parent.contains_key(k.as_str())
-        || !k.stands(&ctx));
+        || !k.is_active(&ctx));
     if is_alone { Some(parent) } else { None }
 }
 

@@ -65,8 +65,9 @@ fn compile_leaves<'a, F: Json>(
 ) -> CompilationResult<'a, ()> {
     for keyword in KeywordName::ALL {
         match parent.get(keyword.as_str()) {
-            Some(schema) if is_leaf(keyword) && keyword.stands(ctx) => {
-                let location = ctx.keyword_location(alloc, keyword);
+            Some(schema) if is_leaf(keyword) && keyword.is_active(ctx) => {
+                let name = LocationSegment::Name(keyword.as_str());
+                let location = ctx.location().join(alloc, name);
                 let compiled = jskw_leaf::compile(alloc, ctx, parent, keyword, schema);
                 push_compiled_leaf(location, compiled, leaves)?;
             }

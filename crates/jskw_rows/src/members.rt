@@ -1,5 +1,5 @@
 //! The members of the objects that rows are made of, and the settings that they say. What is missing,
-//! or of another kind, is told to the tally, and read as if it were empty.
+//! or of another kind, is reported to the tally, and read as if it were empty.
 use crate::tally::Tally;
 use crate::text::{Made, Text};
 use jskw_report::Settings;

@@ -232,7 +232,7 @@ fn members_of(alloc: Global, names: &[Value]) -> Made<Members> {
     let mut members = Members::new(alloc);
     for (place, name) in names.iter().enumerate() {
         let name = String::from_str(alloc, name.as_str().unwrap_or(""))?;
-        // the members are printed, so that it shows if one is not there for want of memory
+        // the members are printed, so that it shows if one is not there because memory ran out
         let _ = members.insert(name, DecimalTree::Number(Decimal::from(place as u64)));
     }
     Ok(members)

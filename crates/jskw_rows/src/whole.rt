@@ -32,8 +32,8 @@ fn push_node<'r, F: Json>(
 ) {
     let agrees = node.array_shape().is_some() == lines.text.as_str().starts_with("fused");
     lines.text.push_if(!agrees, "another array_shape\n");
-    let hands_on = node.hands_on_required();
-    lines.text.push_if(hands_on, "hands on required\n");
+    let delegates = node.hands_on_required();
+    lines.text.push_if(delegates, "hands on required\n");
     if !instance.is_lawful() {
         return push_float(lines, instance);
     }

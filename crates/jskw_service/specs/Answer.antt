@@ -37,7 +37,9 @@ answer_to s d = judged (Ok s) (first_float (tree_of d)) (tree_of d)
 -- the schema first, which is read without an object layer, then the floats of the instance, then its errors
 abbrev pub answer : Option Request → Answer
 answer None = no_request
-answer (Some r) = judged (read r.schema (with_object_layer false r.setting) []) (first_float (tree_of r.instance)) (tree_of r.instance)
+answer (Some r) =
+    judged (read r.schema (with_object_layer false r.setting) []) (first_float (tree_of r.instance))
+    (tree_of r.instance)
 
 abbrev pub verdict_of : Answer → Verdict
 verdict_of (errors []) = Valid

@@ -1,5 +1,6 @@
 -- What the input asks for: a schema, an instance, and a setting.
-use Rattle.std.specs.Prelude.{ℕ, List, [], ◌∷◌, true, codes, bytes_eq, Option, Some, None, if◌then◌else◌, option_and_then, option_map}
+use Rattle.std.specs.Prelude.{ℕ, List, [], ◌∷◌, true, codes, bytes_eq, Option, Some, None, if◌then◌else◌}
+use Rattle.std.specs.Prelude.{option_and_then, option_map}
 use Rattle.std.specs.Str.{is_utf8}
 use Rattle.serde_json.specs.Data.{Data, string, array, object, Items, no_items, item, Members}
 use Rattle.serde_json.specs.Find.{get_member}
@@ -38,14 +39,15 @@ vocabulary_named s =
     else (if bytes_eq s (codes "validation") then Some Validation
     else None))
 
-abbrev pub vocabulary_of : Data → Option Vocabulary
-vocabulary_of (string s) = vocabulary_named s
-vocabulary_of d = None
+abbrev pub vocabulary_from : Data → Option Vocabulary
+vocabulary_from (string s) = vocabulary_named s
+vocabulary_from d = None
 
 -- each item names a vocabulary
 abbrev pub vocabulary_set : Items → Option VocabularySet
 vocabulary_set no_items = Some no_vocabulary
-vocabulary_set (item d ds) = option_and_then (λ v. option_map (with_vocabulary v) (vocabulary_set ds)) (vocabulary_of d)
+vocabulary_set (item d ds) =
+    option_and_then (λ v. option_map (with_vocabulary v) (vocabulary_set ds)) (vocabulary_from d)
 
 -- all three where nothing is said
 abbrev pub vocabularies_of : Option Data → Option VocabularySet
@@ -69,19 +71,24 @@ overridden_of (Some (array ds)) = texts_of ds
 overridden_of (Some d) = None
 
 abbrev pub setting_from : Option Draft → Option VocabularySet → Option (List (List ℕ)) → Option Setting
-setting_from (Some d) (Some v) (Some names) = Some (record { draft = d; vocabularies = v; overridden = names; object_layer = true })
+setting_from (Some d) (Some v) (Some names) =
+    Some (record { draft = d; vocabularies = v; overridden = names; object_layer = true })
 setting_from _ _ _ = None
 
 abbrev pub setting_of : Members → Option Setting
-setting_of ms = setting_from (draft_of (get_member (codes "draft") ms)) (vocabularies_of (get_member (codes "vocabularies") ms)) (overridden_of (get_member (codes "overridden") ms))
+setting_of ms =
+    setting_from (draft_of (get_member (codes "draft") ms)) (vocabularies_of (get_member (codes "vocabularies") ms))
+    (overridden_of (get_member (codes "overridden") ms))
 
 abbrev pub request_from : Option Data → Option Data → Option Setting → Option Request
 request_from (Some s) (Some i) (Some setting) = Some (record { schema = s; instance = i; setting = setting })
 request_from _ _ _ = None
 
--- an object with the members `schema` and `instance`; `draft`, `vocabularies` and `overridden` may be there, other members say nothing
+-- an object with the members `schema` and `instance`; `draft`, `vocabularies` and `overridden` may be there, other
+-- members say nothing
 abbrev pub request_of : Data → Option Request
-request_of (object ms) = request_from (get_member (codes "schema") ms) (get_member (codes "instance") ms) (setting_of ms)
+request_of (object ms) =
+    request_from (get_member (codes "schema") ms) (get_member (codes "instance") ms) (setting_of ms)
 request_of d = None
 
 -- what `serde_json` reads of bytes, which may be no text

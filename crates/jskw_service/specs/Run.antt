@@ -30,7 +30,7 @@ pub record Writes (said : Verdict) (before after old new : Option (List ℕ)) : 
   pub wrote : Appends old new text
 
 -- a beginning of an output is written
-pub record Begins (before after old new : Option (List ℕ)) : Type 0 where
+pub record WritesBeginning (before after old new : Option (List ℕ)) : Type 0 where
   pub said : Verdict
   pub text : List ℕ
   pub output : IsOutput said text before after

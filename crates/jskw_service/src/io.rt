@@ -1,5 +1,5 @@
 //! Reads all bytes of a source, and writes all of some bytes to a sink.
-ghost use Rattle.std.specs.Prelude.{◌≡◌, ℕ, ◌||◌, false, true, length, take, is_err, OnOk, OnErr};
+ghost use Rattle.std.specs.Prelude.{◌≡◌, ℕ, false, true, take, is_err, OnOk, OnErr};
 ghost use Rattle.std.specs.Prelude.{IfOk, IsErrOf};
 ghost use Rattle.std.specs.Io.KnownBytes.{Consumes, Appends, IsAtEnd};
 ghost use Rattle.jskw_service.specs.declared.io.ReadFault.TheVariants.{Memory, Device};

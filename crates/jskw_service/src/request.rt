@@ -3,7 +3,7 @@ ghost use Rattle.std.specs.Prelude.{◌≡◌, IfOk, option_map, map, string_byt
 ghost use Rattle.serde_json.specs.View.{view, items_view, members_view};
 ghost use Rattle.jskw_service.specs.Request.{draft_of, draft_named, overridden_of, request_of, setting_of};
 ghost use Rattle.jskw_service.specs.Request.{text_of, texts_of, vocabularies_of, vocabulary_named};
-ghost use Rattle.jskw_service.specs.Request.{vocabulary_of, vocabulary_set};
+ghost use Rattle.jskw_service.specs.Request.{vocabulary_from, vocabulary_set};
 ghost use Rattle.jskw_service.specs.RequestView.{request_view};
 
 use jskw_report::context::member_of;
@@ -113,7 +113,7 @@ fn vocabulary_set(items: &[Value]) -> Option<VocabularySet>
 
 // Returns the vocabulary that the item names.
 fn vocabulary_of(item: &Value) -> Option<Vocabulary>
-    ensures { result ≡ vocabulary_of (view item.now) }
+    ensures { result ≡ vocabulary_from (view item.now) }
 {
     match item {
         Value::String(name) => vocabulary_named(name.as_str()),

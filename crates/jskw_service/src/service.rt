@@ -10,7 +10,7 @@ ghost use Rattle.jskw_service.specs.Answer.{output_of, verdict, verdict_of};
 ghost use Rattle.jskw_service.specs.Request.{value_of};
 ghost use Rattle.jskw_service.specs.RequestView.{request_view};
 ghost use Rattle.jskw_service.specs.Reply.{text_in, verdict_in};
-ghost use Rattle.jskw_service.specs.Run.{Begins, IsOutput, Writes, status_of};
+ghost use Rattle.jskw_service.specs.Run.{WritesBeginning, IsOutput, Writes, status_of};
 
 use crate::device::{DeviceFault, Sink, Source};
 use crate::io::{ReadFault, read_all, write_all};
@@ -70,7 +70,7 @@ pub fn run<R: Source, W: Sink>(
     ensures read_failed { IsErrOf result RunFault.Read → R.has_failed reader.new ≡ true }
     ensures untouched { IsErrOf result RunFault.Read → writer.new ≡ writer.old }
     ensures write_failed { IsErrOf result RunFault.Write → W.has_failed writer.new ≡ true }
-    ensures begun { IsErrOf result RunFault.Write → Begins (R.remaining reader.old)
+    ensures begun { IsErrOf result RunFault.Write → WritesBeginning (R.remaining reader.old)
         (R.remaining reader.new) (W.contents writer.old) (W.contents writer.new) }
 {
     let Ok(reply) = reply_to_all(alloc, reader) else {
@@ -95,7 +95,7 @@ pub fn status(outcome: &Result<Verdict, RunFault>) -> u8
 }
 
 /// A verdict and the text of its answer.
-#[derive(Drop)]
+#[derive(Debug, Drop)]
 pub enum Reply {
     /// The answer to a request.
     Answer(Verdict, String),

@@ -1,5 +1,8 @@
 -- Numbers of few digits without an exponent.
-use Rattle.std.proofs.Common.{◌≡◌, ℕ, ◌+◌, ◌-◌, ◌*◌, ◌%◌, ◌^◌, ◌<◌, ◌≤◌, ◌==◌, ◌&&◌, List, [], ◌++◌, length, drop, get_or, Bool, true, false, not, cond, Option, Some, None, IfSome, option_map, option_and_then, nat_lt, refl, sym, ap, ap₂, ◌∙◌, arith, take_all, length-drop, lt-ltb, append-nil, length-take-le, subst, if◌then◌else◌}
+use Rattle.std.proofs.Common.{◌≡◌, ℕ, ◌+◌, ◌-◌, ◌*◌, ◌%◌, ◌^◌, ◌<◌, ◌≤◌, ◌==◌, ◌&&◌, List, [], ◌++◌, length, drop}
+use Rattle.std.proofs.Common.{get_or, Bool, true, false, not, cond, Option, Some, None, IfSome, option_map}
+use Rattle.std.proofs.Common.{option_and_then, nat_lt, refl, sym, ap, ap₂, ◌∙◌, arith, take_all, length-drop, lt-ltb}
+use Rattle.std.proofs.Common.{append-nil, length-take-le, subst, if◌then◌else◌}
 use Rattle.std.proofs.lemmas.List.{get_or_past}
 use Rattle.std.specs.List.{slice_range}
 use Rattle.std.specs.Option.{option_or}
@@ -29,7 +32,8 @@ is_read : (o m : Option Num) (r : Option Decimal) → o ≡ m → option_map val
 is_read o m None e h = tt
 is_read o m (Some d) e h = e ∙ sym h
 
-is_first : (o m rest : Option Num) (r : Option Decimal) → o ≡ option_or m rest → option_map value r ≡ m → IfSome r (λ d. o ≡ Some (value d))
+is_first : (o m rest : Option Num) (r : Option Decimal) → o ≡ option_or m rest → option_map value r ≡ m
+    → IfSome r (λ d. o ≡ Some (value d))
 is_first o m rest None e h = tt
 is_first o m rest (Some d) e h = e ∙ ap (λ x. option_or x rest) (sym h)
 
@@ -58,7 +62,8 @@ taken : {X : Type 0} (b : Bool) (x y : X) → b ≡ true → cond b x y ≡ x
 taken b x y e = rw e refl
 
 -- what is read of nothing but digits
-pub whole_value : (t : List ℕ) (b size : ℕ) → b ≡ length t → size ≡ (0 * 10 ^ (b - 0) + digits_value 10 (slice_range t 0 b)) % 2 ^ 64 → size ≡ digits_value 10 t % 2 ^ 64
+pub whole_value : (t : List ℕ) (b size : ℕ) → b ≡ length t
+    → size ≡ (0 * 10 ^ (b - 0) + digits_value 10 (slice_range t 0 b)) % 2 ^ 64 → size ≡ digits_value 10 t % 2 ^ 64
 whole_value t b size end e =
     let v = digits_value 10 (slice_range t 0 b) in
     let alone : 0 * 10 ^ (b - 0) + v ≡ v = omega arith in
@@ -76,7 +81,8 @@ parts_at t a point b = record {
   len = cond (has_exponent t b) (digits_end t (exponent_start t b)) b;
 }
 
-scan_is : (t : List ℕ) (a : ℕ) (point : Bool) (b : ℕ) → digits_end t 0 ≡ a → (get_or t a 0 == 46) ≡ point → cond point (digits_end t (a + 1)) a ≡ b
+scan_is : (t : List ℕ) (a : ℕ) (point : Bool) (b : ℕ) → digits_end t 0 ≡ a → (get_or t a 0 == 46) ≡ point
+    → cond point (digits_end t (a + 1)) a ≡ b
     → scan t ≡ parts_at t a point b
 unfolding scan
 scan_is t a point b ends dot more =
@@ -86,7 +92,9 @@ scan_is t a point b ends dot more =
 -- nothing but digits
 module _ (t : List ℕ) (all : digits_len t ≡ length t) where
   parts : scan t ≡ parts_at t (length t) false (length t)
-  parts = scan_is t (length t) false (length t) (omega (arith, all)) (ap (λ n. n == 46) (get_or_past t (length t) 0 (omega arith))) refl
+  parts =
+      scan_is t (length t) false (length t) (omega (arith, all))
+      (ap (λ n. n == 46) (get_or_past t (length t) 0 (omega arith))) refl
 
   whole_is : (scan t).whole ≡ t
   whole_is = ap (λ p. p.whole) parts ∙ take_all (length t - 0) t (omega arith)
@@ -96,24 +104,33 @@ module _ (t : List ℕ) (all : digits_len t ≡ length t) where
 
   none_behind : (scan t).exponent ≡ []
   none_behind = ap (λ p. p.exponent) parts
-      ∙ chosen (has_exponent t (length t)) (slice_range t (exponent_start t (length t)) (digits_end t (exponent_start t (length t)))) [] (no_exponent t (length t) (omega arith))
+      ∙ chosen (has_exponent t (length t))
+      (slice_range t (exponent_start t (length t)) (digits_end t (exponent_start t (length t)))) []
+      (no_exponent t (length t) (omega arith))
 
-  pub whole_read : (negative : Bool) (size : ℕ) (r : Option Decimal) → 0 < length t → length t ≤ 19 → size ≡ digits_value 10 t % 2 ^ 64
+  pub whole_read : (negative : Bool) (size : ℕ) (r : Option Decimal) → 0 < length t → length t ≤ 19
+      → size ≡ digits_value 10 t % 2 ^ 64
       → option_map value r ≡ made negative size 0 → IfSome r (λ d. decimal_from negative (scan t) ≡ Some (value d))
   whole_read negative size r some few e m =
       let p = scan t in
       let digits : p.whole ++ p.fraction ≡ t = ap₂ (λ x y. x ++ y) whole_is no_fraction ∙ append-nil t in
-      let all_digits : AllDigits 10 t = subst (AllDigits 10) (take_all (length t) t (omega arith)) (AllDigits-digits_len t (length t) (omega (arith, all))) in
+      let all_digits : AllDigits 10 t =
+      subst (AllDigits 10) (take_all (length t) t (omega arith))
+      (AllDigits-digits_len t (length t) (omega (arith, all))) in
       let value : size ≡ digits_of p % 2 ^ 64 = e ∙ ap (λ ds. digits_value 10 ds % 2 ^ 64) (sym digits) in
       let at_zero : scaled p 0 ≡ Some size =
-      as_written p 0 size (subst (AllDigits 10) (sym digits) all_digits) (ap length none_behind) (ap length no_fraction) (omega (arith, ap length whole_is, ap length no_fraction, few)) value in
+      as_written p 0 size (subst (AllDigits 10) (sym digits) all_digits) (ap length none_behind) (ap length no_fraction)
+      (omega (arith, ap length whole_is, ap length no_fraction, few)) value in
       let is : is_integer p ≡ true = all_three (nat_lt 0 (length p.whole)) p.point (length p.exponent == 0)
-      (ap (λ w. nat_lt 0 (length w)) whole_is ∙ lt-ltb 0 (length t) some) (ap (λ p. p.point) parts) (ap (λ x. length x == 0) none_behind) in
+      (ap (λ w. nat_lt 0 (length w)) whole_is ∙ lt-ltb 0 (length t) some) (ap (λ p. p.point) parts)
+      (ap (λ x. length x == 0) none_behind) in
       is_read (decimal_from negative p) (made negative size 0) r
-      (taken (is_integer p) (at_scale negative p 0) (at_most negative p (scale_of p)) is ∙ at_scale_is negative p 0 size at_zero) m
+      (taken (is_integer p) (at_scale negative p 0) (at_most negative p (scale_of p)) is
+      ∙ at_scale_is negative p 0 size at_zero) m
 
 -- digits, a point and digits
-module _ (t : List ℕ) (a : ℕ) (front : digits_len t ≡ a) (point : get_or t a 0 ≡ 46) (rest : a + 1 + digits_len (drop (a + 1) t) ≡ length t) where
+module _ (t : List ℕ) (a : ℕ) (front : digits_len t ≡ a) (point : get_or t a 0 ≡ 46)
+    (rest : a + 1 + digits_len (drop (a + 1) t) ≡ length t) where
   parts_around : scan t ≡ parts_at t a true (length t)
   parts_around = scan_is t a true (length t) (omega (arith, front)) (ap (λ n. n == 46) point) rest
 
@@ -125,23 +142,28 @@ module _ (t : List ℕ) (a : ℕ) (front : digits_len t ≡ a) (point : get_or t
 
   none_after : (scan t).exponent ≡ []
   none_after = ap (λ p. p.exponent) parts_around
-      ∙ chosen (has_exponent t (length t)) (slice_range t (exponent_start t (length t)) (digits_end t (exponent_start t (length t)))) [] (no_exponent t (length t) (omega arith))
+      ∙ chosen (has_exponent t (length t))
+      (slice_range t (exponent_start t (length t)) (digits_end t (exponent_start t (length t)))) []
+      (no_exponent t (length t) (omega arith))
 
   pub fraction_read : (negative : Bool) (whole size : ℕ) (r : Option Decimal) → a + 1 < length t → length t ≤ 19
       → whole ≡ (0 * 10 ^ (a - 0) + digits_value 10 (slice_range t 0 a)) % 2 ^ 64
       → size ≡ (whole * 10 ^ (length t - (a + 1)) + digits_value 10 (slice_range t (a + 1) (length t))) % 2 ^ 64
-      → option_map value r ≡ made negative size (length t - a - 1) → IfSome r (λ d. decimal_from negative (scan t) ≡ Some (value d))
+      → option_map value r ≡ made negative size (length t - a - 1)
+      → IfSome r (λ d. decimal_from negative (scan t) ≡ Some (value d))
   fraction_read negative whole size r some few w e m =
       let p = scan t in
       let k = length t - a - 1 in
       let before = slice_range t 0 a in
       let behind = slice_range t (a + 1) (length t) in
-      let behind_long : length behind ≡ length t - (a + 1) = length-take-le (length t - (a + 1)) (drop (a + 1) t) (omega (arith, length-drop (a + 1) t)) in
+      let behind_long : length behind ≡ length t - (a + 1) =
+      length-take-le (length t - (a + 1)) (drop (a + 1) t) (omega (arith, length-drop (a + 1) t)) in
       let before_long : length before ≡ a - 0 = length-take-le (a - 0) t (omega arith) in
       let places : length p.fraction ≡ k = omega (arith, ap length rest_is, behind_long) in
       let digits : p.whole ++ p.fraction ≡ before ++ behind = ap₂ (λ x y. x ++ y) front_is rest_is in
       let front_digits : AllDigits 10 before = AllDigits-digits_len t (a - 0) (omega (arith, front)) in
-      let rest_digits : AllDigits 10 behind = AllDigits-digits_len (drop (a + 1) t) (length t - (a + 1)) (omega (arith, rest)) in
+      let rest_digits : AllDigits 10 behind =
+      AllDigits-digits_len (drop (a + 1) t) (length t - (a + 1)) (omega (arith, rest)) in
       let value : size ≡ digits_of p % 2 ^ 64 =
       e ∙ ap (λ n. (n * 10 ^ (length t - (a + 1)) + digits_value 10 behind) % 2 ^ 64) w
       ∙ wrapped_join (10 ^ (a - 0)) (digits_value 10 before) (10 ^ (length t - (a + 1))) (digits_value 10 behind)
@@ -149,11 +171,16 @@ module _ (t : List ℕ) (a : ℕ) (front : digits_len t ≡ a) (point : get_or t
       ∙ ap (λ n. n % 2 ^ 64) (sym (digits_value-append before behind))
       ∙ ap (λ ds. digits_value 10 ds % 2 ^ 64) (sym digits) in
       let at_places : scaled p k ≡ Some size =
-      as_written p k size (subst (AllDigits 10) (sym digits) (AllDigits-append before behind front_digits rest_digits)) (ap length none_after) places
+      as_written p k size (subst (AllDigits 10) (sym digits) (AllDigits-append before behind front_digits rest_digits))
+      (ap length none_after) places
       (omega (arith, places, ap length front_is, before_long)) value in
-      let not_integer : is_integer p ≡ false = has_point p.point (length p.exponent == 0) (nat_lt 0 (length p.whole)) (ap (λ p. p.point) parts_around) in
-      let empty = none_either p.exponent_negative (digits_value 10 p.exponent) (no_value p.exponent (ap length none_after)) in
+      let not_integer : is_integer p ≡ false =
+      has_point p.point (length p.exponent == 0) (nat_lt 0 (length p.whole)) (ap (λ p. p.point) parts_around) in
+      let empty =
+      none_either p.exponent_negative (digits_value 10 p.exponent) (no_value p.exponent (ap length none_after)) in
       let scale : scale_of p ≡ k = omega (arith, empty.0, empty.1, places) in
       is_first (decimal_from negative p) (made negative size k) (at_most negative p (k - 1)) r
-      (chosen (is_integer p) (at_scale negative p 0) (at_most negative p (scale_of p)) not_integer ∙ ap (at_most negative p) scale
-      ∙ at_most_is negative p k (omega arith) ∙ ap (λ o. option_or o (at_most negative p (k - 1))) (at_scale_is negative p k size at_places)) m
+      (chosen (is_integer p) (at_scale negative p 0) (at_most negative p (scale_of p)) not_integer
+      ∙ ap (at_most negative p) scale
+      ∙ at_most_is negative p k (omega arith)
+      ∙ ap (λ o. option_or o (at_most negative p (k - 1))) (at_scale_is negative p k size at_places)) m

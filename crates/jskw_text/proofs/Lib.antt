@@ -1,4 +1,5 @@
 pub mod Alike
+pub mod Digits
 pub mod Exact
 pub mod FewDigits
 pub mod Members

@@ -21,17 +21,21 @@ pub tree_of_members : (ms : List (Member DecimalTree)) → decimal_tree (Object 
 tree_of_members ms = tree_of_object ms ∙ ap object (members_are ms)
 
 -- one member more is put at its name
-put_seen : (m : Member DecimalTree) (ms : List (Member DecimalTree)) → members_seen (put_member m ms) ≡ put (string_bytes m.name) (decimal_tree m.value) (members_seen ms)
+put_seen : (m : Member DecimalTree) (ms : List (Member DecimalTree))
+    → members_seen (put_member m ms) ≡ put (string_bytes m.name) (decimal_tree m.value) (members_seen ms)
 put_seen m [] = refl
 put_seen m (x ∷ xs) = by_order (slice_cmp nat_cmp (string_bytes m.name) (string_bytes x.name))
     (λ e. rw e refl)
-    (λ e. rw e (ap (λ k. member k (decimal_tree m.value) (members_seen xs)) (one_name (string_bytes m.name) (string_bytes x.name) e)))
+    (λ e. rw e (ap (λ k. member k (decimal_tree m.value) (members_seen xs))
+    (one_name (string_bytes m.name) (string_bytes x.name) e)))
     (λ e. rw e (ap (member (string_bytes x.name) (decimal_tree x.value)) (put_seen m xs)))
 
-all_pushed : (found ms : List (Member DecimalTree)) (m : Member DecimalTree) → put_all found (ms ++ m ∷ []) ≡ put_member m (put_all found ms)
+all_pushed : (found ms : List (Member DecimalTree)) (m : Member DecimalTree)
+    → put_all found (ms ++ m ∷ []) ≡ put_member m (put_all found ms)
 all_pushed found [] m = refl
 all_pushed found (x ∷ xs) m = all_pushed (put_member x found) xs m
 
 -- also behind others
-pub last_seen : (ms : List (Member DecimalTree)) (m : Member DecimalTree) → members_seen (lasts (ms ++ m ∷ [])) ≡ put (string_bytes m.name) (decimal_tree m.value) (members_seen (lasts ms))
+pub last_seen : (ms : List (Member DecimalTree)) (m : Member DecimalTree)
+    → members_seen (lasts (ms ++ m ∷ [])) ≡ put (string_bytes m.name) (decimal_tree m.value) (members_seen (lasts ms))
 last_seen ms m = ap members_seen (all_pushed [] ms m) ∙ put_seen m (lasts ms)

@@ -1,100 +1,65 @@
 -- Digits moved by tens.
-use Rattle.std.proofs.Common.{◌≡◌, ℕ, zero, suc, ◌+◌, ◌-◌, ◌*◌, ◌%◌, ◌^◌, ◌<◌, ◌≤◌, ◌==◌, min, List, ◌++◌, length, take, drop, Bool, true, false, cond, Option, Some, None, IfSome, MatchOption, refl, sym, ap, ap₂, ◌∙◌, arith, inl, inr, take-append-drop, length-drop, mul-le-mul_right, ne_eqb, lit<, [], ◌∷◌, length-append}
-use native.Mathlib.Nat.{pow-le-pow_right}
+use Rattle.std.proofs.Common.{◌≡◌, ℕ, zero, suc, ◌+◌, ◌-◌, ◌*◌, ◌/◌, ◌%◌, ◌^◌, ◌<◌, ◌≤◌, ◌==◌, List, ◌++◌, length, Bool}
+use Rattle.std.proofs.Common.{true, false, cond, Option, Some, None, IfSome, option_and_then, le-ltb, refl, ap, ap₂}
+use Rattle.std.proofs.Common.{◌∙◌, arith, mul-le-mul_right, ne_eqb, lit<, [], ◌∷◌, length-append}
+use Rattle.std.proofs.Math.Nat.{mod-lt, div-add-mod, mul-lt-mul_of_pos_right}
 use Rattle.std.proofs.lemmas.Nat.{div-mul-add, mod-mul-add}
-use Rattle.std.proofs.lemmas.Bool.{cases_lt}
-use Rattle.std.specs.Option.{SomeIff}
-use Rattle.std.specs.Str.Parse.{digits_value, AllDigits}
-use Rattle.core.proofs.dec2flt.DigitsLemmas.{digits_value-append}
-use Rattle.core.proofs.dec2flt.ExactLemmas.{ten_to_pos}
-use Rattle.core.proofs.dec2flt.Rows.{AllDigits-drop, short_fits}
-use Rattle.core.proofs.str.DigitValues.{digits_value-lt}
-use lib.Pow.{pow-add}
-use Rattle.fast_float.specs.Text.{Parts, digits_of, tens_up, tens_down}
 use Rattle.std.specs.Option.{option_or}
-use Rattle.jskw_text.specs.NumberText.{quotient, scaled, at_scale, at_most}
-
--- the first digits and the others
-split : (ds : List ℕ) (i : ℕ) → digits_value 10 ds ≡ digits_value 10 (take i ds) * 10 ^ (length ds - i) + digits_value 10 (drop i ds)
-split ds i = ap (digits_value 10) (sym (take-append-drop i ds)) ∙ rw (digits_value-append, length-drop)
-
-rest_below : (ds : List ℕ) (i : ℕ) → AllDigits 10 ds → digits_value 10 (drop i ds) < 10 ^ (length ds - i)
-rest_below ds i h = rw (← length-drop i ds) (digits_value-lt 10 _ (AllDigits-drop i ds h))
+use Rattle.std.specs.Str.Parse.{digits_value, AllDigits}
+use Rattle.core.proofs.dec2flt.ExactLemmas.{ten_to_pos}
+use Rattle.core.proofs.dec2flt.Rows.{short_fits}
+use lib.Pow.{pow-add}
+use Rattle.fast_float.specs.Text.{Parts, digits_of, tens_up, tens_down, with_sign}
+use Rattle.serde_json.specs.Read.{is_integer}
+use Rattle.jskw_value.specs.Number.{Num}
+use Rattle.jskw_text.specs.NumberText.{quotient, scaled, decimal_of, at_scale, at_most, scale_of, decimal_from}
+use Rattle.jskw_text.specs.Tens.{HasSignificand, IsTooLarge}
 
 -- the quotient of a multiple and a rest
 pub quotient_is : (n a b w : ℕ) → n ≡ a * w + b → b < w → quotient n w ≡ cond (b == 0) (Some a) None
 quotient_is n a b w e l = rw (e, mod-mul-add a w b l, div-mul-add a w b l)
 
--- a number times a power of ten is none exactly where the number is none
-none_moved : (b m : ℕ) → (b * 10 ^ m == 0) ≡ (b == 0)
-none_moved b m = elim (cases_lt 0 b) [
-  | inl some ↦ let more : b * 10 ^ m ≡ 0 → ⊥ = λ e. omega (arith, mul-le-mul_right (10 ^ m) some, ten_to_pos m) in
-      let less : b ≡ 0 → ⊥ = λ e. omega arith in
-      rw (ne_eqb _ 0 more, ne_eqb b 0 less)
-  | inr none ↦ let is : b ≡ 0 = omega arith in let still : b * 10 ^ m ≡ 0 = omega (arith, ap (λ x. x * 10 ^ m) is) in rw (still, is) refl
-]
+-- ---- a number moved by tens
 
--- no first digits are worth nothing
-no_digits : (ds : List ℕ) (kept : ℕ) → kept ≤ length ds → length ds - kept ≡ length ds → digits_value 10 (take kept ds) ≡ 0
-no_digits [] kept l e = let none : kept ≡ 0 = omega arith in ap (λ n. digits_value 10 (take n [])) none
-no_digits (d ∷ ds) kept l e = let none : kept ≡ 0 = omega arith in ap (λ n. digits_value 10 (take n (d ∷ ds))) none
+pub moved_up : (s a b : ℕ) → b ≤ a → quotient (s * 10 ^ a) (10 ^ b) ≡ Some (s * 10 ^ (a - b))
+moved_up s a b h =
+    let tens : 10 ^ a ≡ 10 ^ (a - b) * 10 ^ b =
+    (let e : a ≡ a - b + b = omega arith in ap (λ n. 10 ^ n) e ∙ pow-add 10 (a - b) b) in
+    quotient_is (s * 10 ^ a) (s * 10 ^ (a - b)) 0 (10 ^ b) (omega (arith, ap (λ x. s * x) tens)) (ten_to_pos b)
 
--- the same without an order: the point moves by w places into the number
-joined : (d a b r len m v w one : ℕ) → d ≡ a * 10 ^ r + b → r ≡ min w len → (r ≡ len → a ≡ 0) → one ≡ 1 → 10 ^ v ≡ 10 ^ w * 10 ^ m
-    → d * 10 ^ m ≡ a * one * 10 ^ v + b * 10 ^ m
-joined d a b r len m v w one is short none o tens = elim (cases_lt w len) [
-  | inl within ↦
-      let same : 10 ^ r ≡ 10 ^ w = (let e : r ≡ w = omega arith in ap (λ n. 10 ^ n) e) in
-      omega (arith, ap (λ x. x * 10 ^ m) is, ap (λ x. a * x * 10 ^ m) same, ap (λ x. a * x) tens, ap (λ x. a * x * 10 ^ v) o)
-  | inr over ↦
-      let empty : a ≡ 0 = none (omega arith) in
-      let all : d ≡ b = omega (arith, ap (λ x. x * 10 ^ r) empty) in
-      omega (arith, ap (λ x. x * 10 ^ m) all, ap (λ x. x * one * 10 ^ v) empty)
-]
+ends_with_zero : (s q w : ℕ) → 0 < w → s ≡ q * 10 ^ w → s % 10 ≡ 0
+ends_with_zero s q w h e =
+    let tens : 10 ^ w ≡ 10 ^ (w - 1) * 10 =
+    (let e : w ≡ w - 1 + 1 = omega arith in ap (λ n. 10 ^ n) e ∙ pow-add 10 (w - 1) 1) in
+    let is : s ≡ q * 10 ^ (w - 1) * 10 + 0 = omega (arith, e, ap (λ x. q * x) tens) in
+    ap (λ n. n % 10) is ∙ mod-mul-add (q * 10 ^ (w - 1)) 10 0 (lit< tt)
 
--- a number of first digits, a, and r others, b, moved by m tens up and by v down
-cut_tens : (d a b r len m v z : ℕ) → d ≡ a * 10 ^ r + b → b < 10 ^ r → r ≡ min (v - m) len → z ≡ m - v → (r ≡ len → a ≡ 0)
-    → (d * 10 ^ m ≡ a * 10 ^ z * 10 ^ v + b * 10 ^ m) × (b * 10 ^ m < 10 ^ v)
-cut_tens d a b r len m v z is l short e none = elim (cases_lt m v) [
-  | inl down ↦
-      let w = v - m in
-      let tens : 10 ^ v ≡ 10 ^ w * 10 ^ m = (let e : v ≡ w + m = omega arith in ap (λ n. 10 ^ n) e ∙ pow-add 10 w m) in
-      let one : 10 ^ z ≡ 1 = (let e : z ≡ 0 = omega arith in ap (λ n. 10 ^ n) e) in
-      let few : 10 ^ r ≤ 10 ^ w = pow-le-pow_right (lit< tt) {i = r} (omega arith) in
-      let within : b * 10 ^ m < 10 ^ v =
-      omega (arith, tens, mul-le-mul_right (10 ^ m) few, mul-le-mul_right (10 ^ m) l, ten_to_pos m) in
-      (joined d a b r len m v w (10 ^ z) is (omega arith) none one tens, within)
-  | inr up ↦
-      let tens : 10 ^ m ≡ 10 ^ z * 10 ^ v = (let e : m ≡ z + v = omega arith in ap (λ n. 10 ^ n) e ∙ pow-add 10 z v) in
-      let one : 10 ^ r ≡ 1 = (let e : r ≡ 0 = omega arith in ap (λ n. 10 ^ n) e) in
-      let nothing : b ≡ 0 = omega arith in
-      let all : d ≡ a = omega (arith, ap (λ x. a * x) one) in
-      (omega (arith, ap (λ x. x * 10 ^ m) all, ap (λ x. a * x) tens, ap (λ x. x * 10 ^ m) nothing), omega (arith, ap (λ x. x * 10 ^ m) nothing, ten_to_pos v))
-]
+-- what does not end with a zero is not whole behind the point
+pub moved_down : (s a b : ℕ) → (s % 10 ≡ 0 → s ≡ 0) → 0 < s → a < b → quotient (s * 10 ^ a) (10 ^ b) ≡ None
+moved_down s a b cut some h =
+    let w = b - a in
+    let q = s / 10 ^ w in
+    let r = s % 10 ^ w in
+    let parts : s ≡ q * 10 ^ w + r = omega (arith, div-add-mod s (10 ^ w)) in
+    let below : r < 10 ^ w = mod-lt s (ten_to_pos w) in
+    let rest : r ≡ 0 → ⊥ = λ z. omega (arith, cut (ends_with_zero s q w (omega arith) (omega arith))) in
+    let tens : 10 ^ b ≡ 10 ^ w * 10 ^ a = (let e : b ≡ w + a = omega arith in ap (λ n. 10 ^ n) e ∙ pow-add 10 w a) in
+    let more : r * 10 ^ a ≡ 0 → ⊥ = λ z. omega (arith, mul-le-mul_right (10 ^ a) (some_of r rest), ten_to_pos a) in
+    quotient_is (s * 10 ^ a) q (r * 10 ^ a) (10 ^ b) (omega (arith, ap (λ x. x * 10 ^ a) parts, ap (λ x. q * x) tens))
+    (omega (arith, tens, mul-lt-mul_of_pos_right below (ten_to_pos a)))
+    ∙ rw (ne_eqb _ 0 more) refl
+  where
+    some_of : (r : ℕ) → (r ≡ 0 → ⊥) → 1 ≤ r
+    some_of zero h = absurd (h refl)
+    some_of (suc r) h = omega arith
 
--- Where the point moves behind the digit `kept`, the first digits and z zeros are the whole part, and the other digits the
--- fraction.
-pub cut_at : (ds : List ℕ) (kept m v z : ℕ) → AllDigits 10 ds → kept ≡ length ds - (v - m) → z ≡ m - v
-    → quotient (digits_value 10 ds * 10 ^ m) (10 ^ v) ≡ cond (digits_value 10 (drop kept ds) == 0) (Some (digits_value 10 (take kept ds) * 10 ^ z)) None
-cut_at ds kept m v z h k e =
-    let a = digits_value 10 (take kept ds) in
-    let b = digits_value 10 (drop kept ds) in
-    let r = length ds - kept in
-    let cut = cut_tens (digits_value 10 ds) a b r (length ds) m v z (split ds kept) (rest_below ds kept h) (omega arith) e (λ whole. no_digits ds kept (omega arith) whole) in
-    quotient_is _ (a * 10 ^ z) (b * 10 ^ m) (10 ^ v) cut.0 cut.1
-    ∙ ap (λ b. cond b (Some (digits_value 10 (take kept ds) * 10 ^ z)) None) (none_moved _ m)
-
-unfit : (q : Option ℕ) (a b : ℕ) → ¬ ((b ≡ 0) × (a < 2 ^ 64)) → q ≡ cond (b == 0) (Some a) None → IfSome q (λ n. 2 ^ 64 ≤ n)
-unfit q a b h e = elim (cases_lt 0 b) [
-  | inl some ↦ let not_none : b ≡ 0 → ⊥ = λ e. omega arith in rw (e, ne_eqb b 0 not_none) tt
-  | inr none ↦ let is : b ≡ 0 = omega arith in rw (e, is) (elim (cases_lt a (2 ^ 64)) [ inl less ↦ absurd (h (is, less)) | inr large ↦ large ])
-]
-
--- what was found is that quotient, as far as it is below 2^64
-pub found_quotient : (o q : Option ℕ) (a b : ℕ) → SomeIff o ((b ≡ 0) × (a < 2 ^ 64)) a → q ≡ cond (b == 0) (Some a) None
-    → MatchOption o (IfSome q (λ n. 2 ^ 64 ≤ n)) (λ n. q ≡ Some n)
-found_quotient None q a b h e = unfit q a b h e
-found_quotient (Some n) q a b h e = let none : b ≡ 0 = h.0.0 in e ∙ rw (none, h.1) refl
+-- the number at a scale, by its significand
+pub scaled_is : (p : Parts) (size zeros k : ℕ) → HasSignificand p size zeros
+    → scaled p k ≡ quotient (size * 10 ^ (zeros + (tens_up p + k))) (10 ^ tens_down p)
+unfolding scaled
+scaled_is p size zeros k h =
+    ap (λ n. quotient n (10 ^ tens_down p)) (omega
+    (arith, ap (λ x. x * 10 ^ (tens_up p + k)) h.digits, ap (λ x. size * x) (pow-add 10 zeros (tens_up p + k))))
 
 -- no digits are worth nothing
 pub no_value : (ds : List ℕ) → length ds ≡ 0 → digits_value 10 ds ≡ 0
@@ -116,15 +81,48 @@ digits_alone p k none places =
     ∙ quotient_is (digits_of p * 10 ^ k) (digits_of p) 0 (10 ^ k) (omega arith) (ten_to_pos k)
 
 -- where these are few, they are one word
-pub as_written : (p : Parts) (k wrapped : ℕ) → AllDigits 10 (p.whole ++ p.fraction) → length p.exponent ≡ 0 → length p.fraction ≡ k → length p.whole + length p.fraction ≤ 19
+pub as_written : (p : Parts) (k wrapped : ℕ) → AllDigits 10 (p.whole ++ p.fraction) → length p.exponent ≡ 0
+    → length p.fraction ≡ k → length p.whole + length p.fraction ≤ 19
     → wrapped ≡ digits_of p % 2 ^ 64 → scaled p k ≡ Some wrapped
 as_written p k wrapped h none places few e =
-    let fits : digits_of p < 2 ^ 64 = short_fits (p.whole ++ p.fraction) h (omega (arith, length-append p.whole p.fraction)) in
+    let fits : digits_of p < 2 ^ 64 =
+    short_fits (p.whole ++ p.fraction) h (omega (arith, length-append p.whole p.fraction)) in
     let same : digits_of p ≡ wrapped = omega arith in
     digits_alone p k none places ∙ ap Some same
 
 -- of several scales, the greatest comes first
-pub at_most_is : (negative : Bool) (p : Parts) (k : ℕ) → 0 < k → at_most negative p k ≡ option_or (at_scale negative p k) (at_most negative p (k - 1))
+pub at_most_is : (negative : Bool) (p : Parts) (k : ℕ) → 0 < k
+    → at_most negative p k ≡ option_or (at_scale negative p k) (at_most negative p (k - 1))
 unfolding at_most
 at_most_is negative p zero h = absurd (omega arith)
 at_most_is negative p (suc k) h = let less : suc k - 1 ≡ k = omega arith in rw less refl
+
+-- ---- what fits no scale
+
+-- what is 2^64 or more is no coefficient
+too_large : (negative : Bool) (n k : ℕ) → 2 ^ 64 ≤ n → decimal_of (with_sign negative n) k ≡ None
+unfolding decimal_of
+too_large false n k h = rw (le-ltb n (2 ^ 64) h) refl
+too_large true zero k h = absurd (omega arith)
+too_large true (suc n) k h = let large : 2 ^ 63 ≤ n = omega arith in rw (le-ltb n (2 ^ 63) large) refl
+
+pub none_fits : (negative : Bool) (k : ℕ) (o : Option ℕ) → IfSome o (λ n. 2 ^ 64 ≤ n)
+    → option_and_then (λ n. decimal_of (with_sign negative n) k) o ≡ None
+none_fits negative k None h = refl
+none_fits negative k (Some n) h = too_large negative n k h
+
+none_at : (negative : Bool) (p : Parts) (k : ℕ) → IsTooLarge p → at_scale negative p k ≡ None
+unfolding at_scale
+none_at negative p k h = none_fits negative k (scaled p k) (h k)
+
+none_at_most : (negative : Bool) (p : Parts) (k : ℕ) → IsTooLarge p → at_most negative p k ≡ None
+unfolding at_most
+none_at_most negative p zero h = refl
+none_at_most negative p (suc k) h = ap₂ option_or (none_at negative p (suc k) h) (none_at_most negative p k h)
+
+pub none_from : (negative : Bool) (p : Parts) → IsTooLarge p → decimal_from negative p ≡ None
+none_from negative p h = either (is_integer p) (none_at negative p 0 h) (none_at_most negative p (scale_of p) h)
+  where
+    either : (b : Bool) {x y : Option Num} → x ≡ None → y ≡ None → cond b x y ≡ None
+    either true e f = e
+    either false e f = f

@@ -1,5 +1,6 @@
 -- Bytes that are no text have no reading.
-use Rattle.std.proofs.Common.{◌≡◌, ℕ, List, Bool, true, false, cond, None, option_map, refl, ap, ◌∙◌, IsUtf8, IsTrue, arith}
+use Rattle.std.proofs.Common.{◌≡◌, ℕ, List, Bool, true, false, cond, None, option_map, refl, ap, ◌∙◌, IsUtf8, IsTrue}
+use Rattle.std.proofs.Common.{arith}
 use Rattle.std.specs.Str.{is_utf8, IsValidUpTo}
 use Rattle.std.proofs.lemmas.Str.{IsUtf8-from_is_utf8, is_utf8-from_IsUtf8}
 use Rattle.jskw_text.specs.ReadFault.{IsBrokenAt}

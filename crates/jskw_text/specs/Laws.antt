@@ -1,5 +1,6 @@
 -- Laws of reading.
-use Rattle.std.specs.Prelude.{◌≡◌, ℕ, ◌*◌, ◌^◌, ◌==◌, ℤ, List, drop, slice_index, Bool, true, false, ◌&&◌, if◌then◌else◌, IsTrue, unsigned_abs, Some, None, Ok}
+use Rattle.std.specs.Prelude.{◌≡◌, ℕ, ◌*◌, ◌^◌, ◌==◌, ℤ, List, drop, slice_index, Bool, true, false, ◌&&◌}
+use Rattle.std.specs.Prelude.{if◌then◌else◌, IsTrue, unsigned_abs, Some, None, Ok}
 use Rattle.std.specs.Option.{option_map_or}
 use Rattle.std.specs.Str.{is_utf8}
 use Rattle.fast_float.specs.Text.{Parts, scan, minus, digits_of, tens_up, tens_down, with_sign}
@@ -12,15 +13,15 @@ use Rattle.jskw_text.specs.NumberText.{number_of}
 use Rattle.jskw_text.specs.Reading.{document, reading}
 
 -- `serde_json` reads the text of a number as an integer, and as no float
-abbrev pub is_integer : List ℕ → Bool
-is_integer s = option_map_or (λ n. is_exact (values.num_of n)) (serde.number_of s) false
+abbrev pub reads_as_integer : List ℕ → Bool
+reads_as_integer s = option_map_or (λ n. is_exact (values.num_of n)) (serde.number_of s) false
 
 -- each number is an integer
 abbrev mutual
   pub has_integers : json.Json → Bool
   has_integers json.null = true
   has_integers (json.boolean b) = true
-  has_integers (json.number s) = is_integer s
+  has_integers (json.number s) = reads_as_integer s
   has_integers (json.string s) = true
   has_integers (json.array js) = items_have_integers js
   has_integers (json.object ms) = members_have_integers ms
@@ -58,9 +59,12 @@ pub record Denotes (negative : Bool) (p : Parts) (c : ℤ) (k : ℕ) : Type 0 wh
 
 -- the decimal that a text denotes has the very value of the text, and is missing only where no decimal has it
 pub record DecimalsAreExact : Type 0 where
-  pub same_value : (s : List ℕ) (c : ℤ) (k : ℕ) → number_of s ≡ Some (exact c k) → Denotes (is_negative s) (parts_of s) c k
+  pub same_value : (s : List ℕ) (c : ℤ) (k : ℕ) → number_of s ≡ Some (exact c k)
+      → Denotes (is_negative s) (parts_of s) c k
   -- it is written as an integer exactly where the text has neither a point nor an exponent
-  pub same_form : (s : List ℕ) (c : ℤ) (k : ℕ) → number_of s ≡ Some (exact c k) → (k == 0) ≡ serde.is_integer (parts_of s)
+  pub same_form : (s : List ℕ) (c : ℤ) (k : ℕ) → number_of s ≡ Some (exact c k)
+      → (k == 0) ≡ serde.is_integer (parts_of s)
   -- only one that is written as an integer could stand for what has a point or an exponent and is not read
-  pub none_missed : (s : List ℕ) (c : ℤ) (k : ℕ) → number_of s ≡ None → is_decimal c k ≡ true → Denotes (is_negative s) (parts_of s) c k
+  pub none_missed : (s : List ℕ) (c : ℤ) (k : ℕ) → number_of s ≡ None → is_decimal c k ≡ true
+      → Denotes (is_negative s) (parts_of s) c k
       → (k ≡ 0) × (serde.is_integer (parts_of s) ≡ false)

@@ -1,5 +1,6 @@
 -- The decimal that the text of a JSON number denotes.
-use Rattle.std.specs.Prelude.{ℕ, zero, suc, ◌+◌, ◌-◌, ◌*◌, ◌/◌, ◌%◌, ◌^◌, ◌==◌, min, max, List, drop, slice_index, ℤ, Bool, true, false, if◌then◌else◌, Option, Some, None, option_and_then}
+use Rattle.std.specs.Prelude.{ℕ, zero, suc, ◌+◌, ◌-◌, ◌*◌, ◌/◌, ◌%◌, ◌^◌, ◌==◌, min, max, List, drop, slice_index, ℤ}
+use Rattle.std.specs.Prelude.{Bool, true, false, if◌then◌else◌, Option, Some, None, option_and_then}
 use Rattle.std.specs.Option.{option_or}
 use Rattle.fast_float.specs.Text.{Parts, scan, minus, digits_of, tens_up, tens_down, with_sign}
 use Rattle.serde_json.specs.Read.{is_integer}
@@ -9,7 +10,8 @@ use Rattle.jskw_value.specs.Number.{Num, exact, is_decimal}
 abbrev pub quotient : ℕ → ℕ → Option ℕ
 quotient a b = if a % b == 0 then Some (a / b) else None
 
--- The number without its sign is digits_of p * 10 ^ tens_up p / 10 ^ tens_down p: all digits as one number, moved by the
+-- The number without its sign is digits_of p * 10 ^ tens_up p / 10 ^ tens_down p: all digits as one number, moved by
+-- the
 -- point and the exponent. This is that number times 10 ^ k, where that is whole.
 unfoldable pub scaled : Parts → ℕ → Option ℕ
 scaled p k = quotient (digits_of p * 10 ^ (tens_up p + k)) (10 ^ tens_down p)
@@ -31,7 +33,8 @@ at_most negative p (suc k) = option_or (at_scale negative p (suc k)) (at_most ne
 abbrev pub scale_of : Parts → ℕ
 scale_of p = min 18 (max 1 (tens_down p - tens_up p))
 
--- With neither a point nor an exponent the scale is 0. Otherwise it is as many digits as are written, or fewer where only
+-- With neither a point nor an exponent the scale is 0. Otherwise it is as many digits as are written, or fewer where
+-- only
 -- that is in range, and never 0, so that 1.0 is not written as an integer.
 abbrev pub decimal_from : Bool → Parts → Option Num
 decimal_from negative p = if is_integer p then at_scale negative p 0 else at_most negative p (scale_of p)

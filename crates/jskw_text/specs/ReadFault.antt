@@ -5,7 +5,8 @@ use Rattle.jskw_text.specs.Reading.{reading}
 use Rattle.jskw_text.specs.declared.fault.ReadFault.{ReadFault}
 use Rattle.jskw_text.specs.declared.fault.ReadFault.TheVariants.{NotJson, Inexact, Memory}
 
--- the bytes are no JSON text, and the offset is none behind them; if they are not UTF-8, it is the length of the longest
+-- the bytes are no JSON text, and the offset is none behind them; if they are not UTF-8, it is the length of the
+-- longest
 -- beginning that is
 pub record IsBrokenAt (bytes : List ℕ) (offset : ℕ) : Type 0 where
   pub unread : reading bytes ≡ None

@@ -29,8 +29,9 @@ pub enum ReadFault {
 pub(crate) enum Stop {
     // What was read begins no JSON text.
     Broken,
-    // A number has a value that no decimal has. Its location.
-    Inexact(String),
+    // A number has a value that no decimal has. The steps of its location, the innermost first, so
+    // that each level adds one and copies none.
+    Inexact(Vec<String>),
     // Memory ran out.
     Memory(AllocError),
 }

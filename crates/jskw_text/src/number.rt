@@ -1,12 +1,13 @@
 //! The decimal that the text of a JSON number denotes.
-ghost use Rattle.std.specs.Prelude.{◌≡◌, ◌+◌, ◌-◌, ◌*◌, ◌%◌, ◌^◌, ◌<◌, ◌≤◌, ◌++◌, ◌==◌, length, take, drop, min, true, false, pos, ℕ};
+ghost use Rattle.std.specs.Prelude.{◌≡◌, ◌+◌, ◌-◌, ◌*◌, ◌%◌, ◌^◌, ◌<◌, ◌≤◌, ◌++◌, ◌==◌, length, take, drop, min, true};
+ghost use Rattle.std.specs.Prelude.{false, pos, ℕ};
 ghost use Rattle.std.specs.Prelude.{Some, option_map, IfSome, MatchOption, IsTrue, slice_index, if◌then◌else◌};
 ghost use Rattle.std.specs.Option.{SomeIff};
 ghost use Rattle.std.specs.Str.Parse.{digits_value, AllDigits};
 ghost use Rattle.fast_float.specs.Text.{scan, with_sign};
 ghost use Rattle.serde_json.specs.Read.{is_integer};
 ghost use Rattle.jskw_value.specs.Decimal.{value};
-ghost use Rattle.jskw_text.specs.Tens.{HasTens, IsShort};
+ghost use Rattle.jskw_text.specs.Tens.{HasTens, HasSignificand, EndsDigits, IsShort, IsTooLarge};
 ghost use Rattle.jskw_text.specs.NumberText.{number_of, decimal_from, at_most, at_scale, scaled, scale_of};
 
 use core::dec2flt::{Numeral, digit_at, read_digits, skip_zeros, ten_to};
@@ -93,10 +94,11 @@ fn decimal_from(negative: bool, numeral: &Numeral<'_>) -> Option<Decimal>
     requires { IsShort numeral.now }
     ensures { option_map value result ≡ decimal_from negative numeral.now }
 {
+    let significand = significand_of(numeral)?;
     if is_integer(numeral) {
-        at_scale(negative, numeral, 0)
+        at_scale(negative, numeral, significand, 0)
     } else {
-        at_most(negative, numeral, scale_of(numeral))
+        at_most(negative, numeral, significand, scale_of(numeral))
     }
 }
 
@@ -134,28 +136,38 @@ fn tens(numeral: &Numeral<'_>) -> (u128, u128)
 
 // Returns the decimal with the greatest scale, up to the one given, that has the value.
 #[inline(never)]
-fn at_most(negative: bool, numeral: &Numeral<'_>, scale: u8) -> Option<Decimal>
-    requires short { IsShort numeral.now }
+fn at_most(
+    negative: bool,
+    numeral: &Numeral<'_>,
+    significand: Significand,
+    scale: u8,
+) -> Option<Decimal>
+    requires digits { HasSignificand numeral.now significand.size significand.zeros }
     requires scale { scale ≤ 18 }
     ensures { option_map value result ≡ at_most negative numeral.now scale }
 {
     if scale == 0 {
         return None;
     }
-    match at_scale(negative, numeral, scale) {
+    match at_scale(negative, numeral, significand, scale) {
         Some(decimal) => Some(decimal),
-        None => at_most(negative, numeral, scale - 1),
+        None => at_most(negative, numeral, significand, scale - 1),
     }
 }
 
 // Returns the decimal of that scale that has the value.
 #[inline(always)]
-fn at_scale(negative: bool, numeral: &Numeral<'_>, scale: u8) -> Option<Decimal>
-    requires short { IsShort numeral.now }
+fn at_scale(
+    negative: bool,
+    numeral: &Numeral<'_>,
+    significand: Significand,
+    scale: u8,
+) -> Option<Decimal>
+    requires digits { HasSignificand numeral.now significand.size significand.zeros }
     requires scale { scale ≤ 18 }
     ensures { option_map value result ≡ at_scale negative numeral.now scale }
 {
-    let size = scaled(numeral, scale)?;
+    let size = scaled(numeral, significand, scale)?;
     let coefficient = with_sign(negative, size);
     Decimal::new(coefficient, scale)
 }
@@ -174,62 +186,84 @@ fn with_sign(negative: bool, size: u64) -> i128
 
 // Returns the number without its sign, times ten to the power of the scale, if that is whole and
 // below 2^64.
-fn scaled(numeral: &Numeral<'_>, scale: u8) -> Option<u64>
-    requires short { IsShort numeral.now }
+fn scaled(numeral: &Numeral<'_>, significand: Significand, scale: u8) -> Option<u64>
+    requires digits { HasSignificand numeral.now significand.size significand.zeros }
     requires scale { scale ≤ 18 }
     ensures { MatchOption result (IfSome (scaled numeral.now scale) (λ n. 2 ^ 64 ≤ n))
         (λ n. scaled numeral.now scale ≡ Some n) }
 {
-    let (up, down) = tens(numeral);
-    let up = up + scale as u128;
-    let whole = numeral.whole();
-    let fraction = numeral.fraction();
-    let count = whole.len() + fraction.len();
-    let kept = (count as u128).saturating_sub(down.saturating_sub(up));
-    let zeros = up.saturating_sub(down).min(20);
-    shifted(whole, fraction, kept as usize, zeros as u64)
-}
-
-// Returns the first `kept` digits and then zeros as one number, if the other digits are 0 and it is
-// below 2^64. `zeros` is their count, or 20 where that is less.
-fn shifted(whole: &[u8], fraction: &[u8], kept: usize, zeros: u64) -> Option<u64>
-    requires digits { AllDigits 10 (whole.now ++ fraction.now) }
-    requires within { kept ≤ length whole.now + length fraction.now }
-    ensures { (z : ℕ) → zeros ≡ min z 20
-        → SomeIff result ((digits_value 10 (drop kept (whole.now ++ fraction.now)) ≡ 0)
-        × (digits_value 10 (take kept (whole.now ++ fraction.now)) * 10 ^ z < 2 ^ 64))
-        (digits_value 10 (take kept (whole.now ++ fraction.now)) * 10 ^ z) }
-{
-    if skip_zeros(whole, fraction, kept) < whole.len() + fraction.len() {
-        return None;
-    }
-    let front = saturating_value(whole, fraction, kept);
-    if front == 0 {
+    if significand.size == 0 {
         return Some(0);
     }
-    if front >= 1 << 64 {
+    let (up, down) = tens(numeral);
+    let up = up + significand.zeros as u128 + scale as u128;
+    if up < down {
         return None;
     }
+    let zeros = up - down;
     if zeros > 19 {
         return None;
     }
-    let value = front * ten_to(zeros) as u128;
-    if value < 1 << 64 {
-        Some(value as u64)
-    } else {
-        None
+    significand.size.checked_mul(ten_to(zeros as u64))
+}
+
+// All digits of a numeral as one number, without the zeros at its end, and how many these are.
+#[derive(Clone, Copy)]
+struct Significand {
+    size: u64,
+    zeros: usize,
+}
+
+// Returns the significand of a numeral, or `None` if it is 2^64 or more, so that no scale makes the
+// number fit. Each digit is looked at once or twice, whatever the scale.
+fn significand_of(numeral: &Numeral<'_>) -> Option<Significand>
+    requires { IsShort numeral.now }
+    ensures { MatchOption result (IsTooLarge numeral.now)
+        (λ s. HasSignificand numeral.now s.size s.zeros) }
+{
+    let whole = numeral.whole();
+    let fraction = numeral.fraction();
+    let kept = last_digit(whole, fraction);
+    let size = first_digits(whole, fraction, kept)?;
+    let zeros = whole.len() + fraction.len() - kept;
+    Some(Significand { size, zeros })
+}
+
+// Returns how many digits there are up to the last that is not 0.
+fn last_digit(whole: &[u8], fraction: &[u8]) -> usize
+    requires { AllDigits 10 (whole.now ++ fraction.now) }
+    ensures { EndsDigits (whole.now ++ fraction.now) result }
+{
+    match without_zeros(fraction) {
+        0 => without_zeros(whole),
+        places => whole.len() + places,
     }
 }
 
-// Returns the value of the first digits, or 2^64 where that is less.
-fn saturating_value(whole: &[u8], fraction: &[u8], count: usize) -> u128
+// Returns how many digits there are up to the last that is not 0.
+fn without_zeros(digits: &[u8]) -> usize
+    requires { AllDigits 10 digits.now }
+    ensures { EndsDigits digits.now result }
+{
+    let mut end = digits.len();
+    while end > 0 && digits[end - 1] == b'0' {
+        end -= 1;
+    }
+    end
+}
+
+// Returns the value of the first digits, or `None` if it is 2^64 or more.
+fn first_digits(whole: &[u8], fraction: &[u8], count: usize) -> Option<u64>
     requires digits { AllDigits 10 (whole.now ++ fraction.now) }
     requires within { count ≤ length whole.now + length fraction.now }
-    ensures { result ≡ min (digits_value 10 (take count (whole.now ++ fraction.now))) (2 ^ 64) }
+    ensures { SomeIff result (digits_value 10 (take count (whole.now ++ fraction.now)) < 2 ^ 64)
+        (digits_value 10 (take count (whole.now ++ fraction.now))) }
 {
-    let mut value = 0u128;
-    for at in 0..count {
-        value = (value * 10 + digit_at(whole, fraction, at) as u128).min(1 << 64);
+    let mut value = 0u64;
+    for at in skip_zeros(whole, fraction, 0).min(count)..count {
+        value = value
+            .checked_mul(10)?
+            .checked_add(digit_at(whole, fraction, at))?;
     }
-    value
+    Some(value)
 }

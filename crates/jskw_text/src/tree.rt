@@ -1,13 +1,15 @@
 //! The tree of decimals that a JSON text denotes.
-ghost use Rattle.std.specs.Prelude.{◌≡◌, ◌<◌, Some, Ok, IfOk, IfErr, OnOk, IsTrue, IsSome, ◌↔◌, length, map, string_bytes};
+ghost use Rattle.std.specs.Prelude.{◌≡◌, ◌<◌, ◌++◌, Some, Ok, IfOk, IfErr, OnOk, IsTrue, IsSome, ◌↔◌, length, map};
+ghost use Rattle.std.specs.Prelude.{string_bytes};
 ghost use Rattle.std.specs.Str.{is_utf8};
 ghost use Rattle.json.specs.Json.{value, items, members, parse_map};
 ghost use Rattle.jskw_value.specs.DecimalTree.{decimal_tree, items_from};
 ghost use Rattle.jskw_value.specs.FirstFloat.{below_index, below_name};
+ghost use Rattle.jskw_value.specs.Pointer.{index_token, name_token};
 ghost use Rattle.jskw_value.specs.Tree.{no_members};
 ghost use Rattle.jskw_text.specs.Members.{members_seen};
 ghost use Rattle.jskw_text.specs.ReadFault.{IsFaultOf};
-ghost use Rattle.jskw_text.specs.Stop.{IsStopOf, Explains, IsOutside};
+ghost use Rattle.jskw_text.specs.Stop.{IsStopOf, Explains, IsAt, IsOutside, location_of};
 ghost use Rattle.jskw_text.specs.Reading.{document, reading, tree_of, items_of, members_of};
 
 use crate::broken::offset_of_break;
@@ -46,14 +48,19 @@ fn read_text(alloc: Global, text: &str) -> Result<DecimalTree, ReadFault>
     let mut scratch = Scratch::new(alloc);
     match read_all(alloc, text, &mut scratch) {
         Ok(tree) => Ok(tree),
-        Err(stop) => Err(fault_of(text, &mut scratch, stop)?),
+        Err(stop) => Err(fault_of(alloc, text, &mut scratch, stop)?),
     }
 }
 
 // Returns the fault of a text that was read up to a stop. Behind an inexact number nothing was read.
 #[cold]
 #[inline(never)]
-fn fault_of(text: &str, scratch: &mut Scratch, stop: Stop) -> Result<ReadFault, AllocError>
+fn fault_of(
+    alloc: Global,
+    text: &str,
+    scratch: &mut Scratch,
+    stop: Stop,
+) -> Result<ReadFault, AllocError>
     requires utf8 { IsTrue (is_utf8 text.now) }
     requires stop { IsStopOf text.now stop }
     ensures { IfOk result (IsFaultOf text.now) }
@@ -61,9 +68,9 @@ fn fault_of(text: &str, scratch: &mut Scratch, stop: Stop) -> Result<ReadFault, 
     match stop {
         Stop::Memory(e) => Ok(ReadFault::Memory(e)),
         Stop::Broken => Ok(ReadFault::NotJson(offset_of_break(text, scratch)?)),
-        Stop::Inexact(location) => {
+        Stop::Inexact(steps) => {
             if is_json(text, scratch)? {
-                Ok(ReadFault::Inexact(location))
+                Ok(ReadFault::Inexact(location_of(alloc, &steps)?))
             } else {
                 Ok(ReadFault::NotJson(offset_of_break(text, scratch)?))
             }
@@ -108,7 +115,7 @@ fn read(alloc: Global, reader: &mut Reader<'_>, depth: usize) -> Result<DecimalT
         Token::String(text) => Ok(DecimalTree::Text(String::from_str(alloc, text)?)),
         Token::Number(text) => match parse_decimal(text) {
             Some(decimal) => Ok(DecimalTree::Number(decimal)),
-            None => Err(Stop::Inexact(String::new(alloc))),
+            None => Err(Stop::Inexact(Vec::new(alloc))),
         },
         Token::Bool(boolean) => Ok(DecimalTree::Bool(boolean)),
         Token::Null => Ok(DecimalTree::Null),
@@ -183,8 +190,8 @@ fn in_item(alloc: Global, index: usize, stop: Stop) -> Stop
     ensures { IsOutside (below_index index) stop result }
 {
     match stop {
-        Stop::Inexact(below) => match below_item(alloc, index, below) {
-            Ok(location) => Stop::Inexact(location),
+        Stop::Inexact(steps) => match item_step(alloc, index) {
+            Ok(step) => with_step(steps, step),
             Err(e) => Stop::Memory(e),
         },
         _ => stop,
@@ -197,32 +204,52 @@ fn in_member(alloc: Global, name: &str, stop: Stop) -> Stop
     ensures { IsOutside (below_name name.now) stop result }
 {
     match stop {
-        Stop::Inexact(below) => match below_member(alloc, name, below) {
-            Ok(location) => Stop::Inexact(location),
+        Stop::Inexact(steps) => match member_step(alloc, name) {
+            Ok(step) => with_step(steps, step),
             Err(e) => Stop::Memory(e),
         },
         _ => stop,
     }
 }
 
-// Returns a location in an item, relative to its array.
-fn below_item(alloc: Global, index: usize, below: String) -> Result<String, AllocError>
-    ensures { IfOk result (λ location. string_bytes location
-        ≡ below_index index (string_bytes below)) }
+// Returns the step into an item.
+fn item_step(alloc: Global, index: usize) -> Result<String, AllocError>
+    ensures { IfOk result (λ step. string_bytes step ≡ index_token index) }
 {
-    let mut location = String::new(alloc);
-    push_index(&mut location, index)?;
-    location.push_str(below.as_str())?;
-    Ok(location)
+    let mut step = String::new(alloc);
+    push_index(&mut step, index)?;
+    Ok(step)
 }
 
-// Returns a location in a member, relative to its object.
-fn below_member(alloc: Global, name: &str, below: String) -> Result<String, AllocError>
+// Returns the step into a member.
+fn member_step(alloc: Global, name: &str) -> Result<String, AllocError>
+    ensures { IfOk result (λ step. string_bytes step ≡ name_token name.now) }
+{
+    let mut step = String::new(alloc);
+    push_name(&mut step, name)?;
+    Ok(step)
+}
+
+// Returns the stop at a number whose location has one step more in front.
+fn with_step(mut steps: Vec<String>, step: String) -> Stop
+    ensures { IsAt (string_bytes step ++ location_of (map string_bytes steps.items)) result }
+{
+    match steps.push(step) {
+        Ok(()) => Stop::Inexact(steps),
+        Err(e) => Stop::from(e),
+    }
+}
+
+// Returns the location that has these steps, the innermost first.
+fn location_of(alloc: Global, steps: &[String]) -> Result<String, AllocError>
     ensures { IfOk result (λ location. string_bytes location
-        ≡ below_name name.now (string_bytes below)) }
+        ≡ location_of (map string_bytes steps.now)) }
 {
     let mut location = String::new(alloc);
-    push_name(&mut location, name)?;
-    location.push_str(below.as_str())?;
+    let mut at = steps.len();
+    while at > 0 {
+        at -= 1;
+        location.push_str(steps[at].as_str())?;
+    }
     Ok(location)
 }

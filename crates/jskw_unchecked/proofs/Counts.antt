@@ -1,17 +1,23 @@
 -- How many keywords that are read assert the member of a name.
-use Rattle.std.proofs.Common.{◌≡◌, ℕ, suc, List, [], ◌∷◌, ◌++◌, Bool, true, false, not, ◌&&◌, ◌||◌, Option, Some, None, Result, Ok, Err, if◌then◌else◌, is_some, bytes_eq, refl, sym, ap, ap₂, ◌∙◌}
+use Rattle.std.proofs.Common.{◌≡◌, ℕ, suc, List, [], ◌∷◌, ◌++◌, Bool, true, false, not, ◌&&◌, ◌||◌, Option, Some, None}
+use Rattle.std.proofs.Common.{Result, Ok, Err, if◌then◌else◌, is_some, bytes_eq, refl, sym, ap, ap₂, ◌∙◌}
 use Rattle.std.proofs.lemmas.Bool.Decides.{Decides-eqb}
 use Rattle.std.specs.Prelude.{⊤}
 use Rattle.serde_json.specs.Data.{Data, boolean, array, object, Members}
 use Rattle.serde_json.specs.Find.{get_member}
 use Rattle.jskw_value.specs.Pointer.{Pointer, member_location, name_token}
-use Rattle.jskw_report.specs.Keyword.{Keywords, no_keywords, keyword, Keyword, contains, Relation, Minimum, Maximum, ExclusiveMinimum, ExclusiveMaximum}
-use Rattle.jskw_report.specs.KeywordValue.{Refusal, map_ok, join_ok, size_value, limit_value, divisor_value, const_value, enum_value, type_value, required_value}
-use Rattle.jskw_report.specs.Read.{Asserts, Part, Reading, asserted, before, bound_beside, bound_value, bounds_of, items_keyword, additional_keyword, prefix_keyword, keyword_location, limit_word, max_contains, min_contains, read_word, read_words, relation_beside}
-use Rattle.jskw_report.specs.Setting.{Setting, keywords, name_of, stands, is_after_draft_4}
+use Rattle.jskw_report.specs.Keyword.{Keywords, no_keywords, keyword, Keyword, contains, Relation, Minimum, Maximum}
+use Rattle.jskw_report.specs.Keyword.{ExclusiveMinimum, ExclusiveMaximum}
+use Rattle.jskw_report.specs.KeywordValue.{Refusal, map_ok, join_ok, size_value, limit_value, divisor_value}
+use Rattle.jskw_report.specs.KeywordValue.{const_value, enum_value, type_value, required_value}
+use Rattle.jskw_report.specs.Read.{Asserts, ValueReadings, Reading, asserted, before, bound_beside, bound_value}
+use Rattle.jskw_report.specs.Read.{bounds_between, items_keyword, additional_keyword, prefix_keyword, keyword_location}
+use Rattle.jskw_report.specs.Read.{limit_keyword_name, max_contains, min_contains, read_keyword, read_keywords}
+use Rattle.jskw_report.specs.Read.{relation_beside}
+use Rattle.jskw_report.specs.Setting.{Setting, keywords, name_of, is_active, is_after_draft_4}
 use Rattle.jskw_report.specs.Sibling.{is_true, is_handed_on, member_passes}
 use Rattle.jskw_report.specs.declared.keyword.KeywordName.{KeywordName}
-use Rattle.jskw_report.specs.declared.keyword.KeywordName.TheVariants as word
+use Rattle.jskw_report.specs.declared.keyword.KeywordName.TheVariants as keyword_name
 use Rattle.jskw_unchecked.specs.Covered.{asserts_member, count_at}
 
 -- ---- tests
@@ -67,9 +73,15 @@ is_exclusive s ms name = not (is_after_draft_4 s.draft) && member_passes is_true
 
 -- whether the keyword w, where it is read, asserts the member whose name passes the test
 abbrev pub asserts_name : KeywordName → Setting → Members → (List ℕ → Bool) → Bool
-asserts_name word.Minimum s ms is = is (name_of word.Minimum) || (is (name_of word.ExclusiveMinimum) && is_exclusive s ms (name_of word.ExclusiveMinimum))
-asserts_name word.Maximum s ms is = is (name_of word.Maximum) || (is (name_of word.ExclusiveMaximum) && is_exclusive s ms (name_of word.ExclusiveMaximum))
-asserts_name word.Contains s ms is = is (name_of word.Contains) || (is min_contains && is_some (bound_beside s ms min_contains)) || (is max_contains && is_some (bound_beside s ms max_contains))
+asserts_name keyword_name.Minimum s ms is =
+    is (name_of keyword_name.Minimum)
+    || (is (name_of keyword_name.ExclusiveMinimum) && is_exclusive s ms (name_of keyword_name.ExclusiveMinimum))
+asserts_name keyword_name.Maximum s ms is =
+    is (name_of keyword_name.Maximum)
+    || (is (name_of keyword_name.ExclusiveMaximum) && is_exclusive s ms (name_of keyword_name.ExclusiveMaximum))
+asserts_name keyword_name.Contains s ms is =
+    is (name_of keyword_name.Contains) || (is min_contains && is_some (bound_beside s ms min_contains))
+    || (is max_contains && is_some (bound_beside s ms max_contains))
 asserts_name w s ms is = is (name_of w)
 
 -- what is asserted, if it is no refusal, is such a keyword
@@ -77,11 +89,13 @@ abbrev pub IfAsserts : (Keyword → Type 0) → Asserts → Type 0
 IfAsserts P (Some (Ok k)) = P k
 IfAsserts P _ = ⊤
 
-pub if_map : {A : Type 0} (P : Keyword → Type 0) (f : A → Keyword) (r : Result A Refusal) → ((a : A) → r ≡ Ok a → P (f a)) → IfAsserts P (Some (map_ok f r))
+pub if_map : {A : Type 0} (P : Keyword → Type 0) (f : A → Keyword) (r : Result A Refusal)
+    → ((a : A) → r ≡ Ok a → P (f a)) → IfAsserts P (Some (map_ok f r))
 if_map P f (Ok a) h = h a refl
 if_map P f (Err e) h = tt
 
-pub if_either : (P : Keyword → Type 0) (b : Bool) (x y : Asserts) → IfAsserts P x → IfAsserts P y → IfAsserts P (if b then x else y)
+pub if_either : (P : Keyword → Type 0) (b : Bool) (x y : Asserts) → IfAsserts P x → IfAsserts P y
+    → IfAsserts P (if b then x else y)
 if_either P true x y h k = h
 if_either P false x y h k = k
 
@@ -94,94 +108,141 @@ module _ (p : Pointer) (m : Pointer) where
   abbrev pub AssertsAlike : KeywordName → Setting → Members → Keyword → Type 0
   AssertsAlike w s ms k = asserts_member m (keyword_location p w) k ≡ asserts_name w s ms is_at
 
-  limit_alike : (a b : List ℕ) (c : Bool) (r r' : Relation) → keyword_location p (limit_word r) ≡ member_location p a → keyword_location p (limit_word r') ≡ member_location p b
-      → (bytes_eq m (member_location p a) || bytes_eq m (keyword_location p (limit_word (if c then r' else r)))) ≡ (is_at a || (is_at b && c))
+  limit_alike : (a b : List ℕ) (c : Bool) (r r' : Relation)
+      → keyword_location p (limit_keyword_name r) ≡ member_location p a
+      → keyword_location p (limit_keyword_name r') ≡ member_location p b
+      → (bytes_eq m (member_location p a) || bytes_eq m (keyword_location p (limit_keyword_name (if c then r' else r))))
+      ≡ (is_at a || (is_at b && c))
   limit_alike a b true r r' e f = ap (λ q. is_at a || bytes_eq m q) f ∙ limit_spoken (is_at a) (is_at b) true
   limit_alike a b false r r' e f = ap (λ q. is_at a || bytes_eq m q) e ∙ limit_spoken (is_at a) (is_at b) false
 
   contains_alike : (s : Setting) (ms : Members) (o u : Option Data) (r : Reading)
-      → IfAsserts (λ k. asserts_member m (keyword_location p word.Contains) k ≡ (is_at (name_of word.Contains) || (is_at min_contains && is_some o) || (is_at max_contains && is_some u)))
-      (Some (join_ok (λ b sub. contains sub b) (join_ok (bounds_of p) (bound_value (member_location p min_contains) o) (bound_value (member_location p max_contains) u)) r))
-  contains_alike s ms None None r = if_map _ _ r (λ sub e. no_bound (is_at (name_of word.Contains)) (is_at min_contains) (is_at max_contains))
+      → IfAsserts (λ k. asserts_member m (keyword_location p keyword_name.Contains) k ≡ (is_at
+      (name_of keyword_name.Contains) || (is_at min_contains && is_some o) || (is_at max_contains && is_some u)))
+      (Some (join_ok (λ b sub. contains sub b) (join_ok (bounds_between p)
+      (bound_value (member_location p min_contains) o) (bound_value (member_location p max_contains) u)) r))
+  contains_alike s ms None None r =
+      if_map _ _ r (λ sub e. no_bound (is_at (name_of keyword_name.Contains)) (is_at min_contains) (is_at max_contains))
   contains_alike s ms (Some d) None r = go (size_value (member_location p min_contains) d)
     where
-      go : (v : Result ℕ Refusal) → IfAsserts (λ k. asserts_member m (keyword_location p word.Contains) k ≡ (is_at (name_of word.Contains) || (is_at min_contains && true) || (is_at max_contains && false)))
-          (Some (join_ok (λ b sub. contains sub b) (join_ok (bounds_of p) (map_ok Some v) (Ok None)) r))
-      go (Ok n) = if_map _ _ r (λ sub e. lower_bound (is_at (name_of word.Contains)) (is_at min_contains) (is_at max_contains))
+      go : (v : Result ℕ Refusal) → IfAsserts (λ k. asserts_member m (keyword_location p keyword_name.Contains) k
+          ≡ (is_at (name_of keyword_name.Contains) || (is_at min_contains && true) || (is_at max_contains && false)))
+          (Some (join_ok (λ b sub. contains sub b) (join_ok (bounds_between p) (map_ok Some v) (Ok None)) r))
+      go (Ok n) =
+          if_map _ _ r
+          (λ sub e. lower_bound (is_at (name_of keyword_name.Contains)) (is_at min_contains) (is_at max_contains))
       go (Err e) = tt
   contains_alike s ms None (Some d) r = go (size_value (member_location p max_contains) d)
     where
-      go : (v : Result ℕ Refusal) → IfAsserts (λ k. asserts_member m (keyword_location p word.Contains) k ≡ (is_at (name_of word.Contains) || (is_at min_contains && false) || (is_at max_contains && true)))
-          (Some (join_ok (λ b sub. contains sub b) (join_ok (bounds_of p) (Ok None) (map_ok Some v)) r))
-      go (Ok n) = if_map _ _ r (λ sub e. upper_bound (is_at (name_of word.Contains)) (is_at min_contains) (is_at max_contains))
+      go : (v : Result ℕ Refusal) → IfAsserts (λ k. asserts_member m (keyword_location p keyword_name.Contains) k
+          ≡ (is_at (name_of keyword_name.Contains) || (is_at min_contains && false) || (is_at max_contains && true)))
+          (Some (join_ok (λ b sub. contains sub b) (join_ok (bounds_between p) (Ok None) (map_ok Some v)) r))
+      go (Ok n) =
+          if_map _ _ r
+          (λ sub e. upper_bound (is_at (name_of keyword_name.Contains)) (is_at min_contains) (is_at max_contains))
       go (Err e) = tt
-  contains_alike s ms (Some c) (Some d) r = go (size_value (member_location p min_contains) c) (size_value (member_location p max_contains) d)
+  contains_alike s ms (Some c) (Some d) r =
+      go (size_value (member_location p min_contains) c) (size_value (member_location p max_contains) d)
     where
-      go : (v w : Result ℕ Refusal) → IfAsserts (λ k. asserts_member m (keyword_location p word.Contains) k ≡ (is_at (name_of word.Contains) || (is_at min_contains && true) || (is_at max_contains && true)))
-          (Some (join_ok (λ b sub. contains sub b) (join_ok (bounds_of p) (map_ok Some v) (map_ok Some w)) r))
-      go (Ok n) (Ok l) = if_map _ _ r (λ sub e. both_bounds (is_at (name_of word.Contains)) (is_at min_contains) (is_at max_contains))
+      go : (v w : Result ℕ Refusal) → IfAsserts (λ k. asserts_member m (keyword_location p keyword_name.Contains) k
+          ≡ (is_at (name_of keyword_name.Contains) || (is_at min_contains && true) || (is_at max_contains && true)))
+          (Some (join_ok (λ b sub. contains sub b) (join_ok (bounds_between p) (map_ok Some v) (map_ok Some w)) r))
+      go (Ok n) (Ok l) =
+          if_map _ _ r
+          (λ sub e. both_bounds (is_at (name_of keyword_name.Contains)) (is_at min_contains) (is_at max_contains))
       go (Ok n) (Err e) = tt
       go (Err e) w = tt
 
-  items_alike : (s : Setting) (ms : Members) (part : Part) (d : Data) → IfAsserts (AssertsAlike word.Items s ms) (items_keyword s (keyword_location p word.Items) ms part d)
-  items_alike s ms part (array ds) = if_map _ _ (part.schemas s (keyword_location p word.Items)) (λ a e. or_none _)
-  items_alike s ms part (object ns) = if_map _ _ (part.schema s (keyword_location p word.Items)) (λ a e. or_none _)
-  items_alike s ms part (boolean false) = if_map _ _ (part.schema s (keyword_location p word.Items)) (λ a e. or_none _)
+  items_alike : (s : Setting) (ms : Members) (part : ValueReadings) (d : Data) → IfAsserts
+      (AssertsAlike keyword_name.Items s ms) (items_keyword s (keyword_location p keyword_name.Items) ms part d)
+  items_alike s ms part (array ds) =
+      if_map _ _ (part.schemas s (keyword_location p keyword_name.Items)) (λ a e. or_none _)
+  items_alike s ms part (object ns) =
+      if_map _ _ (part.schema s (keyword_location p keyword_name.Items)) (λ a e. or_none _)
+  items_alike s ms part (boolean false) =
+      if_map _ _ (part.schema s (keyword_location p keyword_name.Items)) (λ a e. or_none _)
   items_alike s ms part (boolean true) = tt
   items_alike s ms part _ = tt
 
-  prefix_alike : (s : Setting) (ms : Members) (part : Part) (d : Data) → IfAsserts (AssertsAlike word.PrefixItems s ms) (prefix_keyword s (keyword_location p word.PrefixItems) part d)
-  prefix_alike s ms part (array ds) = if_map _ _ (part.schemas s (keyword_location p word.PrefixItems)) (λ a e. or_none _)
+  prefix_alike : (s : Setting) (ms : Members) (part : ValueReadings) (d : Data) → IfAsserts
+      (AssertsAlike keyword_name.PrefixItems s ms)
+      (prefix_keyword s (keyword_location p keyword_name.PrefixItems) part d)
+  prefix_alike s ms part (array ds) =
+      if_map _ _ (part.schemas s (keyword_location p keyword_name.PrefixItems)) (λ a e. or_none _)
   prefix_alike s ms part _ = tt
 
-  additional_alike : (s : Setting) (ms : Members) (o : Option Data) (part : Part) (d : Data)
-      → IfAsserts (AssertsAlike word.AdditionalItems s ms) (additional_keyword s (keyword_location p word.AdditionalItems) o part d)
+  additional_alike : (s : Setting) (ms : Members) (o : Option Data) (part : ValueReadings) (d : Data)
+      → IfAsserts (AssertsAlike keyword_name.AdditionalItems s ms)
+      (additional_keyword s (keyword_location p keyword_name.AdditionalItems) o part d)
   additional_alike s ms (Some (array ds)) part (boolean true) = tt
   additional_alike s ms (Some (array ds)) part (boolean false) = or_same _
-  additional_alike s ms (Some (array ds)) part _ = if_map _ _ (part.schema s (keyword_location p word.AdditionalItems)) (λ a e. or_none _)
+  additional_alike s ms (Some (array ds)) part _ =
+      if_map _ _ (part.schema s (keyword_location p keyword_name.AdditionalItems)) (λ a e. or_none _)
   additional_alike s ms (Some _) part d = tt
   additional_alike s ms None part d = tt
 
-  asserted_alike : (w : KeywordName) (s : Setting) (ms : Members) (part : Part) → IfAsserts (AssertsAlike w s ms) (asserted w s p ms part)
+  asserted_alike : (w : KeywordName) (s : Setting) (ms : Members) (part : ValueReadings)
+      → IfAsserts (AssertsAlike w s ms) (asserted w s p ms part)
   unfolding asserted
-  asserted_alike word.TypeKeyword s ms part = if_map _ _ (type_value (keyword_location p word.TypeKeyword) part.value) (λ a e. or_same _)
-  asserted_alike word.MinItems s ms part = if_map _ _ (size_value (keyword_location p word.MinItems) part.value) (λ a e. or_same _)
-  asserted_alike word.MaxItems s ms part = if_map _ _ (size_value (keyword_location p word.MaxItems) part.value) (λ a e. or_same _)
-  asserted_alike word.Items s ms part = items_alike s ms part part.value
-  asserted_alike word.PrefixItems s ms part = prefix_alike s ms part part.value
-  asserted_alike word.AdditionalItems s ms part = additional_alike s ms (get_member (name_of word.Items) ms) part part.value
-  asserted_alike word.Contains s ms part = contains_alike s ms (bound_beside s ms min_contains) (bound_beside s ms max_contains) (part.schema s (keyword_location p word.Contains))
-  asserted_alike word.UniqueItems s ms part = if_either _ (is_true part.value) _ None (or_same _) tt
-  asserted_alike word.Const s ms part = if_map _ _ (const_value (keyword_location p word.Const) part.value) (λ a e. or_same _)
-  asserted_alike word.Enum s ms part = if_map _ _ (enum_value (keyword_location p word.Enum) part.value) (λ a e. or_same _)
-  asserted_alike word.Minimum s ms part =
-      let c = is_exclusive s ms (name_of word.ExclusiveMinimum) in
-      if_map _ _ (limit_value (keyword_location p (limit_word (relation_beside s ms Minimum))) part.value)
-      (λ a e. limit_alike (name_of word.Minimum) (name_of word.ExclusiveMinimum) c Minimum ExclusiveMinimum refl refl)
-  asserted_alike word.Maximum s ms part =
-      let c = is_exclusive s ms (name_of word.ExclusiveMaximum) in
-      if_map _ _ (limit_value (keyword_location p (limit_word (relation_beside s ms Maximum))) part.value)
-      (λ a e. limit_alike (name_of word.Maximum) (name_of word.ExclusiveMaximum) c Maximum ExclusiveMaximum refl refl)
-  asserted_alike word.ExclusiveMinimum s ms part = if_map _ _ (limit_value (keyword_location p word.ExclusiveMinimum) part.value) (λ a e. or_same _)
-  asserted_alike word.ExclusiveMaximum s ms part = if_map _ _ (limit_value (keyword_location p word.ExclusiveMaximum) part.value) (λ a e. or_same _)
-  asserted_alike word.MultipleOf s ms part = if_map _ _ (divisor_value (keyword_location p word.MultipleOf) part.value) (λ a e. or_same _)
-  asserted_alike word.MinProperties s ms part = if_map _ _ (size_value (keyword_location p word.MinProperties) part.value) (λ a e. or_same _)
-  asserted_alike word.MaxProperties s ms part = if_map _ _ (size_value (keyword_location p word.MaxProperties) part.value) (λ a e. or_same _)
-  asserted_alike word.Required s ms part = if_either _ (is_handed_on s ms) None _ tt (if_map _ _ (required_value (keyword_location p word.Required) part.value) (λ a e. or_same _))
+  asserted_alike keyword_name.TypeKeyword s ms part =
+      if_map _ _ (type_value (keyword_location p keyword_name.TypeKeyword) part.value) (λ a e. or_same _)
+  asserted_alike keyword_name.MinItems s ms part =
+      if_map _ _ (size_value (keyword_location p keyword_name.MinItems) part.value) (λ a e. or_same _)
+  asserted_alike keyword_name.MaxItems s ms part =
+      if_map _ _ (size_value (keyword_location p keyword_name.MaxItems) part.value) (λ a e. or_same _)
+  asserted_alike keyword_name.Items s ms part = items_alike s ms part part.value
+  asserted_alike keyword_name.PrefixItems s ms part = prefix_alike s ms part part.value
+  asserted_alike keyword_name.AdditionalItems s ms part =
+      additional_alike s ms (get_member (name_of keyword_name.Items) ms) part part.value
+  asserted_alike keyword_name.Contains s ms part =
+      contains_alike s ms (bound_beside s ms min_contains) (bound_beside s ms max_contains)
+      (part.schema s (keyword_location p keyword_name.Contains))
+  asserted_alike keyword_name.UniqueItems s ms part = if_either _ (is_true part.value) _ None (or_same _) tt
+  asserted_alike keyword_name.Const s ms part =
+      if_map _ _ (const_value (keyword_location p keyword_name.Const) part.value) (λ a e. or_same _)
+  asserted_alike keyword_name.Enum s ms part =
+      if_map _ _ (enum_value (keyword_location p keyword_name.Enum) part.value) (λ a e. or_same _)
+  asserted_alike keyword_name.Minimum s ms part =
+      let c = is_exclusive s ms (name_of keyword_name.ExclusiveMinimum) in
+      if_map _ _ (limit_value (keyword_location p (limit_keyword_name (relation_beside s ms Minimum))) part.value)
+      (λ a e. limit_alike (name_of keyword_name.Minimum) (name_of keyword_name.ExclusiveMinimum) c Minimum
+      ExclusiveMinimum refl refl)
+  asserted_alike keyword_name.Maximum s ms part =
+      let c = is_exclusive s ms (name_of keyword_name.ExclusiveMaximum) in
+      if_map _ _ (limit_value (keyword_location p (limit_keyword_name (relation_beside s ms Maximum))) part.value)
+      (λ a e. limit_alike (name_of keyword_name.Maximum) (name_of keyword_name.ExclusiveMaximum) c Maximum
+      ExclusiveMaximum refl refl)
+  asserted_alike keyword_name.ExclusiveMinimum s ms part =
+      if_map _ _ (limit_value (keyword_location p keyword_name.ExclusiveMinimum) part.value) (λ a e. or_same _)
+  asserted_alike keyword_name.ExclusiveMaximum s ms part =
+      if_map _ _ (limit_value (keyword_location p keyword_name.ExclusiveMaximum) part.value) (λ a e. or_same _)
+  asserted_alike keyword_name.MultipleOf s ms part =
+      if_map _ _ (divisor_value (keyword_location p keyword_name.MultipleOf) part.value) (λ a e. or_same _)
+  asserted_alike keyword_name.MinProperties s ms part =
+      if_map _ _ (size_value (keyword_location p keyword_name.MinProperties) part.value) (λ a e. or_same _)
+  asserted_alike keyword_name.MaxProperties s ms part =
+      if_map _ _ (size_value (keyword_location p keyword_name.MaxProperties) part.value) (λ a e. or_same _)
+  asserted_alike keyword_name.Required s ms part =
+      if_either _ (is_handed_on s ms) None _ tt
+      (if_map _ _ (required_value (keyword_location p keyword_name.Required) part.value) (λ a e. or_same _))
 
   -- what is read of w asserts the member where w is to
-  pub read_alike : (w : KeywordName) (s : Setting) (ms : Members) (o : Option Part) → IfAsserts (AssertsAlike w s ms) (read_word w s p ms o)
-  unfolding read_word
+  pub read_alike : (w : KeywordName) (s : Setting) (ms : Members) (o : Option ValueReadings)
+      → IfAsserts (AssertsAlike w s ms) (read_keyword w s p ms o)
+  unfolding read_keyword
   read_alike w s ms None = tt
-  read_alike w s ms (Some part) = if_either _ (stands s w) (asserted w s p ms part) None (asserted_alike w s ms part) tt
+  read_alike w s ms (Some part) =
+      if_either _ (is_active s w) (asserted w s p ms part) None (asserted_alike w s ms part) tt
 
   -- ---- all keywords that are read
 
-  module _ (s : Setting) (ms : Members) (parts : List ℕ → Option Part) where
+  module _ (s : Setting) (ms : Members) (parts : List ℕ → Option ValueReadings) where
     -- the keywords of the list that are read and assert the member
     abbrev pub tally : List KeywordName → ℕ
     tally [] = 0
-    tally (w ∷ ws) = if asserts_name w s ms is_at && is_some (read_word w s p ms (parts (name_of w))) then suc (tally ws) else tally ws
+    tally (w ∷ ws) =
+        if asserts_name w s ms is_at && is_some (read_keyword w s p ms (parts (name_of w))) then suc (tally ws)
+        else tally ws
 
     one_more : (a b : Bool) (n : ℕ) → a ≡ b → (if a then suc n else n) ≡ (if b && true then suc n else n)
     one_more true true n e = refl
@@ -194,13 +255,18 @@ module _ (p : Pointer) (m : Pointer) where
     none_more false n = refl
 
     -- they are as many as assert it of those that were read
-    pub counted : (ws : List KeywordName) (ks : Keywords) → read_words ws s p ms parts ≡ Ok ks → count_at m ks ≡ tally ws
+    pub counted : (ws : List KeywordName) (ks : Keywords) → read_keywords ws s p ms parts ≡ Ok ks
+        → count_at m ks ≡ tally ws
     counted [] no_keywords e = refl
     counted [] (keyword q k ks) e = cc
-    counted (w ∷ ws) ks e = go (read_word w s p ms (parts (name_of w))) (read_words ws s p ms parts) (read_alike w s ms (parts (name_of w))) (counted ws) e
+    counted (w ∷ ws) ks e =
+        go (read_keyword w s p ms (parts (name_of w))) (read_keywords ws s p ms parts)
+        (read_alike w s ms (parts (name_of w))) (counted ws) e
       where
-        go : (a : Asserts) (r : Result Keywords Refusal) → IfAsserts (AssertsAlike w s ms) a → ((js : Keywords) → r ≡ Ok js → count_at m js ≡ tally ws)
-            → before (keyword_location p w) a r ≡ Ok ks → count_at m ks ≡ (if asserts_name w s ms is_at && is_some a then suc (tally ws) else tally ws)
+        go : (a : Asserts) (r : Result Keywords Refusal) → IfAsserts (AssertsAlike w s ms) a
+            → ((js : Keywords) → r ≡ Ok js → count_at m js ≡ tally ws)
+            → before (keyword_location p w) a r ≡ Ok ks
+            → count_at m ks ≡ (if asserts_name w s ms is_at && is_some a then suc (tally ws) else tally ws)
         go None r alike rest e = rest ks e ∙ none_more (asserts_name w s ms is_at) (tally ws)
         go (Some (Err x)) r alike rest e = cc
         go (Some (Ok k)) (Err x) alike rest e = cc
@@ -228,24 +294,25 @@ same_ends [] x y = refl
 same_ends (z ∷ p) x y = heads z (p ++ x) (p ++ y) ∙ same_ends p x y
 
 -- the same tests of names, the same keywords
-asserts_same : (w : KeywordName) (s : Setting) (ms : Members) (f g : List ℕ → Bool) → ((u : List ℕ) → f u ≡ g u) → asserts_name w s ms f ≡ asserts_name w s ms g
-asserts_same word.Minimum s ms f g h =
-    let c = is_exclusive s ms (name_of word.ExclusiveMinimum) in
-    ap₂ (λ a b. a || (b && c)) (h (name_of word.Minimum)) (h (name_of word.ExclusiveMinimum))
-asserts_same word.Maximum s ms f g h =
-    let c = is_exclusive s ms (name_of word.ExclusiveMaximum) in
-    ap₂ (λ a b. a || (b && c)) (h (name_of word.Maximum)) (h (name_of word.ExclusiveMaximum))
-asserts_same word.Contains s ms f g h =
+asserts_same : (w : KeywordName) (s : Setting) (ms : Members) (f g : List ℕ → Bool) → ((u : List ℕ) → f u ≡ g u)
+    → asserts_name w s ms f ≡ asserts_name w s ms g
+asserts_same keyword_name.Minimum s ms f g h =
+    let c = is_exclusive s ms (name_of keyword_name.ExclusiveMinimum) in
+    ap₂ (λ a b. a || (b && c)) (h (name_of keyword_name.Minimum)) (h (name_of keyword_name.ExclusiveMinimum))
+asserts_same keyword_name.Maximum s ms f g h =
+    let c = is_exclusive s ms (name_of keyword_name.ExclusiveMaximum) in
+    ap₂ (λ a b. a || (b && c)) (h (name_of keyword_name.Maximum)) (h (name_of keyword_name.ExclusiveMaximum))
+asserts_same keyword_name.Contains s ms f g h =
     let l = is_some (bound_beside s ms min_contains) in
     let u = is_some (bound_beside s ms max_contains) in
-    ap (λ a. a || (f min_contains && l) || (f max_contains && u)) (h (name_of word.Contains))
-    ∙ ap₂ (λ b c. g (name_of word.Contains) || (b && l) || (c && u)) (h min_contains) (h max_contains)
+    ap (λ a. a || (f min_contains && l) || (f max_contains && u)) (h (name_of keyword_name.Contains))
+    ∙ ap₂ (λ b c. g (name_of keyword_name.Contains) || (b && l) || (c && u)) (h min_contains) (h max_contains)
 asserts_same w s ms f g h = h (name_of w)
 
-module _ (s : Setting) (p : Pointer) (ms : Members) (parts : List ℕ → Option Part) where
+module _ (s : Setting) (p : Pointer) (ms : Members) (parts : List ℕ → Option ValueReadings) where
   -- the keyword is read
   abbrev pub is_read : KeywordName → Bool
-  is_read w = is_some (read_word w s p ms (parts (name_of w)))
+  is_read w = is_some (read_keyword w s p ms (parts (name_of w)))
 
   -- the keywords of the list that are read and assert the member of the name
   abbrev pub named : List ℕ → List KeywordName → ℕ
@@ -255,38 +322,50 @@ module _ (s : Setting) (p : Pointer) (ms : Members) (parts : List ℕ → Option
   tally_named : (t : List ℕ) (ws : List KeywordName) → tally p (member_location p t) s ms parts ws ≡ named t ws
   tally_named t [] = refl
   tally_named t (w ∷ ws) =
-      ap₂ (λ b n. if b && is_read w then suc n else n) (asserts_same w s ms _ (is_named t) (λ u. same_ends p (name_token t) (name_token u))) (tally_named t ws)
+      ap₂ (λ b n. if b && is_read w then suc n else n)
+      (asserts_same w s ms _ (is_named t) (λ u. same_ends p (name_token t) (name_token u))) (tally_named t ws)
 
   -- as many as that were read assert it
-  pub counted_named : (t : List ℕ) (ks : Keywords) → read_words keywords s p ms parts ≡ Ok ks → count_at (member_location p t) ks ≡ named t keywords
+  pub counted_named : (t : List ℕ) (ks : Keywords) → read_keywords keywords s p ms parts ≡ Ok ks
+      → count_at (member_location p t) ks ≡ named t keywords
   counted_named t ks e = counted p (member_location p t) s ms parts keywords ks e ∙ tally_named t keywords
 
   -- where the keyword may be a part of a limit, the limit is not exclusive
   abbrev pub NotExclusive : KeywordName → Type 0
-  NotExclusive word.ExclusiveMinimum = is_exclusive s ms (name_of word.ExclusiveMinimum) ≡ false
-  NotExclusive word.ExclusiveMaximum = is_exclusive s ms (name_of word.ExclusiveMaximum) ≡ false
+  NotExclusive keyword_name.ExclusiveMinimum = is_exclusive s ms (name_of keyword_name.ExclusiveMinimum) ≡ false
+  NotExclusive keyword_name.ExclusiveMaximum = is_exclusive s ms (name_of keyword_name.ExclusiveMaximum) ≡ false
   NotExclusive w = ⊤
 
   -- a keyword that is read is the only one at its name
   pub only_itself : (w : KeywordName) → NotExclusive w → is_read w ≡ true → named (name_of w) keywords ≡ 1
-  only_itself word.ExclusiveMinimum h r = ap₂ (λ c b. if c && is_read word.Minimum then suc (if b then 1 else 0) else (if b then 1 else 0)) h r
-  only_itself word.ExclusiveMaximum h r = ap₂ (λ c b. if c && is_read word.Maximum then suc (if b then 1 else 0) else (if b then 1 else 0)) h r
+  only_itself keyword_name.ExclusiveMinimum h r =
+      ap₂ (λ c b. if c && is_read keyword_name.Minimum then suc (if b then 1 else 0) else (if b then 1 else 0)) h r
+  only_itself keyword_name.ExclusiveMaximum h r =
+      ap₂ (λ c b. if c && is_read keyword_name.Maximum then suc (if b then 1 else 0) else (if b then 1 else 0)) h r
   only_itself w h r = ap (λ b. if b then 1 else 0) r
 
   -- an exclusive limit is the only one at the name of its part
-  pub only_minimum : is_exclusive s ms (name_of word.ExclusiveMinimum) ≡ true → is_read word.Minimum ≡ true → is_read word.ExclusiveMinimum ≡ false
-      → named (name_of word.ExclusiveMinimum) keywords ≡ 1
-  only_minimum h l r = ap (λ c. if c && is_read word.Minimum then suc (if is_read word.ExclusiveMinimum then 1 else 0) else (if is_read word.ExclusiveMinimum then 1 else 0)) h
+  pub only_minimum : is_exclusive s ms (name_of keyword_name.ExclusiveMinimum) ≡ true
+      → is_read keyword_name.Minimum ≡ true → is_read keyword_name.ExclusiveMinimum ≡ false
+      → named (name_of keyword_name.ExclusiveMinimum) keywords ≡ 1
+  only_minimum h l r =
+      ap (λ c. if c && is_read keyword_name.Minimum then suc (if is_read keyword_name.ExclusiveMinimum then 1 else 0)
+      else (if is_read keyword_name.ExclusiveMinimum then 1 else 0)) h
       ∙ ap₂ (λ a b. if a then suc (if b then 1 else 0) else (if b then 1 else 0)) l r
 
-  pub only_maximum : is_exclusive s ms (name_of word.ExclusiveMaximum) ≡ true → is_read word.Maximum ≡ true → is_read word.ExclusiveMaximum ≡ false
-      → named (name_of word.ExclusiveMaximum) keywords ≡ 1
-  only_maximum h l r = ap (λ c. if c && is_read word.Maximum then suc (if is_read word.ExclusiveMaximum then 1 else 0) else (if is_read word.ExclusiveMaximum then 1 else 0)) h
+  pub only_maximum : is_exclusive s ms (name_of keyword_name.ExclusiveMaximum) ≡ true
+      → is_read keyword_name.Maximum ≡ true → is_read keyword_name.ExclusiveMaximum ≡ false
+      → named (name_of keyword_name.ExclusiveMaximum) keywords ≡ 1
+  only_maximum h l r =
+      ap (λ c. if c && is_read keyword_name.Maximum then suc (if is_read keyword_name.ExclusiveMaximum then 1 else 0)
+      else (if is_read keyword_name.ExclusiveMaximum then 1 else 0)) h
       ∙ ap₂ (λ a b. if a then suc (if b then 1 else 0) else (if b then 1 else 0)) l r
 
   -- `contains` is the only one at the names of its bounds
-  pub only_lower : is_some (bound_beside s ms min_contains) ≡ true → is_read word.Contains ≡ true → named min_contains keywords ≡ 1
+  pub only_lower : is_some (bound_beside s ms min_contains) ≡ true → is_read keyword_name.Contains ≡ true
+      → named min_contains keywords ≡ 1
   only_lower h r = ap₂ (λ a b. if (a || false) && b then 1 else 0) h r
 
-  pub only_upper : is_some (bound_beside s ms max_contains) ≡ true → is_read word.Contains ≡ true → named max_contains keywords ≡ 1
+  pub only_upper : is_some (bound_beside s ms max_contains) ≡ true → is_read keyword_name.Contains ≡ true
+      → named max_contains keywords ≡ 1
   only_upper h r = ap₂ (λ a b. if a && b then 1 else 0) h r

@@ -1,13 +1,16 @@
 -- What it means that a plain schema covers a schema whole, and that it does where nothing is unchecked.
-use Rattle.std.specs.Prelude.{◌≡◌, ⊤, ◌⊎◌, ℕ, suc, List, [], Bool, false, ◌||◌, bytes_eq, IsTrue, Option, Some, None, Ok, if◌then◌else◌}
+use Rattle.std.specs.Prelude.{◌≡◌, ⊤, ◌⊎◌, ℕ, suc, List, [], Bool, false, ◌||◌, bytes_eq, IsTrue, Option, Some, None}
+use Rattle.std.specs.Prelude.{Ok, if◌then◌else◌}
 use Rattle.serde_json.specs.Data.{Data, array, object, Items, no_items, item, Members}
 use Rattle.serde_json.specs.Find.{get_member}
 use Rattle.jskw_value.specs.Pointer.{Pointer, member_location}
-use Rattle.jskw_report.specs.Keyword.{Schema, false_schema, schema_object, Keywords, no_keywords, keyword, Keyword, assertion, contains, items_list, prefix_items, items_from, additional_items, Schemas, no_schemas, schema}
+use Rattle.jskw_report.specs.Keyword.{Schema, false_schema, schema_object, Keywords, no_keywords, keyword, Keyword}
+use Rattle.jskw_report.specs.Keyword.{assertion, contains, items_list, prefix_items, items_from, additional_items}
+use Rattle.jskw_report.specs.Keyword.{Schemas, no_schemas, schema}
 use Rattle.jskw_report.specs.Read.{read}
 use Rattle.jskw_report.specs.Setting.{Setting, name_of}
 use Rattle.jskw_report.specs.declared.keyword.KeywordName.{KeywordName}
-use Rattle.jskw_report.specs.declared.keyword.KeywordName.TheVariants as word
+use Rattle.jskw_report.specs.declared.keyword.KeywordName.TheVariants as keyword_name
 use Rattle.jskw_unchecked.specs.Names.{is_annotation}
 use Rattle.jskw_unchecked.specs.Reason.{keyword_named, asks_for_nothing}
 use Rattle.jskw_unchecked.specs.Unchecked.{unchecked}
@@ -32,10 +35,12 @@ abbrev pub accepts_everything : Option KeywordName → Setting → Members → D
 accepts_everything (Some w) s ms d = asks_for_nothing w s ms d
 accepts_everything None s ms d = false
 
--- the member of this name and value, of an object at p with the members ms and the plain keywords ks, is an annotation of the
+-- the member of this name and value, of an object at p with the members ms and the plain keywords ks, is an annotation
+-- of the
 -- draft, or accepts everything, or is asserted by exactly one of the keywords
 abbrev pub IsCovered : Setting → Pointer → Members → Keywords → List ℕ → Data → Type 0
-IsCovered s p ms ks name d = IsTrue (is_annotation s.draft name) ⊎ IsTrue (accepts_everything (keyword_named name) s ms d)
+IsCovered s p ms ks name d =
+    IsTrue (is_annotation s.draft name) ⊎ IsTrue (accepts_everything (keyword_named name) s ms d)
     ⊎ (count_at (member_location p name) ks ≡ 1)
 
 -- so are all members of the object
@@ -43,7 +48,8 @@ abbrev pub AreCovered : Setting → Pointer → Members → Keywords → Type 0
 AreCovered s p ms ks = (name : List ℕ) (d : Data) → get_member name ms ≡ Some d → IsCovered s p ms ks name d
 
 abbrev mutual
-  -- the plain schema covers the schema: all members of an object are covered, and those of each subschema that its keywords
+  -- the plain schema covers the schema: all members of an object are covered, and those of each subschema that its
+  -- keywords
   -- apply. A boolean has no members
   pub Covers : Schema → Setting → Data → Type 0
   Covers (schema_object p marks ks) s (object ms) = AreCovered s p ms ks × AllCover ks s ms
@@ -58,11 +64,16 @@ abbrev mutual
   -- those of one keyword cover what stands in its value
   pub KeywordCovers : Keyword → Setting → Members → Type 0
   KeywordCovers (assertion f a) s ms = ⊤
-  KeywordCovers (contains sub b) s ms = (d : Data) × (get_member (name_of word.Contains) ms ≡ Some d) × Covers sub s d
-  KeywordCovers (items_list subs) s ms = (ds : Items) × (get_member (name_of word.Items) ms ≡ Some (array ds)) × CoverEach subs s ds
-  KeywordCovers (prefix_items subs) s ms = (ds : Items) × (get_member (name_of word.PrefixItems) ms ≡ Some (array ds)) × CoverEach subs s ds
-  KeywordCovers (items_from n sub bare) s ms = (d : Data) × (get_member (name_of word.Items) ms ≡ Some d) × Covers sub s d
-  KeywordCovers (additional_items n sub) s ms = (d : Data) × (get_member (name_of word.AdditionalItems) ms ≡ Some d) × Covers sub s d
+  KeywordCovers (contains sub b) s ms =
+      (d : Data) × (get_member (name_of keyword_name.Contains) ms ≡ Some d) × Covers sub s d
+  KeywordCovers (items_list subs) s ms =
+      (ds : Items) × (get_member (name_of keyword_name.Items) ms ≡ Some (array ds)) × CoverEach subs s ds
+  KeywordCovers (prefix_items subs) s ms =
+      (ds : Items) × (get_member (name_of keyword_name.PrefixItems) ms ≡ Some (array ds)) × CoverEach subs s ds
+  KeywordCovers (items_from n sub bare) s ms =
+      (d : Data) × (get_member (name_of keyword_name.Items) ms ≡ Some d) × Covers sub s d
+  KeywordCovers (additional_items n sub) s ms =
+      (d : Data) × (get_member (name_of keyword_name.AdditionalItems) ms ≡ Some d) × Covers sub s d
 
   -- each covers the item at its index
   pub CoverEach : Schemas → Setting → Items → Type 0
@@ -72,4 +83,5 @@ abbrev mutual
 
 -- where no member is unchecked, the plain schema that is read covers the schema whole
 abbrev pub EmptyListCovers : Type 0
-EmptyListCovers = (s : Setting) (d : Data) (p : Pointer) (sch : Schema) → unchecked d s p ≡ [] → read d s p ≡ Ok sch → Covers sch s d
+EmptyListCovers =
+    (s : Setting) (d : Data) (p : Pointer) (sch : Schema) → unchecked d s p ≡ [] → read d s p ≡ Ok sch → Covers sch s d

@@ -19,11 +19,13 @@ abbrev pub listed : Pointer → Option Reason → List UncheckedMember → List 
 listed q (Some r) below = record { location = q; reason = r } ∷ []
 listed q None below = below
 
--- the member of the name k and the value d, among the members of an object at p, if it is unchecked; else those below it,
+-- the member of the name k and the value d, among the members of an object at p, if it is unchecked; else those below
+-- it,
 -- where its keyword applies subschemas
 abbrev pub unchecked_member : List ℕ → Data → Members → Setting → Pointer → List UncheckedMember → List UncheckedMember
 unchecked_member k d ms s p below =
-    listed (member_location p k) (member_reason (keyword_named k) s p ms k d) (if has_subschemas (keyword_named k) then below else [])
+    listed (member_location p k) (member_reason (keyword_named k) s p ms k d)
+    (if has_subschemas (keyword_named k) then below else [])
 
 abbrev mutual
   -- the unchecked members of the schema d at p, in the order in which they stand; a boolean has none

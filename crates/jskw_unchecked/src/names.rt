@@ -1,7 +1,7 @@
 //! The names of keywords, by draft: those of this library, and those that it has not.
 ghost use Rattle.std.specs.Prelude.{◌≡◌, map};
 ghost use Rattle.jskw_report.specs.Setting.{is_after_draft_7};
-ghost use Rattle.jskw_unchecked.specs.Names.{is_after_draft_6, is_among, is_annotation};
+ghost use Rattle.jskw_unchecked.specs.Names.{is_after_draft_6, is_one_of, is_annotation};
 ghost use Rattle.jskw_unchecked.specs.Names.{is_identifier, is_in_place, is_not_implemented};
 ghost use Rattle.jskw_unchecked.specs.Names.{is_of_core, is_of_members, is_of_metadata};
 ghost use Rattle.jskw_unchecked.specs.Names.{is_of_strings, is_reference};
@@ -137,7 +137,7 @@ pub(crate) fn is_after_draft_7(draft: Draft) -> bool
 
 // Returns whether the name is one of these.
 fn is_among(name: &str, names: &[&str]) -> bool
-    ensures { result ≡ is_among name.now (map (λ own. own.now) names.now) }
+    ensures { result ≡ is_one_of name.now (map (λ own. own.now) names.now) }
 {
     for own in names {
         if name == *own {

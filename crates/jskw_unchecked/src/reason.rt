@@ -1,12 +1,12 @@
 //! Why a member of a schema is not checked.
 ghost use Rattle.std.specs.Prelude.{◌≡◌, Some, is_some};
 ghost use Rattle.serde_json.specs.View.{view, members_view};
-ghost use Rattle.jskw_report.specs.Read.{asserted, part, read_word};
-ghost use Rattle.jskw_report.specs.Sibling.{is_array, is_false, is_true, member_passes};
+ghost use Rattle.jskw_report.specs.Read.{asserted, readings, read_keyword};
+ghost use Rattle.jskw_report.specs.Sibling.{is_array_value, is_false, is_true, member_passes};
 ghost use Rattle.jskw_unchecked.specs.Reason.{are_bounds_read, asks_for_nothing, idle_reason};
-ghost use Rattle.jskw_unchecked.specs.Reason.{is_active, is_asserted, is_bound, is_part_of_limit};
+ghost use Rattle.jskw_unchecked.specs.Reason.{has_active, is_asserted, is_bound, is_part_of_limit};
 ghost use Rattle.jskw_unchecked.specs.Reason.{keyword_reason, member_reason, name_reason};
-ghost use Rattle.jskw_unchecked.specs.Reason.{word_of};
+ghost use Rattle.jskw_unchecked.specs.Reason.{reason_name};
 
 use crate::names::{is_after_draft_7, is_annotation, is_not_implemented};
 use jskw_leaf::items::fusion::is_items_schema;
@@ -35,7 +35,7 @@ pub enum Reason {
 impl Reason {
     /// Returns the name of the reason: `notImplemented`, `unknown`, `inactive` or `delegated`.
     pub fn as_str(self) -> &'static str
-        ensures { result.now ≡ word_of self }
+        ensures { result.now ≡ reason_name self }
     {
         match self {
             Reason::NotImplemented => "notImplemented",
@@ -96,17 +96,17 @@ fn is_asserted<F: Json>(
 }
 
 // Returns whether a keyword of the schema is read from this one.
-#[tactic(auto, unfolding(jskw_report::specs::Read::read_word))]
+#[tactic(auto, unfolding(jskw_report::specs::Read::read_keyword))]
 fn is_read<F: Json>(
     ctx: &Context<'_, F>,
     parent: &Map<String, Value>,
     keyword: KeywordName,
     value: &Value,
 ) -> bool
-    ensures { let point = ctx.now in result ≡ is_some (read_word keyword point.setting
-        point.location (members_view parent.now.entries) (Some (part (view value.now)))) }
+    ensures { let point = ctx.now in result ≡ is_some (read_keyword keyword point.setting
+        point.location (members_view parent.now.entries) (Some (readings (view value.now)))) }
 {
-    keyword.stands(ctx) && asserts(ctx, parent, keyword, value)
+    keyword.is_active(ctx) && asserts(ctx, parent, keyword, value)
 }
 
 // Returns whether an active keyword asserts something.
@@ -118,7 +118,7 @@ fn asserts<F: Json>(
     value: &Value,
 ) -> bool
     ensures { let point = ctx.now in result ≡ is_some (asserted keyword point.setting
-        point.location (members_view parent.now.entries) (part (view value.now))) }
+        point.location (members_view parent.now.entries) (readings (view value.now))) }
 {
     match keyword {
         KeywordName::Items => value.is_array() || is_items_schema(value),
@@ -143,7 +143,7 @@ fn is_part_of_limit<F: Json>(
         KeywordName::ExclusiveMaximum => KeywordName::Maximum,
         _ => return false,
     };
-    ctx.draft() == Draft::Draft4 && is_active(ctx, parent, limit)
+    ctx.draft() == Draft::Draft4 && has_active(ctx, parent, limit)
 }
 
 // Returns whether the keyword of this value accepts everything, by the standard.
@@ -157,8 +157,9 @@ fn asks_for_nothing<F: Json>(
         (members_view parent.now.entries) (view value.now) }
 {
     match keyword {
-        KeywordName::UniqueItems => keyword.stands(ctx) && is_false(value),
-        KeywordName::Items | KeywordName::AdditionalItems => keyword.stands(ctx) && is_true(value),
+        KeywordName::UniqueItems => keyword.is_active(ctx) && is_false(value),
+        KeywordName::Items | KeywordName::AdditionalItems => keyword.is_active(ctx)
+            && is_true(value),
         _ => is_part_of_limit(ctx, parent, keyword) && is_false(value),
     }
 }
@@ -214,23 +215,23 @@ fn are_bounds_read<F: Json>(ctx: &Context<'_, F>, parent: &Map<String, Value>) -
 {
     is_after_draft_7(ctx.draft())
         && ctx.has_vocabulary(Vocabulary::Validation)
-        && is_active(ctx, parent, KeywordName::Contains)
+        && has_active(ctx, parent, KeywordName::Contains)
 }
 
 // Returns whether the keyword is there and active.
-fn is_active<F: Json>(
+fn has_active<F: Json>(
     ctx: &Context<'_, F>,
     parent: &Map<String, Value>,
     keyword: KeywordName,
 ) -> bool
-    ensures { result ≡ is_active ctx.now.setting (members_view parent.now.entries) keyword }
+    ensures { result ≡ has_active ctx.now.setting (members_view parent.now.entries) keyword }
 {
-    member_of(parent, keyword.as_str()).is_some() && keyword.stands(ctx)
+    member_of(parent, keyword.as_str()).is_some() && keyword.is_active(ctx)
 }
 
 // Returns whether the member `name` is an array.
 fn has_array(parent: &Map<String, Value>, name: &str) -> bool
-    ensures { result ≡ member_passes is_array name.now (members_view parent.now.entries) }
+    ensures { result ≡ member_passes is_array_value name.now (members_view parent.now.entries) }
 {
     matches!(member_of(parent, name), Some(Value::Array(_)))
 }

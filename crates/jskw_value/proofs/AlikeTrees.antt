@@ -1,5 +1,6 @@
 -- Trees that are alike: reflexive, symmetric and transitive, where the comparison of numbers is.
-use Rattle.std.proofs.Common.{◌≡◌, ℕ, List, Bool, true, false, not, Option, Some, None, is_some, refl, sym, ap, subst, ◌∙◌, inl, inr}
+use Rattle.std.proofs.Common.{◌≡◌, ℕ, List, Bool, true, false, not, Option, Some, None, is_some, refl, sym, ap, subst}
+use Rattle.std.proofs.Common.{◌∙◌, inl, inr}
 use Rattle.std.proofs.lemmas.Bool.{and_from, and_parts, both_ways, cases_Bool, false_from_ne_true, not-true}
 use Rattle.std.proofs.lemmas.Cmp.{nat_list_eq_equiv}
 use Rattle.std.proofs.lemmas.Map.Entries.{lookup_head, lookup_tail}
@@ -14,7 +15,9 @@ use Rattle.std.specs.Option.{option_map_or}
 use Rattle.std.specs.Str.{bytes_eq}
 use Rattle.jskw_value.specs.Equality.{alike, items_alike, members_alike, equal, same}
 use Rattle.jskw_value.specs.Number.{Num, is_exact, num_equal, num_same}
-use Rattle.jskw_value.specs.Tree.{Tree, null, boolean, number, string, array, object, Items, no_items, item, Members, no_members, member, item_list, member_list, members, names, get, has_name, is_lawful, items_lawful, members_lawful, has_distinct_names, items_distinct, members_distinct}
+use Rattle.jskw_value.specs.Tree.{Tree, null, boolean, number, string, array, object, Items, no_items, item, Members}
+use Rattle.jskw_value.specs.Tree.{no_members, member, item_list, member_list, members, names, get, has_name, is_lawful}
+use Rattle.jskw_value.specs.Tree.{items_lawful, members_lawful, has_distinct_names, items_distinct, members_distinct}
 use Rattle.jskw_value.proofs.Booleans.{each_way}
 use Rattle.jskw_value.proofs.Lookups.{passed}
 use Rattle.jskw_value.proofs.Numbers.{num_equal_refl, num_equal_symm, num_equal_trans, num_same_is, num_same_refl}
@@ -77,14 +80,16 @@ module _ (f : Num → Num → Bool) (numbers : (n : Num) → is_exact n ≡ true
     alike_refl (string s) h d = nat_list_eq_equiv.refl s
     alike_refl (array ts) h d = items_refl ts h d
     alike_refl (object ms) h d =
-        and_from _ _ (members_refl ms (object ms) h d (λ k x e. e)) (all_from_each (has_name (object ms)) (names (object ms)) (λ q e. e))
+        and_from _ _ (members_refl ms (object ms) h d (λ k x e. e))
+        (all_from_each (has_name (object ms)) (names (object ms)) (λ q e. e))
 
     -- its items are, one by one
     items_refl : (ts : Items) → items_lawful ts ≡ true → items_distinct ts ≡ true
         → items_alike f ts (item_list ts) ≡ true
     items_refl no_items h d = refl
     items_refl (item t ts) h d =
-        and_from _ _ (alike_refl t (and_parts _ _ h).0 (and_parts _ _ d).0) (items_refl ts (and_parts _ _ h).1 (and_parts _ _ d).1)
+        and_from _ _ (alike_refl t (and_parts _ _ h).0 (and_parts _ _ d).0)
+        (items_refl ts (and_parts _ _ h).1 (and_parts _ _ d).1)
 
     -- its members are found in a tree that has them all
     members_refl : (ms : Members) (t : Tree) → members_lawful ms ≡ true → members_distinct ms ≡ true
@@ -103,7 +108,8 @@ module _ (f g : Num → Num → Bool) (numbers : (m n : Num) → f m n ≡ true 
   back : (ms ns : Members) → alike f (object ms) (object ns) ≡ true → (k : List ℕ) (z : Tree)
       → get k (object ns) ≡ Some z → (y : Tree) × ((get k (object ms) ≡ Some y) × (alike f y z ≡ true))
   back ms ns h k z e =
-      let named = among_all (names (object ns)) (names (object ms)) (and_parts _ _ h).1 k (named_from_get k (object ns) z e) in
+      let named =
+      among_all (names (object ns)) (names (object ms)) (and_parts _ _ h).1 k (named_from_get k (object ns) z e) in
       let y = get_from_named k (object ms) named in
       let w = get_alike f ms (object ns) (and_parts _ _ h).0 k y.0 y.1 in
       (y.0, (y.1, ap (alike f y.0) (same_Some z w.0 (sym e ∙ w.1.0)) ∙ w.1.1))
@@ -117,7 +123,8 @@ module _ (f g : Num → Num → Bool) (numbers : (m n : Num) → f m n ≡ true 
     alike_symm (string s) (string r) d h = nat_list_eq_equiv.symm s r ∙ h
     alike_symm (array us) (array ts) d h = items_symm us ts d h
     alike_symm (object ns) (object ms) d h =
-        and_from _ _ (members_symm ns (object ms) d (λ k z e. back ms ns h k z e)) (names_found f ms (object ns) (and_parts _ _ h).0)
+        and_from _ _ (members_symm ns (object ms) d (λ k z e. back ms ns h k z e))
+        (names_found f ms (object ns) (and_parts _ _ h).0)
     alike_symm _ _ d h = cc
 
     -- item by item
@@ -125,17 +132,21 @@ module _ (f g : Num → Num → Bool) (numbers : (m n : Num) → f m n ≡ true 
         → items_alike g us (item_list ts) ≡ true
     items_symm no_items no_items d h = refl
     items_symm (item u us) (item t ts) d h =
-        and_from _ _ (alike_symm u t (and_parts _ _ d).0 (and_parts _ _ h).0) (items_symm us ts (and_parts _ _ d).1 (and_parts _ _ h).1)
+        and_from _ _ (alike_symm u t (and_parts _ _ d).0 (and_parts _ _ h).0)
+        (items_symm us ts (and_parts _ _ d).1 (and_parts _ _ h).1)
     items_symm _ _ d h = cc
 
     -- each name of the right finds what the left has of it
     members_symm : (ns : Members) (t : Tree) → members_distinct ns ≡ true
-        → ((k : List ℕ) (z : Tree) → get k (object ns) ≡ Some z → (y : Tree) × ((get k t ≡ Some y) × (alike f y z ≡ true)))
+        → ((k : List ℕ) (z : Tree) → get k (object ns) ≡ Some z
+        → (y : Tree) × ((get k t ≡ Some y) × (alike f y z ≡ true)))
         → members_alike g ns t ≡ true
     members_symm no_members t d at = refl
     members_symm (member k z ns) t d at = let w = at k z (get_head k z ns) in and_from _ _
-        (ap (λ o. option_map_or (alike g z) o false) w.1.0 ∙ alike_symm z w.0 (and_parts _ _ (and_parts _ _ d).0).1 w.1.1)
-        (members_symm ns t (and_parts _ _ d).1 (λ l x e. at l x (get_tail k z ns (and_parts _ _ (and_parts _ _ d).0).0 l x e)))
+        (ap (λ o. option_map_or (alike g z) o false) w.1.0
+        ∙ alike_symm z w.0 (and_parts _ _ (and_parts _ _ d).0).1 w.1.1)
+        (members_symm ns t (and_parts _ _ d).1
+        (λ l x e. at l x (get_tail k z ns (and_parts _ _ (and_parts _ _ d).0).0 l x e)))
 
 -- ---- transitive
 
@@ -160,7 +171,8 @@ module _ (f g l : Num → Num → Bool) (numbers : (m n o : Num) → f m n ≡ t
         → items_alike l ts (item_list vs) ≡ true
     items_trans no_items no_items no_items h k = refl
     items_trans (item t ts) (item u us) (item v vs) h k = and_from _ _
-        (alike_trans t u v (and_parts _ _ h).0 (and_parts _ _ k).0) (items_trans ts us vs (and_parts _ _ h).1 (and_parts _ _ k).1)
+        (alike_trans t u v (and_parts _ _ h).0 (and_parts _ _ k).0)
+        (items_trans ts us vs (and_parts _ _ h).1 (and_parts _ _ k).1)
     items_trans _ _ _ h k = cc
 
     -- member by member, by way of what the second has of the name
@@ -211,17 +223,20 @@ same_symm t u d e = each_way (same t u) (same u t) (same_flip t u e) (same_flip 
 -- what is the same as a tree that is the same
 pub same_trans : (t u v : Tree) → same t u ≡ true → same u v ≡ true → same t v ≡ true
 same_trans t u v h k =
-    alike_trans num_same num_same num_same (λ m n o a b. subst (λ x. num_same m x ≡ true) (num_same_is n o b) a) t u v h k
+    alike_trans num_same num_same num_same
+    (λ m n o a b. subst (λ x. num_same m x ≡ true) (num_same_is n o b) a) t u v h k
 
 -- equality doesn't tell the same trees apart
 equal_then_same : (t u v : Tree) → equal t u ≡ true → same u v ≡ true → equal t v ≡ true
 equal_then_same t u v h k =
-    alike_trans num_equal num_same num_equal (λ m n o a b. subst (λ x. num_equal m x ≡ true) (num_same_is n o b) a) t u v h k
+    alike_trans num_equal num_same num_equal
+    (λ m n o a b. subst (λ x. num_equal m x ≡ true) (num_same_is n o b) a) t u v h k
 
 -- what is the same as an equal tree, on the left
 same_then_equal : (t u v : Tree) → same t u ≡ true → equal u v ≡ true → equal t v ≡ true
 same_then_equal t u v h k =
-    alike_trans num_same num_equal num_equal (λ m n o a b. subst (λ x. num_equal x o ≡ true) (sym (num_same_is m n a)) b) t u v h k
+    alike_trans num_same num_equal num_equal
+    (λ m n o a b. subst (λ x. num_equal x o ≡ true) (sym (num_same_is m n a)) b) t u v h k
 
 -- the same trees are equal to the same ones, on the right
 pub equal_to_same : (v t u : Tree) → has_distinct_names u ≡ true → same t u ≡ true → equal v t ≡ equal v u

@@ -1,6 +1,7 @@
 -- How deep a tree nests: what recursion over a node goes down on.
 use Rattle.std.proofs.Common.{◌≡◌, ℕ, zero, suc, ◌<◌, ◌≤◌, List, [], ◌∷◌, length, get_or, max, true, refl, ap, arith}
-use Rattle.jskw_value.specs.Tree.{Tree, array, object, Items, no_items, item, Members, no_members, member, item_list, member_list, items, members, is_object}
+use Rattle.jskw_value.specs.Tree.{Tree, array, object, Items, no_items, item, Members, no_members, member, item_list}
+use Rattle.jskw_value.specs.Tree.{member_list, items, members, is_object}
 
 abbrev mutual
   pub depth : Tree → ℕ
@@ -44,3 +45,5 @@ members_depth_list (member k t ms) = ap (max (depth t)) (members_depth_list ms)
 pub height_below : (t : Tree) → is_object t ≡ true → height (members t) < depth t
 height_below (object ms) h = let e = members_depth_list ms in omega arith
 height_below _ h = cc
+
+pub ruleset below = (item_depth, height_below)

@@ -1,5 +1,6 @@
 -- Distinct names, one level at a time.
-use Rattle.std.proofs.Common.{◌≡◌, ℕ, ◌+◌, ◌<◌, ◌≤◌, List, [], ◌∷◌, length, get_or, drop, Bool, true, false, ◌&&◌, refl, ap, ◌∙◌}
+use Rattle.std.proofs.Common.{◌≡◌, ℕ, ◌+◌, ◌<◌, ◌≤◌, List, [], ◌∷◌, length, get_or, drop, Bool, true, false, ◌&&◌, refl}
+use Rattle.std.proofs.Common.{ap, ◌∙◌}
 use Rattle.std.proofs.lemmas.Bool.{and_from, and_parts, not_from_false, or_from}
 use Rattle.std.proofs.lemmas.List.{at_drop_all}
 use Rattle.std.proofs.lemmas.Map.Keys.{IsDistinct-head, IsDistinct-tail}
@@ -7,8 +8,10 @@ use Rattle.std.specs.List.{list_all, IsDistinct, AllByRecursion}
 use Rattle.std.specs.Map.{keys_of, values_of}
 use Rattle.std.specs.Set.{is_member}
 use Rattle.std.specs.Str.{bytes_eq}
-use Rattle.jskw_value.specs.Tree.{Tree, array, object, Items, no_items, item, Members, no_members, member, item_list, member_list, items, names, values, is_array, is_object, has_distinct_names, items_distinct, members_distinct}
-use Rattle.jskw_value.proofs.Depth.{item_depth}
+use Rattle.jskw_value.specs.Tree.{Tree, array, object, Items, no_items, item, Members, no_members, member, item_list}
+use Rattle.jskw_value.specs.Tree.{member_list, items, names, values, is_array, is_object, has_distinct_names}
+use Rattle.jskw_value.specs.Tree.{items_distinct, members_distinct}
+use Rattle.jskw_value.proofs.Depth.{height_below, item_depth}
 use Rattle.jskw_value.proofs.Lists.{at_index}
 
 -- the items as a list
@@ -33,7 +36,8 @@ members_list : (ms : Members) → IsDistinct bytes_eq (keys_of (member_list ms))
     → list_all has_distinct_names (values_of (member_list ms)) ≡ true → members_distinct ms ≡ true
 members_list no_members d e = refl
 members_list (member k t ms) d e = and_from _ _
-    (and_from _ _ (not_from_false _ (not_among k _ (IsDistinct-head bytes_eq k (keys_of (member_list ms)) d))) (and_parts _ _ e).0)
+    (and_from _ _ (not_from_false _ (not_among k _ (IsDistinct-head bytes_eq k (keys_of (member_list ms)) d)))
+    (and_parts _ _ e).0)
     (members_list ms (IsDistinct-tail bytes_eq k (keys_of (member_list ms)) d) (and_parts _ _ e).1)
 
 -- an object's names are distinct where its own and its members' are
@@ -59,4 +63,4 @@ all_end p ts n h = at_drop_all (list_all p) ts n h
 
 pub ruleset by_level = (distinct_in_array, distinct_in_object, distinct_elsewhere)
 
-pub ruleset by_index = (all_step, all_end, item_depth)
+pub ruleset by_index = (all_step, all_end, item_depth, height_below)

@@ -1,5 +1,6 @@
 -- Equality, one item or member at a time.
-use Rattle.std.proofs.Common.{◌≡◌, ℕ, ◌+◌, ◌<◌, ◌≤◌, ◌==◌, List, [], ◌∷◌, length, get_or, drop, Bool, true, false, not, ◌&&◌, ◌||◌, Some, refl, sym, ap, ap₂, subst, ◌∙◌, arith}
+use Rattle.std.proofs.Common.{◌≡◌, ℕ, ◌+◌, ◌<◌, ◌≤◌, ◌==◌, List, [], ◌∷◌, length, get_or, drop, Bool, true, false, not}
+use Rattle.std.proofs.Common.{◌&&◌, ◌||◌, Some, refl, sym, ap, ap₂, subst, ◌∙◌, arith}
 use Rattle.std.proofs.Math.Bool.{and-false, and-true}
 use Rattle.std.proofs.lemmas.Cmp.{nat_list_eq_equiv}
 use Rattle.std.proofs.lemmas.List.{at_drop_all, drop_all}
@@ -14,7 +15,9 @@ use Rattle.std.specs.Option.{option_map_or}
 use Rattle.std.specs.Str.{bytes_eq}
 use Rattle.jskw_value.specs.Equality.{equal, has_equal, unique, items_alike, members_alike, AreAmong, AreMembers}
 use Rattle.jskw_value.specs.Number.{Num, num_equal}
-use Rattle.jskw_value.specs.Tree.{Tree, number, array, object, Items, no_items, item, Members, no_members, member, item_list, member_list, items, members, names, get, has_name, as_number, is_array, is_object}
+use Rattle.jskw_value.specs.Tree.{Tree, number, array, object, Items, no_items, item, Members, no_members, member}
+use Rattle.jskw_value.specs.Tree.{item_list, member_list, items, members, names, get, has_name, as_number, is_array}
+use Rattle.jskw_value.specs.Tree.{is_object}
 use Rattle.jskw_value.proofs.AlikeTrees.{names_found}
 use Rattle.jskw_value.proofs.Depth.{item_depth}
 use Rattle.jskw_value.proofs.Lists.{at_index}
@@ -70,7 +73,8 @@ members_equal : (ms : Members) (u : Tree) → members_alike num_equal ms u ≡ l
 members_equal no_members u = refl
 members_equal (member k t ms) u = ap (λ b. has_equal u (k, t) && b) (members_equal ms u)
 
--- where each of the left is found on the right, each name of the right is one of the left exactly where both have as many
+-- where each of the left is found on the right, each name of the right is one of the left exactly where both have as
+-- many
 pub equal_objects : (t u : Tree) → is_object t ≡ true → is_object u ≡ true → IsDistinct bytes_eq (names t)
     → IsDistinct bytes_eq (names u)
     → equal t u ≡ ((length (members t) == length (members u)) && list_all (has_equal u) (members t))

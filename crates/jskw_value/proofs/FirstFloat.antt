@@ -1,11 +1,15 @@
 -- The location of the first float, one index at a time.
-use Rattle.std.proofs.Common.{◌≡◌, ℕ, suc, ◌+◌, ◌<◌, ◌≤◌, List, length, get_or, drop, Bool, true, Option, Some, None, is_none, ◌&&◌, option_map, String, Global, string_bytes, refl, sym, ap, ◌∙◌, add-one}
+use Rattle.std.proofs.Common.{◌≡◌, ℕ, suc, ◌+◌, ◌<◌, ◌≤◌, List, length, get_or, drop, Bool, true, Option, Some, None}
+use Rattle.std.proofs.Common.{is_none, ◌&&◌, option_map, String, Global, string_bytes, refl, sym, ap, ◌∙◌, add-one}
 use Rattle.std.proofs.lemmas.List.{at_drop_all}
 use Rattle.std.specs.Option.{option_or}
-use Rattle.jskw_value.specs.FirstFloat.{first_float, items_float, members_float, float_from, float_among, below_index, below_name}
+use Rattle.jskw_value.specs.FirstFloat.{first_float, items_float, members_float, float_from, float_among, below_index}
+use Rattle.jskw_value.specs.FirstFloat.{below_name}
 use Rattle.jskw_value.specs.Number.{exact, float}
-use Rattle.jskw_value.specs.Tree.{Tree, null, boolean, number, string, array, object, Items, no_items, item, Members, no_members, member, item_list, member_list, items, members, is_array, is_object, is_lawful, items_lawful, members_lawful}
-use Rattle.jskw_value.proofs.Depth.{item_depth}
+use Rattle.jskw_value.specs.Tree.{Tree, null, boolean, number, string, array, object, Items, no_items, item, Members}
+use Rattle.jskw_value.specs.Tree.{no_members, member, item_list, member_list, items, members, is_array, is_object}
+use Rattle.jskw_value.specs.Tree.{is_lawful, items_lawful, members_lawful}
+use Rattle.jskw_value.proofs.Depth.{height_below, item_depth}
 use Rattle.jskw_value.proofs.Lists.{at_index}
 
 -- the items as a list
@@ -31,10 +35,12 @@ first_in_object _ h = cc
 
 -- among the rest of the items, one index on
 pub from_step : (ts : List Tree) (i : ℕ) (t : Tree) → i < length ts → t ≡ get_or ts i t
-    → float_from i (drop i ts) ≡ option_or (option_map (below_index i) (first_float t)) (float_from (i + 1) (drop (i + 1) ts))
+    → float_from i (drop i ts)
+    ≡ option_or (option_map (below_index i) (first_float t)) (float_from (i + 1) (drop (i + 1) ts))
 from_step ts i t h e =
     at_index (float_from i) ts i t h e
-    ∙ ap (λ n. option_or (option_map (below_index i) (first_float t)) (float_from n (drop (i + 1) ts))) (sym (add-one i))
+    ∙ ap (λ n. option_or (option_map (below_index i) (first_float t)) (float_from n (drop (i + 1) ts)))
+    (sym (add-one i))
 
 -- none is in no rest
 pub from_end : (n : ℕ) (ts : List Tree) (i : ℕ) → length ts ≤ i → float_from n (drop i ts) ≡ None
@@ -73,7 +79,8 @@ mutual
   none_in_items : (i : ℕ) (ts : Items) → is_none (items_float i ts) ≡ items_lawful ts
   none_in_items i no_items = refl
   none_in_items i (item t ts) =
-      none_in_either (below_index i) (first_float t) (items_float (suc i) ts) _ _ (none_where_lawful t) (none_in_items (suc i) ts)
+      none_in_either (below_index i) (first_float t) (items_float (suc i) ts) _ _ (none_where_lawful t)
+      (none_in_items (suc i) ts)
 
   -- members have none exactly where they are lawful
   none_in_members : (ms : Members) → is_none (members_float ms) ≡ members_lawful ms
@@ -93,4 +100,4 @@ none_from_location o t e = sym (none_of_location o) ∙ ap is_none e ∙ none_wh
 
 pub ruleset by_level = (first_in_array, first_in_object)
 
-pub ruleset by_index = (from_step, from_end, item_depth)
+pub ruleset by_index = (from_step, from_end, item_depth, height_below)

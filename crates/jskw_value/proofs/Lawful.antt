@@ -1,5 +1,6 @@
 -- What stands in a lawful tree is lawful.
-use Rattle.std.proofs.Common.{◌≡◌, ℕ, List, true, ◌&&◌, Option, Some, None, option_map, IfSome, refl, sym, ap, subst, ◌∙◌}
+use Rattle.std.proofs.Common.{◌≡◌, ℕ, List, true, ◌&&◌, Option, Some, None, option_map, IfSome, refl, sym, ap, subst}
+use Rattle.std.proofs.Common.{◌∙◌}
 use Rattle.std.proofs.lemmas.List.Folds.{list_all-map}
 use Rattle.std.proofs.lemmas.List.Sums.{AllPass-from_list_all}
 use Rattle.std.proofs.lemmas.Map.Entries.{All-lookup}
@@ -7,7 +8,8 @@ use Rattle.std.specs.List.{list_all}
 use Rattle.std.specs.Map.{values_of}
 use Rattle.std.specs.Str.{bytes_eq}
 use Rattle.jskw_value.specs.Number.{Num, is_exact}
-use Rattle.jskw_value.specs.Tree.{Tree, number, object, Members, no_members, member, member_list, members, values, get, as_number, is_lawful, members_lawful}
+use Rattle.jskw_value.specs.Tree.{Tree, number, object, Members, no_members, member, member_list, members, values, get}
+use Rattle.jskw_value.specs.Tree.{as_number, is_lawful, members_lawful}
 
 -- the members as a list
 pub members_lawful_list : (ms : Members) → members_lawful ms ≡ list_all is_lawful (values_of (member_list ms))
@@ -26,7 +28,8 @@ found_lawful o = IfSome o (λ t. is_lawful t ≡ true)
 -- by a name in a tree
 in_tree : (k : List ℕ) (t : Tree) → is_lawful t ≡ true → found_lawful (get k t)
 in_tree k t h = All-lookup (λ x. is_lawful x ≡ true) (bytes_eq k) (members t)
-    (AllPass-from_list_all (λ m. is_lawful m.1) (members t) (sym (list_all-map is_lawful (λ m. m.1) (members t)) ∙ lawful_members t h))
+    (AllPass-from_list_all (λ m. is_lawful m.1) (members t)
+    (sym (list_all-map is_lawful (λ m. m.1) (members t)) ∙ lawful_members t h))
 
 -- of a node that stands for the tree
 unmapped : {R : Type 0} (f : R → Tree) (r : Option R) → found_lawful (option_map f r)

@@ -14,7 +14,7 @@ pub mod Lists
 pub mod Lookups
 pub mod MembersByPlace
 pub mod MembersInOrder
-pub mod NumberPrints
+pub mod NumberFingerprints
 pub mod Numbers
 pub mod PlacesInTrees
 pub mod Pointers
@@ -23,7 +23,7 @@ pub mod SameNames
 pub mod SerdeDecimals
 pub mod SerdeTrees
 pub mod Sketches
-pub mod SortedPrints
+pub mod SortedFingerprints
 pub mod Sums
 pub mod TextHeads
 pub mod Texts

@@ -1,5 +1,6 @@
 -- Numbers over powers of ten: equality by value is an equivalence, and a number written alike is equal.
-use Rattle.std.specs.Prelude.{◌≡◌, ℕ, zero, suc, pred, ◌*◌, ◌^◌, ◌<◌, ◌==◌, ℤ, pos, negsuc, ◌*ℤ◌, neg_ℤ, nat_abs, nat_lt, Bool, true, false, Some, None, option_and_then, if◌then◌else◌, ◌≢◌}
+use Rattle.std.specs.Prelude.{◌≡◌, ℕ, zero, suc, pred, ◌*◌, ◌^◌, ◌<◌, ◌==◌, ℤ, pos, negsuc, ◌*ℤ◌, neg_ℤ, nat_abs}
+use Rattle.std.specs.Prelude.{nat_lt, Bool, true, false, Some, None, option_and_then, if◌then◌else◌, ◌≢◌}
 use Rattle.std.specs.Ordering.{int_eq}
 use Rattle.std.proofs.Common.{refl, sym, ◌∙◌, ap, ap₂, arith}
 use Rattle.std.proofs.lemmas.Bool.{and_from, and_parts}
@@ -8,7 +9,7 @@ use Rattle.std.proofs.lemmas.Cmp.{int_eq_equiv}
 use Rattle.std.proofs.lemmas.Option.{same_Some}
 use Rattle.std.proofs.Math.Nat.{mul_right_comm, zero-mul, eq_of_mul-eq-mul_right}
 use Rattle.std.proofs.Math.IntN.{neg_ℤ-neg_ℤ, pos-ne-negsuc}
-use Rattle.jskw_value.specs.Number.{Num, exact, float, is_exact, num_equal, num_same, u64_of, whole}
+use Rattle.jskw_value.specs.Number.{Num, exact, float, is_exact, num_equal, num_same, u64_of, written_integer}
 use Rattle.jskw_value.proofs.Powers.{ten_pow_low}
 
 -- ---- scaling
@@ -111,7 +112,7 @@ num_same_refl float = refl
 -- ---- as words
 
 -- a number that is written as a word is that word
-word_is : (m : Num) (a : ℕ) → option_and_then u64_of (whole m) ≡ Some a → m ≡ exact (pos a) zero
+word_is : (m : Num) (a : ℕ) → option_and_then u64_of (written_integer m) ≡ Some a → m ≡ exact (pos a) zero
 word_is (exact (pos c) zero) a e = go (nat_lt c (2 ^ 64)) e
   where
     go : (b : Bool) → (if b then Some c else None) ≡ Some a → exact (pos c) zero ≡ exact (pos a) zero
@@ -122,8 +123,8 @@ word_is (exact c (suc k)) a e = cc
 word_is float a e = cc
 
 -- numbers that are written as words are equal exactly where the words are
-pub equal_words : (m n : Num) (a b : ℕ) → option_and_then u64_of (whole m) ≡ Some a
-    → option_and_then u64_of (whole n) ≡ Some b → (a == b) ≡ num_equal m n
+pub equal_words : (m n : Num) (a b : ℕ) → option_and_then u64_of (written_integer m) ≡ Some a
+    → option_and_then u64_of (written_integer n) ≡ Some b → (a == b) ≡ num_equal m n
 equal_words m n a b h k =
     let words : int_eq (pos a) (pos b) ≡ (a == b) = same_from_decides _ _ (Decides-int_eq (pos a) (pos b))
     (Decides-like _ (ap pos) (pos-injective a b) (Decides-eqb a b)) in

@@ -1,5 +1,6 @@
 -- Items and members by their places.
-use Rattle.std.proofs.Common.{◌≡◌, ℕ, zero, suc, ◌+◌, ◌<◌, List, [], ◌∷◌, length, get_or, drop, false, refl, add-one, arith}
+use Rattle.std.proofs.Common.{◌≡◌, ℕ, zero, suc, ◌+◌, ◌<◌, List, [], ◌∷◌, length, get_or, drop, false, refl, add-one}
+use Rattle.std.proofs.Common.{arith}
 use Rattle.std.specs.Map.{keys_of, values_of}
 use Rattle.std.proofs.lemmas.List.{drop_all}
 use Rattle.jskw_value.specs.Tree.{Tree, array, object, items, members, names, values, is_array, is_object}

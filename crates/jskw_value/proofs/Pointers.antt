@@ -1,5 +1,6 @@
 -- Names in JSON pointers, one character at a time.
-use Rattle.std.proofs.Common.{◌≡◌, ℕ, suc, ◌<◌, ◌≤◌, List, [], ◌∷◌, ◌++◌, length, get_or, refl, sym, ap, ap₂, subst, ◌∙◌, append-nil, inl, inr, arith}
+use Rattle.std.proofs.Common.{◌≡◌, ℕ, suc, ◌<◌, ◌≤◌, List, [], ◌∷◌, ◌++◌, length, get_or, refl, sym, ap, ap₂, subst}
+use Rattle.std.proofs.Common.{◌∙◌, append-nil, inl, inr, arith}
 use Rattle.std.proofs.lemmas.Bool.{cases_lt, ne_eqb}
 use Rattle.std.proofs.lemmas.Grind.{common_steps, flat_map-append}
 use Rattle.std.proofs.lemmas.Str.{encode_ascii, inside_one}
@@ -22,12 +23,14 @@ next_escaped a b rest more all c h e =
 -- one character more of the name, one character less to go
 pub append_escaped : (a b new rest more all : List ℕ) (c : ℕ) → AppendsUpTo a b (escape rest) all
     → rest ≡ encode_utf8 c ++ more → new ≡ b ++ escape (encode_utf8 c) → AppendsUpTo a new (escape more) all
-append_escaped a b new rest more all c h e n = up_to_more a b new _ (escape more) all (next_escaped a b rest more all c h e) n
+append_escaped a b new rest more all c h e n =
+    up_to_more a b new _ (escape more) all (next_escaped a b rest more all c h e) n
 
 -- a beginning of one character more
 pub begin_escaped : (a b new rest more all : List ℕ) (c : ℕ) → AppendsUpTo a b (escape rest) all
     → rest ≡ encode_utf8 c ++ more → AppendsPart b new (escape (encode_utf8 c)) → AppendsPart a new all
-begin_escaped a b new rest more all c h e k = part_of_next a b new _ (escape more) all (next_escaped a b rest more all c h e) k
+begin_escaped a b new rest more all c h e k =
+    part_of_next a b new _ (escape more) all (next_escaped a b rest more all c h e) k
 
 -- the whole name
 pub all_escaped : (a b rest all : List ℕ) → AppendsUpTo a b (escape rest) all → length rest ≡ 0 → b ≡ a ++ all

@@ -1,4 +1,5 @@
--- Distinct names, as many on both sides, each of the left found on the right: then each of the right is found on the left.
+-- Distinct names, as many on both sides, each of the left found on the right: then each of the right is found on the
+-- left.
 use Rattle.std.proofs.Common.{◌≡◌, ℕ, ◌≤◌, ◌==◌, List, [], ◌∷◌, length, Bool, true, false, ◌&&◌, ap, sym, ◌∙◌, arith}
 use Rattle.std.proofs.lemmas.Bool.{or_parts, true_from_ne_false}
 use Rattle.std.proofs.lemmas.Bool.Decides.{Decides-eqb, same_from_decides}
@@ -55,9 +56,12 @@ same_length xs ys d e h =
         (among_all (q ∷ xs) ys (ap (λ b. b && list_all (is_member bytes_eq ys) xs) m ∙ h))
 
     all_found : length xs ≡ length ys → list_all (is_member bytes_eq xs) ys ≡ true
-    all_found c = all_from_each (is_member bytes_eq xs) ys (λ q m. true_from_ne_false _ (λ f. let l = longer q m f in omega arith))
+    all_found c =
+        all_from_each (is_member bytes_eq xs) ys
+        (λ q m. true_from_ne_false _ (λ f. let l = longer q m f in omega arith))
 
 -- a test that holds of the member of a name finds the name
 pub named_from_test : (p : Tree → Bool) (k : List ℕ) (u : Tree) → option_map_or p (get k u) false ≡ true
     → has_name u k ≡ true
-named_from_test p k u h = let found = passed p (get k u) h in sym (is_some-lookup (bytes_eq k) (members u)) ∙ ap is_some found.1.0
+named_from_test p k u h = let found = passed p (get k u) h in
+    sym (is_some-lookup (bytes_eq k) (members u)) ∙ ap is_some found.1.0

@@ -1,5 +1,7 @@
 -- A `serde_json` value beside its tree.
-use Rattle.std.proofs.Common.{◌≡◌, ℕ, ◌<◌, length, get_or, List, [], ◌∷◌, map, Vec, BTreeMap, String, Global, string_bytes, refl, sym, ap, ◌∙◌, option_map, Option, Some, true, false, cond, ◌&&◌, Bor, string_cmp, nat_cmp}
+use Rattle.std.proofs.Common.{◌≡◌, ℕ, ◌<◌, length, get_or, List, [], ◌∷◌, map, Vec, BTreeMap, String, Global}
+use Rattle.std.proofs.Common.{string_bytes, refl, sym, ap, ◌∙◌, option_map, Option, Some, true, false, cond, ◌&&◌, Bor}
+use Rattle.std.proofs.Common.{string_cmp, nat_cmp}
 use Rattle.std.proofs.lemmas.Grind.{common_steps}
 use Rattle.std.proofs.lemmas.List.Folds.{list_all-map}
 use Rattle.std.proofs.lemmas.Simd.{map-map}
@@ -17,7 +19,8 @@ use Rattle.serde_json.specs.declared.value.Value.{Value, Array, Object}
 use Rattle.serde_json.proofs.Views.{Entry, view-Array, view-Object}
 use Rattle.jskw_value.specs.Serde.{entry_tree, tree_of, items_of, members_of, value_tree}
 use Rattle.jskw_value.specs.Tree as tree
-use Rattle.jskw_value.specs.Tree.{Tree, array, object, Items, no_items, item, Members, no_members, member, item_list, member_list, is_lawful, items_lawful}
+use Rattle.jskw_value.specs.Tree.{Tree, array, object, Items, no_items, item, Members, no_members, member, item_list}
+use Rattle.jskw_value.specs.Tree.{member_list, is_lawful, items_lawful}
 use Rattle.jskw_value.proofs.Lawful.{lawful_found, lawful_members, members_lawful_list}
 use Rattle.jskw_value.proofs.Lists.{all_at}
 use Rattle.jskw_value.proofs.Lookups.{seen_through}
@@ -95,7 +98,8 @@ same_test : (k : List ℕ) (es : List Entry)
     → lookup (is_at (λ q. slice_cmp nat_cmp k (string_bytes q))) es ≡ lookup (bytes_eq k) (map named es)
 same_test k [] = refl
 same_test k (e ∷ es) =
-    ap (λ b. cond b (Some e.1) (lookup (is_at (λ q. slice_cmp nat_cmp k (string_bytes q))) es)) (is_eq-slice_cmp k (string_bytes e.0))
+    ap (λ b. cond b (Some e.1) (lookup (is_at (λ q. slice_cmp nat_cmp k (string_bytes q))) es))
+    (is_eq-slice_cmp k (string_bytes e.0))
     ∙ ap (cond (bytes_eq k (string_bytes e.0)) (Some e.1)) (same_test k es)
 
 -- an entry's tree by way of its name
@@ -107,7 +111,8 @@ pub found_of_object : (k : List ℕ) (m : BTreeMap (String Global) Value) (r : O
     → option_map (λ x. x.now) r ≡ get_by (λ q. slice_cmp nat_cmp k (string_bytes q)) m
     → option_map (λ x. value_tree x.now) r ≡ tree.get k (value_tree (Object m))
 found_of_object k m r e = seen_through value_tree r ∙ ap (option_map value_tree) (e ∙ same_test k m.entries)
-    ∙ sym (ap (lookup (bytes_eq k)) (members_of_object m ∙ entries_seen m.entries) ∙ lookup-map_values value_tree (bytes_eq k) (map named m.entries))
+    ∙ sym (ap (lookup (bytes_eq k)) (members_of_object m ∙ entries_seen m.entries)
+    ∙ lookup-map_values value_tree (bytes_eq k) (map named m.entries))
 
 -- the items as a list
 items_lawful_list : (ts : Items) → items_lawful ts ≡ list_all is_lawful (item_list ts)
@@ -145,5 +150,13 @@ pub ruleset arrays = (items_of_array, lawful_in_array, common_steps)
 
 pub ruleset lawful_by_level = (lawful_of_array, lawful_of_object)
 
-pub ruleset objects =
-    (distinct_of_object, names_of_object, values_of_object, members_of_object, lawful_in_object, lawful_members, lawful_found, common_steps)
+pub ruleset objects = (
+  distinct_of_object,
+  names_of_object,
+  values_of_object,
+  members_of_object,
+  lawful_in_object,
+  lawful_members,
+  lawful_found,
+  common_steps,
+)

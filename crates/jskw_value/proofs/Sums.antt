@@ -1,5 +1,7 @@
--- Sums over entries with distinct names: those of two lists are one where each of the one is among the other, and each name of the other is one of the one's.
-use Rattle.std.proofs.Common.{◌≡◌, ℕ, ◌+◌, ◌≤◌, List, [], ◌∷◌, Bool, true, false, cond, Option, Some, None, option_map, unwrap_or, is_some, refl, sym, ap, ◌∙◌, arith}
+-- Sums over entries with distinct names: those of two lists are one where each of the one is among the other, and each
+-- name of the other is one of the one's.
+use Rattle.std.proofs.Common.{◌≡◌, ℕ, ◌+◌, ◌≤◌, List, [], ◌∷◌, Bool, true, false, cond, Option, Some, None, option_map}
+use Rattle.std.proofs.Common.{unwrap_or, is_some, refl, sym, ap, ◌∙◌, arith}
 use Rattle.std.proofs.lemmas.Bool.{and_parts, both_ways, false_from_ne_true}
 use Rattle.std.proofs.lemmas.Cmp.{nat_list_eq_equiv}
 use Rattle.std.proofs.lemmas.List.Sums.{sum_by-cons}
@@ -27,9 +29,11 @@ other_name k q [] h = refl
 other_name k q (e ∷ es) h = go (bytes_eq k e.0) refl (other_name k q es h)
   where
     go : (b : Bool) → bytes_eq k e.0 ≡ b → lookup (bytes_eq q) (remove_entry (bytes_eq k) es) ≡ lookup (bytes_eq q) es
-        → lookup (bytes_eq q) (cond b es (e ∷ remove_entry (bytes_eq k) es)) ≡ cond (bytes_eq q e.0) (Some e.1) (lookup (bytes_eq q) es)
+        → lookup (bytes_eq q) (cond b es (e ∷ remove_entry (bytes_eq k) es))
+        ≡ cond (bytes_eq q e.0) (Some e.1) (lookup (bytes_eq q) es)
     go true d r = sym (ap (λ c. cond c (Some e.1) (lookup (bytes_eq q) es)) (false_from_ne_true (bytes_eq q e.0) (λ w.
-        both_ways (bytes_eq k q) h (ap (λ x. bytes_eq x q) ((bytes_eq-Decides k e.0).0 d) ∙ nat_list_eq_equiv.symm e.0 q ∙ w))))
+        both_ways (bytes_eq k q) h
+        (ap (λ x. bytes_eq x q) ((bytes_eq-Decides k e.0).0 d) ∙ nat_list_eq_equiv.symm e.0 q ∙ w))))
     go false d r = ap (cond (bytes_eq q e.0) (Some e.1)) r
 
 -- entries of other names stay
@@ -46,7 +50,8 @@ at_most (x ∷ xs) ys d f =
     let r = at_most xs others (IsDistinct-tail bytes_eq x.0 (keys_of xs) d)
     (among_without x.0 ys xs (IsDistinct-head bytes_eq x.0 (keys_of xs) d) f.1) in
     let s : total others + x.1 ≡ total ys =
-    ap (λ o. total others + unwrap_or (option_map (λ n. n) o) 0) (sym f.0) ∙ sum_by-remove_entry (λ n. n) (bytes_eq x.0) ys in
+    ap (λ o. total others + unwrap_or (option_map (λ n. n) o) 0) (sym f.0)
+    ∙ sum_by-remove_entry (λ n. n) (bytes_eq x.0) ys in
     let c : total (x ∷ xs) ≡ x.1 + total xs = sum_by-cons (λ n. n) x.1 (values_of xs) in
     omega (arith, r, s, c)
 
@@ -65,8 +70,10 @@ found_there all (x ∷ es) f k n e = go (bytes_eq k x.0) refl e (found_there all
 among_back : (xs ys es : Entries) → AreAmong ys xs → AreAmong ys es
     → list_all (is_member bytes_eq (keys_of xs)) (keys_of es) ≡ true → AreAmong xs es
 among_back xs ys [] f g h = tt
-among_back xs ys (e ∷ es) f g h =
-    (go (lookup (bytes_eq e.0) xs) refl (is_some-lookup (bytes_eq e.0) xs ∙ (and_parts _ _ h).0), among_back xs ys es f g.1 (and_parts _ _ h).1)
+among_back xs ys (e ∷ es) f g h = (
+  go (lookup (bytes_eq e.0) xs) refl (is_some-lookup (bytes_eq e.0) xs ∙ (and_parts _ _ h).0),
+  among_back xs ys es f g.1 (and_parts _ _ h).1,
+)
   where
     go : (o : Option ℕ) → lookup (bytes_eq e.0) xs ≡ o → is_some o ≡ true → lookup (bytes_eq e.0) xs ≡ Some e.1
     go None w s = absurd (cc)
@@ -76,4 +83,5 @@ among_back xs ys (e ∷ es) f g h =
 pub same_total : (xs ys : Entries) → IsDistinct bytes_eq (keys_of xs) → IsDistinct bytes_eq (keys_of ys)
     → AreAmong ys xs → list_all (is_member bytes_eq (keys_of xs)) (keys_of ys) ≡ true → total xs ≡ total ys
 same_total xs ys d e f h =
-    let a = at_most xs ys d f in let b = at_most ys xs e (among_back xs ys ys f (all_among ys e) h) in omega (arith, a, b)
+    let a = at_most xs ys d f in let b = at_most ys xs e (among_back xs ys ys f (all_among ys e) h) in
+    omega (arith, a, b)

@@ -1,5 +1,6 @@
 -- Texts that grow at their end.
-use Rattle.std.proofs.Common.{◌≡◌, ℕ, List, [], ◌∷◌, ◌++◌, Bool, true, false, cond, refl, sym, ap, subst, ◌∙◌, append_assoc, append-nil}
+use Rattle.std.proofs.Common.{◌≡◌, ℕ, List, [], ◌∷◌, ◌++◌, Bool, true, false, cond, refl, sym, ap, subst, ◌∙◌}
+use Rattle.std.proofs.Common.{append_assoc, append-nil}
 use Rattle.jskw_value.specs.Text.{Extends, AppendsPart, AppendsUpTo}
 
 -- nothing more
@@ -34,7 +35,8 @@ up_to_more a b c x rest all h e = record {
 }
 
 -- a beginning of the next piece
-pub part_of_next : (a b c x rest all : List ℕ) → AppendsUpTo a b (x ++ rest) all → AppendsPart b c x → AppendsPart a c all
+pub part_of_next : (a b c x rest all : List ℕ) → AppendsUpTo a b (x ++ rest) all → AppendsPart b c x
+    → AppendsPart a c all
 part_of_next a b c x rest all h k =
     let p = k.appends.part in
     record {
@@ -43,7 +45,8 @@ part_of_next a b c x rest all h k =
         part = h.part ++ p;
         is_new = k.appends.is_new ∙ ap (λ z. z ++ p) h.is_new ∙ append_assoc a h.part p;
         is_all = append_assoc h.part p (k.rest ++ rest)
-            ∙ ap (λ z. h.part ++ z) (sym (append_assoc p k.rest rest) ∙ ap (λ z. z ++ rest) k.appends.is_all) ∙ h.is_all;
+            ∙ ap (λ z. h.part ++ z) (sym (append_assoc p k.rest rest) ∙ ap (λ z. z ++ rest) k.appends.is_all)
+            ∙ h.is_all;
       };
     }
 
@@ -66,7 +69,8 @@ part_tried a b all true e =
 part_tried a b all false e = subst (λ z. AppendsPart a z all) (sym e) (part_nothing a all)
 
 -- the first byte and a beginning of what follows it
-pub part_after : (a b c : List ℕ) (x : ℕ) (all : List ℕ) → b ≡ a ++ x ∷ [] → AppendsPart b c all → AppendsPart a c (x ∷ all)
+pub part_after : (a b c : List ℕ) (x : ℕ) (all : List ℕ) → b ≡ a ++ x ∷ [] → AppendsPart b c all
+    → AppendsPart a c (x ∷ all)
 part_after a b c x all e h = part_of_next a b c all [] (x ∷ all) (record {
   part = x ∷ [];
   is_new = e;

@@ -11,7 +11,8 @@ use Rattle.jskw_value.specs.Laws.{UniqueMeansNoTwoEqual}
 use Rattle.jskw_value.specs.Tree.{Tree, null}
 
 -- where no item passes, an item at an index fails
-pub none_passes : (p : Tree → Bool) (ts : List Tree) → list_any p ts ≡ false → (j : ℕ) (u : Tree) → slice_get ts j ≡ Some u
+pub none_passes : (p : Tree → Bool) (ts : List Tree) → list_any p ts ≡ false → (j : ℕ) (u : Tree)
+    → slice_get ts j ≡ Some u
     → p u ≡ false
 none_passes p ts e j u at = false_from_ne_true (p u) (λ h. both_ways (list_any p ts) e
     (list_any_at p ts j u (slice_get_within ts j u at) (ap p (get_or_from_slice_get ts j u u at) ∙ h)))

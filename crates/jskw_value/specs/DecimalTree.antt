@@ -1,7 +1,8 @@
 -- The tree of a `DecimalTree`.
 use Rattle.std.specs.Prelude.{ℕ, List, [], ◌∷◌, string_bytes}
 use Rattle.jskw_value.specs.Decimal.{value}
-use Rattle.jskw_value.specs.Tree.{Tree, null, boolean, number, string, array, object, Items, no_items, item, Members, no_members, member}
+use Rattle.jskw_value.specs.Tree.{Tree, null, boolean, number, string, array, object, Items, no_items, item, Members}
+use Rattle.jskw_value.specs.Tree.{no_members, member}
 use Rattle.jskw_value.specs.declared.decimal_tree.DecimalTree.{DecimalTree, fold-DecimalTree}
 use Rattle.jskw_value.specs.declared.decimal_tree.DecimalTree.TheOpen.{DecimalTree-F}
 use Rattle.jskw_value.specs.declared.members.Member.{Member}
@@ -30,5 +31,5 @@ abbrev pub decimal_tree : DecimalTree → Tree
 decimal_tree = fold-DecimalTree Tree tree_step
 
 -- a member's name beside its tree
-abbrev pub entry_tree : Member DecimalTree → List ℕ × Tree
-entry_tree m = (string_bytes m.name, decimal_tree m.value)
+abbrev pub member_tree : Member DecimalTree → List ℕ × Tree
+member_tree m = (string_bytes m.name, decimal_tree m.value)

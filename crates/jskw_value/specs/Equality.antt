@@ -6,9 +6,12 @@ use Rattle.std.specs.Map.{lookup}
 use Rattle.std.specs.Option.{option_map_or}
 use Rattle.std.specs.Str.{bytes_eq}
 use Rattle.jskw_value.specs.Number.{Num, num_equal, num_same}
-use Rattle.jskw_value.specs.Tree.{Tree, null, boolean, number, string, array, object, Items, no_items, item, Members, no_members, member, is_null, as_boolean, as_number, as_string, is_array, is_object, items, members, names, get, has_name}
+use Rattle.jskw_value.specs.Tree.{Tree, null, boolean, number, string, array, object, Items, no_items, item, Members}
+use Rattle.jskw_value.specs.Tree.{no_members, member, is_null, as_boolean, as_number, as_string, is_array, is_object}
+use Rattle.jskw_value.specs.Tree.{items, members, names, get, has_name}
 
--- arrays item by item; objects where each name of the one is a name of the other, with values alike; numbers by the test `numbers`
+-- arrays item by item; objects where each name of the one is a name of the other, with values alike; numbers by the
+-- test `numbers`
 abbrev mutual
   pub alike : (Num → Num → Bool) → Tree → Tree → Bool
   alike numbers null u = is_null u

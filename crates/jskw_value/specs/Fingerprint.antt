@@ -1,10 +1,12 @@
 -- Numbers that equal trees share, under any seed: of each tree what a budget reaches, its beginning.
-use Rattle.std.specs.Prelude.{ℕ, zero, suc, ◌+◌, ◌-◌, ◌*◌, ◌/◌, ◌%◌, ◌^◌, ◌==◌, ◌&&◌, ◌||◌, min, max, nat_le, ℤ, pos, negsuc, List, [], ◌∷◌, length, take, drop, Bool, true, not, unsigned_abs, if◌then◌else◌}
+use Rattle.std.specs.Prelude.{ℕ, zero, suc, ◌+◌, ◌-◌, ◌*◌, ◌/◌, ◌%◌, ◌^◌, ◌==◌, ◌&&◌, ◌||◌, min, max, nat_le, ℤ, pos}
+use Rattle.std.specs.Prelude.{negsuc, List, [], ◌∷◌, length, take, drop, Bool, true, not, unsigned_abs, if◌then◌else◌}
 use Rattle.std.specs.Int.{w64, from_le_bytes}
 use Rattle.std.specs.Int.Bits.{bit_or, bit_xor}
 use Rattle.jskw_value.specs.Number.{Num, exact, float}
 use Rattle.jskw_value.specs.PropertyName.{padded}
-use Rattle.jskw_value.specs.Tree.{Tree, null, boolean, number, string, array, object, Items, no_items, item, Members, no_members, member, item_list, member_list, has_name}
+use Rattle.jskw_value.specs.Tree.{Tree, null, boolean, number, string, array, object, Items, no_items, item, Members}
+use Rattle.jskw_value.specs.Tree.{no_members, member, item_list, member_list, has_name}
 
 -- ---- mixing
 
@@ -35,24 +37,24 @@ abbrev pub text_begun : ℕ → ℕ → ℕ
 text_begun seed count = bit_xor (bit_xor 9600629759793949339 count) seed
 
 -- of a text: its length, its first pairs of words, no more than the budget, and its last pair
-unfoldable pub text_print : ℕ → ℕ → List ℕ → ℕ
-text_print seed budget s =
+unfoldable pub text_fingerprint : ℕ → ℕ → List ℕ → ℕ
+text_fingerprint seed budget s =
     stirred (pairs_stirred (min budget ((length s - 1) / 16)) (text_begun seed (length s)) s)
     (word_at s (length s - 16)) (word_at s (length s - 8))
 
 -- of a sign
-abbrev pub sign_print : ℤ → ℕ
-sign_print (pos n) = 6
-sign_print (negsuc n) = 7
+abbrev pub sign_fingerprint : ℤ → ℕ
+sign_fingerprint (pos n) = 6
+sign_fingerprint (negsuc n) = 7
 
 -- of n / 10^k, mixed into a hash: the whole part, and the rest in parts of 10^18
-unfoldable pub parts_print : ℕ → ℕ → ℕ → ℕ
-parts_print h n k = stirred h (n / 10 ^ k) (n % 10 ^ k * 10 ^ 18 / 10 ^ k)
+unfoldable pub parts_fingerprint : ℕ → ℕ → ℕ → ℕ
+parts_fingerprint h n k = stirred h (n / 10 ^ k) (n % 10 ^ k * 10 ^ 18 / 10 ^ k)
 
 -- of a number by its mathematical value; floats have one fingerprint
-abbrev pub number_print : ℕ → Num → ℕ
-number_print seed (exact c k) = parts_print (bit_xor (sign_print c) seed) (unsigned_abs c) k
-number_print seed float = 8
+abbrev pub number_fingerprint : ℕ → Num → ℕ
+number_fingerprint seed (exact c k) = parts_fingerprint (bit_xor (sign_fingerprint c) seed) (unsigned_abs c) k
+number_fingerprint seed float = 8
 
 -- ---- trees
 
@@ -66,36 +68,41 @@ share budget count = if budget == unlimited then unlimited else budget / max cou
 
 -- items in their order, the first so many of them; members in any order, all of them or none
 abbrev mutual
-  pub print : ℕ → ℕ → Tree → ℕ
-  print seed budget null = 1
-  print seed budget (boolean b) = if b then 3 else 2
-  print seed budget (number n) = number_print seed n
-  print seed budget (string s) = text_print seed budget s
-  print seed budget (array ts) =
-      items_print seed (share budget (length (item_list ts))) budget (stirred (bit_xor 4 seed) (length (item_list ts)) 0) ts
-  print seed budget (object ms) = stirred 5 (length (member_list ms))
-      (if nat_le (length (member_list ms)) budget then members_print seed (share budget (length (member_list ms))) ms % 2 ^ 64 else 0)
+  pub fingerprint : ℕ → ℕ → Tree → ℕ
+  fingerprint seed budget null = 1
+  fingerprint seed budget (boolean b) = if b then 3 else 2
+  fingerprint seed budget (number n) = number_fingerprint seed n
+  fingerprint seed budget (string s) = text_fingerprint seed budget s
+  fingerprint seed budget (array ts) =
+      items_fingerprint seed (share budget (length (item_list ts))) budget
+      (stirred (bit_xor 4 seed) (length (item_list ts)) 0) ts
+  fingerprint seed budget (object ms) = stirred 5 (length (member_list ms))
+      (if nat_le (length (member_list ms)) budget
+      then members_fingerprint seed (share budget (length (member_list ms))) ms % 2 ^ 64 else 0)
 
   -- the first n items, mixed into a hash
-  pub items_print : ℕ → ℕ → ℕ → ℕ → Items → ℕ
-  items_print seed budget zero h ts = h
-  items_print seed budget (suc n) h no_items = h
-  items_print seed budget (suc n) h (item t ts) = items_print seed budget n (stirred h (print seed budget t) 4) ts
+  pub items_fingerprint : ℕ → ℕ → ℕ → ℕ → Items → ℕ
+  items_fingerprint seed budget zero h ts = h
+  items_fingerprint seed budget (suc n) h no_items = h
+  items_fingerprint seed budget (suc n) h (item t ts) =
+      items_fingerprint seed budget n (stirred h (fingerprint seed budget t) 4) ts
 
   -- the sum over the members, each mixed with the seed before
-  pub members_print : ℕ → ℕ → Members → ℕ
-  members_print seed budget no_members = 0
-  members_print seed budget (member k t ms) =
-      stirred (bit_xor 5 seed) (text_print seed budget k) (print seed budget t) + members_print seed budget ms
+  pub members_fingerprint : ℕ → ℕ → Members → ℕ
+  members_fingerprint seed budget no_members = 0
+  members_fingerprint seed budget (member k t ms) =
+      stirred (bit_xor 5 seed) (text_fingerprint seed budget k) (fingerprint seed budget t)
+      + members_fingerprint seed budget ms
 
 -- the same of a list of items
-abbrev pub list_print : ℕ → ℕ → ℕ → List Tree → ℕ
-list_print seed budget h [] = h
-list_print seed budget h (t ∷ ts) = list_print seed budget (stirred h (print seed budget t) 4) ts
+abbrev pub list_fingerprint : ℕ → ℕ → ℕ → List Tree → ℕ
+list_fingerprint seed budget h [] = h
+list_fingerprint seed budget h (t ∷ ts) = list_fingerprint seed budget (stirred h (fingerprint seed budget t) 4) ts
 
 -- the same of a member
-abbrev pub member_print : ℕ → ℕ → List ℕ × Tree → ℕ
-member_print seed budget m = stirred (bit_xor 5 seed) (text_print seed budget m.0) (print seed budget m.1)
+abbrev pub member_fingerprint : ℕ → ℕ → List ℕ × Tree → ℕ
+member_fingerprint seed budget m =
+    stirred (bit_xor 5 seed) (text_fingerprint seed budget m.0) (fingerprint seed budget m.1)
 
 -- ---- names
 
@@ -110,7 +117,8 @@ abbrev mutual
   is_distinct_within budget (array ts) =
       items_distinct_within (share budget (length (item_list ts))) budget ts
   is_distinct_within budget (object ms) = own_names_distinct ms
-      && (not (nat_le (length (member_list ms)) budget) || members_distinct_within (share budget (length (member_list ms))) ms)
+      && (not (nat_le (length (member_list ms)) budget)
+      || members_distinct_within (share budget (length (member_list ms))) ms)
   is_distinct_within budget _ = true
 
   -- no such object in the first n items

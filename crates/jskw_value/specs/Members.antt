@@ -1,5 +1,7 @@
--- The members of an object as a list of pairs sorted by their names, and the code by which a proof tells such lists apart.
-use Rattle.std.specs.Prelude.{◌≡◌, ℕ, ◌+◌, ◌<◌, ◌≤◌, List, [], ◌∷◌, length, map, cond, String, string_bytes, slice_index_or, refl, Bool, Option}
+-- The members of an object as a list of pairs sorted by their names, and the code by which a proof tells such lists
+-- apart.
+use Rattle.std.specs.Prelude.{◌≡◌, ℕ, ◌+◌, ◌<◌, ◌≤◌, List, [], ◌∷◌, length, map, cond, String, string_bytes}
+use Rattle.std.specs.Prelude.{slice_index_or, refl, Bool, Option}
 use Rattle.std.specs.Coded.{Coded, code_by, coded_list, coded×}
 use Rattle.std.specs.Cmp.Lexicographic.{slice_cmp}
 use Rattle.std.specs.List.Sorted.{IsStrictlySortedBy, IsSortedByKey}
@@ -25,16 +27,16 @@ module _ {V : Type 0} where
   entries ms = map (λ m. (string_bytes m.name, m.value)) ms
 
   -- the names, in the order of the list
-  abbrev pub names : List (Member V) → List (List ℕ)
-  names ms = keys_of (entries ms)
+  abbrev pub member_names : List (Member V) → List (List ℕ)
+  member_names ms = keys_of (entries ms)
 
   -- the value of a name
-  abbrev pub get : List ℕ → List (Member V) → Option V
-  get k ms = lookup (bytes_eq k) (entries ms)
+  abbrev pub value_named : List ℕ → List (Member V) → Option V
+  value_named k ms = lookup (bytes_eq k) (entries ms)
 
   -- whether a member has the name
-  abbrev pub has_name : List ℕ → List (Member V) → Bool
-  has_name k ms = is_member bytes_eq (names ms) k
+  abbrev pub has_named : List ℕ → List (Member V) → Bool
+  has_named k ms = is_member bytes_eq (member_names ms) k
 
   -- how a member's name stands to k, by their bytes
   abbrev pub against : List ℕ → Member V → Ordering
@@ -48,7 +50,9 @@ module _ {V : Type 0} where
   -- with one member more, in place of the one of its name if there is one
   abbrev pub put : Member V → List (Member V) → List (Member V)
   put m [] = m ∷ []
-  put m (x ∷ xs) = match_ordering (slice_cmp nat_cmp (string_bytes m.name) (string_bytes x.name)) (m ∷ x ∷ xs) (m ∷ xs) (x ∷ put m xs)
+  put m (x ∷ xs) =
+      match_ordering (slice_cmp nat_cmp (string_bytes m.name) (string_bytes x.name)) (m ∷ x ∷ xs)
+      (m ∷ xs) (x ∷ put m xs)
 
   -- members put one after another to those that were found
   abbrev pub put_all : List (Member V) → List (Member V) → List (Member V)
@@ -60,7 +64,7 @@ module _ {V : Type 0} where
   lasts ms = put_all [] ms
 
   -- the member at index i has the name
-  pub record IsAt (k : List ℕ) (ms : List (Member V)) (i : ℕ) : Type 0 where
+  pub record IsIndexOf (k : List ℕ) (ms : List (Member V)) (i : ℕ) : Type 0 where
     pub within : i < length ms
     pub named : (d : Member V) → against k (slice_index_or ms i d) ≡ Equal
 
@@ -76,12 +80,14 @@ module _ {V : Type 0} where
 
   -- the name at index i is less than the next
   abbrev pub IsStep : List (Member V) → ℕ → Type 0
-  IsStep ms i = (d : Member V) → against (string_bytes (slice_index_or ms (i + 1) d).name) (slice_index_or ms i d) ≡ Less
+  IsStep ms i =
+      (d : Member V) → against (string_bytes (slice_index_or ms (i + 1) d).name) (slice_index_or ms i d) ≡ Less
 
   -- the members at index i and behind it have one name, and the names up to there rise
   pub record RepeatsAt (ms : List (Member V)) (i : ℕ) : Type 0 where
     pub within : i + 1 < length ms
-    pub named : (d : Member V) → string_bytes (slice_index_or ms i d).name ≡ string_bytes (slice_index_or ms (i + 1) d).name
+    pub named : (d : Member V)
+        → string_bytes (slice_index_or ms i d).name ≡ string_bytes (slice_index_or ms (i + 1) d).name
     pub rising : (j : ℕ) → j < i → IsStep ms j
 
 -- the code of a name
@@ -91,7 +97,8 @@ text_code = (text.the_row heap.the_row ghosts).coded
 -- the code of a member, from the code of its value
 abbrev pub member_code : {V : Type 0} → Coded V → Coded (Member V)
 member_code {V} code =
-    code_by (String Global × V) (coded× text_code code) (λ m. (m.name, m.value)) (λ v. record { name = v.0; value = v.1 }) (λ _. refl)
+    code_by (String Global × V) (coded× text_code code) (λ m. (m.name, m.value))
+    (λ v. record { name = v.0; value = v.1 }) (λ _. refl)
 
 -- the code of a list of members
 abbrev pub members_code : {V : Type 0} → Coded V → Coded (List (Member V))

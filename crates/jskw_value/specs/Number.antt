@@ -1,5 +1,6 @@
 -- Numbers (Core 4.2.1): a coefficient over a power of ten, or a float, of which nothing more is said.
-use Rattle.std.specs.Prelude.{ℕ, zero, suc, ◌^◌, ◌*◌, ◌%◌, ◌==◌, ◌&&◌, ℤ, pos, negsuc, neg_ℤ, ◌*ℤ◌, Bool, true, false, nat_lt, nat_le, unsigned_abs, Option, Some, None, if◌then◌else◌}
+use Rattle.std.specs.Prelude.{ℕ, zero, suc, ◌^◌, ◌*◌, ◌%◌, ◌==◌, ◌&&◌, ℤ, pos, negsuc, neg_ℤ, ◌*ℤ◌, Bool, true, false}
+use Rattle.std.specs.Prelude.{nat_lt, nat_le, unsigned_abs, Option, Some, None, if◌then◌else◌}
 use Rattle.std.specs.Ordering.{int_cmp, int_eq}
 use Rattle.std.specs.declared.cmp.Ordering.{Ordering}
 
@@ -46,10 +47,10 @@ is_written_as_integer (exact c k) = k == 0
 is_written_as_integer float = false
 
 -- the coefficient, where it is written as an integer
-abbrev pub whole : Num → Option ℤ
-whole (exact c zero) = Some c
-whole (exact c (suc k)) = None
-whole float = None
+abbrev pub written_integer : Num → Option ℤ
+written_integer (exact c zero) = Some c
+written_integer (exact c (suc k)) = None
+written_integer float = None
 
 -- from 0 to 2^64 - 1
 abbrev pub u64_of : ℤ → Option ℕ

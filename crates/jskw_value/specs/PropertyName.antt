@@ -9,4 +9,10 @@ padded bs = bs ++ replicate (8 - length bs) 0
 
 -- the length in bytes, and the first and the last eight bytes as numbers, the lowest byte first
 unfoldable pub head_of : List ℕ → KeyHead
-head_of s = record { length = length s; first = from_le_bytes w64 (padded (take 8 s)); last = from_le_bytes w64 (padded (drop (length s - 8) s)) }
+head_of s =
+    record {
+      length =
+          length s;
+      first = from_le_bytes w64 (padded (take 8 s));
+      last = from_le_bytes w64 (padded (drop (length s - 8) s));
+    }

@@ -6,7 +6,8 @@ use Rattle.serde_json.specs.View.{view, number_view}
 use Rattle.serde_json.specs.declared.number.Number as numbers
 use Rattle.serde_json.specs.declared.value.Value as values
 use Rattle.jskw_value.specs.Number.{Num, exact, float}
-use Rattle.jskw_value.specs.Tree.{Tree, null, boolean, number, string, array, object, Items, no_items, item, Members, no_members, member}
+use Rattle.jskw_value.specs.Tree.{Tree, null, boolean, number, string, array, object, Items, no_items, item, Members}
+use Rattle.jskw_value.specs.Tree.{no_members, member}
 
 -- an integer is written without a point, and of a float nothing is said
 abbrev pub num_of : serde.Num → Num

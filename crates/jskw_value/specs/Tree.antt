@@ -5,7 +5,8 @@ use Rattle.std.specs.Set.{is_member}
 use Rattle.std.specs.Str.{bytes_eq}
 use Rattle.jskw_value.specs.Number.{Num, is_exact}
 
--- null, a boolean, a number, a string, an array or an object; the members of an object stand in some order, which only the first float asks for
+-- null, a boolean, a number, a string, an array or an object; the members of an object stand in some order, which only
+-- the first float asks for
 mutual
   pub data Tree : Type 0 where
     null : Tree

@@ -10,7 +10,17 @@ use Rattle.jskw_value.specs.declared.types.JsonTypeSet.{JsonTypeSet}
 
 -- the empty set
 abbrev pub no_types : JsonTypeSet
-no_types = record { arrays = false; booleans = false; integers = false; nulls = false; numbers = false; objects = false; strings = false }
+no_types =
+    record {
+      arrays =
+          false;
+      booleans = false;
+      integers = false;
+      nulls = false;
+      numbers = false;
+      objects = false;
+      strings = false;
+    }
 
 -- the set with one type more
 abbrev pub insert : JsonType → JsonTypeSet → JsonTypeSet

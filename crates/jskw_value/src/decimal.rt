@@ -40,7 +40,8 @@ impl Decimal {
     #[inline(always)]
     pub fn from_parts(is_negative: bool, size: u64, scale: u8) -> Option<Decimal>
         ensures { option_map value result
-            ≡ (if is_decimal (signed is_negative size) scale then Some (exact (signed is_negative size) scale) else None) }
+            ≡ (if is_decimal (signed is_negative size) scale
+            then Some (exact (signed is_negative size) scale) else None) }
     {
         if scale > 18 || is_negative && size > 1 << 63 {
             None

@@ -6,7 +6,7 @@ ghost use Rattle.jskw_value.specs.Doubt.{beginning, is_distinct_for, key, undoub
 ghost use Rattle.jskw_value.specs.Fingerprint.{is_distinct_within};
 ghost use Rattle.jskw_value.specs.Tree.{is_array};
 
-use crate::fingerprint::{fingerprint, of_whole};
+use crate::fingerprint::{fingerprint_within, of_whole};
 use crate::json::{Array, Node};
 use crate::meter::{Allowance, visit};
 use crate::sketch::{is_marked, mark};
@@ -44,9 +44,9 @@ pub(crate) fn mark_doubtful<const WORDS: usize, N: Node>(array: &N, doubtful: &m
     let parts = (count / (ITEMS_A_WORD * WORDS)) as u64 + 1;
     for part in 0..parts {
         for i in 0..count {
-            let print = fingerprint(array.item(i), 0, BEGINNING);
-            if print % parts == part {
-                mark_again(&mut sketch, doubtful, print);
+            let fingerprint = fingerprint_within(array.item(i), 0, BEGINNING);
+            if fingerprint % parts == part {
+                mark_again(&mut sketch, doubtful, fingerprint);
             }
         }
         sketch.fill(0);
@@ -54,7 +54,7 @@ pub(crate) fn mark_doubtful<const WORDS: usize, N: Node>(array: &N, doubtful: &m
 }
 
 // Marks a fingerprint in the first sketch, or in the second one if it is marked there already.
-fn mark_again(sketch: &mut [u64], doubtful: &mut [u64], print: u64)
+fn mark_again(sketch: &mut [u64], doubtful: &mut [u64], fingerprint: u64)
     requires filled { 0 < length sketch.old }
     requires short { length sketch.old ≤ 2 ^ 32 }
     requires marks { 0 < length doubtful.old }
@@ -62,16 +62,16 @@ fn mark_again(sketch: &mut [u64], doubtful: &mut [u64], print: u64)
     ensures sketch { length sketch.new ≡ length sketch.old }
     ensures doubtful { length doubtful.new ≡ length doubtful.old }
 {
-    if is_marked(sketch, print) {
-        mark(doubtful, print);
+    if is_marked(sketch, fingerprint) {
+        mark(doubtful, fingerprint);
     } else {
-        mark(sketch, print);
+        mark(sketch, fingerprint);
     }
 }
 
 // Returns the fingerprint of an item's beginning, or `None` if the item is in doubt: if that
 // fingerprint is marked, or nothing is said about any item.
-pub(crate) fn print_of_undoubted<N: Node>(item: &N, doubtful: &[u64]) -> Option<u64>
+pub(crate) fn fingerprint_of_undoubted<N: Node>(item: &N, doubtful: &[u64]) -> Option<u64>
     requires { length doubtful.now ≤ 2 ^ 32 }
     ensures value { result ≡ undoubted doubtful.now (N.tree item.now) }
     ensures distinct { 0 < length doubtful.now → IsTrue (is_distinct_within beginning (N.tree item.now)) }
@@ -79,11 +79,11 @@ pub(crate) fn print_of_undoubted<N: Node>(item: &N, doubtful: &[u64]) -> Option<
     if doubtful.is_empty() {
         return None;
     }
-    let print = fingerprint(item, 0, BEGINNING);
-    if is_marked(doubtful, print) {
+    let fingerprint = fingerprint_within(item, 0, BEGINNING);
+    if is_marked(doubtful, fingerprint) {
         None
     } else {
-        Some(print)
+        Some(fingerprint)
     }
 }
 
@@ -95,8 +95,8 @@ pub(crate) fn key<N: Node>(item: &N, doubtful: &[u64], seed: u64) -> u64
     ensures value { result ≡ key seed doubtful.now (N.tree item.now) }
     ensures distinct { IsTrue (is_distinct_for doubtful.now (N.tree item.now)) }
 {
-    match print_of_undoubted(item, doubtful) {
-        Some(print) => print,
+    match fingerprint_of_undoubted(item, doubtful) {
+        Some(fingerprint) => fingerprint,
         None => of_whole(item, seed),
     }
 }
@@ -111,7 +111,7 @@ pub(crate) fn is_within<N: Node>(array: &N, doubtful: &[u64], visits: usize) -> 
     let mut allowance = Allowance::new(nodes);
     for i in 0..count {
         let item = array.item(i);
-        if print_of_undoubted(item, doubtful).is_none() {
+        if fingerprint_of_undoubted(item, doubtful).is_none() {
             visit(item, &mut allowance);
         }
         if allowance.is_used_up() {

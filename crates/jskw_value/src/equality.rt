@@ -16,8 +16,8 @@ use crate::walk::Walk;
 // How many items are compared in the time of two members, which two walks find.
 const VISITS_A_MEMBER: usize = 4;
 
-// Returns whether two nodes are equal. What it visits is counted. In line, so that the loops over items and members compare
-// scalars without a call.
+// Returns whether two nodes are equal. What it visits is counted. In line, so that the loops over
+// items and members compare scalars without a call.
 #[inline(always)]
 #[cycle(equal)]
 #[tactic(auto, using(crate::proofs::Equal::by_level))]

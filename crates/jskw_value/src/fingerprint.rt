@@ -18,9 +18,9 @@ ghost use Rattle.std.specs.Int.Bits.{bit_xor};
 ghost use Rattle.std.specs.List.{sum_by, IsDistinct, list_all};
 ghost use Rattle.std.specs.Str.{bytes_eq};
 ghost use Rattle.jskw_value.specs.Decimal.{value};
-ghost use Rattle.jskw_value.specs.Fingerprint.{folded, stirred, word_at, text_begun, text_print};
-ghost use Rattle.jskw_value.specs.Fingerprint.{sign_print, number_print, unlimited, share, print};
-ghost use Rattle.jskw_value.specs.Fingerprint.{list_print, member_print, is_distinct_within};
+ghost use Rattle.jskw_value.specs.Fingerprint.{folded, stirred, word_at, text_begun, text_fingerprint};
+ghost use Rattle.jskw_value.specs.Fingerprint.{sign_fingerprint, number_fingerprint, unlimited, share, fingerprint};
+ghost use Rattle.jskw_value.specs.Fingerprint.{list_fingerprint, member_fingerprint, is_distinct_within};
 ghost use Rattle.jskw_value.specs.Tree.{as_number, as_string, is_array, is_object, items};
 ghost use Rattle.jskw_value.specs.Tree.{members, names, values};
 
@@ -37,17 +37,17 @@ const UNLIMITED: usize = usize::MAX;
 /// compare them if the fingerprints are equal. Takes time in proportion to the size of the node and
 /// allocates nothing.
 pub fn of_whole<N: Node>(node: &N, seed: u64) -> u64
-    ensures value { result ≡ print seed unlimited (N.tree node.now) }
+    ensures value { result ≡ fingerprint seed unlimited (N.tree node.now) }
     ensures distinct { IsTrue (is_distinct_within unlimited (N.tree node.now)) }
 {
-    fingerprint(node, seed, UNLIMITED)
+    fingerprint_within(node, seed, UNLIMITED)
 }
 
 // Returns the fingerprint of a node. Allocates nothing, and takes time in proportion to the budget.
-#[cycle(print)]
+#[cycle(fingerprint)]
 #[tactic(auto, using(crate::proofs::Fingerprints::by_level))]
-pub(crate) fn fingerprint<N: Node>(node: &N, seed: u64, budget: usize) -> u64
-    ensures value { result ≡ print seed budget (N.tree node.now) }
+pub(crate) fn fingerprint_within<N: Node>(node: &N, seed: u64, budget: usize) -> u64
+    ensures value { result ≡ fingerprint seed budget (N.tree node.now) }
     ensures distinct { IsTrue (is_distinct_within budget (N.tree node.now)) }
 {
     if let Some(number) = node.as_number() {
@@ -62,12 +62,12 @@ pub(crate) fn fingerprint<N: Node>(node: &N, seed: u64, budget: usize) -> u64
 // Returns the fingerprint of a node that is neither a number nor a string. Never inlined, so that
 // numbers and strings don't pay for its frame.
 #[inline(never)]
-#[cycle(print)]
+#[cycle(fingerprint)]
 #[tactic(auto, using(crate::proofs::Fingerprints::by_level))]
 fn of_other<N: Node>(node: &N, seed: u64, budget: usize) -> u64
     requires number { as_number (N.tree node.now) ≡ None }
     requires string { as_string (N.tree node.now) ≡ None }
-    ensures value { result ≡ print seed budget (N.tree node.now) }
+    ensures value { result ≡ fingerprint seed budget (N.tree node.now) }
     ensures distinct { IsTrue (is_distinct_within budget (N.tree node.now)) }
 {
     if node.is_array() {
@@ -85,12 +85,12 @@ fn of_other<N: Node>(node: &N, seed: u64, budget: usize) -> u64
 
 // Returns the fingerprint of an array. It depends on the number of items, and on as many of the
 // items as the budget has units.
-#[cycle(print)]
+#[cycle(fingerprint)]
 #[tactic(auto, using(crate::proofs::Fingerprints::by_index))]
 fn of_array<N: Node>(node: &N, seed: u64, budget: usize) -> u64
     requires { IsTrue (is_array (N.tree node.now)) }
     ensures value { let all = items (N.tree node.now) in
-        result ≡ list_print seed (share budget (length all)) (stirred (bit_xor 4 seed) (length all) 0)
+        result ≡ list_fingerprint seed (share budget (length all)) (stirred (bit_xor 4 seed) (length all) 0)
         (take budget all) }
     ensures distinct { let all = items (N.tree node.now) in
         IsTrue (list_all (is_distinct_within (share budget (length all))) (take budget all)) }
@@ -99,18 +99,18 @@ fn of_array<N: Node>(node: &N, seed: u64, budget: usize) -> u64
     let each = share(budget, count);
     let mut hash = stir(4 ^ seed, count as u64, 0);
     for i in 0..count.min(budget) {
-        hash = stir(hash, fingerprint(node.item(i), seed, each), 4);
+        hash = stir(hash, fingerprint_within(node.item(i), seed, each), 4);
     }
     hash
 }
 
 // Returns the fingerprint of an object. It depends on the number of members, and on the members if
 // they are not more than the units of the budget.
-#[cycle(print)]
+#[cycle(fingerprint)]
 #[tactic(auto, using(crate::proofs::Fingerprints::by_level))]
 fn of_object<N: Node>(node: &N, seed: u64, budget: usize) -> u64
     requires { IsTrue (is_object (N.tree node.now)) }
-    ensures value { result ≡ print seed budget (N.tree node.now) }
+    ensures value { result ≡ fingerprint seed budget (N.tree node.now) }
     ensures distinct { IsTrue (is_distinct_within budget (N.tree node.now)) }
 {
     let count = Object::len(node);
@@ -123,19 +123,23 @@ fn of_object<N: Node>(node: &N, seed: u64, budget: usize) -> u64
 
 // Returns the sum over the members, which is the same in any order. Each is mixed with the seed
 // first, so that sums that are equal under one seed need not be equal under another.
-#[cycle(print)]
+#[cycle(fingerprint)]
 #[tactic(auto, using(crate::proofs::Depth::height_below, crate::proofs::Fingerprints::sum_step))]
 fn of_members<N: Node>(node: &N, seed: u64, budget: usize) -> u64
     requires { IsTrue (is_object (N.tree node.now)) }
-    ensures value { result ≡ sum_by (member_print seed budget) (members (N.tree node.now)) % 2 ^ 64 }
+    ensures value { result ≡ sum_by (member_fingerprint seed budget) (members (N.tree node.now)) % 2 ^ 64 }
     ensures own { IsDistinct bytes_eq (names (N.tree node.now)) }
     ensures below { IsTrue (list_all (is_distinct_within budget) (values (N.tree node.now))) }
 {
     let mut sum = 0u64;
     for (name, member) in node.walk() {
-        let name_print = of_text(name, seed, budget);
-        let print = stir(5 ^ seed, name_print, fingerprint(member, seed, budget));
-        sum = sum.wrapping_add(print);
+        let name_fingerprint = of_text(name, seed, budget);
+        let fingerprint = stir(
+            5 ^ seed,
+            name_fingerprint,
+            fingerprint_within(member, seed, budget),
+        );
+        sum = sum.wrapping_add(fingerprint);
     }
     sum
 }
@@ -152,9 +156,9 @@ fn share(budget: usize, count: usize) -> usize
 
 // Returns the fingerprint of a number, by its value; all floats have the same. Integers from 0 on,
 // which most numbers are, take a shorter path.
-#[tactic(auto, using(crate::proofs::NumberPrints::whole_print))]
+#[tactic(auto, using(crate::proofs::NumberFingerprints::whole_fingerprint))]
 fn of_number<A: JsonNumber>(number: &A, seed: u64) -> u64
-    ensures { result ≡ number_print seed (A.number number.now) }
+    ensures { result ≡ number_fingerprint seed (A.number number.now) }
 {
     if !number.is_lawful() {
         return 8;
@@ -167,9 +171,9 @@ fn of_number<A: JsonNumber>(number: &A, seed: u64) -> u64
 
 // Returns the fingerprint of a decimal: of its sign, its integer part and its fraction in units of
 // 10^-18.
-#[tactic(auto, unfolding(crate::specs::Fingerprint::parts_print))]
+#[tactic(auto, unfolding(crate::specs::Fingerprint::parts_fingerprint))]
 fn of_decimal(decimal: &Decimal, seed: u64) -> u64
-    ensures { result ≡ number_print seed (value decimal.now) }
+    ensures { result ≡ number_fingerprint seed (value decimal.now) }
 {
     let coefficient = decimal.coefficient();
     let (whole, rest) = parts(coefficient.unsigned_abs() as u64, decimal.scale());
@@ -177,14 +181,14 @@ fn of_decimal(decimal: &Decimal, seed: u64) -> u64
 }
 
 fn of_sign(coefficient: i128) -> u64
-    ensures { result ≡ sign_print coefficient }
+    ensures { result ≡ sign_fingerprint coefficient }
 {
     if coefficient < 0 { 7 } else { 6 }
 }
 
 // Returns the integer part of a magnitude divided by ten to a scale, and the fraction in units of
 // 10^-18.
-#[tactic(auto, using(crate::proofs::NumberPrints::parts))]
+#[tactic(auto, using(crate::proofs::NumberFingerprints::parts))]
 fn parts(magnitude: u64, scale: u8) -> (u64, u64)
     requires { scale ≤ 18 }
     ensures whole { result.0 ≡ magnitude / 10 ^ scale }
@@ -199,13 +203,13 @@ fn parts(magnitude: u64, scale: u8) -> (u64, u64)
 
 // Returns the fingerprint of a whole text.
 pub(crate) fn of_whole_text(text: &str, seed: u64) -> u64
-    ensures { result ≡ text_print seed unlimited text.now }
+    ensures { result ≡ text_fingerprint seed unlimited text.now }
 {
     of_text(text, seed, UNLIMITED)
 }
 
 fn of_text(text: &str, seed: u64, budget: usize) -> u64
-    ensures { result ≡ text_print seed budget text.now }
+    ensures { result ≡ text_fingerprint seed budget text.now }
 {
     of_bytes(text.as_bytes(), seed, budget)
 }
@@ -216,7 +220,7 @@ fn of_text(text: &str, seed: u64, budget: usize) -> u64
 // sixteen bytes need no frame.
 #[tactic(auto, using(crate::proofs::Fingerprints::one_pair))]
 fn of_bytes(bytes: &[u8], seed: u64, budget: usize) -> u64
-    ensures { result ≡ text_print seed budget bytes.now }
+    ensures { result ≡ text_fingerprint seed budget bytes.now }
 {
     let count = bytes.len();
     if count < 8 {
@@ -233,7 +237,7 @@ fn of_bytes(bytes: &[u8], seed: u64, budget: usize) -> u64
 #[tactic(auto, using(crate::proofs::Fingerprints::one_word))]
 fn of_one_word(bytes: &[u8], seed: u64) -> u64
     requires { length bytes.now < 8 }
-    ensures { (budget : ℕ) → result ≡ text_print seed budget bytes.now }
+    ensures { (budget : ℕ) → result ≡ text_fingerprint seed budget bytes.now }
 {
     let word = number_of_few(bytes);
     stir(begin_text(bytes.len(), seed), word, word)
@@ -241,10 +245,10 @@ fn of_one_word(bytes: &[u8], seed: u64) -> u64
 
 // Returns the fingerprint of a text of at least eight bytes.
 #[inline(never)]
-#[tactic(auto, unfolding(crate::specs::Fingerprint::text_print))]
+#[tactic(auto, unfolding(crate::specs::Fingerprint::text_fingerprint))]
 fn of_many_words(bytes: &[u8], seed: u64, budget: usize) -> u64
     requires { 8 ≤ length bytes.now }
-    ensures { result ≡ text_print seed budget bytes.now }
+    ensures { result ≡ text_fingerprint seed budget bytes.now }
 {
     let count = bytes.len();
     let mut hash = begin_text(count, seed);
@@ -254,7 +258,7 @@ fn of_many_words(bytes: &[u8], seed: u64, budget: usize) -> u64
     stir_last_pair(hash, bytes)
 }
 
-// Returns the hash with which a text of `length` bytes begins.
+// Returns the hash with which a text of `count` bytes begins.
 fn begin_text(count: usize, seed: u64) -> u64
     ensures { result ≡ text_begun seed count }
 {
@@ -303,7 +307,7 @@ pub(crate) fn stir(hash: u64, first: u64, second: u64) -> u64
 }
 
 // Returns the exclusive or of the two halves of a product.
-#[tactic(auto, using(crate::proofs::NumberPrints::wide_product), unfolding(crate::specs::Fingerprint::folded))]
+#[tactic(auto, using(crate::proofs::NumberFingerprints::wide_product), unfolding(crate::specs::Fingerprint::folded))]
 fn fold(left: u64, right: u64) -> u64
     ensures { result ≡ folded (left * right) }
 {

@@ -1,15 +1,15 @@
 //! The location of the first float of a node.
-ghost use Rattle.std.specs.Prelude.{◌≡◌, IsTrue, IfOk, option_map, string_bytes};
-ghost use Rattle.jskw_value.specs.FirstFloat.{first_float, float_from, float_among, below_index};
+ghost use Rattle.std.specs.Prelude.{◌≡◌, IfOk, option_map, string_bytes};
+ghost use Rattle.jskw_value.specs.FirstFloat.{first_float, below_index};
 ghost use Rattle.jskw_value.specs.FirstFloat.{below_name};
-ghost use Rattle.jskw_value.specs.Tree.{is_array, is_object, items, members};
+ghost use Rattle.jskw_value.specs.Tree.{is_array, is_object};
 
 use crate::json::{Array, JsonNumber, Node, Object};
 use crate::pointer::{push_index, push_name};
 use std::alloc::{AllocError, Global};
 
 // Returns the location of the first float in a node, as a JSON pointer relative to the node.
-#[tactic(auto, using(crate::proofs::FirstFloat::by_level, crate::proofs::FirstFloat::by_index, crate::proofs::Depth::height_below))]
+#[tactic(auto, using(crate::proofs::FirstFloat::by_level, crate::proofs::FirstFloat::by_index))]
 pub(crate) fn location_of_float<N: Node>(
     alloc: Global,
     node: &N,

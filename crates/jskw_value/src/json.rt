@@ -6,7 +6,7 @@ ghost use Rattle.std.specs.List.{list_all, IsDistinct};
 ghost use Rattle.std.specs.Str.{bytes_eq};
 ghost use Rattle.jskw_value.specs.Equality.{equal, unique};
 ghost use Rattle.jskw_value.specs.FirstFloat.{first_float};
-ghost use Rattle.jskw_value.specs.Number.{Num, is_exact, is_integer, is_written_as_integer, whole};
+ghost use Rattle.jskw_value.specs.Number.{Num, is_exact, is_integer, is_written_as_integer, written_integer};
 ghost use Rattle.jskw_value.specs.Number.{u64_of, i64_of};
 ghost use Rattle.jskw_value.specs.Text.{Extends};
 ghost use Rattle.jskw_value.specs.Serde.{value_tree};
@@ -151,13 +151,13 @@ pub trait JsonNumber {
     /// otherwise `None`. It must be a decimal.
     fn as_u64(&self) -> Option<u64>
         requires { IsTrue (is_exact (number self.now)) }
-        ensures { result ≡ option_and_then u64_of (whole (number self.now)) };
+        ensures { result ≡ option_and_then u64_of (written_integer (number self.now)) };
 
     /// Returns the number if it is written without digits after the point and is from -2^63 to
     /// 2^63-1, otherwise `None`. It must be a decimal.
     fn as_i64(&self) -> Option<i64>
         requires { IsTrue (is_exact (number self.now)) }
-        ensures { result ≡ option_and_then i64_of (whole (number self.now)) };
+        ensures { result ≡ option_and_then i64_of (written_integer (number self.now)) };
 
     /// Returns whether the fractional part is zero, as in 1 and 1.0 (JSON Schema Validation 6.1.1).
     /// The number must be a decimal.

@@ -11,7 +11,7 @@ use std::alloc::AllocError;
 
 // Appends the text of a node of any type: the items of an array between brackets, the members of an
 // object between braces, in the order of their places.
-#[tactic(auto, using(crate::proofs::Texts::lemmas, crate::proofs::Depth::item_depth, crate::proofs::Depth::height_below))]
+#[tactic(auto, using(crate::proofs::Texts::lemmas, crate::proofs::Depth::below))]
 pub(crate) fn write_node<N: Node>(node: &N, out: &mut String) -> Result<(), AllocError>
     ensures { Extends (string_bytes out.old) (string_bytes out.new) }
 {

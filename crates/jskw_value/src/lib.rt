@@ -32,7 +32,7 @@ mod serde_decimals;
 pub mod serde_tree;
 mod sketch;
 pub mod types;
-mod unique_by_prints;
+mod unique_by_fingerprints;
 mod unique_items;
 pub mod walk;
 

@@ -1,5 +1,5 @@
 //! The members of an object as a list that is sorted by their names, which are distinct.
-ghost use Rattle.std.specs.Prelude.{◌≡◌, ◌==◌, length, [], ◌<◌, ◌≤◌, string_bytes};
+ghost use Rattle.std.specs.Prelude.{◌≡◌, ◌==◌, length, [], ◌<◌, string_bytes};
 ghost use Rattle.std.specs.Prelude.{slice_index_or, OnOk, OnErr, IfOk, IfErr, option_map, false};
 ghost use Rattle.std.specs.Prelude.{◌↔◌, IfNone, IfSome, IsOk};
 ghost use Rattle.std.specs.List.{IsDistinct};
@@ -7,8 +7,8 @@ ghost use Rattle.std.specs.List.Sorted.{IsPermutation};
 ghost use Rattle.std.specs.Map.{values_of};
 ghost use Rattle.std.specs.Str.{bytes_eq};
 ghost use Rattle.jskw_value.specs.InsertFault.{HandsBack, is_repeated};
-ghost use Rattle.jskw_value.specs.Members.{entries, names, get, has_name, against, inserted, lasts};
-ghost use Rattle.jskw_value.specs.Members.{AreSorted, IsAt, IsGap, IsSortedByName, RepeatsAt};
+ghost use Rattle.jskw_value.specs.Members.{entries, member_names, value_named, has_named, against, inserted, lasts};
+ghost use Rattle.jskw_value.specs.Members.{AreSorted, IsIndexOf, IsGap, IsSortedByName, RepeatsAt};
 
 use std::alloc::{AllocError, Global};
 use std::cmp::Ordering;
@@ -60,7 +60,7 @@ pub struct RepeatedName<V> {
 impl<V> Model for MemberList<V> {
     ghost use Rattle.std.specs.Prelude.{List};
     ghost use Rattle.jskw_value.specs.declared.members.Member.{Member};
-    ghost use Rattle.jskw_value.specs.Members.{names, members_code, AreSorted};
+    ghost use Rattle.jskw_value.specs.Members.{member_names, members_code, AreSorted};
 
     ghost Value = { List (Member V) };
 
@@ -68,7 +68,7 @@ impl<V> Model for MemberList<V> {
 
     ghost view = { λ a. a.list.items };
 
-    ghost invariant = { λ a. AreSorted (names a.list.items) };
+    ghost invariant = { λ a. AreSorted (member_names a.list.items) };
 }
 
 #[tactic(auto, using(crate::proofs::MembersByPlace::lemmas, crate::proofs::MembersInOrder::lemmas))]
@@ -91,8 +91,8 @@ impl<V> MemberList<V> {
     /// place of the least such name.
     pub fn from_pairs(mut pairs: Vec<Member<V>>) -> Result<MemberList<V>, RepeatedName<V>>
         ensures members { IfOk result (λ members. IsPermutation pairs.items members) }
-        ensures rising { IfOk result (λ members. AreSorted (names members)) }
-        ensures distinct { IsOk result ↔ IsDistinct bytes_eq (names pairs.items) }
+        ensures rising { IfOk result (λ members. AreSorted (member_names members)) }
+        ensures distinct { IsOk result ↔ IsDistinct bytes_eq (member_names pairs.items) }
         ensures handed_back { IfErr result (λ e. IsPermutation pairs.items e.pairs.items) }
         ensures sorted { IfErr result (λ e. IsSortedByName e.pairs.items) }
         ensures repeated { IfErr result (λ e. RepeatsAt e.pairs.items e.place) }
@@ -106,7 +106,7 @@ impl<V> MemberList<V> {
 
     // Creates the list of these pairs, which are sorted and have distinct names.
     pub(crate) fn of_sorted(pairs: Vec<Member<V>>) -> MemberList<V>
-        requires { AreSorted (names pairs.items) }
+        requires { AreSorted (member_names pairs.items) }
         ensures { result ≡ pairs.items }
     {
         MemberList { list: pairs }
@@ -115,8 +115,8 @@ impl<V> MemberList<V> {
     /// Returns the number of members. Their names are distinct and sorted.
     pub fn len(&self) -> usize
         ensures value { result ≡ length self.now }
-        ensures distinct { IsDistinct bytes_eq (names self.now) }
-        ensures sorted { AreSorted (names self.now) }
+        ensures distinct { IsDistinct bytes_eq (member_names self.now) }
+        ensures sorted { AreSorted (member_names self.now) }
     {
         self.list.len()
     }
@@ -130,7 +130,7 @@ impl<V> MemberList<V> {
 
     /// Returns the value of the member `name`, or `None` if there is no such member. Binary search.
     pub fn get(&self, name: &str) -> Option<&V>
-        ensures { option_map (λ x. x.now) result ≡ get name.now self.now }
+        ensures { option_map (λ x. x.now) result ≡ value_named name.now self.now }
     {
         match self.search(name) {
             Ok(place) => Some(&self.list[place].value),
@@ -150,11 +150,11 @@ impl<V> MemberList<V> {
     pub fn insert(&mut self, name: String, value: V) -> Result<(), InsertFault<V>>
         ensures added { OnOk result
             (self.new ≡ inserted (record { name = name; value = value }) self.old) }
-        ensures absent { OnOk result (has_name (string_bytes name) self.old ≡ false) }
+        ensures absent { OnOk result (has_named (string_bytes name) self.old ≡ false) }
         ensures unchanged { OnErr result (self.new ≡ self.old) }
         ensures handed_back { IfErr result (HandsBack name value) }
         ensures repeated { IfErr result
-            (λ e. is_repeated e ≡ has_name (string_bytes name) self.old) }
+            (λ e. is_repeated e ≡ has_named (string_bytes name) self.old) }
     {
         let place = match self.search(name.as_str()) {
             Ok(_) => return Err(InsertFault::Repeated(name, value)),
@@ -169,7 +169,7 @@ impl<V> MemberList<V> {
 
     // Returns the place of the member `name`, or as an error the place where it would be inserted.
     fn search(&self, name: &str) -> Result<usize, usize>
-        ensures found { IfOk result (IsAt name.now self.now) }
+        ensures found { IfOk result (IsIndexOf name.now self.now) }
         ensures absent { IfErr result (IsGap name.now self.now) }
     {
         self.list.binary_search_by(|member| member.against(name))
@@ -178,8 +178,8 @@ impl<V> MemberList<V> {
     // Returns the name at a place.
     pub(crate) fn name_at(&self, place: usize) -> &str
         requires { place < length self.now }
-        ensures name { result.now ≡ slice_index_or (names self.now) place result.now }
-        ensures sorted { AreSorted (names self.now) }
+        ensures name { result.now ≡ slice_index_or (member_names self.now) place result.now }
+        ensures sorted { AreSorted (member_names self.now) }
     {
         self.list[place].name.as_str()
     }
@@ -195,7 +195,7 @@ impl<V> MemberList<V> {
     // Returns the members in the order of their places.
     pub(crate) fn as_slice(&self) -> &[Member<V>]
         ensures value { result.now ≡ self.now }
-        ensures distinct { IsDistinct bytes_eq (names self.now) }
+        ensures distinct { IsDistinct bytes_eq (member_names self.now) }
     {
         self.list.as_slice()
     }
@@ -225,7 +225,7 @@ impl<V: Drop> MemberList<V> {
 fn first_not_less<V>(pairs: &[Member<V>]) -> Option<usize>
     ensures repeated { IfSome result (λ place. IsSortedByName pairs.now
         → RepeatsAt pairs.now place) }
-    ensures rising { IfNone result (AreSorted (names pairs.now)) }
+    ensures rising { IfNone result (AreSorted (member_names pairs.now)) }
 {
     for next in 1..pairs.len() {
         let place = next - 1;

@@ -6,7 +6,7 @@ use crate::json::{Array, Node, Object};
 
 /// States, for proofs, that no object in the node has a name twice, at any level. [`Object::len`]
 /// states it for one object. Visits the whole node once and allocates nothing.
-#[tactic(auto, using(crate::proofs::DistinctNames::by_level, crate::proofs::DistinctNames::by_index, crate::proofs::Depth::height_below))]
+#[tactic(auto, using(crate::proofs::DistinctNames::by_level, crate::proofs::DistinctNames::by_index))]
 pub fn names_are_distinct<N: Node>(node: &N)
     ensures { IsTrue (has_distinct_names (N.tree node.now)) }
 {

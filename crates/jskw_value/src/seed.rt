@@ -1,8 +1,8 @@
 //! Seeds for the fingerprints of whole nodes, taken from what the nodes hold.
 ghost use Rattle.std.specs.Prelude.{◌≡◌, ◌≤◌, ◌^◌, length, IsTrue};
-ghost use Rattle.jskw_value.specs.Tree.{is_array, items};
+ghost use Rattle.jskw_value.specs.Tree.{is_array};
 
-use crate::doubt::print_of_undoubted;
+use crate::doubt::fingerprint_of_undoubted;
 use crate::fingerprint::{of_whole, of_whole_text, stir};
 use crate::json::{Array, Node, Object};
 
@@ -52,8 +52,8 @@ pub(crate) fn seed_of_items<N: Node>(array: &N, doubtful: &[u64]) -> u64
     let mut state = START.with(4, count as u64);
     for i in 0..count {
         let item = array.item(i);
-        state = match print_of_undoubted(item, doubtful) {
-            Some(print) => state.with(print, 9),
+        state = match fingerprint_of_undoubted(item, doubtful) {
+            Some(fingerprint) => state.with(fingerprint, 9),
             None => with_node(state, item),
         };
     }

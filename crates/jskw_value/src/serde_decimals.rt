@@ -2,7 +2,7 @@
 ghost use Rattle.std.specs.Prelude.{◌≡◌, IfOk, IsTrue, map};
 ghost use Rattle.std.specs.BTreeMap.{values};
 ghost use Rattle.std.specs.List.{list_all};
-ghost use Rattle.jskw_value.specs.DecimalTree.{decimal_tree, entry_tree};
+ghost use Rattle.jskw_value.specs.DecimalTree.{decimal_tree, member_tree};
 ghost use Rattle.jskw_value.specs.Serde.{value_tree, entry_tree as value_entry};
 ghost use Rattle.jskw_value.specs.Tree.{is_lawful as lawful};
 
@@ -46,7 +46,7 @@ fn trees_of_items(alloc: Global, items: &Vec<Value>) -> Result<Vec<DecimalTree>,
 #[cycle(decimals)]
 fn trees_of_members(alloc: Global, members: &Map<String, Value>) -> Result<Members, AllocError>
     requires { IsTrue (list_all (λ v. lawful (value_tree v)) (values members.now)) }
-    ensures { IfOk result (λ trees. map entry_tree trees ≡ map value_entry members.now.entries) }
+    ensures { IfOk result (λ trees. map member_tree trees ≡ map value_entry members.now.entries) }
 {
     let mut list = Vec::new(alloc);
     for (name, member) in members.iter() {

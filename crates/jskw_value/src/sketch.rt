@@ -10,35 +10,37 @@
 //! four of them, one in 800. Fingerprints under a known seed can be searched for to crowd a few words,
 //! so what a mark costs is limited where it is looked at, and not here.
 ghost use Rattle.std.specs.Prelude.{ℕ, ◌≡◌, ◌≤◌, ◌<◌, ◌^◌, length, true};
-ghost use Rattle.jskw_value.specs.Sketch.{place, marks, is_set, is_marked};
+ghost use Rattle.jskw_value.specs.Sketch.{word_index, marks, is_set, is_marked};
 
 // Returns whether a fingerprint is marked: its bits are set in three words. Each half of it picks
 // one of them, and both together the third.
 #[tactic(auto, unfolding(crate::specs::Sketch::is_marked))]
-pub(crate) fn is_marked(sketch: &[u64], print: u64) -> bool
+pub(crate) fn is_marked(sketch: &[u64], fingerprint: u64) -> bool
     requires filled { 0 < length sketch.now }
     requires short { length sketch.now ≤ 2 ^ 32 }
-    ensures { result ≡ is_marked sketch.now print }
+    ensures { result ≡ is_marked sketch.now fingerprint }
 {
-    let bits = marks(print);
-    let high = print >> 32;
-    is_set(sketch, high, bits) && is_set(sketch, print, bits) && is_set(sketch, print ^ high, bits)
+    let bits = marks(fingerprint);
+    let high = fingerprint >> 32;
+    is_set(sketch, high, bits)
+        && is_set(sketch, fingerprint, bits)
+        && is_set(sketch, fingerprint ^ high, bits)
 }
 
 // Marks a fingerprint.
 #[tactic(auto, using(crate::proofs::Sketches::marked_all, crate::proofs::Sketches::marked_kept))]
-pub(crate) fn mark(sketch: &mut [u64], print: u64)
+pub(crate) fn mark(sketch: &mut [u64], fingerprint: u64)
     requires filled { 0 < length sketch.old }
     requires short { length sketch.old ≤ 2 ^ 32 }
     ensures length { length sketch.new ≡ length sketch.old }
-    ensures this { is_marked sketch.new print ≡ true }
+    ensures this { is_marked sketch.new fingerprint ≡ true }
     ensures others { (p : ℕ) → is_marked sketch.old p ≡ true → is_marked sketch.new p ≡ true }
 {
-    let bits = marks(print);
-    let high = print >> 32;
+    let bits = marks(fingerprint);
+    let high = fingerprint >> 32;
     set(sketch, high, bits);
-    set(sketch, print, bits);
-    set(sketch, print ^ high, bits);
+    set(sketch, fingerprint, bits);
+    set(sketch, fingerprint ^ high, bits);
 }
 
 // Returns whether all of the bits are set in the word that a number picks.
@@ -48,7 +50,7 @@ fn is_set(sketch: &[u64], picks: u64, bits: u64) -> bool
     requires short { length sketch.now ≤ 2 ^ 32 }
     ensures { result ≡ is_set sketch.now picks bits }
 {
-    let word = sketch[place(picks, sketch.len())];
+    let word = sketch[word_index(picks, sketch.len())];
     word | bits == word
 }
 
@@ -61,16 +63,16 @@ fn set(sketch: &mut [u64], picks: u64, bits: u64)
     ensures this { is_set sketch.new picks bits ≡ true }
     ensures others { (p q : ℕ) → is_set sketch.old p q ≡ true → is_set sketch.new p q ≡ true }
 {
-    let at = place(picks, sketch.len());
+    let at = word_index(picks, sketch.len());
     sketch[at] |= bits;
 }
 
 // Returns the index of the word that the lower half of a number picks.
-#[tactic(auto, unfolding(crate::specs::Sketch::place))]
-fn place(picks: u64, count: usize) -> usize
+#[tactic(auto, unfolding(crate::specs::Sketch::word_index))]
+fn word_index(picks: u64, count: usize) -> usize
     requires filled { 0 < count }
     requires short { count ≤ 2 ^ 32 }
-    ensures value { result ≡ place picks count }
+    ensures value { result ≡ word_index picks count }
     ensures within { result < count }
 {
     ((picks % (1 << 32) * count as u64) >> 32) as usize
@@ -79,12 +81,12 @@ fn place(picks: u64, count: usize) -> usize
 // Returns the bits that a fingerprint sets in each of its words: up to five. They come from the
 // lower ends of its halves, whose upper ends pick the words.
 #[tactic(auto, unfolding(crate::specs::Sketch::marks))]
-fn marks(print: u64) -> u64
-    ensures { result ≡ marks print }
+fn marks(fingerprint: u64) -> u64
+    ensures { result ≡ marks fingerprint }
 {
-    (1 << (print % 64))
-        | (1 << ((print >> 6) % 64))
-        | (1 << ((print >> 9) % 64))
-        | (1 << ((print >> 32) % 64))
-        | (1 << ((print >> 38) % 64))
+    (1 << (fingerprint % 64))
+        | (1 << ((fingerprint >> 6) % 64))
+        | (1 << ((fingerprint >> 9) % 64))
+        | (1 << ((fingerprint >> 32) % 64))
+        | (1 << ((fingerprint >> 38) % 64))
 }

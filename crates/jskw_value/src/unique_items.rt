@@ -4,17 +4,17 @@ ghost use Rattle.std.specs.Prelude.{◌≡◌, ◌≤◌, ◌<◌, ◌+◌, ◌^
 ghost use Rattle.std.specs.Prelude.{IsTrue, IfSome, Some, option_and_then};
 ghost use Rattle.std.specs.List.{list_any};
 ghost use Rattle.jskw_value.specs.Equality.{equal, unique};
-ghost use Rattle.jskw_value.specs.Number.{u64_of, whole};
+ghost use Rattle.jskw_value.specs.Number.{u64_of, written_integer};
 ghost use Rattle.jskw_value.specs.Tree.{as_number, is_array, items};
 ghost use Rattle.jskw_value.specs.Unique.{IsNewAt, IsToldOf, IsUniqueIn};
 
 use crate::doubt::{is_within, mark_doubtful, may_go_on};
 use crate::equality::equal_nodes;
-use crate::fingerprint::fingerprint;
+use crate::fingerprint::fingerprint_within;
 use crate::json::{Array, JsonNumber, Node};
 use crate::meter::{Allowance, Meter, Unmetered};
 use crate::sketch::{is_marked, mark};
-use crate::unique_by_prints::are_unique_by_prints;
+use crate::unique_by_fingerprints::are_unique_by_fingerprints;
 
 // The number of items up to which all pairs are compared.
 const FEW: usize = 8;
@@ -68,8 +68,8 @@ pub(crate) fn has_unique_items<N: Node>(array: &N) -> bool
     }
 }
 
-// Returns the same for many items: by a sketch, as long as few items are in doubt.
-fn are_many_unique<const WORDS: usize, const MARKS: usize, const PRINTS: usize, N: Node>(
+// Returns whether many items are all different: by a sketch, as long as few items are in doubt.
+fn are_many_unique<const WORDS: usize, const MARKS: usize, const FINGERPRINTS: usize, N: Node>(
     array: &N,
 ) -> bool
     requires array { IsTrue (is_array (N.tree array.now)) }
@@ -78,8 +78,8 @@ fn are_many_unique<const WORDS: usize, const MARKS: usize, const PRINTS: usize, 
     requires short { WORDS ≤ 2 ^ 32 }
     requires marks { 0 < MARKS }
     requires few_marks { MARKS ≤ 2 ^ 32 }
-    requires prints { 0 < PRINTS }
-    requires few_prints { PRINTS ≤ 2 ^ 32 }
+    requires fingerprints { 0 < FINGERPRINTS }
+    requires few_fingerprints { FINGERPRINTS ≤ 2 ^ 32 }
     ensures { result ≡ unique (items (N.tree array.now)) }
 {
     let visits = Array::len(array)
@@ -87,15 +87,15 @@ fn are_many_unique<const WORDS: usize, const MARKS: usize, const PRINTS: usize, 
         .saturating_add(FIRST_VISITS);
     match are_unique_by_sketch::<WORDS, N>(array, &[], visits) {
         Some(told) => told,
-        None => are_unique_in_doubt::<WORDS, MARKS, PRINTS, N>(array, visits),
+        None => are_unique_in_doubt::<WORDS, MARKS, FINGERPRINTS, N>(array, visits),
     }
 }
 
-// Returns the same after comparisons have taken so many visits: by fingerprints of all items or of
-// those in doubt, as soon as these take no more, and by further comparisons until then. Never
-// inlined, so that a caller's frame does not contain the marks.
+// Returns whether the items are all different, if comparisons have taken `visits` visits without an
+// answer: by fingerprints of all items or of those in doubt, as soon as these take no more, and by
+// further comparisons until then. Never inlined, so that a caller's frame does not contain the marks.
 #[inline(never)]
-fn are_unique_in_doubt<const WORDS: usize, const MARKS: usize, const PRINTS: usize, N: Node>(
+fn are_unique_in_doubt<const WORDS: usize, const MARKS: usize, const FINGERPRINTS: usize, N: Node>(
     array: &N,
     visits: usize,
 ) -> bool
@@ -105,22 +105,22 @@ fn are_unique_in_doubt<const WORDS: usize, const MARKS: usize, const PRINTS: usi
     requires short { WORDS ≤ 2 ^ 32 }
     requires marks { 0 < MARKS }
     requires few_marks { MARKS ≤ 2 ^ 32 }
-    requires prints { 0 < PRINTS }
-    requires few_prints { PRINTS ≤ 2 ^ 32 }
+    requires fingerprints { 0 < FINGERPRINTS }
+    requires few_fingerprints { FINGERPRINTS ≤ 2 ^ 32 }
     ensures { result ≡ unique (items (N.tree array.now)) }
 {
     if is_within(array, &[], visits) {
-        return are_unique_by_prints::<MARKS, PRINTS, N>(array, &[]);
+        return are_unique_by_fingerprints::<MARKS, FINGERPRINTS, N>(array, &[]);
     }
     let mut doubtful = [0u64; MARKS];
     mark_doubtful::<WORDS, N>(array, &mut doubtful);
     match are_unique_by_sketch::<WORDS, N>(array, &doubtful, visits) {
         Some(told) => told,
-        None => are_unique_by_prints::<MARKS, PRINTS, N>(array, &doubtful),
+        None => are_unique_by_fingerprints::<MARKS, FINGERPRINTS, N>(array, &doubtful),
     }
 }
 
-// Returns the same by comparing all pairs.
+// Returns whether the items are all different, by comparing all pairs.
 #[tactic(auto, using(crate::proofs::Equal::unique_step, crate::proofs::Equal::unique_end))]
 pub(crate) fn are_unique_by_pairs<N: Node>(array: &N) -> bool
     requires { IsTrue (is_array (N.tree array.now)) }
@@ -223,7 +223,7 @@ fn is_block_unique<N: Node>(
 // Returns whether no earlier item of the block is equal to the one at an index: none is if its
 // fingerprint is not marked, and then it is marked if the item is in the block. `None` if it is
 // marked and the allowance is used up.
-#[tactic(auto, using(crate::proofs::BlockSearch::told_later, crate::proofs::BlockSearch::told_again, crate::proofs::BlockSearch::told_new))]
+#[tactic(auto, using(crate::proofs::BlockSearch::told))]
 fn is_new<N: Node>(
     array: &N,
     index: usize,
@@ -246,15 +246,15 @@ fn is_new<N: Node>(
         → IsToldOf start end budget (index + 1) sketch.new (items (N.tree array.now)) }
     ensures twice { result ≡ Some false → unique (items (N.tree array.now)) ≡ false }
 {
-    let print = fingerprint(array.item(index), 0, budget);
-    if is_marked(sketch, print) {
+    let fingerprint = fingerprint_within(array.item(index), 0, budget);
+    if is_marked(sketch, fingerprint) {
         if allowance.is_used_up() && !may_go_on(array, doubtful, allowance) {
             return None;
         }
         return Some(!occurs_between(array, start, end.min(index), index, allowance));
     }
     if index < end {
-        mark(sketch, print);
+        mark(sketch, fingerprint);
     }
     Some(true)
 }
@@ -283,7 +283,7 @@ pub(crate) fn differs_from<N: Node>(
 // Returns whether an item from one index up to another is equal to the one at an index. Called
 // rarely, and never inlined, so that the loop over all items keeps its registers.
 #[inline(never)]
-#[tactic(auto, using(crate::proofs::BlockSearch::new_start, crate::proofs::BlockSearch::new_step, crate::proofs::BlockSearch::is_twice))]
+#[tactic(auto, using(crate::proofs::BlockSearch::search_steps))]
 fn occurs_between<N: Node>(
     array: &N,
     start: usize,
@@ -320,7 +320,7 @@ fn are_equal<N: Node>(left: &N, right: &N, allowance: &mut Allowance) -> bool
 
 // Returns the number that a node is, if it is written without a point and is from 0 to 2^64-1.
 fn whole_number<N: Node>(node: &N) -> Option<u64>
-    ensures { result ≡ option_and_then u64_of (option_and_then whole (as_number (N.tree node.now))) }
+    ensures { result ≡ option_and_then u64_of (option_and_then written_integer (as_number (N.tree node.now))) }
 {
     let number = node.as_number()?;
     if !number.is_lawful() {

@@ -8,8 +8,9 @@ use Rattle.jskw_value.specs.declared.types.JsonType.TheVariants.{Array, Boolean,
 use Rattle.jskw_report.specs.declared.settings.Draft.TheVariants.{Draft4, Draft7}
 use Rattle.jskw_report.specs.KeywordValue.{of_type, of_types, not_whole, unknown_type}
 use Rattle.jskw_report.specs.Kind.{Enum, ExclusiveMinimum, Minimum, TypeNames}
-use Rattle.jskw_report.specs.Read.{asserted, read_word}
-use Rattle.jskw_worked.proofs.Worked.{Row, row, Right, Answer, num, minus, a_float, str, yes, arr, is, obj, under, latest, refusal, compile}
+use Rattle.jskw_report.specs.Read.{asserted, read_keyword}
+use Rattle.jskw_worked.proofs.Worked.{Row, row, Right, Answer, num, minus, a_float, str, yes, arr, is, obj, under}
+use Rattle.jskw_worked.proofs.Worked.{latest, refusal, compile}
 
 -- ---- refusals
 
@@ -63,5 +64,5 @@ refusals_answers =
     []
 
 right_refusals_answers : Right refusals_answers
-unfolding digits asserted read_word
+unfolding digits asserted read_keyword
 right_refusals_answers = refl

@@ -1,8 +1,10 @@
 -- The words in which the worked rows are written.
 use Prim.Native.String.{String}
-use Rattle.std.specs.Prelude.{◌≡◌, ℕ, zero, suc, decimal, ℤ, negsuc, ◌-◌, List, [], ◌∷◌, map, codes, Bool, true, false, Ok, Err, Option, Some, None}
+use Rattle.std.specs.Prelude.{◌≡◌, ℕ, zero, suc, decimal, ℤ, negsuc, ◌-◌, List, [], ◌∷◌, map, codes, Bool, true, false}
+use Rattle.std.specs.Prelude.{Ok, Err, Option, Some, None}
 use Rattle.std.specs.Float.{nan}
-use Rattle.serde_json.specs.Data.{unsigned, negative, float, Data, boolean, number, string, array, object, Items, no_items, item, Members, no_members, put}
+use Rattle.serde_json.specs.Data.{unsigned, negative, float, Data, boolean, number, string, array, object, Items}
+use Rattle.serde_json.specs.Data.{no_items, item, Members, no_members, put}
 use Rattle.serde_json.specs.Find.{get_member}
 use Rattle.jskw_value.specs.Number.{exact}
 use Rattle.jskw_value.specs.Pointer.{Pointer}
@@ -19,7 +21,7 @@ use Rattle.jskw_report.specs.Fail.{Failure, fail}
 use Rattle.jskw_report.specs.Holds.{holds}
 use Rattle.jskw_report.specs.Keyword.{Schema, hands_on_required}
 use Rattle.jskw_report.specs.Kind.{ErrorKind}
-use Rattle.jskw_report.specs.Read.{Reading, read, Asserts, asserted, part}
+use Rattle.jskw_report.specs.Read.{Reading, read, Asserts, asserted, readings}
 use Rattle.jskw_report.specs.Setting.{Setting, all_vocabularies, name_of}
 use Rattle.jskw_report.specs.declared.keyword.KeywordName.{KeywordName}
 use Rattle.jskw_report.specs.Sibling.{is_fused}
@@ -188,7 +190,7 @@ compile s d = on_tree s d tree.null
 abbrev pub refusal : ErrorKind → Text → Data → Answer
 refusal k q d = refused k (codes q) d
 
--- ---- evaluation trees, counts, and what is handed on
+-- ---- evaluation trees, counts, and what is delegated
 
 -- f of the schema, if it is one
 abbrev told : {A : Type 0} → (Schema → A) → Reading → Option A
@@ -215,16 +217,16 @@ pairs_by_depth s d i = told (λ sub. map (pairs_at sub (tree_of i)) (0 ∷ 1 ∷
 abbrev pub needed_on : Setting → Data → Data → Option ℕ
 needed_on s d i = told (λ sub. needed sub (tree_of i)) (read d s [])
 
--- whether the schema d hands on a `required`
-abbrev pub hands_on : Setting → Data → Option Bool
-hands_on s d = told hands_on_required (read d s [])
+-- whether the schema d delegates a `required`
+abbrev pub delegates : Setting → Data → Option Bool
+delegates s d = told hands_on_required (read d s [])
 
 -- ---- one keyword
 
 -- what the keyword asserts, beside these members
 abbrev asserted_beside : KeywordName → Setting → Members → Option Data → Asserts
 asserted_beside w s ms None = None
-asserted_beside w s ms (Some d) = asserted w s [] ms (part d)
+asserted_beside w s ms (Some d) = asserted w s [] ms (readings d)
 
 -- what the keyword of the object d asserts
 abbrev pub asserted_in : KeywordName → Setting → Data → Asserts

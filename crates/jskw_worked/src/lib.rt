@@ -1,3 +1,4 @@
-//! Worked examples of the definitions: rows of a schema, an instance and what the standard wants of them, in `proofs/`. The
-//! checker computes each with the definitions of `jskw_report`, and compares.
+//! Worked examples of the definitions: rows of a schema, an instance and what the standard wants of
+//! them, in `proofs/`. The checker computes each with the definitions of `jskw_report`, and
+//! compares.
 #![tactic(auto)]

@@ -9,17 +9,18 @@ pub use Rattle.jskw_text.specs.Reading.{reading}
 -- when an instance is valid, its errors in order, and its evaluation tree
 pub use Rattle.jskw_report.specs.Holds.{holds}
 pub use Rattle.jskw_report.specs.Fail.{Failure, fail}
-pub use Rattle.jskw_report.specs.Evaluation.{tree, annotation_at, children_at, instance_location_at, is_valid, keyword_location_at, keywords_at}
+pub use Rattle.jskw_report.specs.Evaluation.{tree, annotation_at, children_at, instance_location_at, is_valid}
+pub use Rattle.jskw_report.specs.Evaluation.{keyword_location_at, keywords_at}
 -- what errors of the code say, and what calls owe to errors and readings
 pub use Rattle.jskw_report.specs.Errors.{failure_of, failures_of, kind_of}
 pub use Rattle.jskw_report.specs.Kind.{ErrorKind, keyword_of}
 pub use Rattle.jskw_report.specs.Observe.{Appends, IsFirst}
 pub use Rattle.jskw_report.specs.Paths.{path_of}
-pub use Rattle.jskw_report.specs.Compile.{Makes, refusal_of}
+pub use Rattle.jskw_report.specs.Compile.{CompilesTo, refusal_of}
 -- what a schema says
 pub use Rattle.jskw_report.specs.Keyword.{Schema, hands_on_required, schema_location}
 pub use Rattle.jskw_report.specs.Read.{read}
-pub use Rattle.jskw_report.specs.Setting.{Setting, all_vocabularies, stands, with_object_layer}
+pub use Rattle.jskw_report.specs.Setting.{Setting, all_vocabularies, is_active, with_object_layer}
 -- what a schema says that is not checked
 pub use Rattle.jskw_unchecked.specs.Unchecked.{unchecked}
 -- the modules

@@ -17,8 +17,9 @@
 //! - **Evaluation trees**: an [`EvaluationNode`] has [`Annotations`] and [`ErrorDescription`]s.
 //! - **Instances**: [`SerdeJson`], whose nodes are [`Value`]s of `serde_json`, or [`DecimalJson`],
 //!   whose nodes are [`DecimalTree`]s. [`read_bytes`] reads such a tree from JSON text, or returns a
-//!   [`ReadFault`], and [`position_of`] the line and column of an offset. To write another representation, implement [`Json`],
-//!   [`Node`], [`Array`], [`Object`], [`JsonNumber`] and [`Rooted`].
+//!   [`ReadFault`], and [`position_of`] the line and column of an offset. To write another
+//!   representation, implement [`Json`], [`Node`], [`Array`], [`Object`], [`JsonNumber`] and
+//!   [`Rooted`].
 //!
 //! The crates themselves are re-exported for the rest: `lotsibegn::jskw_leaf::LeafValidator`.
 //!

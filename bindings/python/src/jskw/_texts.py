@@ -12,6 +12,9 @@ from .exceptions import NotJson
 DEPTH = 127
 ALLOWED = "which JSON allows and jskw does not"
 
+# a string, or a number
+_VALUE = re.compile(rb'"(?:[^"\\]|\\.)*"|[-0-9][-+.eE0-9]*', re.DOTALL)
+
 # a string, which may lack its end, or a bracket
 _TOKEN = re.compile(rb'"(?:[^"\\]|\\.)*"?|[][{}]', re.DOTALL)
 
@@ -116,3 +119,32 @@ def _has_lone_surrogate(word: bytes) -> bool:
     except ValueError:
         pass
     return False
+
+
+def inexact_number(text: bytes) -> int:
+    """Returns the offset of the first number of a JSON text that is not exact, or its length if there is none."""
+    for token in _VALUE.finditer(text):
+        if not token.group().startswith(b'"') and not _is_exact(token.group().decode()):
+            return token.start()
+    return len(text)
+
+
+def _is_exact(number: str) -> bool:
+    """Returns whether a number is c / 10^k with c from -2^63 to 2^64-1 and k from 0 to 18."""
+    digits, _, exponent = number.lower().partition("e")
+    whole, _, fraction = digits.partition(".")
+    coefficient = (whole + fraction).lstrip("-0").rstrip("0")
+    if not coefficient:
+        return True
+    scale = len(whole.lstrip("-") + fraction) - len((whole.lstrip("-") + fraction).rstrip("0"))
+    power = int(exponent or "0") - len(fraction) + scale
+    if len(coefficient) > 20 or not -18 <= power <= 20:
+        return False
+    value: int = int(coefficient) * 10 ** max(power, 0)
+    return value <= 2**63 if number.startswith("-") else value < 2**64
+
+
+def position_of(text: bytes, offset: int) -> tuple[int, int]:
+    """Returns the line and the column of an offset, from 1: columns count characters."""
+    before = text[:offset].decode(errors="replace")
+    return before.count("\n") + 1, len(before) - (before.rfind("\n") + 1) + 1

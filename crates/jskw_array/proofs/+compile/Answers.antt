@@ -1,134 +1,190 @@
-use Rattle.std.proofs.Common.{rules, ◌≡◌, Bool, ℕ, Some, None, Result, Ok, Err, true, false, drop, get_or, refl, sym, ap, ap₂, subst, ◌∙◌, arith}
-use Rattle.jskw_array.specs.Words.{Array, Keyword, Makes, Refusal, Schema, absorbed_keywords, active_member, after, append_keywords, as_array, before, begin_fused, bounds_of, contains, fused_words, get_member, is_fused, is_items_schema, items_depth, items_from, items_view, join_ok, keyword, keyword_location, keywords, keywords_of, map_ok, members_view, name_of, no_keywords, of_type, part_named, read, read_bounds, read_each, read_words, reading, schema_count, shape_keywords, validator_keyword, view, wrong}
-use Rattle.jskw_report.specs.declared.keyword.KeywordName.TheVariants as word
+use Rattle.std.proofs.Common.{rules, ◌≡◌, Bool, ℕ, Some, None, Result, Ok, Err, true, false, drop, get_or, refl, sym}
+use Rattle.std.proofs.Common.{ap, ap₂, subst, ◌∙◌, arith}
+use Rattle.jskw_array.specs.Words.{Array, Keyword, CompilesTo, Refusal, Schema, absorbed_keywords, active_member, after}
+use Rattle.jskw_array.specs.Words.{append_keywords, as_array, before, begin_fused, bounds_of, contains, fused_keywords}
+use Rattle.jskw_array.specs.Words.{get_member, is_fused, is_items_schema, items_depth, items_from, items_view, join_ok}
+use Rattle.jskw_array.specs.Words.{keyword, keyword_location, keywords, keywords_of, map_ok, members_view, name_of}
+use Rattle.jskw_array.specs.Words.{no_keywords, of_type, readings_named, read, read_bounds, read_each, read_keywords}
+use Rattle.jskw_array.specs.Words.{keyword_reading, array_schema_count, shape_keywords, validator_keyword, view, wrong}
+use Rattle.jskw_report.specs.declared.keyword.KeywordName.TheVariants as keyword_name
 use Rattle.jskw_array.proofs.Depths.{depth_array, item_depth, member_depth}
-use Rattle.jskw_array.proofs.CompiledSchemas.{after_none as after_no_schemas, each_end, each_made, each_refused, schemas_in}
-use Rattle.jskw_leaf.proofs.PassedFaults.{compiles_as, handed_on, refused_whole}
+use Rattle.jskw_array.proofs.CompiledSchemas.{after_none as after_no_schemas, each_end, each_made, each_refused}
+use Rattle.jskw_array.proofs.CompiledSchemas.{schemas_in}
+use Rattle.jskw_leaf.proofs.PassedFaults.{compiles_as, passed_by_try, refused_whole}
 use Rattle.jskw_leaf.proofs.FusedReading.{fused_items, is_there}
 use Rattle.jskw_array.proofs.FusedReading.{fused_behind, fused_refused, is_one, items_value, shape_reads}
-use Rattle.jskw_array.proofs.KeywordReadings.{additional_absent, additional_false, additional_of_schema, additional_true, bare_is_type, bare_stands, bare_start, contains_of_schema, contains_read, items_of_array, items_of_one, items_silent, prefix_of_array, prefix_refused, read_boolean, view-Bool}
-use Rattle.jskw_array.proofs.CompiledKeywords.{active_depth, active_reads, after_empty, inactive_reads, ok_then, turn_end, turn_made, turn_refused, turn_silent}
+use Rattle.jskw_array.proofs.KeywordReadings.{additional_absent, additional_false, additional_of_schema}
+use Rattle.jskw_array.proofs.KeywordReadings.{additional_true, bare_is_type, bare_stands, bare_start}
+use Rattle.jskw_array.proofs.KeywordReadings.{contains_of_schema, contains_read, items_of_array, items_of_one}
+use Rattle.jskw_array.proofs.KeywordReadings.{items_silent, prefix_of_array, prefix_refused, read_boolean, view-Bool}
+use Rattle.jskw_array.proofs.CompiledKeywords.{active_depth, active_reads, after_empty, inactive_reads, ok_then}
+use Rattle.jskw_array.proofs.CompiledKeywords.{turn_end, turn_made, turn_refused, turn_silent}
 use Rattle.jskw_array.proofs.+compile.Goals as goal
 
 -- ---- a schema
 
-pub compiler::compile-returns-in_ok-boolean_node-in-Bool : goal.compiler::compile-returns-in_ok-boolean_node-in-Bool
-compiler::compile-returns-in_ok-boolean_node-in-Bool g t c =
+pub compiler::compile_subschema-returns-in_ok-boolean_node-in-Bool
+    : goal.compiler::compile_subschema-returns-in_ok-boolean_node-in-Bool
+compiler::compile_subschema-returns-in_ok-boolean_node-in-Bool g t c =
     let s = c.args.ctx.now.setting in
     let p = c.args.ctx.now.location in
-    ap (λ x. read x s p) (ap view c.in-Bool.is ∙ view-Bool c.in-Bool.accepts) ∙ read_boolean c.in-Bool.accepts s p ∙ ap Ok (sym c.in_ok-boolean_node-in-Bool.ensures)
+    ap (λ x. read x s p) (ap view c.in-Bool.is ∙ view-Bool c.in-Bool.accepts) ∙ read_boolean c.in-Bool.accepts s p
+    ∙ ap Ok (sym c.in_ok-boolean_node-in-Bool.ensures)
 
 -- ---- the units of an object
 
-pub compiler::push_units-push_shape-requires : goal.compiler::push_units-push_shape-requires
-compiler::push_units-push_shape-requires g t c κs within =
-    let there : is_fused c.args.ctx.now.setting (members_view c.args.parent.now.entries) ≡ true = search (rules, c.array_shape_fusion.ensures, c.if-not-array_shape_fusion.false) in
+pub compiler::push_parts-push_shape-requires : goal.compiler::push_parts-push_shape-requires
+compiler::push_parts-push_shape-requires g t c κs within =
+    let there : is_fused c.args.ctx.now.setting (members_view c.args.parent.now.entries) ≡ true =
+    search (rules, c.array_shape_fusion.ensures, c.if-not-array_shape_fusion.false) in
     (omega (arith, c.decreases), search (rules, c.requires, there))
 
-pub compiler::push_units-returns-then-not-array_shape_fusion-clause-made : goal.compiler::push_units-returns-then-not-array_shape_fusion-clause-made
-compiler::push_units-returns-then-not-array_shape_fusion-clause-made g t c =
+pub compiler::push_parts-returns-then-not-array_shape_fusion-clause-made
+    : goal.compiler::push_parts-returns-then-not-array_shape_fusion-clause-made
+compiler::push_parts-returns-then-not-array_shape_fusion-clause-made g t c =
     let ms = members_view c.args.parent.now.entries in
-    let all = read_words keywords c.args.ctx.now.setting c.args.ctx.now.location ms (λ name. part_named name ms) in
-    subst (Makes (λ _. keywords_of c.push_keywords.new.units.items) c.push_keywords.result) (after_empty _ c.requires all) c.push_keywords.ensures.made
+    let all =
+    read_keywords keywords c.args.ctx.now.setting c.args.ctx.now.location ms (λ name. readings_named name ms) in
+    subst (CompilesTo (λ _. keywords_of c.push_keywords.new.parts.items) c.push_keywords.result)
+    (after_empty _ c.requires all) c.push_keywords.ensures.made
 
-pub compiler::push_units-returns-then-not-array_shape_fusion-clause-fused : goal.compiler::push_units-returns-then-not-array_shape_fusion-clause-fused
-compiler::push_units-returns-then-not-array_shape_fusion-clause-fused g t c =
-    let lacks : is_fused c.args.ctx.now.setting (members_view c.args.parent.now.entries) ≡ false = search (rules, c.array_shape_fusion.ensures, c.if-not-array_shape_fusion.true) in
-    ok_then c.push_keywords.result (λ _ same. same ∙ ap begin_fused c.requires ∙ sym lacks) c.push_keywords.ensures.fused
+pub compiler::push_parts-returns-then-not-array_shape_fusion-clause-fused
+    : goal.compiler::push_parts-returns-then-not-array_shape_fusion-clause-fused
+compiler::push_parts-returns-then-not-array_shape_fusion-clause-fused g t c =
+    let lacks : is_fused c.args.ctx.now.setting (members_view c.args.parent.now.entries) ≡ false =
+    search (rules, c.array_shape_fusion.ensures, c.if-not-array_shape_fusion.true) in
+    ok_then c.push_keywords.result (λ _ same. same ∙ ap begin_fused c.requires ∙ sym lacks)
+    c.push_keywords.ensures.fused
 
-pub compiler::push_units-returns-in_err-push_shape-clause-made : goal.compiler::push_units-returns-in_err-push_shape-clause-made
-compiler::push_units-returns-in_err-push_shape-clause-made g t c =
-    let new = keywords_of c.push_shape.new.units.items in
-    handed_on (λ (u : Unit {0}). new) (λ (u : Unit {0}). new) c.in_err-push_shape.field-0.0 _ _ _ c.from_residual.ensures.1 c.in_err-push_shape.ensures.made
-    (fused_refused fused_words (drop 4 keywords) c.args.ctx.now.setting c.args.ctx.now.location (members_view c.args.parent.now.entries))
+pub compiler::push_parts-returns-in_err-push_shape-clause-made
+    : goal.compiler::push_parts-returns-in_err-push_shape-clause-made
+compiler::push_parts-returns-in_err-push_shape-clause-made g t c =
+    let new = keywords_of c.push_shape.new.parts.items in
+    passed_by_try (λ (u : Unit {0}). new) (λ (u : Unit {0}). new) c.in_err-push_shape.field-0.0 _ _ _
+    c.from_residual.ensures.1 c.in_err-push_shape.ensures.made
+    (fused_refused fused_keywords (drop 4 keywords) c.args.ctx.now.setting c.args.ctx.now.location
+    (members_view c.args.parent.now.entries))
 
-pub compiler::push_units-returns-clause-made : goal.compiler::push_units-returns-clause-made
-compiler::push_units-returns-clause-made g t c =
-    let js = keywords_of c.push_shape.new.units.items in
-    let all = fused_behind fused_words (drop 4 keywords) c.args.ctx.now.setting c.args.ctx.now.location (members_view c.args.parent.now.entries) js c.in_ok-push_shape.ensures.made in
-    subst (Makes (λ _. keywords_of c.push_keywords-2.new.units.items) c.push_keywords-2.result) (sym all) c.push_keywords-2.ensures.made
+pub compiler::push_parts-returns-clause-made : goal.compiler::push_parts-returns-clause-made
+compiler::push_parts-returns-clause-made g t c =
+    let js = keywords_of c.push_shape.new.parts.items in
+    let all =
+    fused_behind fused_keywords (drop 4 keywords) c.args.ctx.now.setting c.args.ctx.now.location
+    (members_view c.args.parent.now.entries) js c.in_ok-push_shape.ensures.made in
+    subst (CompilesTo (λ _. keywords_of c.push_keywords-2.new.parts.items) c.push_keywords-2.result) (sym all)
+    c.push_keywords-2.ensures.made
 
-pub compiler::push_units-returns-clause-fused : goal.compiler::push_units-returns-clause-fused
-compiler::push_units-returns-clause-fused g t c =
-    let there : is_fused c.args.ctx.now.setting (members_view c.args.parent.now.entries) ≡ true = search (rules, c.array_shape_fusion.ensures, c.if-not-array_shape_fusion.false) in
-    ok_then c.push_keywords-2.result (λ _ same. same ∙ c.in_ok-push_shape.ensures.fused ∙ sym there) c.push_keywords-2.ensures.fused
+pub compiler::push_parts-returns-clause-fused : goal.compiler::push_parts-returns-clause-fused
+compiler::push_parts-returns-clause-fused g t c =
+    let there : is_fused c.args.ctx.now.setting (members_view c.args.parent.now.entries) ≡ true =
+    search (rules, c.array_shape_fusion.ensures, c.if-not-array_shape_fusion.false) in
+    ok_then c.push_keywords-2.result (λ _ same. same ∙ c.in_ok-push_shape.ensures.fused ∙ sym there)
+    c.push_keywords-2.ensures.fused
 
 pub compiler::push_shape-unreachable-requires : goal.compiler::push_shape-unreachable-requires
 compiler::push_shape-unreachable-requires g t c =
     let s = c.args.ctx.now.setting in
     let ms = members_view c.args.parent.now.entries in
-    let lost : get_member (name_of word.Items) ms ≡ None = search (rules, c.as_str.ensures, c.in_default.ensures) in
-    is_there s ms word.Items is_items_schema (fused_items s ms c.requires.fused) lost
+    let lost : get_member (name_of keyword_name.Items) ms ≡ None =
+    search (rules, c.as_str.ensures, c.in_default.ensures) in
+    is_there s ms keyword_name.Items is_items_schema (fused_items s ms c.requires.fused) lost
 
 pub compiler::push_shape-compile-requires : goal.compiler::push_shape-compile-requires
 compiler::push_shape-compile-requires g t c κs within =
     let ms = members_view c.args.parent.now.entries in
-    let found : get_member (name_of word.Items) ms ≡ Some (view c.in-Some.items.now) = search (rules, c.as_str.ensures, c.in-Some.ensures) in
-    let below = member_depth (name_of word.Items) ms (view c.in-Some.items.now) found in
+    let found : get_member (name_of keyword_name.Items) ms ≡ Some (view c.in-Some.items.now) =
+    search (rules, c.as_str.ensures, c.in-Some.ensures) in
+    let below = member_depth (name_of keyword_name.Items) ms (view c.in-Some.items.now) found in
     (omega (arith, below, c.decreases), search (rules, found, c.requires.fused))
 
 pub compiler::push_shape-returns-clause-made : goal.compiler::push_shape-returns-clause-made
 compiler::push_shape-returns-clause-made g t c = c.push_compiled.ensures.made _ c.compile.ensures
 
-pub items::array_shape::ArrayShapeValidator::compile-compile_schema-requires : goal.items::array_shape::ArrayShapeValidator::compile-compile_schema-requires
+pub items::array_shape::ArrayShapeValidator::compile-compile_schema-requires
+    : goal.items::array_shape::ArrayShapeValidator::compile-compile_schema-requires
 items::array_shape::ArrayShapeValidator::compile-compile_schema-requires g t c κs within =
-    let one = (is_one c.args.ctx.now (members_view c.args.parent.now.entries) (view c.args.items.now) c.requires.fused c.requires.items).0 in
+    let one =
+    (is_one c.args.ctx.now (members_view c.args.parent.now.entries) (view c.args.items.now) c.requires.fused
+    c.requires.items).0 in
     (omega (arith, c.decreases), search (rules, one))
 
-pub items::array_shape::ArrayShapeValidator::compile-returns : goal.items::array_shape::ArrayShapeValidator::compile-returns
+pub items::array_shape::ArrayShapeValidator::compile-returns
+    : goal.items::array_shape::ArrayShapeValidator::compile-returns
 items::array_shape::ArrayShapeValidator::compile-returns g t c =
     let point = c.args.ctx.now in
     let ms = members_view c.args.parent.now.entries in
     let d = view c.args.items.now in
-    let of_shape = shape_keywords {F = g.row.F.Denot} {Node = g.row.F-Node.Denot} {Number = g.row.F-Node-Number.Denot} {Key = g.row.F-Node-PreparedKey.Denot} in
+    let of_shape =
+    shape_keywords {F = g.row.F.Denot} {Node = g.row.F-Node.Denot} {Number = g.row.F-Node-Number.Denot}
+    {Key = g.row.F-Node-PreparedKey.Denot} in
     let absorbed = absorbed_keywords c.in_ok-absorbed.absorbed.value in
     let all = shape_reads point ms d c.requires.fused c.requires.items absorbed c.in_ok-absorbed.ensures in
-    subst (Makes of_shape c.with_items.result) (ap (λ q. map_ok (λ k. append_keywords absorbed (keyword q k no_keywords)) (items_value point.setting point.location ms d)) c.in_ok-location.ensures ∙ sym all)
+    subst (CompilesTo of_shape c.with_items.result) (ap (λ q. map_ok
+    (λ k. append_keywords absorbed (keyword q k no_keywords)) (items_value point.setting point.location ms d))
+    c.in_ok-location.ensures ∙ sym all)
     (c.with_items.ensures _ c.compile_schema.ensures)
 
 -- ---- the keywords of an object
 
-pub compiler::push_keywords-compile_keyword-compiled-requires : goal.compiler::push_keywords-compile_keyword-compiled-requires
+pub compiler::push_keywords-compile_keyword-compiled-requires
+    : goal.compiler::push_keywords-compile_keyword-compiled-requires
 compiler::push_keywords-compile_keyword-compiled-requires g t c κs within =
     let ms = members_view c.args.parent.now.entries in
-    let w = get_or c.args.keywords.now c.loop-keyword.keyword-index word.TypeKeyword in
-    let found : active_member c.args.ctx.now.setting ms w ≡ Some (view c.in-Some.schema.now) = search (rules, c.active_member.ensures, c.in-Some.is) in
+    let w = get_or c.args.keywords.now c.loop-keyword.keyword-index keyword_name.TypeKeyword in
+    let found : active_member c.args.ctx.now.setting ms w ≡ Some (view c.in-Some.schema.now) =
+    search (rules, c.active_member.ensures, c.in-Some.is) in
     let below = active_depth w c.args.ctx.now ms (view c.in-Some.schema.now) found in
     (omega (arith, below, c.decreases), search rules)
 
 pub compiler::push_keywords-loop-keyword-init : goal.compiler::push_keywords-loop-keyword-init
 compiler::push_keywords-loop-keyword-init g t c = record { left = refl; fused = refl }
 
-pub compiler::push_keywords-loop-keyword-preserved-in_default : goal.compiler::push_keywords-loop-keyword-preserved-in_default
+pub compiler::push_keywords-loop-keyword-preserved-in_default
+    : goal.compiler::push_keywords-loop-keyword-preserved-in_default
 compiler::push_keywords-loop-keyword-preserved-in_default g t c =
     let l = c.loop-keyword in
-    let w = get_or c.args.keywords.now l.keyword-index word.TypeKeyword in
-    let none : active_member c.args.ctx.now.setting (members_view c.args.parent.now.entries) w ≡ None = search (rules, c.active_member.ensures, c.in_default.is) in
+    let w = get_or c.args.keywords.now l.keyword-index keyword_name.TypeKeyword in
+    let none : active_member c.args.ctx.now.setting (members_view c.args.parent.now.entries) w ≡ None =
+    search (rules, c.active_member.ensures, c.in_default.is) in
     record {
-      left = turn_silent _ _ _ _ _ _ c.args.keywords.now l.keyword-index word.TypeKeyword c.loop-keyword-test.true l.invariant.left (inactive_reads w c.args.ctx.now _ none);
+      left =
+          turn_silent _ _ _ _ _ _ c.args.keywords.now l.keyword-index keyword_name.TypeKeyword c.loop-keyword-test.true
+          l.invariant.left (inactive_reads w c.args.ctx.now _ none);
       fused = l.invariant.fused;
     }
 
 pub compiler::push_keywords-loop-keyword-preserved : goal.compiler::push_keywords-loop-keyword-preserved
 compiler::push_keywords-loop-keyword-preserved g t c =
     let l = c.loop-keyword in
-    let w = get_or c.args.keywords.now l.keyword-index word.TypeKeyword in
-    let found : active_member c.args.ctx.now.setting (members_view c.args.parent.now.entries) w ≡ Some (view c.in-Some.schema.now) = search (rules, c.active_member.ensures, c.in-Some.is) in
+    let w = get_or c.args.keywords.now l.keyword-index keyword_name.TypeKeyword in
+    let found : active_member c.args.ctx.now.setting (members_view c.args.parent.now.entries) w
+    ≡ Some (view c.in-Some.schema.now) = search (rules, c.active_member.ensures, c.in-Some.is) in
     record {
-      left = turn_made _ _ _ _ _ _ c.args.keywords.now l.keyword-index word.TypeKeyword c.loop-keyword-test.true l.invariant.left _
-          (ap (λ read. after (keywords_of l.units.items) (before (keyword_location c.args.ctx.now.location w) read (Ok no_keywords))) (active_reads w c.args.ctx.now _ _ found) ∙ c.in_ok-push_unit.ensures.made _ c.compile_keyword-compiled.ensures);
-      fused = c.in_ok-push_unit.ensures.fused ∙ l.invariant.fused;
+      left =
+          turn_made _ _ _ _ _ _ c.args.keywords.now l.keyword-index keyword_name.TypeKeyword c.loop-keyword-test.true
+          l.invariant.left _
+          (ap (λ read. after (keywords_of l.parts.items)
+          (before (keyword_location c.args.ctx.now.location w) read (Ok no_keywords)))
+          (active_reads w c.args.ctx.now _ _ found)
+          ∙ c.in_ok-push_part.ensures.made _ c.compile_keyword-compiled.ensures);
+      fused = c.in_ok-push_part.ensures.fused ∙ l.invariant.fused;
     }
 
-pub compiler::push_keywords-returns-in_err-push_unit-clause-made : goal.compiler::push_keywords-returns-in_err-push_unit-clause-made
-compiler::push_keywords-returns-in_err-push_unit-clause-made g t c =
+pub compiler::push_keywords-returns-in_err-push_part-clause-made
+    : goal.compiler::push_keywords-returns-in_err-push_part-clause-made
+compiler::push_keywords-returns-in_err-push_part-clause-made g t c =
     let l = c.loop-keyword in
-    let w = get_or c.args.keywords.now l.keyword-index word.TypeKeyword in
-    let found : active_member c.args.ctx.now.setting (members_view c.args.parent.now.entries) w ≡ Some (view c.in-Some.schema.now) = search (rules, c.active_member.ensures, c.in-Some.is) in
-    let new = λ (u : Unit {0}). keywords_of c.push_unit.new.units.items in
-    handed_on new new c.in_err-push_unit.field-0.0 _ _ _ c.from_residual.ensures.1 (c.in_err-push_unit.ensures.made _ c.compile_keyword-compiled.ensures)
-    (λ x refused. turn_refused _ _ _ _ _ _ c.args.keywords.now l.keyword-index word.TypeKeyword c.loop-keyword-test.true l.invariant.left x
-    (ap (λ read. after (keywords_of l.units.items) (before (keyword_location c.args.ctx.now.location w) read (Ok no_keywords))) (active_reads w c.args.ctx.now _ _ found) ∙ refused))
+    let w = get_or c.args.keywords.now l.keyword-index keyword_name.TypeKeyword in
+    let found : active_member c.args.ctx.now.setting (members_view c.args.parent.now.entries) w
+    ≡ Some (view c.in-Some.schema.now) = search (rules, c.active_member.ensures, c.in-Some.is) in
+    let new = λ (u : Unit {0}). keywords_of c.push_part.new.parts.items in
+    passed_by_try new new c.in_err-push_part.field-0.0 _ _ _ c.from_residual.ensures.1
+    (c.in_err-push_part.ensures.made _ c.compile_keyword-compiled.ensures)
+    (λ x refused. turn_refused _ _ _ _ _ _ c.args.keywords.now l.keyword-index keyword_name.TypeKeyword
+    c.loop-keyword-test.true l.invariant.left x
+    (ap (λ read. after (keywords_of l.parts.items)
+    (before (keyword_location c.args.ctx.now.location w) read (Ok no_keywords)))
+    (active_reads w c.args.ctx.now _ _ found) ∙ refused))
 
 pub compiler::push_keywords-returns-clause-fused : goal.compiler::push_keywords-returns-clause-fused
 compiler::push_keywords-returns-clause-fused g t c = c.loop-keyword.invariant.fused
@@ -136,47 +192,67 @@ compiler::push_keywords-returns-clause-fused g t c = c.loop-keyword.invariant.fu
 pub compiler::push_keywords-returns-clause-made : goal.compiler::push_keywords-returns-clause-made
 compiler::push_keywords-returns-clause-made g t c =
     let ms = members_view c.args.parent.now.entries in
-    turn_end (keywords_of c.loop-keyword.units.items) _ c.args.ctx.now.setting c.args.ctx.now.location ms (λ name. part_named name ms) c.args.keywords.now c.loop-keyword.keyword-index c.loop-keyword-test.false c.loop-keyword.invariant.left
+    turn_end (keywords_of c.loop-keyword.parts.items) _ c.args.ctx.now.setting c.args.ctx.now.location ms
+    (λ name. readings_named name ms) c.args.keywords.now c.loop-keyword.keyword-index c.loop-keyword-test.false
+    c.loop-keyword.invariant.left
 
 -- ---- an array of schemas
 
 pub compiler::compile_each-loop-index-init : goal.compiler::compile_each-loop-index-init
 compiler::compile_each-loop-index-init g t c = rw c.in_ok-nodes.ensures.items (after_no_schemas _)
 
-pub compiler::compile_each-compile-requires : goal.compiler::compile_each-compile-requires
-compiler::compile_each-compile-requires g t c κs within =
-    let below = item_depth c.args.schemas.now c.loop-index.index c.index-schemas-index.result c.loop-index-test.true c.index-schemas-index.is in
+pub compiler::compile_each-compile_subschema-requires : goal.compiler::compile_each-compile_subschema-requires
+compiler::compile_each-compile_subschema-requires g t c κs within =
+    let below =
+    item_depth c.args.schemas.now c.loop-index.index c.index-schemas-index.result c.loop-index-test.true
+    c.index-schemas-index.is in
     (omega (arith, below, c.decreases), search rules)
 
 pub compiler::compile_each-loop-index-preserved : goal.compiler::compile_each-loop-index-preserved
 compiler::compile_each-loop-index-preserved g t c =
-    let made = subst (λ point. Makes (λ (n : Schema). n) c.compile.result (read (view c.index-schemas-index.result) point.setting point.location)) c.in_ok-item.ensures c.compile.ensures in
-    each_made c.loop-index.nodes.items _ _ _ c.args.schemas.now _ _ c.loop-index-test.true c.index-schemas-index.is c.loop-index.invariant _ (c.in_ok-push_node.ensures _ made)
+    let made =
+    subst (λ point. CompilesTo (λ (n : Schema). n) c.compile_subschema.result
+    (read (view c.index-schemas-index.result) point.setting point.location)) c.in_ok-item.ensures
+    c.compile_subschema.ensures in
+    each_made c.loop-index.nodes.items _ _ _ c.args.schemas.now _ _ c.loop-index-test.true c.index-schemas-index.is
+    c.loop-index.invariant _ (c.in_ok-push_node.ensures _ made)
 
 pub compiler::compile_each-returns-in_err-push_node : goal.compiler::compile_each-returns-in_err-push_node
 compiler::compile_each-returns-in_err-push_node g t c =
-    let made = subst (λ point. Makes (λ (n : Schema). n) c.compile.result (read (view c.index-schemas-index.result) point.setting point.location)) c.in_ok-item.ensures c.compile.ensures in
-    handed_on (λ (u : Unit {0}). c.push_node.new.nodes.items) schemas_in c.in_err-push_node.field-0.0 _ _ _ c.from_residual-in_err-push_node.ensures.1 (c.in_err-push_node.ensures _ made)
-    (each_refused c.loop-index.nodes.items _ _ _ c.args.schemas.now _ _ c.loop-index-test.true c.index-schemas-index.is c.loop-index.invariant)
+    let made =
+    subst (λ point. CompilesTo (λ (n : Schema). n) c.compile_subschema.result
+    (read (view c.index-schemas-index.result) point.setting point.location)) c.in_ok-item.ensures
+    c.compile_subschema.ensures in
+    passed_by_try (λ (u : Unit {0}). c.push_node.new.nodes.items) schemas_in c.in_err-push_node.field-0.0 _ _ _
+    c.from_residual-in_err-push_node.ensures.1 (c.in_err-push_node.ensures _ made)
+    (each_refused c.loop-index.nodes.items _ _ _ c.args.schemas.now _ _ c.loop-index-test.true c.index-schemas-index.is
+    c.loop-index.invariant)
 
 pub compiler::compile_each-returns : goal.compiler::compile_each-returns
 compiler::compile_each-returns g t c =
     let l = c.loop-index in
-    each_end l.nodes.items _ c.args.ctx.now.setting c.args.ctx.now.location c.args.schemas.now l.index c.loop-index-test.false l.invariant
+    each_end l.nodes.items _ c.args.ctx.now.setting c.args.ctx.now.location c.args.schemas.now l.index
+    c.loop-index-test.false l.invariant
 
 -- ---- the value of a keyword
 
 pub compiler::compile_at-returns : goal.compiler::compile_at-returns
 compiler::compile_at-returns g t c =
-    subst (λ point. Makes (λ (n : Schema). n) c.compile.result (read (view c.args.schema.now) point.setting point.location)) c.in_ok-below.ensures c.compile.ensures
+    subst (λ point. CompilesTo (λ (n : Schema). n) c.compile_subschema.result
+    (read (view c.args.schema.now) point.setting point.location)) c.in_ok-below.ensures c.compile_subschema.ensures
 
-pub compiler::compile_at-compile-requires : goal.compiler::compile_at-compile-requires
-compiler::compile_at-compile-requires g t c κs within = (omega (arith, c.decreases), search rules)
+pub compiler::compile_at-compile_subschema-requires : goal.compiler::compile_at-compile_subschema-requires
+compiler::compile_at-compile_subschema-requires g t c κs within = (omega (arith, c.decreases), search rules)
 
 pub compiler::compile_list-returns : goal.compiler::compile_list-returns
 compiler::compile_list-returns g t c =
-    let at = subst (λ point. Makes schemas_in c.compile_each.result (read_each (items_view c.as_slice.result.now) point.setting point.location 0)) c.in_ok-below.ensures c.compile_each.ensures in
-    c.of_schemas.ensures _ (subst (λ vs. Makes schemas_in c.compile_each.result (read_each (items_view vs) c.args.ctx.now.setting (keyword_location c.args.ctx.now.location c.args.keyword) 0)) c.as_slice.ensures.value at)
+    let at =
+    subst (λ point. CompilesTo schemas_in c.compile_each.result
+    (read_each (items_view c.as_slice.result.now) point.setting point.location 0)) c.in_ok-below.ensures
+    c.compile_each.ensures in
+    c.of_schemas.ensures _ (subst (λ vs. CompilesTo schemas_in c.compile_each.result
+    (read_each (items_view vs) c.args.ctx.now.setting (keyword_location c.args.ctx.now.location c.args.keyword) 0))
+    c.as_slice.ensures.value at)
 
 pub compiler::compile_list-compile_each-requires : goal.compiler::compile_list-compile_each-requires
 compiler::compile_list-compile_each-requires g t c κs within =
@@ -190,29 +266,40 @@ prefix_items::compile-returns-in_default g t c =
     let ms = members_view c.args.parent.now.entries in
     let d = view c.args.schema.now in
     let lost : as_array d ≡ None = search (rules, c.as_array.ensures) in
-    let part = wrong (of_type Array) (keyword_location c.args.ctx.now.location word.PrefixItems) d in
-    compiles_as (validator_keyword {F = g.row.F.Denot} {Node = g.row.F-Node.Denot} {Number = g.row.F-Node-Number.Denot} {Key = g.row.F-Node-PreparedKey.Denot}) (Some (Err c.no_array.result)) _ (Some part) (prefix_refused c.args.ctx.now ms d lost)
-    (refused_whole (λ (k : Keyword). k) (validator_keyword {F = g.row.F.Denot} {Node = g.row.F-Node.Denot} {Number = g.row.F-Node-Number.Denot} {Key = g.row.F-Node-PreparedKey.Denot}) c.no_array.result part part c.no_array.ensures (λ r e. e))
+    let part = wrong (of_type Array) (keyword_location c.args.ctx.now.location keyword_name.PrefixItems) d in
+    compiles_as (validator_keyword {F = g.row.F.Denot} {Node = g.row.F-Node.Denot} {Number = g.row.F-Node-Number.Denot}
+    {Key = g.row.F-Node-PreparedKey.Denot}) (Some (Err c.no_array.result)) _ (Some part)
+    (prefix_refused c.args.ctx.now ms d lost)
+    (refused_whole (λ (k : Keyword). k) (validator_keyword {F = g.row.F.Denot} {Node = g.row.F-Node.Denot}
+    {Number = g.row.F-Node-Number.Denot} {Key = g.row.F-Node-PreparedKey.Denot}) c.no_array.result part part
+    c.no_array.ensures (λ r e. e))
 
 pub prefix_items::compile-returns : goal.prefix_items::compile-returns
 prefix_items::compile-returns g t c =
-    let found : as_array (view c.args.schema.now) ≡ Some (items_view c.in-Some.schemas.now.items) = search (rules, c.as_array.ensures, c.in-Some.is) in
-    compiles_as _ (Some c.compile_list.result) _ _ (prefix_of_array c.args.ctx.now (members_view c.args.parent.now.entries) _ _ found) c.compile_list.ensures
+    let found : as_array (view c.args.schema.now) ≡ Some (items_view c.in-Some.schemas.now.items) =
+    search (rules, c.as_array.ensures, c.in-Some.is) in
+    compiles_as _ (Some c.compile_list.result) _ _
+    (prefix_of_array c.args.ctx.now (members_view c.args.parent.now.entries) _ _ found) c.compile_list.ensures
 
 -- ---- `items`
 
 pub items::compile-returns-in-Some : goal.items::compile-returns-in-Some
 items::compile-returns-in-Some g t c =
-    let found : as_array (view c.args.schema.now) ≡ Some (items_view c.in-Some.schemas.now.items) = search (rules, c.as_array.ensures, c.in-Some.is) in
-    compiles_as _ (Some c.compile_list.result) _ _ (items_of_array c.args.ctx.now (members_view c.args.parent.now.entries) _ _ found) c.compile_list.ensures
+    let found : as_array (view c.args.schema.now) ≡ Some (items_view c.in-Some.schemas.now.items) =
+    search (rules, c.as_array.ensures, c.in-Some.is) in
+    compiles_as _ (Some c.compile_list.result) _ _
+    (items_of_array c.args.ctx.now (members_view c.args.parent.now.entries) _ _ found) c.compile_list.ensures
 
 pub items::compile-returns-then-not-is_items_schema : goal.items::compile-returns-then-not-is_items_schema
 items::compile-returns-then-not-is_items_schema g t c =
-    let keyword_of = validator_keyword {F = g.row.F.Denot} {Node = g.row.F-Node.Denot} {Number = g.row.F-Node-Number.Denot} {Key = g.row.F-Node-PreparedKey.Denot} in
+    let keyword_of =
+    validator_keyword {F = g.row.F.Denot} {Node = g.row.F-Node.Denot} {Number = g.row.F-Node-Number.Denot}
+    {Key = g.row.F-Node-PreparedKey.Denot} in
     let ms = members_view c.args.parent.now.entries in
     let d = view c.args.schema.now in
     let lost : as_array d ≡ None = search (rules, c.as_array.ensures) in
-    compiles_as keyword_of None _ None (items_silent c.args.ctx.now ms d lost (sym c.is_items_schema.ensures ∙ c.if-not-is_items_schema.true)) tt
+    compiles_as keyword_of None _ None
+    (items_silent c.args.ctx.now ms d lost (sym c.is_items_schema.ensures ∙ c.if-not-is_items_schema.true)) tt
 
 pub items::compile-compile_schema-requires : goal.items::compile-compile_schema-requires
 items::compile-compile_schema-requires g t c κs within =
@@ -223,7 +310,10 @@ pub items::compile-returns : goal.items::compile-returns
 items::compile-returns g t c =
     let ms = members_view c.args.parent.now.entries in
     let d = view c.args.schema.now in
-    compiles_as (validator_keyword {F = g.row.F.Denot} {Node = g.row.F-Node.Denot} {Number = g.row.F-Node-Number.Denot} {Key = g.row.F-Node-PreparedKey.Denot}) (Some c.compile_schema.result) _ _ (items_of_one c.args.ctx.now ms d (sym c.is_items_schema.ensures ∙ c.if-not-is_items_schema.false)) c.compile_schema.ensures
+    compiles_as (validator_keyword {F = g.row.F.Denot} {Node = g.row.F-Node.Denot} {Number = g.row.F-Node-Number.Denot}
+    {Key = g.row.F-Node-PreparedKey.Denot}) (Some c.compile_schema.result) _ _
+    (items_of_one c.args.ctx.now ms d (sym c.is_items_schema.ensures ∙ c.if-not-is_items_schema.false))
+    c.compile_schema.ensures
 
 pub items::compile_schema-compile_inline-requires : goal.items::compile_schema-compile_inline-requires
 items::compile_schema-compile_inline-requires g t c =
@@ -233,7 +323,7 @@ items::compile_schema-compile_inline-requires g t c =
     let bare = sym c.is_bare.ensures ∙ c.if-is_bare.true in
     let type_alone = bare_is_type s ms d bare in
     let there = bare_stands s ms d bare in
-    record { only_type = search (rules, type_alone); stands = search (rules, there) }
+    record { only_type = search (rules, type_alone); active = search (rules, there) }
 
 pub items::compile_schema-returns-then-is_bare : goal.items::compile_schema-returns-then-is_bare
 items::compile_schema-returns-then-is_bare g t c =
@@ -241,47 +331,66 @@ items::compile_schema-returns-then-is_bare g t c =
     let ms = members_view c.args.parent.now.entries in
     let d = view c.args.schema.now in
     let bare = sym c.is_bare.ensures ∙ c.if-is_bare.true in
-    let value : ℕ → Bool → Result Keyword Refusal = λ n b. map_ok (λ sub. items_from n sub b) (read d s (keyword_location c.args.ctx.now.location word.Items)) in
-    subst (Makes (validator_keyword {F = g.row.F.Denot} {Node = g.row.F-Node.Denot} {Number = g.row.F-Node-Number.Denot} {Key = g.row.F-Node-PreparedKey.Denot}) c.compile_inline.result) (sym (ap₂ value (bare_start s ms d bare) bare)) c.compile_inline.ensures
+    let value : ℕ → Bool → Result Keyword Refusal =
+    λ n b. map_ok (λ sub. items_from n sub b)
+    (read d s (keyword_location c.args.ctx.now.location keyword_name.Items)) in
+    subst (CompilesTo (validator_keyword {F = g.row.F.Denot} {Node = g.row.F-Node.Denot}
+    {Number = g.row.F-Node-Number.Denot} {Key = g.row.F-Node-PreparedKey.Denot}) c.compile_inline.result)
+    (sym (ap₂ value (bare_start s ms d bare) bare)) c.compile_inline.ensures
 
 pub items::compile_schema-returns : goal.items::compile_schema-returns
 items::compile_schema-returns g t c =
     let s = c.args.ctx.now.setting in
     let d = view c.args.schema.now in
     let bare = sym c.is_bare.ensures ∙ c.if-is_bare.false in
-    let value : ℕ → Bool → Result Keyword Refusal = λ n b. map_ok (λ sub. items_from n sub b) (read d s (keyword_location c.args.ctx.now.location word.Items)) in
-    subst (Makes (validator_keyword {F = g.row.F.Denot} {Node = g.row.F-Node.Denot} {Number = g.row.F-Node-Number.Denot} {Key = g.row.F-Node-PreparedKey.Denot}) c.of_schema.result) (ap₂ value c.items_start-start.ensures (sym bare)) (c.of_schema.ensures _ c.compile_at.ensures)
+    let value : ℕ → Bool → Result Keyword Refusal =
+    λ n b. map_ok (λ sub. items_from n sub b)
+    (read d s (keyword_location c.args.ctx.now.location keyword_name.Items)) in
+    subst (CompilesTo (validator_keyword {F = g.row.F.Denot} {Node = g.row.F-Node.Denot}
+    {Number = g.row.F-Node-Number.Denot} {Key = g.row.F-Node-PreparedKey.Denot}) c.of_schema.result)
+    (ap₂ value c.items_start-start.ensures (sym bare)) (c.of_schema.ensures _ c.compile_at.ensures)
 
 -- ---- `additionalItems`
 
 pub additional_items::compile-returns-in_default : goal.additional_items::compile-returns-in_default
 additional_items::compile-returns-in_default g t c =
-    let keyword_of = validator_keyword {F = g.row.F.Denot} {Node = g.row.F-Node.Denot} {Number = g.row.F-Node-Number.Denot} {Key = g.row.F-Node-PreparedKey.Denot} in
+    let keyword_of =
+    validator_keyword {F = g.row.F.Denot} {Node = g.row.F-Node.Denot} {Number = g.row.F-Node-Number.Denot}
+    {Key = g.row.F-Node-PreparedKey.Denot} in
     let ms = members_view c.args.parent.now.entries in
     let d = view c.args.schema.now in
-    let lost : schema_count (get_member (name_of word.Items) ms) ≡ None = search (rules, c.schema_count.ensures) in
+    let lost : array_schema_count (get_member (name_of keyword_name.Items) ms) ≡ None =
+    search (rules, c.schema_count.ensures) in
     compiles_as keyword_of None _ None (additional_absent c.args.ctx.now ms d lost) tt
 
 pub additional_items::compile-returns-in-Some-true : goal.additional_items::compile-returns-in-Some-true
 additional_items::compile-returns-in-Some-true g t c =
-    let keyword_of = validator_keyword {F = g.row.F.Denot} {Node = g.row.F-Node.Denot} {Number = g.row.F-Node-Number.Denot} {Key = g.row.F-Node-PreparedKey.Denot} in
+    let keyword_of =
+    validator_keyword {F = g.row.F.Denot} {Node = g.row.F-Node.Denot} {Number = g.row.F-Node-Number.Denot}
+    {Key = g.row.F-Node-PreparedKey.Denot} in
     let ms = members_view c.args.parent.now.entries in
     let d = view c.args.schema.now in
-    compiles_as keyword_of None _ None (additional_true c.args.ctx.now ms d (sym c.as_bool.ensures ∙ c.in-Some-true.is ∙ ap Some c.in-Some-true.field-0-test)) tt
+    compiles_as keyword_of None _ None (additional_true c.args.ctx.now ms d
+    (sym c.as_bool.ensures ∙ c.in-Some-true.is ∙ ap Some c.in-Some-true.field-0-test)) tt
 
 pub additional_items::compile-returns-in-Some-false : goal.additional_items::compile-returns-in-Some-false
 additional_items::compile-returns-in-Some-false g t c =
     let ms = members_view c.args.parent.now.entries in
     let d = view c.args.schema.now in
-    let count : schema_count (get_member (name_of word.Items) ms) ≡ Some c.in-Some.items_count = sym c.schema_count.ensures ∙ c.in-Some.is in
-    compiles_as _ c.no_more.result _ _ (additional_false c.args.ctx.now ms d c.in-Some.items_count count (sym c.as_bool.ensures ∙ c.in-Some-false.is ∙ ap Some c.in-Some-false.field-0-test)) c.no_more.ensures
+    let count : array_schema_count (get_member (name_of keyword_name.Items) ms) ≡ Some c.in-Some.items_count =
+    sym c.schema_count.ensures ∙ c.in-Some.is in
+    compiles_as _ c.no_more.result _ _ (additional_false c.args.ctx.now ms d c.in-Some.items_count count
+    (sym c.as_bool.ensures ∙ c.in-Some-false.is ∙ ap Some c.in-Some-false.field-0-test)) c.no_more.ensures
 
 pub additional_items::compile-returns : goal.additional_items::compile-returns
 additional_items::compile-returns g t c =
     let ms = members_view c.args.parent.now.entries in
     let d = view c.args.schema.now in
-    let count : schema_count (get_member (name_of word.Items) ms) ≡ Some c.in-Some.items_count = sym c.schema_count.ensures ∙ c.in-Some.is in
-    compiles_as _ (Some c.of_schema.result) _ _ (additional_of_schema c.args.ctx.now ms d c.in-Some.items_count count (sym c.as_bool.ensures ∙ c.in-None.is)) (c.of_schema.ensures _ c.compile_at.ensures)
+    let count : array_schema_count (get_member (name_of keyword_name.Items) ms) ≡ Some c.in-Some.items_count =
+    sym c.schema_count.ensures ∙ c.in-Some.is in
+    compiles_as _ (Some c.of_schema.result) _ _
+    (additional_of_schema c.args.ctx.now ms d c.in-Some.items_count count (sym c.as_bool.ensures ∙ c.in-None.is))
+    (c.of_schema.ensures _ c.compile_at.ensures)
 
 -- ---- `contains`
 
@@ -289,29 +398,40 @@ pub contains::compile-returns : goal.contains::compile-returns
 contains::compile-returns g t c =
     let ms = members_view c.args.parent.now.entries in
     let d = view c.args.schema.now in
-    let made : Makes bounds_of (Ok c.in-Ok.bounds) (read_bounds c.args.ctx.now.setting c.args.ctx.now.location ms) = subst (λ r. Makes bounds_of r (read_bounds c.args.ctx.now.setting c.args.ctx.now.location ms)) c.in-Ok.is c.bounds_beside.ensures in
-    compiles_as _ c.of_schema.result _ _ (contains_of_schema c.args.ctx.now ms d (bounds_of c.in-Ok.bounds) made) (c.of_schema.ensures _ c.compile_at.ensures)
+    let made : CompilesTo bounds_of (Ok c.in-Ok.bounds)
+    (read_bounds c.args.ctx.now.setting c.args.ctx.now.location ms) =
+    subst (λ r. CompilesTo bounds_of r (read_bounds c.args.ctx.now.setting c.args.ctx.now.location ms)) c.in-Ok.is
+    c.bounds_beside.ensures in
+    compiles_as _ c.of_schema.result _ _ (contains_of_schema c.args.ctx.now ms d (bounds_of c.in-Ok.bounds) made)
+    (c.of_schema.ensures _ c.compile_at.ensures)
 
 pub contains::compile-returns-in-Err : goal.contains::compile-returns-in-Err
 contains::compile-returns-in-Err g t c =
-    let keyword_of = validator_keyword {F = g.row.F.Denot} {Node = g.row.F-Node.Denot} {Number = g.row.F-Node-Number.Denot} {Key = g.row.F-Node-PreparedKey.Denot} in
+    let keyword_of =
+    validator_keyword {F = g.row.F.Denot} {Node = g.row.F-Node.Denot} {Number = g.row.F-Node-Number.Denot}
+    {Key = g.row.F-Node-PreparedKey.Denot} in
     let ms = members_view c.args.parent.now.entries in
     let d = view c.args.schema.now in
     let bounds = read_bounds c.args.ctx.now.setting c.args.ctx.now.location ms in
-    let made : Makes bounds_of (Err c.in-Err.fault) bounds = subst (λ r. Makes bounds_of r bounds) c.in-Err.is c.bounds_beside.ensures in
-    let sub = read d c.args.ctx.now.setting (keyword_location c.args.ctx.now.location word.Contains) in
-    compiles_as keyword_of (Some (Err c.in-Err.fault)) _ _ (contains_read c.args.ctx.now ms d) (refused_whole bounds_of keyword_of c.in-Err.fault bounds _ made (λ r e. ap (λ b. join_ok (λ b s. contains s b) b sub) e))
+    let made : CompilesTo bounds_of (Err c.in-Err.fault) bounds =
+    subst (λ r. CompilesTo bounds_of r bounds) c.in-Err.is c.bounds_beside.ensures in
+    let sub = read d c.args.ctx.now.setting (keyword_location c.args.ctx.now.location keyword_name.Contains) in
+    compiles_as keyword_of (Some (Err c.in-Err.fault)) _ _ (contains_read c.args.ctx.now ms d)
+    (refused_whole bounds_of keyword_of c.in-Err.fault bounds _ made
+    (λ r e. ap (λ b. join_ok (λ b s. contains s b) b sub) e))
 
 -- ---- the calls go down
 
 pub prefix_items::compile-compile_list-requires : goal.prefix_items::compile-compile_list-requires
 prefix_items::compile-compile_list-requires g t c κs within =
-    let found : as_array (view c.args.schema.now) ≡ Some (items_view c.in-Some.schemas.now.items) = search (rules, c.as_array.ensures, c.in-Some.is) in
+    let found : as_array (view c.args.schema.now) ≡ Some (items_view c.in-Some.schemas.now.items) =
+    search (rules, c.as_array.ensures, c.in-Some.is) in
     (omega (arith, depth_array _ _ found, c.decreases), search rules)
 
 pub items::compile-compile_list-requires : goal.items::compile-compile_list-requires
 items::compile-compile_list-requires g t c κs within =
-    let found : as_array (view c.args.schema.now) ≡ Some (items_view c.in-Some.schemas.now.items) = search (rules, c.as_array.ensures, c.in-Some.is) in
+    let found : as_array (view c.args.schema.now) ≡ Some (items_view c.in-Some.schemas.now.items) =
+    search (rules, c.as_array.ensures, c.in-Some.is) in
     (omega (arith, depth_array _ _ found, c.decreases), search rules)
 
 pub items::compile_schema-compile_at-requires : goal.items::compile_schema-compile_at-requires
@@ -330,25 +450,40 @@ compiler::compile_keyword-compile-requires g t c κs within = (omega (arith, c.d
 
 pub compiler::compile_keyword-returns-in-Items : goal.compiler::compile_keyword-returns-in-Items
 compiler::compile_keyword-returns-in-Items g t c =
-    compiles_as (validator_keyword {F = g.row.F.Denot} {Node = g.row.F-Node.Denot} {Number = g.row.F-Node-Number.Denot} {Key = g.row.F-Node-PreparedKey.Denot}) c.compile.result _ _ (ap (λ w. reading w c.args.ctx.now (members_view c.args.parent.now.entries) (view c.args.schema.now)) c.in-Items.is) c.compile.ensures
+    compiles_as (validator_keyword {F = g.row.F.Denot} {Node = g.row.F-Node.Denot} {Number = g.row.F-Node-Number.Denot}
+    {Key = g.row.F-Node-PreparedKey.Denot}) c.compile.result _ _ (ap
+    (λ w. keyword_reading w c.args.ctx.now (members_view c.args.parent.now.entries) (view c.args.schema.now))
+    c.in-Items.is) c.compile.ensures
 
-pub compiler::compile_keyword-compile-requires-in-PrefixItems : goal.compiler::compile_keyword-compile-requires-in-PrefixItems
+pub compiler::compile_keyword-compile-requires-in-PrefixItems
+    : goal.compiler::compile_keyword-compile-requires-in-PrefixItems
 compiler::compile_keyword-compile-requires-in-PrefixItems g t c κs within = (omega (arith, c.decreases), search rules)
 
 pub compiler::compile_keyword-returns-in-PrefixItems : goal.compiler::compile_keyword-returns-in-PrefixItems
 compiler::compile_keyword-returns-in-PrefixItems g t c =
-    compiles_as (validator_keyword {F = g.row.F.Denot} {Node = g.row.F-Node.Denot} {Number = g.row.F-Node-Number.Denot} {Key = g.row.F-Node-PreparedKey.Denot}) c.compile-in-PrefixItems.result _ _ (ap (λ w. reading w c.args.ctx.now (members_view c.args.parent.now.entries) (view c.args.schema.now)) c.in-PrefixItems.is) c.compile-in-PrefixItems.ensures
+    compiles_as (validator_keyword {F = g.row.F.Denot} {Node = g.row.F-Node.Denot} {Number = g.row.F-Node-Number.Denot}
+    {Key = g.row.F-Node-PreparedKey.Denot}) c.compile-in-PrefixItems.result _ _ (ap
+    (λ w. keyword_reading w c.args.ctx.now (members_view c.args.parent.now.entries) (view c.args.schema.now))
+    c.in-PrefixItems.is) c.compile-in-PrefixItems.ensures
 
-pub compiler::compile_keyword-compile-requires-in-AdditionalItems : goal.compiler::compile_keyword-compile-requires-in-AdditionalItems
-compiler::compile_keyword-compile-requires-in-AdditionalItems g t c κs within = (omega (arith, c.decreases), search rules)
+pub compiler::compile_keyword-compile-requires-in-AdditionalItems
+    : goal.compiler::compile_keyword-compile-requires-in-AdditionalItems
+compiler::compile_keyword-compile-requires-in-AdditionalItems g t c κs within =
+    (omega (arith, c.decreases), search rules)
 
 pub compiler::compile_keyword-returns-in-AdditionalItems : goal.compiler::compile_keyword-returns-in-AdditionalItems
 compiler::compile_keyword-returns-in-AdditionalItems g t c =
-    compiles_as (validator_keyword {F = g.row.F.Denot} {Node = g.row.F-Node.Denot} {Number = g.row.F-Node-Number.Denot} {Key = g.row.F-Node-PreparedKey.Denot}) c.compile-in-AdditionalItems.result _ _ (ap (λ w. reading w c.args.ctx.now (members_view c.args.parent.now.entries) (view c.args.schema.now)) c.in-AdditionalItems.is) c.compile-in-AdditionalItems.ensures
+    compiles_as (validator_keyword {F = g.row.F.Denot} {Node = g.row.F-Node.Denot} {Number = g.row.F-Node-Number.Denot}
+    {Key = g.row.F-Node-PreparedKey.Denot}) c.compile-in-AdditionalItems.result _ _ (ap
+    (λ w. keyword_reading w c.args.ctx.now (members_view c.args.parent.now.entries) (view c.args.schema.now))
+    c.in-AdditionalItems.is) c.compile-in-AdditionalItems.ensures
 
 pub compiler::compile_keyword-compile-requires-in-Contains : goal.compiler::compile_keyword-compile-requires-in-Contains
 compiler::compile_keyword-compile-requires-in-Contains g t c κs within = (omega (arith, c.decreases), search rules)
 
 pub compiler::compile_keyword-returns-in-Contains : goal.compiler::compile_keyword-returns-in-Contains
 compiler::compile_keyword-returns-in-Contains g t c =
-    compiles_as (validator_keyword {F = g.row.F.Denot} {Node = g.row.F-Node.Denot} {Number = g.row.F-Node-Number.Denot} {Key = g.row.F-Node-PreparedKey.Denot}) c.compile-in-Contains.result _ _ (ap (λ w. reading w c.args.ctx.now (members_view c.args.parent.now.entries) (view c.args.schema.now)) c.in-Contains.is) c.compile-in-Contains.ensures
+    compiles_as (validator_keyword {F = g.row.F.Denot} {Node = g.row.F-Node.Denot} {Number = g.row.F-Node-Number.Denot}
+    {Key = g.row.F-Node-PreparedKey.Denot}) c.compile-in-Contains.result _ _ (ap
+    (λ w. keyword_reading w c.args.ctx.now (members_view c.args.parent.now.entries) (view c.args.schema.now))
+    c.in-Contains.is) c.compile-in-Contains.ensures

@@ -1,10 +1,11 @@
 use Rattle.std.proofs.Common.{◌≡◌, ◌+◌, ◌*◌, drop}
-use Rattle.jskw_array.specs.Words.{after, begin_fused, depth, items_depth, items_view, keywords_of, members_depth, members_view, part_named, read_each, read_words, schemas_of, view}
+use Rattle.jskw_array.specs.Words.{after, begin_fused, depth, items_depth, items_view, keywords_of, members_depth}
+use Rattle.jskw_array.specs.Words.{members_view, readings_named, read_each, read_keywords, schemas_of, view}
 use Rattle.jskw_array.proofs.CompiledSchemas.{after as after_schemas}
 use Rattle.jskw_array.proofs.+compile.Given as goal
 
-abbrev pub decreases-compiler::compile : goal.decreases-compiler::compile
-decreases-compiler::compile g l = 10 * depth (view l.schema.now)
+abbrev pub decreases-compiler::compile_subschema : goal.decreases-compiler::compile_subschema
+decreases-compiler::compile_subschema g l = 10 * depth (view l.schema.now)
 
 abbrev pub decreases-compiler::compile_at : goal.decreases-compiler::compile_at
 decreases-compiler::compile_at g l = 10 * depth (view l.schema.now) + 1
@@ -33,7 +34,8 @@ decreases-contains::compile g l = 10 * depth (view l.schema.now) + 2
 abbrev pub decreases-compiler::compile_keyword : goal.decreases-compiler::compile_keyword
 decreases-compiler::compile_keyword g l = 10 * depth (view l.schema.now) + 4
 
-abbrev pub decreases-items::array_shape::ArrayShapeValidator::compile : goal.decreases-items::array_shape::ArrayShapeValidator::compile
+abbrev pub decreases-items::array_shape::ArrayShapeValidator::compile
+    : goal.decreases-items::array_shape::ArrayShapeValidator::compile
 decreases-items::array_shape::ArrayShapeValidator::compile g l = 10 * depth (view l.items.now) + 3
 
 abbrev pub decreases-compiler::push_shape : goal.decreases-compiler::push_shape
@@ -42,8 +44,8 @@ decreases-compiler::push_shape g l = 10 * members_depth (members_view l.parent.n
 abbrev pub decreases-compiler::push_keywords : goal.decreases-compiler::push_keywords
 decreases-compiler::push_keywords g l = 10 * members_depth (members_view l.parent.now.entries) + 5
 
-abbrev pub decreases-compiler::push_units : goal.decreases-compiler::push_units
-decreases-compiler::push_units g l = 10 * members_depth (members_view l.parent.now.entries) + 6
+abbrev pub decreases-compiler::push_parts : goal.decreases-compiler::push_parts
+decreases-compiler::push_parts g l = 10 * members_depth (members_view l.parent.now.entries) + 6
 
 abbrev pub decreases-compiler::compile_object : goal.decreases-compiler::compile_object
 decreases-compiler::compile_object g l = 10 * members_depth (members_view l.parent.now.entries) + 7
@@ -53,12 +55,15 @@ abbrev pub invariant-compiler::push_keywords-loop-keyword : goal.invariant-compi
 invariant-compiler::push_keywords-loop-keyword g l =
     let ms = members_view l.parent.entries in
     record {
-      left : after (keywords_of l.units.items) (read_words (drop l.keyword-index l.keywords) l.ctx.setting l.ctx.location ms (λ name. part_named name ms))
-          ≡ after (keywords_of l.initial.units.items) (read_words l.keywords l.ctx.setting l.ctx.location ms (λ name. part_named name ms));
-      fused : begin_fused l.units.items ≡ begin_fused l.initial.units.items;
+      left : after (keywords_of l.parts.items) (read_keywords (drop l.keyword-index l.keywords) l.ctx.setting
+          l.ctx.location ms (λ name. readings_named name ms))
+          ≡ after (keywords_of l.initial.parts.items)
+          (read_keywords l.keywords l.ctx.setting l.ctx.location ms (λ name. readings_named name ms));
+      fused : begin_fused l.parts.items ≡ begin_fused l.initial.parts.items;
     }
 
 abbrev pub invariant-compiler::compile_each-loop-index : goal.invariant-compiler::compile_each-loop-index
 invariant-compiler::compile_each-loop-index g l =
-    after_schemas (schemas_of l.nodes.items) (read_each (items_view (drop l.index l.schemas)) l.ctx.setting l.ctx.location l.index)
+    after_schemas (schemas_of l.nodes.items)
+    (read_each (items_view (drop l.index l.schemas)) l.ctx.setting l.ctx.location l.index)
     ≡ read_each (items_view l.schemas) l.ctx.setting l.ctx.location 0

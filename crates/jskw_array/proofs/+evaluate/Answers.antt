@@ -1,17 +1,25 @@
-use Rattle.std.proofs.Common.{rules, ◌≡◌, ◌∙◌, ◌++◌, [], ◌∷◌, length, true, false, None, ap, ap₂, sym, subst, refl, IfOk, arith, append-nil}
+use Rattle.std.proofs.Common.{rules, ◌≡◌, ◌∙◌, ◌++◌, [], ◌∷◌, length, true, false, None, ap, ap₂, sym, subst, refl}
+use Rattle.std.proofs.Common.{IfOk, arith, append-nil}
 use Rattle.std.proofs.Math.Nat.{le_trans}
 use Rattle.std.proofs.lemmas.Grind.{common_steps}
-use Rattle.jskw_array.specs.Words.{absorbed_by, absorbed_keywords, all_height, bounds_of, evaluate_pairs, failing_locations, false_schema, holds, item_location, items, keywords_of, matching_result, meaning_unit, node_at, of_children, pairs, path_of, prefix_annotation, result_of, schema_location, schemas_of, shape_keywords, tree, unit_location, unit_meaning, units}
-use Rattle.jskw_report.proofs.GatheredNodes.{gathered_all, index_end, index_passed, index_taken, node_end, node_passed, node_taken}
+use Rattle.jskw_array.specs.Words.{absorbed_by, absorbed_keywords, all_height, bounds_of, evaluate_pairs}
+use Rattle.jskw_array.specs.Words.{failing_locations, false_schema, holds, item_location, items, keywords_of}
+use Rattle.jskw_array.specs.Words.{matching_result, meaning_unit, node_at, of_children, pairs, path_of}
+use Rattle.jskw_array.specs.Words.{prefix_annotation, result_of, schema_location, schemas_of, shape_keywords, tree}
+use Rattle.jskw_array.specs.Words.{part_location, part_meaning, units}
+use Rattle.jskw_report.proofs.GatheredNodes.{gathered_all, index_end, index_passed, index_taken, node_end, node_passed}
+use Rattle.jskw_report.proofs.GatheredNodes.{node_taken}
 use Rattle.jskw_report.proofs.EvaluationValidity.{tree_valid}
 use Rattle.jskw_report.specs.Evaluation.{is_valid}
 use Rattle.jskw_array.specs.Heights.{rest_is_as_high}
-use Rattle.jskw_array.proofs.WalksOverUnits.{false_tree, items_height, keywords_end, one_pair, pairs_at, schema_height, schema_pairs, schema_tree, unit_height, unit_taken, unit_tall}
+use Rattle.jskw_array.proofs.WalksOverParts.{false_tree, items_height, keywords_end, one_pair, pairs_at, schema_height}
+use Rattle.jskw_array.proofs.WalksOverParts.{schema_pairs, schema_tree, unit_height, unit_taken, part_tall}
 use Rattle.jskw_array.proofs.MatchedItems.{matching_is_unit}
 use Rattle.jskw_array.proofs.ValidatorMeanings.{each_meets, items_unit_is, prefix_unit_is}
 use Rattle.jskw_array.proofs.WalksOverItems.{each_lower, each_units_end, sum_at}
 use Rattle.jskw_array.proofs.+evaluate.Goals as goal
-use Rattle.jskw_array.proofs.+evaluate.Goals.{unit::evaluate_units-in-Keyword, unit::evaluate_units-in-Shape+in_ok-evaluate-in-Shape}
+use Rattle.jskw_array.proofs.+evaluate.Goals.{part::evaluate_parts-in-Keyword}
+use Rattle.jskw_array.proofs.+evaluate.Goals.{part::evaluate_parts-in-Shape+in_ok-evaluate-in-Shape}
 
 -- ---- a schema for each item
 
@@ -21,24 +29,36 @@ each::EachValidate::evaluate-loop-index-init g t c =
     let instance = g.F.Node.Rooted.tree c.args.instance.now in
     record {
       last = omega arith;
-      gathered = ap (λ es. es ++ evaluate_pairs (schemas_of v.nodes.items) 0 (items instance) (path_of c.args.location.now)) c.new-children.ensures.items;
+      gathered =
+          ap (λ es. es ++ evaluate_pairs (schemas_of v.nodes.items) 0 (items instance) (path_of c.args.location.now))
+          c.in_ok-children.ensures.items;
       location = refl;
       counted_from = omega arith;
       counted_to = omega (arith, each_meets v instance);
     }
 
 pub each::EachValidate::evaluate-evaluate_item-requires : goal.each::EachValidate::evaluate-evaluate_item-requires
-each::EachValidate::evaluate-evaluate_item-requires g t c κs within =
-    (omega (arith, each_lower c.args.self.now c.loop-index.index c.index.result.now (omega arith) c.index.ensures, c.decreases), search rules)
+each::EachValidate::evaluate-evaluate_item-requires g t c κs within = (
+  omega (
+    arith,
+    each_lower c.args.self.now c.loop-index.index c.index.result.now (omega arith) c.index.ensures,
+    c.decreases,
+  ),
+  search rules,
+)
 
-pub each::EachValidate::evaluate-returns-then-not-self-clause-gives : goal.each::EachValidate::evaluate-returns-then-not-self-clause-gives
+pub each::EachValidate::evaluate-returns-then-not-self-clause-gives
+    : goal.each::EachValidate::evaluate-returns-then-not-self-clause-gives
 each::EachValidate::evaluate-returns-then-not-self-clause-gives g t c =
     let l = c.loop-index in
     let v = c.args.self.now in
     let instance = g.F.Node.Rooted.tree c.args.instance.now in
     let p = path_of c.args.location.now in
-    let made = gathered_all _ _ _ (each_units_end v.nodes.items (items instance) l.index (omega arith) p) l.invariant.gathered in
-    c.from_children.ensures ∙ ap (of_children None) made ∙ sym (items_unit_is v (search (rules, c.if-not-self.true)) instance p)
+    let made =
+    gathered_all _ _ _ (each_units_end v.nodes.items (items instance) l.index (omega arith) p) l.invariant.gathered
+    in
+    c.from_children.ensures ∙ ap (of_children None) made
+    ∙ sym (items_unit_is v (search (rules, c.if-not-self.true)) instance p)
 
 pub each::EachValidate::evaluate-returns-clause-gives : goal.each::EachValidate::evaluate-returns-clause-gives
 each::EachValidate::evaluate-returns-clause-gives g t c =
@@ -46,60 +66,77 @@ each::EachValidate::evaluate-returns-clause-gives g t c =
     let v = c.args.self.now in
     let instance = g.F.Node.Rooted.tree c.args.instance.now in
     let p = path_of c.args.location.now in
-    let made = gathered_all _ _ _ (each_units_end v.nodes.items (items instance) l.index (omega arith) p) l.invariant.gathered in
-    c.prefix_unit.ensures ∙ ap₂ (λ k es. of_children (prefix_annotation k (length (items instance))) es) (c.len-schemas.ensures ∙ v.nodes.ok.0) made
+    let made =
+    gathered_all _ _ _ (each_units_end v.nodes.items (items instance) l.index (omega arith) p) l.invariant.gathered
+    in
+    c.prefix_unit.ensures ∙ ap₂ (λ k es. of_children (prefix_annotation k (length (items instance))) es)
+    (c.len-schemas.ensures ∙ v.nodes.ok.0) made
     ∙ sym (prefix_unit_is v (search (rules, c.if-not-self.false)) instance p)
 
 -- ---- one schema for the items from an index on
 
 pub rest::RestValidate::evaluate-evaluate_item-requires : goal.rest::RestValidate::evaluate-evaluate_item-requires
-rest::RestValidate::evaluate-evaluate_item-requires g t c κs within = (omega (arith, rest_is_as_high c.args.self.now, c.decreases), search rules)
+rest::RestValidate::evaluate-evaluate_item-requires g t c κs within =
+    (omega (arith, rest_is_as_high c.args.self.now, c.decreases), search rules)
 
 -- ---- the items that match
 
-pub matching::MatchingValidate::evaluate-loop-index-preserved-then-not-valid : goal.matching::MatchingValidate::evaluate-loop-index-preserved-then-not-valid
+pub matching::MatchingValidate::evaluate-loop-index-preserved-then-not-valid
+    : goal.matching::MatchingValidate::evaluate-loop-index-preserved-then-not-valid
 matching::MatchingValidate::evaluate-loop-index-preserved-then-not-valid g t c =
     let l = c.loop-index in
     let ts = items (g.F.Node.Rooted.tree c.args.instance.now) in
     let s = c.args.self.now.node in
     let u = g.F.Node.Rooted.tree c.item-item.result.now in
     let p = path_of c.args.location.now in
-    let is : c.valid.result ≡ holds s u = c.valid.ensures ∙ ap is_valid c.in_ok-child.ensures.gives ∙ tree_valid s u _ in
+    let is : c.valid.result ≡ holds s u =
+    c.valid.ensures ∙ ap is_valid c.in_ok-child.ensures.gives ∙ tree_valid s u _ in
     let invalid : c.valid.result ≡ false = search (rules, c.if-not-valid.true) in
     let fails = sym is ∙ invalid in
     let cost = sum_at ts l.index u (omega arith) c.item-item.ensures.value (pairs s) in
     record {
       last = l.invariant.last;
-      gathered = node_passed ts l.index u (omega arith) c.item-item.ensures.value (holds s) (tree s) p fails _ _ l.invariant.gathered;
-      matching = index_passed ts l.index u (omega arith) c.item-item.ensures.value (holds s) fails _ _ l.invariant.matching;
+      gathered =
+          node_passed ts l.index u (omega arith) c.item-item.ensures.value (holds s) (tree s) p fails _ _
+          l.invariant.gathered;
+      matching =
+          index_passed ts l.index u (omega arith) c.item-item.ensures.value (holds s) fails _ _ l.invariant.matching;
       location = c.in_ok-child.ensures.location ∙ l.invariant.location;
       counted_from = grind (arith, common_steps);
       counted_to = grind (arith, common_steps);
     }
 
-pub matching::MatchingValidate::evaluate-loop-index-preserved : goal.matching::MatchingValidate::evaluate-loop-index-preserved
+pub matching::MatchingValidate::evaluate-loop-index-preserved
+    : goal.matching::MatchingValidate::evaluate-loop-index-preserved
 matching::MatchingValidate::evaluate-loop-index-preserved g t c =
     let l = c.loop-index in
     let ts = items (g.F.Node.Rooted.tree c.args.instance.now) in
     let s = c.args.self.now.node in
     let u = g.F.Node.Rooted.tree c.item-item.result.now in
     let p = path_of c.args.location.now in
-    let is : c.valid.result ≡ holds s u = c.valid.ensures ∙ ap is_valid c.in_ok-child.ensures.gives ∙ tree_valid s u _ in
+    let is : c.valid.result ≡ holds s u =
+    c.valid.ensures ∙ ap is_valid c.in_ok-child.ensures.gives ∙ tree_valid s u _ in
     let valid : c.valid.result ≡ true = search (rules, c.if-not-valid.false) in
     let matches = sym is ∙ valid in
-    let made = c.in_ok-child.ensures.gives ∙ ap (λ q. tree s u (item_location (path_of q) l.index)) l.invariant.location in
+    let made =
+    c.in_ok-child.ensures.gives ∙ ap (λ q. tree s u (item_location (path_of q) l.index)) l.invariant.location in
     let more = c.in_ok-push.ensures.items ∙ ap (λ e. l.children.items ++ e ∷ []) made in
     let cost = sum_at ts l.index u (omega arith) c.item-item.ensures.value (pairs s) in
     record {
       last = l.invariant.last;
-      gathered = node_taken ts l.index u (omega arith) c.item-item.ensures.value (holds s) (tree s) p matches _ _ _ more l.invariant.gathered;
-      matching = index_taken ts l.index u (omega arith) c.item-item.ensures.value (holds s) matches _ _ _ c.in_ok-push-2.ensures.items l.invariant.matching;
+      gathered =
+          node_taken ts l.index u (omega arith) c.item-item.ensures.value (holds s) (tree s) p matches _ _ _ more
+          l.invariant.gathered;
+      matching =
+          index_taken ts l.index u (omega arith) c.item-item.ensures.value (holds s) matches _ _ _
+          c.in_ok-push-2.ensures.items l.invariant.matching;
       location = c.in_ok-child.ensures.location ∙ l.invariant.location;
       counted_from = grind (arith, common_steps);
       counted_to = grind (arith, common_steps);
     }
 
-pub matching::MatchingValidate::evaluate-returns-clause-gives : goal.matching::MatchingValidate::evaluate-returns-clause-gives
+pub matching::MatchingValidate::evaluate-returns-clause-gives
+    : goal.matching::MatchingValidate::evaluate-returns-clause-gives
 matching::MatchingValidate::evaluate-returns-clause-gives g t c =
     let l = c.loop-index in
     let instance = g.F.Node.Rooted.tree c.args.instance.now in
@@ -109,17 +146,25 @@ matching::MatchingValidate::evaluate-returns-clause-gives g t c =
     let nodes = gathered_all _ _ _ (node_end ts l.index (omega arith) (holds s) (tree s) p) l.invariant.gathered in
     let indices = gathered_all _ _ _ (index_end ts l.index (omega arith) (holds s)) l.invariant.matching in
     let b = bounds_of c.args.self.now.bounds in
-    let is = ap₂ (λ is es. matching_result (failing_locations b (length is) instance) is es) indices nodes ∙ matching_is_unit s b instance p in
+    let is =
+    ap₂ (λ is es. matching_result (failing_locations b (length is) instance) is es) indices nodes
+    ∙ matching_is_unit s b instance p in
     subst (λ x. IfOk c.unit.result (λ r. result_of r ≡ x)) is c.unit.ensures
 
 -- ---- the keywords
 
-pub unit::evaluate_units-evaluate-requires-in-loop-unit : goal.unit::evaluate_units-evaluate-requires-in-loop-unit
-unit::evaluate_units-evaluate-requires-in-loop-unit g t c κs within =
-    (omega (arith, unit_height c.args.units.now c.loop-unit.unit-index c.unit-item.result c.loop-unit-test.true c.unit-item.is, c.decreases), search rules)
+pub part::evaluate_parts-evaluate-requires-in-loop-part : goal.part::evaluate_parts-evaluate-requires-in-loop-part
+part::evaluate_parts-evaluate-requires-in-loop-part g t c κs within = (
+  omega (
+    arith,
+    unit_height c.args.parts.now c.loop-part.part-index c.part-item.result c.loop-part-test.true c.part-item.is,
+    c.decreases,
+  ),
+  search rules,
+)
 
-pub unit::evaluate_units-loop-unit-init : goal.unit::evaluate_units-loop-unit-init
-unit::evaluate_units-loop-unit-init g t c =
+pub part::evaluate_parts-loop-part-init : goal.part::evaluate_parts-loop-part-init
+part::evaluate_parts-loop-part-init g t c =
     record {
       gathered = refl;
       location = refl;
@@ -127,115 +172,176 @@ unit::evaluate_units-loop-unit-init g t c =
       counted_to = omega arith;
     }
 
-pub unit::evaluate_units-returns-in_err-result-clause-counted : goal.unit::evaluate_units-returns-in_err-result-clause-counted
-unit::evaluate_units-returns-in_err-result-clause-counted g t c =
-    let l = c.loop-unit in
-    let here = pairs_at c.args.units.now l.unit-index c.unit-item.result c.loop-unit-test.true c.unit-item.is (g.F.Node.Rooted.tree c.args.instance.now) in
+pub part::evaluate_parts-returns-in_err-result-clause-counted
+    : goal.part::evaluate_parts-returns-in_err-result-clause-counted
+part::evaluate_parts-returns-in_err-result-clause-counted g t c =
+    let l = c.loop-part in
+    let here =
+    pairs_at c.args.parts.now l.part-index c.part-item.result c.loop-part-test.true c.part-item.is
+    (g.F.Node.Rooted.tree c.args.instance.now) in
     let next = c.in_err-result.ensures.counted in
-    record { from = omega (arith, l.invariant.counted_from, next.from); to = omega (arith, here, l.invariant.counted_to, next.to) }
+    record {
+      from =
+          omega (arith, l.invariant.counted_from, next.from);
+      to = omega (arith, here, l.invariant.counted_to, next.to);
+    }
 
-pub unit::evaluate_units-returns-in_err-new-clause-counted : goal.unit::evaluate_units-returns-in_err-new-clause-counted
-unit::evaluate_units-returns-in_err-new-clause-counted g t c =
-    let l = c.loop-unit in
-    let here = pairs_at c.args.units.now l.unit-index c.unit-item.result c.loop-unit-test.true c.unit-item.is (g.F.Node.Rooted.tree c.args.instance.now) in
-    let next = c.in_ok-result.ensures.counted in
-    record { from = omega (arith, l.invariant.counted_from, next.from); to = omega (arith, here, l.invariant.counted_to, next.to) }
-
-pub unit::evaluate_units-returns-in_err-push-clause-location : goal.unit::evaluate_units-returns-in_err-push-clause-location
-unit::evaluate_units-returns-in_err-push-clause-location g t c =
-    c.in_ok-result.ensures.location ∙ c.loop-unit.invariant.location
-
-pub unit::evaluate_units-returns-in_err-push-clause-counted : goal.unit::evaluate_units-returns-in_err-push-clause-counted
-unit::evaluate_units-returns-in_err-push-clause-counted g t c =
-    let l = c.loop-unit in
-    let here = pairs_at c.args.units.now l.unit-index c.unit-item.result c.loop-unit-test.true c.unit-item.is (g.F.Node.Rooted.tree c.args.instance.now) in
-    let next = c.in_ok-result.ensures.counted in
-    record { from = omega (arith, l.invariant.counted_from, next.from); to = omega (arith, here, l.invariant.counted_to, next.to) }
-
-pub unit::evaluate_units-loop-unit-preserved : goal.unit::evaluate_units-loop-unit-preserved
-unit::evaluate_units-loop-unit-preserved g t c =
-    let l = c.loop-unit in
-    let instance = g.F.Node.Rooted.tree c.args.instance.now in
-    let p = path_of c.args.location.now in
-    let us = c.args.units.now in
-    let u = c.unit-item.result in
-    let absorbed : c.match-unit.children.items ≡ l.children.items ++ units (absorbed_by u) instance c.args.path.now = elim c.match-unit.branch [
-      | unit::evaluate_units-in-Keyword w ↦ rw w.children-is (rw w.in-Keyword.is (sym (append-nil _)))
-      | unit::evaluate_units-in-Shape+in_ok-evaluate-in-Shape w ↦ rw w.children-is (w.in_ok-evaluate-in-Shape.ensures ∙ ap (λ ks. l.children.items ++ units ks instance c.args.path.now) (ap (λ v. absorbed_keywords v.absorbed) w.deref.ensures ∙ ap absorbed_by (sym w.in-Shape.is)))
-    ] in
-    let before = absorbed ∙ ap (λ q. l.children.items ++ units (absorbed_by u) instance q) c.requires.path in
-    let result = c.in_ok-result.ensures.gives ∙ ap (λ q. meaning_unit (unit_meaning u) instance (path_of q)) l.invariant.location in
-    let made = c.in_ok-new.ensures ∙ ap (λ q. node_at q c.args.path.now (result_of c.in_ok-result.result)) c.location.ensures ∙ ap₂ (node_at (unit_location u)) c.requires.path result in
-    let more = c.in_ok-push.ensures.items ∙ ap (λ e. c.match-unit.children.items ++ e ∷ []) made in
-    let cost = pairs_at us l.unit-index u c.loop-unit-test.true c.unit-item.is instance in
+pub part::evaluate_parts-returns-in_err-at_keyword-clause-counted
+    : goal.part::evaluate_parts-returns-in_err-at_keyword-clause-counted
+part::evaluate_parts-returns-in_err-at_keyword-clause-counted g t c =
+    let l = c.loop-part in
+    let here =
+    pairs_at c.args.parts.now l.part-index c.part-item.result c.loop-part-test.true c.part-item.is
+    (g.F.Node.Rooted.tree c.args.instance.now) in
     let next = c.in_ok-result.ensures.counted in
     record {
-      gathered = unit_taken us l.unit-index u c.loop-unit-test.true c.unit-item.is instance p _ _ _ _ before more l.invariant.gathered;
+      from =
+          omega (arith, l.invariant.counted_from, next.from);
+      to = omega (arith, here, l.invariant.counted_to, next.to);
+    }
+
+pub part::evaluate_parts-returns-in_err-push-clause-location
+    : goal.part::evaluate_parts-returns-in_err-push-clause-location
+part::evaluate_parts-returns-in_err-push-clause-location g t c =
+    c.in_ok-result.ensures.location ∙ c.loop-part.invariant.location
+
+pub part::evaluate_parts-returns-in_err-push-clause-counted
+    : goal.part::evaluate_parts-returns-in_err-push-clause-counted
+part::evaluate_parts-returns-in_err-push-clause-counted g t c =
+    let l = c.loop-part in
+    let here =
+    pairs_at c.args.parts.now l.part-index c.part-item.result c.loop-part-test.true c.part-item.is
+    (g.F.Node.Rooted.tree c.args.instance.now) in
+    let next = c.in_ok-result.ensures.counted in
+    record {
+      from =
+          omega (arith, l.invariant.counted_from, next.from);
+      to = omega (arith, here, l.invariant.counted_to, next.to);
+    }
+
+pub part::evaluate_parts-loop-part-preserved : goal.part::evaluate_parts-loop-part-preserved
+part::evaluate_parts-loop-part-preserved g t c =
+    let l = c.loop-part in
+    let instance = g.F.Node.Rooted.tree c.args.instance.now in
+    let p = path_of c.args.location.now in
+    let us = c.args.parts.now in
+    let u = c.part-item.result in
+    let absorbed : c.match-part.children.items ≡ l.children.items ++ units (absorbed_by u) instance c.args.path.now =
+    elim c.match-part.branch [
+      | part::evaluate_parts-in-Keyword w ↦ rw w.children-is (rw w.in-Keyword.is (sym (append-nil _)))
+      | part::evaluate_parts-in-Shape+in_ok-evaluate-in-Shape w ↦ rw w.children-is (w.in_ok-evaluate-in-Shape.ensures
+          ∙ ap (λ ks. l.children.items ++ units ks instance c.args.path.now)
+          (ap (λ v. absorbed_keywords v.absorbed) w.deref.ensures ∙ ap absorbed_by (sym w.in-Shape.is)))
+    ] in
+    let before = absorbed ∙ ap (λ q. l.children.items ++ units (absorbed_by u) instance q) c.requires.path in
+    let result =
+    c.in_ok-result.ensures.gives
+    ∙ ap (λ q. meaning_unit (part_meaning u) instance (path_of q)) l.invariant.location in
+    let made =
+    c.in_ok-at_keyword.ensures
+    ∙ ap (λ q. node_at q c.args.path.now (result_of c.in_ok-result.result)) c.location.ensures
+    ∙ ap₂ (node_at (part_location u)) c.requires.path result in
+    let more = c.in_ok-push.ensures.items ∙ ap (λ e. c.match-part.children.items ++ e ∷ []) made in
+    let cost = pairs_at us l.part-index u c.loop-part-test.true c.part-item.is instance in
+    let next = c.in_ok-result.ensures.counted in
+    record {
+      gathered =
+          unit_taken us l.part-index u c.loop-part-test.true c.part-item.is instance p _ _ _ _ before more
+          l.invariant.gathered;
       location = c.in_ok-result.ensures.location ∙ l.invariant.location;
       counted_from = omega (arith, l.invariant.counted_from, next.from);
       counted_to = omega (arith, cost, l.invariant.counted_to, next.to);
     }
 
-pub unit::evaluate_units-returns-clause-gives : goal.unit::evaluate_units-returns-clause-gives
-unit::evaluate_units-returns-clause-gives g t c =
-    let l = c.loop-unit in
+pub part::evaluate_parts-returns-clause-gives : goal.part::evaluate_parts-returns-clause-gives
+part::evaluate_parts-returns-clause-gives g t c =
+    let l = c.loop-part in
     let instance = g.F.Node.Rooted.tree c.args.instance.now in
     let p = path_of c.args.location.now in
-    gathered_all _ _ _ (ap (λ ks. units ks instance p) (keywords_end c.args.units.now l.unit-index c.loop-unit-test.false)) l.invariant.gathered
+    gathered_all _ _ _
+    (ap (λ ks. units ks instance p) (keywords_end c.args.parts.now l.part-index c.loop-part-test.false))
+    l.invariant.gathered
 
-pub unit::UnitValidate::evaluate-evaluate-requires-in-Shape : goal.unit::UnitValidate::evaluate-evaluate-requires-in-Shape
-unit::UnitValidate::evaluate-evaluate-requires-in-Shape g t c κs within =
+pub part::PartValidate::evaluate-evaluate-requires-in-Shape
+    : goal.part::PartValidate::evaluate-evaluate-requires-in-Shape
+part::PartValidate::evaluate-evaluate-requires-in-Shape g t c κs within =
     let v = c.deref.result.now in
-    let tall : unit_tall c.args.self.now ≡ all_height (shape_keywords v) = ap unit_tall c.in-Shape.is ∙ ap (λ w. all_height (shape_keywords w)) (sym c.deref.ensures) in
+    let tall : part_tall c.args.self.now ≡ all_height (shape_keywords v) =
+    ap part_tall c.in-Shape.is ∙ ap (λ w. all_height (shape_keywords w)) (sym c.deref.ensures) in
     (omega (arith, tall, items_height v, c.decreases), search rules)
 
 -- ---- a node
 
-pub node::SchemaNode::evaluate_instance_below-evaluate_units-requires : goal.node::SchemaNode::evaluate_instance_below-evaluate_units-requires
-node::SchemaNode::evaluate_instance_below-evaluate_units-requires g t c κs within =
-    let below = schema_height c.args.self.now c.in-Some.units c.in-Some.ensures in
+pub node::Subschema::evaluate_instance_below-evaluate_parts-requires
+    : goal.node::Subschema::evaluate_instance_below-evaluate_parts-requires
+node::Subschema::evaluate_instance_below-evaluate_parts-requires g t c κs within =
+    let below = schema_height c.args.self.now c.in-Some.parts c.in-Some.ensures in
     (omega (arith, below, c.decreases), search (rules, c.in_ok-path.ensures))
 
-pub node::SchemaNode::evaluate_instance_below-returns-in_err-path-clause-counted : goal.node::SchemaNode::evaluate_instance_below-returns-in_err-path-clause-counted
-node::SchemaNode::evaluate_instance_below-returns-in_err-path-clause-counted g t c =
+pub node::Subschema::evaluate_instance_below-returns-in_err-path-clause-counted
+    : goal.node::Subschema::evaluate_instance_below-returns-in_err-path-clause-counted
+node::Subschema::evaluate_instance_below-returns-in_err-path-clause-counted g t c =
     let one = one_pair c.args.self.now (g.F.Node.Rooted.tree c.args.instance.now) in
     let counted = c.count_one.ensures.counted in
     record { from = counted.from; to = omega (arith, one, counted.to) }
 
-pub node::SchemaNode::evaluate_instance_below-returns-in_err-evaluate_units-clause-applied : goal.node::SchemaNode::evaluate_instance_below-returns-in_err-evaluate_units-clause-applied
-node::SchemaNode::evaluate_instance_below-returns-in_err-evaluate_units-clause-applied g t c = le_trans c.count_one.ensures.applied c.in_err-evaluate_units.ensures.counted.from
+pub node::Subschema::evaluate_instance_below-returns-in_err-children-clause-counted
+    : goal.node::Subschema::evaluate_instance_below-returns-in_err-children-clause-counted
+node::Subschema::evaluate_instance_below-returns-in_err-children-clause-counted g t c =
+    let one = one_pair c.args.self.now (g.F.Node.Rooted.tree c.args.instance.now) in
+    let counted = c.count_one.ensures.counted in
+    record { from = counted.from; to = omega (arith, one, counted.to) }
 
-pub node::SchemaNode::evaluate_instance_below-returns-in_err-evaluate_units-clause-counted : goal.node::SchemaNode::evaluate_instance_below-returns-in_err-evaluate_units-clause-counted
-node::SchemaNode::evaluate_instance_below-returns-in_err-evaluate_units-clause-counted g t c =
-    let whole = schema_pairs c.args.self.now c.in-Some.units c.in-Some.ensures (g.F.Node.Rooted.tree c.args.instance.now) in
+pub node::Subschema::evaluate_instance_below-returns-in_err-evaluate_parts-clause-applied
+    : goal.node::Subschema::evaluate_instance_below-returns-in_err-evaluate_parts-clause-applied
+node::Subschema::evaluate_instance_below-returns-in_err-evaluate_parts-clause-applied g t c =
+    le_trans c.count_one.ensures.applied c.in_err-evaluate_parts.ensures.counted.from
+
+pub node::Subschema::evaluate_instance_below-returns-in_err-evaluate_parts-clause-counted
+    : goal.node::Subschema::evaluate_instance_below-returns-in_err-evaluate_parts-clause-counted
+node::Subschema::evaluate_instance_below-returns-in_err-evaluate_parts-clause-counted g t c =
+    let whole =
+    schema_pairs c.args.self.now c.in-Some.parts c.in-Some.ensures (g.F.Node.Rooted.tree c.args.instance.now) in
     let first = c.count_one.ensures.counted in
-    let rest = c.in_err-evaluate_units.ensures.counted in
+    let rest = c.in_err-evaluate_parts.ensures.counted in
     record { from = omega (arith, first.from, rest.from); to = omega (arith, whole, first.to, rest.to) }
 
-pub node::SchemaNode::evaluate_instance_below-returns-clause-applied : goal.node::SchemaNode::evaluate_instance_below-returns-clause-applied
-node::SchemaNode::evaluate_instance_below-returns-clause-applied g t c = le_trans c.count_one.ensures.applied c.in_ok-evaluate_units.ensures.counted.from
+pub node::Subschema::evaluate_instance_below-returns-clause-applied
+    : goal.node::Subschema::evaluate_instance_below-returns-clause-applied
+node::Subschema::evaluate_instance_below-returns-clause-applied g t c =
+    le_trans c.count_one.ensures.applied c.in_ok-evaluate_parts.ensures.counted.from
 
-pub node::SchemaNode::evaluate_instance_below-returns-clause-counted : goal.node::SchemaNode::evaluate_instance_below-returns-clause-counted
-node::SchemaNode::evaluate_instance_below-returns-clause-counted g t c =
-    let whole = schema_pairs c.args.self.now c.in-Some.units c.in-Some.ensures (g.F.Node.Rooted.tree c.args.instance.now) in
+pub node::Subschema::evaluate_instance_below-returns-clause-counted
+    : goal.node::Subschema::evaluate_instance_below-returns-clause-counted
+node::Subschema::evaluate_instance_below-returns-clause-counted g t c =
+    let whole =
+    schema_pairs c.args.self.now c.in-Some.parts c.in-Some.ensures (g.F.Node.Rooted.tree c.args.instance.now) in
     let first = c.count_one.ensures.counted in
-    let rest = c.in_ok-evaluate_units.ensures.counted in
+    let rest = c.in_ok-evaluate_parts.ensures.counted in
     record { from = omega (arith, first.from, rest.from); to = omega (arith, whole, first.to, rest.to) }
 
-pub node::SchemaNode::evaluate_instance_below-returns-clause-gives : goal.node::SchemaNode::evaluate_instance_below-returns-clause-gives
-node::SchemaNode::evaluate_instance_below-returns-clause-gives g t c =
+pub node::Subschema::evaluate_instance_below-returns-clause-gives
+    : goal.node::Subschema::evaluate_instance_below-returns-clause-gives
+node::Subschema::evaluate_instance_below-returns-clause-gives g t c =
     let instance = g.F.Node.Rooted.tree c.args.instance.now in
     let p = path_of c.args.location.now in
     let s = c.args.self.now in
-    let whole = schema_tree s c.in-Some.units c.in-Some.ensures instance p in
-    let children = c.in_ok-evaluate_units.ensures.gives ∙ ap (λ es. es ++ units (keywords_of c.in-Some.units.now) instance p) c.new-children.ensures.items in
+    let whole = schema_tree s c.in-Some.parts c.in-Some.ensures instance p in
+    let children =
+    c.in_ok-evaluate_parts.ensures.gives
+    ∙ ap (λ es. es ++ units (keywords_of c.in-Some.parts.now) instance p) c.in_ok-children.ensures.items in
     let result = c.from_children-result.ensures ∙ ap (of_children None) children in
-    let is = ap (λ q. node_at q c.in_ok-path.path (result_of c.from_children-result.result)) c.location-2.ensures ∙ ap₂ (node_at (schema_location s)) c.in_ok-path.ensures result ∙ sym whole in
-    subst (λ x. IfOk c.new.result (λ node. node ≡ x)) is c.new.ensures
+    let is =
+    ap (λ q. node_at q c.in_ok-path.path (result_of c.from_children-result.result)) c.location-2.ensures
+    ∙ ap₂ (node_at (schema_location s)) c.in_ok-path.ensures result ∙ sym whole in
+    subst (λ x. IfOk c.at_keyword.result (λ node. node ≡ x)) is c.at_keyword.ensures
 
-pub node::SchemaNode::evaluate_instance_below-returns-in_default-clause-gives : goal.node::SchemaNode::evaluate_instance_below-returns-in_default-clause-gives
-node::SchemaNode::evaluate_instance_below-returns-in_default-clause-gives g t c =
+pub node::Subschema::evaluate_instance_below-returns-in_default-clause-gives
+    : goal.node::Subschema::evaluate_instance_below-returns-in_default-clause-gives
+node::Subschema::evaluate_instance_below-returns-in_default-clause-gives g t c =
     let instance = g.F.Node.Rooted.tree c.args.instance.now in
     let p = path_of c.args.location.now in
-    let is = ap (λ q. tree (false_schema q) instance p) c.location.ensures ∙ sym (false_tree c.args.self.now c.in_default.ensures instance p) in
+    let is =
+    ap (λ q. tree (false_schema q) instance p) c.location.ensures
+    ∙ sym (false_tree c.args.self.now c.in_default.ensures instance p) in
     subst (λ x. IfOk c.evaluate_refusal.result (λ node. node ≡ x)) is c.evaluate_refusal.ensures

@@ -1,22 +1,27 @@
 use Rattle.std.proofs.Common.{◌≡◌, ◌+◌, ◌*◌, ◌≤◌, ◌++◌, min, length, drop, sum_by}
-use Rattle.jskw_array.specs.Words.{all_height, all_pairs, each_keyword, each_pairs, evaluate_each, evaluate_matching, evaluate_pairs, height, holds, items, keyword_height, keyword_pairs, keywords_of, matching_indices, pairs, path_of, rest_keyword, schemas_of, tree, units, validator_keyword}
-use Rattle.jskw_array.proofs.WalksOverUnits.{unit_tall}
+use Rattle.jskw_array.specs.Words.{all_height, all_pairs, each_keyword, each_pairs, evaluate_each, evaluate_matching}
+use Rattle.jskw_array.specs.Words.{evaluate_pairs, height, holds, items, keyword_height, keyword_pairs, keywords_of}
+use Rattle.jskw_array.specs.Words.{matching_indices, pairs, path_of, rest_keyword, schemas_of, tree, units}
+use Rattle.jskw_array.specs.Words.{validator_keyword}
+use Rattle.jskw_array.proofs.WalksOverParts.{part_tall}
 use Rattle.jskw_array.proofs.+evaluate.Given as goal
 
-abbrev pub decreases-node::SchemaNode::evaluate_instance_below : goal.decreases-node::SchemaNode::evaluate_instance_below
-decreases-node::SchemaNode::evaluate_instance_below g l = 10 * height l.self.now
+abbrev pub decreases-node::Subschema::evaluate_instance_below : goal.decreases-node::Subschema::evaluate_instance_below
+decreases-node::Subschema::evaluate_instance_below g l = 10 * height l.self.now
 
-abbrev pub decreases-node::SchemaNode::evaluate_item : goal.decreases-node::SchemaNode::evaluate_item
-decreases-node::SchemaNode::evaluate_item g l = 10 * height l.self.now + 1
+abbrev pub decreases-node::Subschema::evaluate_item : goal.decreases-node::Subschema::evaluate_item
+decreases-node::Subschema::evaluate_item g l = 10 * height l.self.now + 1
 
-abbrev pub decreases-unit::evaluate_units : goal.decreases-unit::evaluate_units
-decreases-unit::evaluate_units g l = 10 * all_height (keywords_of l.units.now) + 7
+abbrev pub decreases-part::evaluate_parts : goal.decreases-part::evaluate_parts
+decreases-part::evaluate_parts g l = 10 * all_height (keywords_of l.parts.now) + 7
 
-abbrev pub decreases-unit::UnitValidate::evaluate : goal.decreases-unit::UnitValidate::evaluate
-decreases-unit::UnitValidate::evaluate g l = 10 * unit_tall l.self.now + 6
+abbrev pub decreases-part::PartValidate::evaluate : goal.decreases-part::PartValidate::evaluate
+decreases-part::PartValidate::evaluate g l = 10 * part_tall l.self.now + 6
 
-abbrev pub decreases-items::array_shape::ArrayShapeValidatorValidate::evaluate : goal.decreases-items::array_shape::ArrayShapeValidatorValidate::evaluate
-decreases-items::array_shape::ArrayShapeValidatorValidate::evaluate g l = 10 * keyword_height (validator_keyword l.self.now.items.validator) + 5
+abbrev pub decreases-items::array_shape::ArrayShapeValidatorValidate::evaluate
+    : goal.decreases-items::array_shape::ArrayShapeValidatorValidate::evaluate
+decreases-items::array_shape::ArrayShapeValidatorValidate::evaluate g l =
+    10 * keyword_height (validator_keyword l.self.now.items.validator) + 5
 
 abbrev pub decreases-validator::ValidatorValidate::evaluate : goal.decreases-validator::ValidatorValidate::evaluate
 decreases-validator::ValidatorValidate::evaluate g l = 10 * keyword_height (validator_keyword l.self.now) + 3
@@ -36,11 +41,13 @@ invariant-each::EachValidate::evaluate-loop-index g l =
     let p = path_of l.initial.location in
     let ss = l.self.nodes.items in
     record {
-      last : l.index-end ≡ min (length (items t)) (length ss);
-      gathered : l.children.items ++ evaluate_pairs (schemas_of (drop l.index ss)) l.index (drop l.index (items t)) p ≡ evaluate_pairs (schemas_of ss) 0 (items t) p;
+      last : l.count ≡ min (length (items t)) (length ss);
+      gathered : l.children.items ++ evaluate_pairs (schemas_of (drop l.index ss)) l.index (drop l.index (items t)) p
+          ≡ evaluate_pairs (schemas_of ss) 0 (items t) p;
       location : l.location ≡ l.initial.location;
       counted_from : l.initial.ctx ≤ l.ctx;
-      counted_to : l.ctx + each_pairs (schemas_of (drop l.index ss)) (drop l.index (items t)) ≤ l.initial.ctx + keyword_pairs (each_keyword l.self) t;
+      counted_to : l.ctx + each_pairs (schemas_of (drop l.index ss)) (drop l.index (items t))
+          ≤ l.initial.ctx + keyword_pairs (each_keyword l.self) t;
     }
 
 abbrev pub invariant-rest::RestValidate::evaluate-loop-index : goal.invariant-rest::RestValidate::evaluate-loop-index
@@ -49,34 +56,41 @@ invariant-rest::RestValidate::evaluate-loop-index g l =
     let p = path_of l.initial.location in
     let s = l.self.node in
     record {
-      last : l.index-end ≡ length (items t);
-      gathered : l.children.items ++ evaluate_each (tree s) l.index (drop l.index (items t)) p ≡ evaluate_each (tree s) l.self.start (drop l.self.start (items t)) p;
+      last : l.count ≡ length (items t);
+      gathered : l.children.items ++ evaluate_each (tree s) l.index (drop l.index (items t)) p
+          ≡ evaluate_each (tree s) l.self.start (drop l.self.start (items t)) p;
       location : l.location ≡ l.initial.location;
       counted_from : l.initial.ctx ≤ l.ctx;
-      counted_to : l.ctx + sum_by (pairs s) (drop l.index (items t)) ≤ l.initial.ctx + keyword_pairs (rest_keyword l.self) t;
+      counted_to : l.ctx + sum_by (pairs s) (drop l.index (items t))
+          ≤ l.initial.ctx + keyword_pairs (rest_keyword l.self) t;
     }
 
-abbrev pub invariant-matching::MatchingValidate::evaluate-loop-index : goal.invariant-matching::MatchingValidate::evaluate-loop-index
+abbrev pub invariant-matching::MatchingValidate::evaluate-loop-index
+    : goal.invariant-matching::MatchingValidate::evaluate-loop-index
 invariant-matching::MatchingValidate::evaluate-loop-index g l =
     let ts = items (g.F.Node.Rooted.tree l.instance) in
     let p = path_of l.initial.location in
     let s = l.self.node in
     record {
       last : l.index-end ≡ length ts;
-      gathered : l.children.items ++ evaluate_matching (holds s) (tree s) l.index (drop l.index ts) p ≡ evaluate_matching (holds s) (tree s) 0 ts p;
-      matching : l.matches.items ++ matching_indices (holds s) l.index (drop l.index ts) ≡ matching_indices (holds s) 0 ts;
+      gathered : l.children.items ++ evaluate_matching (holds s) (tree s) l.index (drop l.index ts) p
+          ≡ evaluate_matching (holds s) (tree s) 0 ts p;
+      matching : l.matches.items ++ matching_indices (holds s) l.index (drop l.index ts)
+          ≡ matching_indices (holds s) 0 ts;
       location : l.location ≡ l.initial.location;
       counted_from : l.initial.ctx ≤ l.ctx;
       counted_to : l.ctx + sum_by (pairs s) (drop l.index ts) ≤ l.initial.ctx + sum_by (pairs s) ts;
     }
 
-abbrev pub invariant-unit::evaluate_units-loop-unit : goal.invariant-unit::evaluate_units-loop-unit
-invariant-unit::evaluate_units-loop-unit g l =
+abbrev pub invariant-part::evaluate_parts-loop-part : goal.invariant-part::evaluate_parts-loop-part
+invariant-part::evaluate_parts-loop-part g l =
     let t = g.F.Node.Rooted.tree l.instance in
     let p = path_of l.initial.location in
     record {
-      gathered : l.children.items ++ units (keywords_of (drop l.unit-index l.units)) t p ≡ l.initial.children.items ++ units (keywords_of l.units) t p;
+      gathered : l.children.items ++ units (keywords_of (drop l.part-index l.parts)) t p
+          ≡ l.initial.children.items ++ units (keywords_of l.parts) t p;
       location : l.location ≡ l.initial.location;
       counted_from : l.initial.ctx ≤ l.ctx;
-      counted_to : l.ctx + all_pairs (keywords_of (drop l.unit-index l.units)) t ≤ l.initial.ctx + all_pairs (keywords_of l.units) t;
+      counted_to : l.ctx + all_pairs (keywords_of (drop l.part-index l.parts)) t
+          ≤ l.initial.ctx + all_pairs (keywords_of l.parts) t;
     }

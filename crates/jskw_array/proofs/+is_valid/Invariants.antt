@@ -1,25 +1,29 @@
 use Rattle.std.proofs.Common.{◌≡◌, ◌+◌, ◌*◌, ◌≤◌, length, drop, sum_by, count_by}
-use Rattle.jskw_array.specs.Words.{all_height, all_hold, all_needed, each_holds, each_keyword, each_needed, height, holds, items, keyword_height, keyword_holds, keyword_needed, keywords_of, list_all, needed, rest_keyword, schemas_of, sum_to_failure, validator_keyword}
-use Rattle.jskw_array.proofs.WalksOverUnits.{unit_tall}
+use Rattle.jskw_array.specs.Words.{all_height, all_hold, all_needed, each_holds, each_keyword, each_needed, height}
+use Rattle.jskw_array.specs.Words.{holds, items, keyword_height, keyword_holds, keyword_needed, keywords_of, list_all}
+use Rattle.jskw_array.specs.Words.{needed, rest_keyword, schemas_of, sum_to_failure, validator_keyword}
+use Rattle.jskw_array.proofs.WalksOverParts.{part_tall}
 use Rattle.jskw_array.proofs.+is_valid.Given as goal
 
-abbrev pub decreases-node::SchemaNode::is_valid : goal.decreases-node::SchemaNode::is_valid
-decreases-node::SchemaNode::is_valid g l = 10 * height l.self.now + 1
+abbrev pub decreases-node::Subschema::is_valid : goal.decreases-node::Subschema::is_valid
+decreases-node::Subschema::is_valid g l = 10 * height l.self.now + 1
 
-abbrev pub decreases-node::SchemaNode::keywords_are_valid : goal.decreases-node::SchemaNode::keywords_are_valid
-decreases-node::SchemaNode::keywords_are_valid g l = 10 * height l.self.now
+abbrev pub decreases-node::Subschema::keywords_are_valid : goal.decreases-node::Subschema::keywords_are_valid
+decreases-node::Subschema::keywords_are_valid g l = 10 * height l.self.now
 
-abbrev pub decreases-unit::units_are_valid : goal.decreases-unit::units_are_valid
-decreases-unit::units_are_valid g l = 10 * all_height (keywords_of l.units.now) + 8
+abbrev pub decreases-part::parts_are_valid : goal.decreases-part::parts_are_valid
+decreases-part::parts_are_valid g l = 10 * all_height (keywords_of l.parts.now) + 8
 
-abbrev pub decreases-unit::UnitValidate::is_valid : goal.decreases-unit::UnitValidate::is_valid
-decreases-unit::UnitValidate::is_valid g l = 10 * unit_tall l.self.now + 7
+abbrev pub decreases-part::PartValidate::is_valid : goal.decreases-part::PartValidate::is_valid
+decreases-part::PartValidate::is_valid g l = 10 * part_tall l.self.now + 7
 
-abbrev pub decreases-items::array_shape::ArrayShapeValidatorValidate::is_valid : goal.decreases-items::array_shape::ArrayShapeValidatorValidate::is_valid
-decreases-items::array_shape::ArrayShapeValidatorValidate::is_valid g l = 10 * keyword_height (validator_keyword l.self.now.items.validator) + 6
+abbrev pub decreases-items::array_shape::ArrayShapeValidatorValidate::is_valid
+    : goal.decreases-items::array_shape::ArrayShapeValidatorValidate::is_valid
+decreases-items::array_shape::ArrayShapeValidatorValidate::is_valid g l =
+    10 * keyword_height (validator_keyword l.self.now.items.validator) + 6
 
-abbrev pub decreases-validator::Validator::holds_of : goal.decreases-validator::Validator::holds_of
-decreases-validator::Validator::holds_of g l = 10 * keyword_height (validator_keyword l.self.now) + 5
+abbrev pub decreases-validator::Validator::is_valid_counted : goal.decreases-validator::Validator::is_valid_counted
+decreases-validator::Validator::is_valid_counted g l = 10 * keyword_height (validator_keyword l.self.now) + 5
 
 abbrev pub decreases-validator::ValidatorValidate::is_valid : goal.decreases-validator::ValidatorValidate::is_valid
 decreases-validator::ValidatorValidate::is_valid g l = 10 * keyword_height (validator_keyword l.self.now) + 4
@@ -33,8 +37,8 @@ decreases-each::Each::are_valid g l = 10 * keyword_height (each_keyword l.self.n
 abbrev pub decreases-rest::RestValidate::is_valid : goal.decreases-rest::RestValidate::is_valid
 decreases-rest::RestValidate::is_valid g l = 10 * keyword_height (rest_keyword l.self.now) + 3
 
-abbrev pub decreases-rest::Rest::holds_of : goal.decreases-rest::Rest::holds_of
-decreases-rest::Rest::holds_of g l = 10 * keyword_height (rest_keyword l.self.now) + 2
+abbrev pub decreases-rest::Rest::is_valid_counted : goal.decreases-rest::Rest::is_valid_counted
+decreases-rest::Rest::is_valid_counted g l = 10 * keyword_height (rest_keyword l.self.now) + 2
 
 abbrev pub decreases-matching::MatchingValidate::is_valid : goal.decreases-matching::MatchingValidate::is_valid
 decreases-matching::MatchingValidate::is_valid g l = 10 * height l.self.now.node + 3
@@ -47,22 +51,26 @@ invariant-each::Each::are_valid-loop-index g l =
     let ts = items (g.F.Node.Rooted.tree l.instance) in
     let ss = l.self.nodes.items in
     record {
-      answer : each_holds (schemas_of (drop l.first ss)) (drop l.first ts) ≡ each_holds (schemas_of (drop l.index ss)) (drop l.index ts);
+      answer : each_holds (schemas_of (drop l.first ss)) (drop l.first ts)
+          ≡ each_holds (schemas_of (drop l.index ss)) (drop l.index ts);
       counted_from : l.initial.ctx ≤ l.ctx;
-      counted_to : l.ctx + each_needed (schemas_of (drop l.index ss)) (drop l.index ts) ≤ l.initial.ctx + each_needed (schemas_of (drop l.first ss)) (drop l.first ts);
+      counted_to : l.ctx + each_needed (schemas_of (drop l.index ss)) (drop l.index ts)
+          ≤ l.initial.ctx + each_needed (schemas_of (drop l.first ss)) (drop l.first ts);
     }
 
-abbrev pub invariant-rest::Rest::holds_of-loop-index : goal.invariant-rest::Rest::holds_of-loop-index
-invariant-rest::Rest::holds_of-loop-index g l =
+abbrev pub invariant-rest::Rest::is_valid_counted-loop-index : goal.invariant-rest::Rest::is_valid_counted-loop-index
+invariant-rest::Rest::is_valid_counted-loop-index g l =
     let t = g.F.Node.Rooted.tree l.instance in
     let s = l.self.node in
     record {
       answer : keyword_holds (rest_keyword l.self) t ≡ list_all (holds s) (drop l.index (items t));
       counted_from : l.fn.ctx ≤ l.ctx;
-      counted_to : l.ctx + sum_to_failure (holds s) (needed s) (drop l.index (items t)) ≤ l.fn.ctx + keyword_needed (rest_keyword l.self) t;
+      counted_to : l.ctx + sum_to_failure (holds s) (needed s) (drop l.index (items t))
+          ≤ l.fn.ctx + keyword_needed (rest_keyword l.self) t;
     }
 
-abbrev pub invariant-matching::Matching::failing_location-loop-index : goal.invariant-matching::Matching::failing_location-loop-index
+abbrev pub invariant-matching::Matching::failing_location-loop-index
+    : goal.invariant-matching::Matching::failing_location-loop-index
 invariant-matching::Matching::failing_location-loop-index g l =
     let ts = items (g.F.Node.Rooted.tree l.instance) in
     let s = l.self.node in
@@ -75,11 +83,12 @@ invariant-matching::Matching::failing_location-loop-index g l =
       counted_to : l.ctx + sum_by (needed s) (drop l.index ts) ≤ l.initial.ctx + sum_by (needed s) ts;
     }
 
-abbrev pub invariant-unit::units_are_valid-loop-unit : goal.invariant-unit::units_are_valid-loop-unit
-invariant-unit::units_are_valid-loop-unit g l =
+abbrev pub invariant-part::parts_are_valid-loop-part : goal.invariant-part::parts_are_valid-loop-part
+invariant-part::parts_are_valid-loop-part g l =
     let t = g.F.Node.Rooted.tree l.instance in
     record {
-      answer : all_hold (keywords_of l.units) t ≡ all_hold (keywords_of (drop l.unit-index l.units)) t;
+      answer : all_hold (keywords_of l.parts) t ≡ all_hold (keywords_of (drop l.part-index l.parts)) t;
       counted_from : l.initial.ctx ≤ l.ctx;
-      counted_to : l.ctx + all_needed (keywords_of (drop l.unit-index l.units)) t ≤ l.initial.ctx + all_needed (keywords_of l.units) t;
+      counted_to : l.ctx + all_needed (keywords_of (drop l.part-index l.parts)) t
+          ≤ l.initial.ctx + all_needed (keywords_of l.parts) t;
     }

@@ -1,25 +1,31 @@
 use Rattle.std.proofs.Common.{◌≡◌, ◌+◌, ◌*◌, min, length, drop}
-use Rattle.jskw_array.specs.Words.{all_applications, all_fail, all_height, each_fails, each_item, each_keyword, fail, height, items, keeps_list, keyword_fail, keyword_height, keywords_of, meaning_applications, one_keyword, path_of, rest_keyword, schemas_of, validator_keyword}
-use Rattle.jskw_array.proofs.WalksOverUnits.{unit_tall}
+use Rattle.jskw_array.specs.Words.{all_applications, all_fail, all_height, each_fails, each_item, each_keyword, fail}
+use Rattle.jskw_array.specs.Words.{height, items, keeps_list, keyword_fail, keyword_height, keywords_of}
+use Rattle.jskw_array.specs.Words.{meaning_applications, one_keyword, path_of, rest_keyword, schemas_of}
+use Rattle.jskw_array.specs.Words.{validator_keyword}
+use Rattle.jskw_array.proofs.WalksOverParts.{part_tall}
 use Rattle.jskw_array.proofs.ReportingWalks.{Walk, each_applications, items_applications}
 use Rattle.jskw_array.proofs.+report.Given as goal
 
-abbrev pub decreases-node::SchemaNode::report_errors : goal.decreases-node::SchemaNode::report_errors
-decreases-node::SchemaNode::report_errors g l = 10 * height l.self.now
+abbrev pub decreases-node::Subschema::report_errors : goal.decreases-node::Subschema::report_errors
+decreases-node::Subschema::report_errors g l = 10 * height l.self.now
 
-abbrev pub decreases-node::SchemaNode::report_item : goal.decreases-node::SchemaNode::report_item
-decreases-node::SchemaNode::report_item g l = 10 * height l.self.now + 1
+abbrev pub decreases-node::Subschema::report_item : goal.decreases-node::Subschema::report_item
+decreases-node::Subschema::report_item g l = 10 * height l.self.now + 1
 
-abbrev pub decreases-unit::report_units : goal.decreases-unit::report_units
-decreases-unit::report_units g l = 10 * all_height (keywords_of l.units.now) + 7
+abbrev pub decreases-part::report_parts : goal.decreases-part::report_parts
+decreases-part::report_parts g l = 10 * all_height (keywords_of l.parts.now) + 7
 
-abbrev pub decreases-unit::UnitValidate::report_errors : goal.decreases-unit::UnitValidate::report_errors
-decreases-unit::UnitValidate::report_errors g l = 10 * unit_tall l.self.now + 6
+abbrev pub decreases-part::PartValidate::report_errors : goal.decreases-part::PartValidate::report_errors
+decreases-part::PartValidate::report_errors g l = 10 * part_tall l.self.now + 6
 
-abbrev pub decreases-items::array_shape::ArrayShapeValidatorValidate::report_errors : goal.decreases-items::array_shape::ArrayShapeValidatorValidate::report_errors
-decreases-items::array_shape::ArrayShapeValidatorValidate::report_errors g l = 10 * keyword_height (validator_keyword l.self.now.items.validator) + 5
+abbrev pub decreases-items::array_shape::ArrayShapeValidatorValidate::report_errors
+    : goal.decreases-items::array_shape::ArrayShapeValidatorValidate::report_errors
+decreases-items::array_shape::ArrayShapeValidatorValidate::report_errors g l =
+    10 * keyword_height (validator_keyword l.self.now.items.validator) + 5
 
-abbrev pub decreases-validator::ValidatorValidate::report_errors : goal.decreases-validator::ValidatorValidate::report_errors
+abbrev pub decreases-validator::ValidatorValidate::report_errors
+    : goal.decreases-validator::ValidatorValidate::report_errors
 decreases-validator::ValidatorValidate::report_errors g l = 10 * keyword_height (validator_keyword l.self.now) + 3
 
 abbrev pub decreases-each::EachValidate::report_errors : goal.decreases-each::EachValidate::report_errors
@@ -28,7 +34,8 @@ decreases-each::EachValidate::report_errors g l = 10 * keyword_height (each_keyw
 abbrev pub decreases-rest::RestValidate::report_errors : goal.decreases-rest::RestValidate::report_errors
 decreases-rest::RestValidate::report_errors g l = 10 * keyword_height (rest_keyword l.self.now) + 2
 
-abbrev pub invariant-each::EachValidate::report_errors-loop-index : goal.invariant-each::EachValidate::report_errors-loop-index
+abbrev pub invariant-each::EachValidate::report_errors-loop-index
+    : goal.invariant-each::EachValidate::report_errors-loop-index
 invariant-each::EachValidate::report_errors-loop-index g l =
     let tree = g.F.Node.Rooted.tree in
     let t = tree l.instance in
@@ -39,11 +46,13 @@ invariant-each::EachValidate::report_errors-loop-index g l =
     record {
       last : l.count ≡ min (length (items t)) (length l.self.nodes.items);
       walk : Walk tree l.initial.report l.report (each_fails ss l.index ts p) (keyword_fail (each_keyword l.self) t p)
-          l.fn.ctx l.ctx (each_applications wanted ss ts) (meaning_applications wanted (one_keyword (each_keyword l.self)) t);
+          l.fn.ctx l.ctx (each_applications wanted ss ts)
+          (meaning_applications wanted (one_keyword (each_keyword l.self)) t);
       location : l.location ≡ l.initial.location;
     }
 
-abbrev pub invariant-rest::RestValidate::report_errors-loop-index : goal.invariant-rest::RestValidate::report_errors-loop-index
+abbrev pub invariant-rest::RestValidate::report_errors-loop-index
+    : goal.invariant-rest::RestValidate::report_errors-loop-index
 invariant-rest::RestValidate::report_errors-loop-index g l =
     let tree = g.F.Node.Rooted.tree in
     let t = tree l.instance in
@@ -53,20 +62,22 @@ invariant-rest::RestValidate::report_errors-loop-index g l =
     let wanted = keeps_list l.initial.report in
     record {
       last : l.count ≡ length (items t);
-      walk : Walk tree l.initial.report l.report (each_item (fail s) l.index ts p) (keyword_fail (rest_keyword l.self) t p)
-          l.fn.ctx l.ctx (items_applications wanted s ts) (meaning_applications wanted (one_keyword (rest_keyword l.self)) t);
+      walk : Walk tree l.initial.report l.report (each_item (fail s) l.index ts p)
+          (keyword_fail (rest_keyword l.self) t p)
+          l.fn.ctx l.ctx (items_applications wanted s ts)
+          (meaning_applications wanted (one_keyword (rest_keyword l.self)) t);
       location : l.location ≡ l.initial.location;
     }
 
-abbrev pub invariant-unit::report_units-loop-unit : goal.invariant-unit::report_units-loop-unit
-invariant-unit::report_units-loop-unit g l =
+abbrev pub invariant-part::report_parts-loop-part : goal.invariant-part::report_parts-loop-part
+invariant-part::report_parts-loop-part g l =
     let tree = g.F.Node.Rooted.tree in
     let t = tree l.instance in
     let p = path_of l.initial.location in
-    let ks = keywords_of (drop l.unit-index l.units) in
+    let ks = keywords_of (drop l.part-index l.parts) in
     let wanted = keeps_list l.initial.report in
     record {
-      walk : Walk tree l.initial.report l.report (all_fail ks t p) (all_fail (keywords_of l.units) t p)
-          l.initial.ctx l.ctx (all_applications wanted ks t) (all_applications wanted (keywords_of l.units) t);
+      walk : Walk tree l.initial.report l.report (all_fail ks t p) (all_fail (keywords_of l.parts) t p)
+          l.initial.ctx l.ctx (all_applications wanted ks t) (all_applications wanted (keywords_of l.parts) t);
       location : l.location ≡ l.initial.location;
     }

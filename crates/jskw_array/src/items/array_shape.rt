@@ -2,18 +2,18 @@
 //! (JSON Schema Validation 6.1.1, 6.4.1, 6.4.2, Core 10.3.1.2), with no other keyword of items
 //! beside them. The type and the length are tested once, and then the items.
 ghost use Rattle.std.specs.Prelude.{◌≡◌};
-ghost use Rattle.jskw_array.specs.Words.{IsTrue, Keyword, Makes, Refusal, Result, Some};
-ghost use Rattle.jskw_array.specs.Words.{absorbed_keywords, append_keywords, fused_words};
+ghost use Rattle.jskw_array.specs.Words.{IsTrue, Keyword, CompilesTo, Refusal, Result, Some};
+ghost use Rattle.jskw_array.specs.Words.{absorbed_keywords, append_keywords, fused_keywords};
 ghost use Rattle.jskw_array.specs.Words.{get_member, is_fused, keyword, map_ok, members_view};
-ghost use Rattle.jskw_array.specs.Words.{name_of, no_keywords, part_named, read_words};
+ghost use Rattle.jskw_array.specs.Words.{name_of, no_keywords, readings_named, read_keywords};
 ghost use Rattle.jskw_array.specs.Words.{shape_keywords, shape_meaning, validator_keyword, view};
 
 use crate::items::{self, AbsorbedKeywords};
-use crate::unit::PlacedValidator;
+use crate::part::LocatedValidator;
 use crate::validator::Validator;
 use jskw_report::{
-    CompilationResult, Context, EvaluationResult, KeywordName, LazyLocation, Location, Report,
-    Stop, Validate, ValidationContext,
+    CompilationResult, Context, EvaluationResult, KeywordLocation, KeywordName, LazyLocation,
+    Report, Stop, Validate, ValidationContext,
 };
 use jskw_value::Json;
 use serde_json::{Map, Value};
@@ -26,7 +26,7 @@ use std::alloc::{AllocError, Global};
 #[derive(Drop)]
 pub struct ArrayShapeValidator<F: Json> {
     pub(crate) absorbed: AbsorbedKeywords,
-    pub(crate) items: PlacedValidator<F>,
+    pub(crate) items: LocatedValidator<F>,
 }
 
 impl<F: Json> ArrayShapeValidator<F> {
@@ -49,9 +49,9 @@ impl<F: Json> ArrayShapeValidator<F> {
         requires fused { IsTrue (is_fused ctx.now.setting (members_view parent.now.entries)) }
         requires items { get_member (name_of KeywordName.Items) (members_view parent.now.entries)
             ≡ Some (view items.now) }
-        ensures { let ms = members_view parent.now.entries in Makes shape_keywords result
-            (read_words fused_words ctx.now.setting ctx.now.location ms
-            (λ name. part_named name ms)) }
+        ensures { let ms = members_view parent.now.entries in CompilesTo shape_keywords result
+            (read_keywords fused_keywords ctx.now.setting ctx.now.location ms
+            (λ name. readings_named name ms)) }
     {
         let location = ctx.keyword_location(alloc, KeywordName::Items)?;
         let absorbed = AbsorbedKeywords::compile(alloc, ctx, parent)?;
@@ -74,14 +74,14 @@ impl<F: Json> ArrayShapeValidator<F> {
 #[inline(never)]
 fn with_items<'a, F: Json>(
     absorbed: Box<AbsorbedKeywords>,
-    location: Location,
+    location: KeywordLocation,
     compiled: CompilationResult<'a, Validator<F>>,
 ) -> CompilationResult<'a, ArrayShapeValidator<F>>
-    ensures { (read : Result Keyword Refusal) → Makes validator_keyword compiled.entry read
-        → Makes shape_keywords result (map_ok (λ k. append_keywords
+    ensures { (read : Result Keyword Refusal) → CompilesTo validator_keyword compiled.entry read
+        → CompilesTo shape_keywords result (map_ok (λ k. append_keywords
         (absorbed_keywords absorbed.value) (keyword location k no_keywords)) read) }
 {
-    let items = PlacedValidator {
+    let items = LocatedValidator {
         validator: compiled?,
         location,
     };
@@ -96,7 +96,7 @@ impl<F: Json> Validate<F> for ArrayShapeValidator<F> {
     #[cycle(is_valid)]
     fn is_valid(&self, instance: &F::Node, ctx: &mut ValidationContext) -> bool {
         match self.absorbed.valid_count(instance) {
-            Some(count) => self.items.validator.holds_of(count, instance, ctx),
+            Some(count) => self.items.validator.is_valid_counted(count, instance, ctx),
             None => false,
         }
     }

@@ -1,15 +1,15 @@
-//! `items` of a schema that has only `type` (JSON Schema Core 10.3.1.2, Validation 6.1.1): each
-//! item is tested in place, and no subschema is applied.
+//! The compile of `items` of a schema that has only `type`, to a validator of
+//! `jskw_leaf::items::item_type`.
 ghost use Rattle.std.specs.Prelude.{◌≡◌};
-ghost use Rattle.jskw_array.specs.Words.{IsTrue, JsonType, Makes, Single, Some, bare_items};
+ghost use Rattle.jskw_array.specs.Words.{IsTrue, JsonType, CompilesTo, Single, Some, bare_items};
 ghost use Rattle.jskw_array.specs.Words.{integers_of, is_inlined_type, is_only_type, items_from};
 ghost use Rattle.jskw_array.specs.Words.{keyword_location, map_ok, member, name_of, no_members};
-ghost use Rattle.jskw_array.specs.Words.{object, read, stands, string, true, type_at, type_named};
+ghost use Rattle.jskw_array.specs.Words.{object, read, is_active, string, true, type_at, type_named};
 ghost use Rattle.jskw_array.specs.Words.{validator_keyword, view};
 
 use crate::validator::Validator;
 use jskw_leaf::items::ItemsTypeValidator;
-use jskw_report::{CompilationResult, Context, Draft, KeywordName, Location, LocationSegment};
+use jskw_report::{CompilationResult, Context, Draft, KeywordLocation, KeywordName};
 use jskw_value::Json;
 use serde_json::Value;
 use std::alloc::Global;
@@ -22,14 +22,14 @@ pub(crate) fn compile_inline<'a, F: Json>(
     schema: &'a Value,
 ) -> CompilationResult<'a, Validator<F>>
     requires only_type { IsTrue (is_only_type (view schema.now)) }
-    requires stands { IsTrue (stands ctx.now.setting KeywordName.TypeKeyword) }
-    ensures { Makes validator_keyword result (map_ok (λ sub. items_from 0 sub true)
+    requires active { IsTrue (is_active ctx.now.setting KeywordName.TypeKeyword) }
+    ensures { CompilesTo validator_keyword result (map_ok (λ sub. items_from 0 sub true)
         (read (view schema.now) ctx.now.setting
         (keyword_location ctx.now.location KeywordName.Items))) }
 {
     let location = ctx.keyword_location(alloc, KeywordName::Items)?;
-    let name = KeywordName::TypeKeyword.as_str();
-    let type_location = location.join(alloc, LocationSegment::Name(name))?;
+    let below = ctx.new_at_keyword(alloc, KeywordName::Items)?;
+    let type_location = below.keyword_location(alloc, KeywordName::TypeKeyword)?;
     Ok(typed_items(only_type(schema), ctx.draft(), location, type_location))
 }
 
@@ -49,8 +49,8 @@ fn only_type(schema: &Value) -> &str
 fn typed_items<F: Json>(
     name: &str,
     draft: Draft,
-    location: Location,
-    type_location: Location,
+    location: KeywordLocation,
+    type_location: KeywordLocation,
 ) -> Validator<F>
     requires { IsTrue (is_inlined_type (string name.now)) }
     ensures { (j : JsonType) → type_named name.now ≡ Some j → validator_keyword result

@@ -1,6 +1,6 @@
 //! Compiles `const`.
 ghost use Rattle.serde_json.specs.View.{view, members_view};
-ghost use Rattle.jskw_report.specs.Compile.{Makes, Compiles, reading};
+ghost use Rattle.jskw_report.specs.Compile.{CompilesTo, CompilesKeyword, keyword_reading};
 ghost use Rattle.jskw_report.specs.Read.{const_keyword, keyword_location};
 ghost use Rattle.jskw_report.specs.declared.keyword.KeywordName.TheVariants.{Const};
 ghost use Rattle.jskw_leaf.specs.Meaning.{leaf_keyword};
@@ -26,8 +26,8 @@ pub fn compile<'a, F: Json>(
     parent: &'a Map<String, Value>,
     schema: &'a Value,
 ) -> Option<CompilationResult<'a, LeafValidator<F>>>
-    ensures { Compiles leaf_keyword result
-        (reading Const ctx.now (members_view parent.now.entries) (view schema.now)) }
+    ensures { CompilesKeyword leaf_keyword result
+        (keyword_reading Const ctx.now (members_view parent.now.entries) (view schema.now)) }
 {
     let _ = parent;
     Some(const_validator(alloc, ctx, schema))
@@ -39,7 +39,7 @@ fn const_validator<'a, F: Json>(
     ctx: &Context<'_, F>,
     schema: &'a Value,
 ) -> CompilationResult<'a, LeafValidator<F>>
-    ensures { Makes leaf_keyword result
+    ensures { CompilesTo leaf_keyword result
         (const_keyword (keyword_location ctx.now.location Const) (view schema.now)) }
 {
     let location = ctx.keyword_location(alloc, KeywordName::Const)?;

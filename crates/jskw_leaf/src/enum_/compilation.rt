@@ -3,7 +3,7 @@ ghost use Rattle.std.specs.Prelude.{◌≡◌, IfOk};
 ghost use Rattle.serde_json.specs.Data.{array, item, no_items};
 ghost use Rattle.serde_json.specs.View.{view, items_view, members_view};
 ghost use Rattle.jskw_value.specs.Types.{no_types};
-ghost use Rattle.jskw_report.specs.Compile.{Makes, Compiles, reading};
+ghost use Rattle.jskw_report.specs.Compile.{CompilesTo, CompilesKeyword, keyword_reading};
 ghost use Rattle.jskw_report.specs.Meaning.{as_keyword};
 ghost use Rattle.jskw_report.specs.Read.{enum_keyword, keyword_location};
 ghost use Rattle.jskw_report.specs.declared.keyword.KeywordName.TheVariants.{Enum};
@@ -17,7 +17,7 @@ use super::{EnumValidator, SingleValueEnumValidator};
 use crate::floats::refuse_floats;
 use crate::leaf::LeafValidator;
 use jskw_report::{
-    CompilationResult, CompileFault, Context, KeywordName, Location, ValidationErrorKind,
+    CompilationResult, CompileFault, Context, KeywordLocation, KeywordName, ValidationErrorKind,
 };
 use jskw_value::{Json, JsonType, JsonTypeSet};
 use serde_json::{Map, Value};
@@ -46,8 +46,8 @@ pub fn compile<'a, F: Json>(
     parent: &'a Map<String, Value>,
     schema: &'a Value,
 ) -> Option<CompilationResult<'a, LeafValidator<F>>>
-    ensures { Compiles leaf_keyword result
-        (reading Enum ctx.now (members_view parent.now.entries) (view schema.now)) }
+    ensures { CompilesKeyword leaf_keyword result
+        (keyword_reading Enum ctx.now (members_view parent.now.entries) (view schema.now)) }
 {
     let _ = parent;
     Some(enum_validator(alloc, ctx, schema))
@@ -60,7 +60,7 @@ fn enum_validator<'a, F: Json>(
     ctx: &Context<'_, F>,
     schema: &'a Value,
 ) -> CompilationResult<'a, LeafValidator<F>>
-    ensures { Makes leaf_keyword result
+    ensures { CompilesTo leaf_keyword result
         (enum_keyword (keyword_location ctx.now.location Enum) (view schema.now)) }
 {
     let location = ctx.keyword_location(alloc, KeywordName::Enum)?;
@@ -83,12 +83,12 @@ macro_rules! table {
 
 // Returns the validator for the number and the types of the options. `items` are the items of
 // `options`.
-#[tactic(auto, using(crate::proofs::OptionPrints::all_taken))]
+#[tactic(auto, using(crate::proofs::OptionFingerprints::all_taken))]
 fn validator_of<F: Json>(
     alloc: Global,
     options: &Value,
     items: &[Value],
-    location: Location,
+    location: KeywordLocation,
 ) -> Result<LeafValidator<F>, AllocError>
     requires { view options.now ≡ array (items_view items.now) }
     ensures { IfOk result (λ v. leaf_keyword v ≡ as_keyword (among_at location options.now)) }
@@ -126,7 +126,7 @@ fn validator_of<F: Json>(
 fn one_value<F: Json>(
     options: &Value,
     value: &Value,
-    location: Location,
+    location: KeywordLocation,
 ) -> Result<LeafValidator<F>, AllocError>
     requires { view options.now ≡ array (item (view value.now) no_items) }
     ensures { IfOk result (λ v. leaf_keyword v ≡ as_keyword (among_at location options.now)) }

@@ -1,12 +1,12 @@
 //! Options that are integers from -2^63 to 2^63-1.
 ghost use Rattle.std.specs.Prelude.{◌≡◌, IfOk, zero};
-ghost use Rattle.std.specs.List.Sorted.{IsSorted, IsPermutation};
+ghost use Rattle.std.specs.List.Sorted.{IsSorted};
 ghost use Rattle.std.specs.Ordering.{int_cmp};
 ghost use Rattle.serde_json.specs.View.{items_view};
 ghost use Rattle.jskw_value.specs.Decimal.{coefficient, value};
 ghost use Rattle.jskw_value.specs.Number.{exact};
 ghost use Rattle.jskw_leaf.specs.Options.{has_integer, has_null, integer_against, integer_of};
-ghost use Rattle.jskw_leaf.specs.Options.{is_integer, picked, some_integer};
+ghost use Rattle.jskw_leaf.specs.Options.{is_integer_option, picked, some_integer};
 
 use super::table::{OptionTable, TableEnumValidator};
 use jskw_value::{Decimal, Json, JsonNumber, Node};
@@ -27,7 +27,7 @@ pub struct SortedIntegers {
 pub type IntegerEnumValidator<N> = TableEnumValidator<SortedIntegers, N>;
 
 impl OptionTable for SortedIntegers {
-    ghost takes = { is_integer };
+    ghost takes = { is_integer_option };
 
     ghost leaves_out_null = { has_null };
 

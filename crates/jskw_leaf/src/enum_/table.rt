@@ -8,7 +8,7 @@ ghost use Rattle.jskw_report.specs.Holds.{is_option};
 ghost use Rattle.jskw_leaf.specs.Options.{AreOptions, not_among, only, options_of};
 
 use super::not_among;
-use jskw_report::{Assertion, Location, ValidationErrorKind};
+use jskw_report::{Assertion, KeywordLocation, ValidationErrorKind};
 use jskw_value::{Json, Node, Nullability};
 use serde_json::Value;
 use std::alloc::{AllocError, Global};
@@ -96,7 +96,7 @@ impl<T: OptionTable, N: Nullability> Listed<T, N> {
 #[derive(Drop)]
 pub struct TableEnumValidator<T: OptionTable, N: Nullability> {
     listed: Listed<T, N>,
-    location: Location,
+    location: KeywordLocation,
 }
 
 impl<T: OptionTable, N: Nullability> TableEnumValidator<T, N> {
@@ -109,7 +109,7 @@ impl<T: OptionTable, N: Nullability> TableEnumValidator<T, N> {
         alloc: Global,
         options: &Value,
         items: &[Value],
-        location: Location,
+        location: KeywordLocation,
     ) -> Result<TableEnumValidator<T, N>, AllocError>
         requires array { view options.now ≡ array (items_view items.now) }
         requires taken { only T.takes (items_view items.now) ≡ true }
@@ -142,7 +142,7 @@ impl<T: OptionTable, N: Nullability> Assertion for TableEnumValidator<T, N> {
         not_among(self.listed.options())
     }
 
-    fn location(&self) -> &Location {
+    fn location(&self) -> &KeywordLocation {
         &self.location
     }
 }

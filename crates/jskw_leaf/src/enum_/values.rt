@@ -1,12 +1,12 @@
 //! More than 8 options of any types.
-ghost use Rattle.std.specs.Prelude.{◌≡◌, IfOk, IsTrue, true, false};
+ghost use Rattle.std.specs.Prelude.{◌≡◌, IfOk, true, false};
 ghost use Rattle.std.specs.List.{list_all};
 ghost use Rattle.std.specs.List.Sorted.{IsNonDecreasingBy};
 ghost use Rattle.serde_json.specs.View.{items_view};
 ghost use Rattle.jskw_value.specs.Tree.{Tree};
 ghost use Rattle.jskw_value.specs.Types.{has_type_of};
 ghost use Rattle.jskw_report.specs.Holds.{is_option};
-ghost use Rattle.jskw_leaf.specs.Values.{IsRun, has_value, is_printed, is_repeat};
+ghost use Rattle.jskw_leaf.specs.Values.{IsRun, has_value, is_fingerprinted, is_repeat};
 
 use super::compilation::types_of;
 use super::table::{OptionTable, TableEnumValidator};
@@ -18,8 +18,8 @@ use std::alloc::{AllocError, Global};
 
 /// An option with its fingerprint.
 #[derive(Drop)]
-pub struct PrintedValue {
-    print: u64,
+pub struct FingerprintedValue {
+    fingerprint: u64,
     value: Value,
 }
 
@@ -32,11 +32,11 @@ pub struct PrintedValue {
 pub struct SortedValues {
     types: JsonTypeSet,
     seed: u64,
-    options: Vec<PrintedValue>,
+    options: Vec<FingerprintedValue>,
     ghost typed: { (t : Tree) → has_type_of types t ≡ false
         → has_value options.items t ≡ false },
-    ghost printed: { list_all (is_printed seed) options.items ≡ true },
-    ghost sorted: { IsNonDecreasingBy (λ o. o.print) options.items },
+    ghost fingerprinted: { list_all (is_fingerprinted seed) options.items ≡ true },
+    ghost sorted: { IsNonDecreasingBy (λ o. o.fingerprint) options.items },
 }
 
 /// The validator of more than 8 options of any types. An instance whose type no option has is not
@@ -56,8 +56,8 @@ impl OptionTable for SortedValues {
 
     fn new(alloc: Global, options: &Value, items: &[Value]) -> Result<SortedValues, AllocError> {
         let seed = seed_of(options);
-        let mut sorted = printed(alloc, items, seed)?;
-        sorted.sort_unstable_by_key(|option| option.print);
+        let mut sorted = fingerprinted(alloc, items, seed)?;
+        sorted.sort_unstable_by_key(|option| option.fingerprint);
         sorted.dedup_by(|option, last| is_repeat(option, last));
         Ok(SortedValues {
             types: types_of(items),
@@ -73,15 +73,19 @@ impl OptionTable for SortedValues {
 }
 
 // Returns the items with their fingerprints under the seed.
-fn printed(alloc: Global, items: &[Value], seed: u64) -> Result<Vec<PrintedValue>, AllocError>
+fn fingerprinted(
+    alloc: Global,
+    items: &[Value],
+    seed: u64,
+) -> Result<Vec<FingerprintedValue>, AllocError>
     ensures same { IfOk result (λ v. (t : Tree) → has_value v.items t
         ≡ is_option (items_view items.now) t) }
-    ensures printed { IfOk result (λ v. list_all (is_printed seed) v.items ≡ true) }
+    ensures fingerprinted { IfOk result (λ v. list_all (is_fingerprinted seed) v.items ≡ true) }
 {
     let mut options = Vec::new(alloc);
     for item in items {
-        options.push(PrintedValue {
-            print: of_whole(item, seed),
+        options.push(FingerprintedValue {
+            fingerprint: of_whole(item, seed),
             value: item.clone()?,
         })?;
     }
@@ -89,33 +93,37 @@ fn printed(alloc: Global, items: &[Value], seed: u64) -> Result<Vec<PrintedValue
 }
 
 // Returns whether an option is equal to the last one before it.
-fn is_repeat(option: &PrintedValue, last: &PrintedValue) -> bool
+fn is_repeat(option: &FingerprintedValue, last: &FingerprintedValue) -> bool
     ensures { result ≡ is_repeat last.now option.now }
 {
-    option.print == last.print && option.value.equals_value(&last.value)
+    option.fingerprint == last.fingerprint && option.value.equals_value(&last.value)
 }
 
 // Returns whether one of the options equals the instance. The options must be sorted by their
 // fingerprints, which are those under the seed.
 #[inline(never)]
-fn is_among<F: Json>(options: &[PrintedValue], seed: u64, instance: &F::Node) -> bool
-    requires printed { list_all (is_printed seed) options.now ≡ true }
-    requires sorted { IsNonDecreasingBy (λ o. o.print) options.now }
+fn is_among<F: Json>(options: &[FingerprintedValue], seed: u64, instance: &F::Node) -> bool
+    requires fingerprinted { list_all (is_fingerprinted seed) options.now ≡ true }
+    requires sorted { IsNonDecreasingBy (λ o. o.fingerprint) options.now }
     ensures { result ≡ has_value options.now (F.Node.tree instance.now) }
 {
-    let print = of_whole(instance, seed);
-    let start = options.partition_point(|option| option.print < print);
-    starts_with_equal::<F>(&options[start..], print, instance)
+    let fingerprint = of_whole(instance, seed);
+    let start = options.partition_point(|option| option.fingerprint < fingerprint);
+    starts_with_equal::<F>(&options[start..], fingerprint, instance)
 }
 
 // Returns whether one of the options equals the instance. The options with this fingerprint must
 // come first, and no other may equal the instance.
-fn starts_with_equal<F: Json>(options: &[PrintedValue], print: u64, instance: &F::Node) -> bool
-    requires { IsRun print (F.Node.tree instance.now) options.now }
+fn starts_with_equal<F: Json>(
+    options: &[FingerprintedValue],
+    fingerprint: u64,
+    instance: &F::Node,
+) -> bool
+    requires { IsRun fingerprint (F.Node.tree instance.now) options.now }
     ensures { result ≡ has_value options.now (F.Node.tree instance.now) }
 {
     for option in options {
-        if option.print != print {
+        if option.fingerprint != fingerprint {
             return false;
         }
         if instance.equals_value(&option.value) {

@@ -2,18 +2,18 @@
 ghost use Rattle.std.specs.Prelude.{◌≡◌, ◌∷◌, [], IfOk, IfSome, IsTrue, is_some, length, true};
 ghost use Rattle.serde_json.specs.View.{members_view};
 ghost use Rattle.jskw_value.specs.Tree.{Tree, is_array as is_list, is_lawful, items};
-ghost use Rattle.jskw_report.specs.Compile.{Makes};
+ghost use Rattle.jskw_report.specs.Compile.{CompilesTo};
 ghost use Rattle.jskw_report.specs.Evaluation.{node_at, unit, units};
 ghost use Rattle.jskw_report.specs.Fail.{all_fail};
 ghost use Rattle.jskw_report.specs.Holds.{all_hold};
 ghost use Rattle.jskw_report.specs.Meaning.{as_keyword};
 ghost use Rattle.jskw_report.specs.Observe.{Reports};
 ghost use Rattle.jskw_report.specs.Paths.{path_of};
-ghost use Rattle.jskw_report.specs.Read.{part_named, read_words};
+ghost use Rattle.jskw_report.specs.Read.{readings_named, read_keywords};
 ghost use Rattle.jskw_report.specs.Sibling.{is_fused, takes_size};
 ghost use Rattle.jskw_number.specs.Meaning.{sized};
-ghost use Rattle.jskw_number.specs.Size.{size_of, word_of};
-ghost use Rattle.jskw_leaf.specs.Items.{Extends, absorbed_bounds, absorbed_keywords, absorbed_type};
+ghost use Rattle.jskw_number.specs.Size.{size_of, size_keyword_name};
+ghost use Rattle.jskw_leaf.specs.Items.{AppendsItems, absorbed_bounds, absorbed_keywords, absorbed_type};
 ghost use Rattle.jskw_leaf.specs.Items.{count_of, optional};
 
 use super::assertion_node::evaluate_assertion;
@@ -33,7 +33,7 @@ use std::alloc::{AllocError, Global};
 
 /// The validators of `type` of `array`, `minItems` and `maxItems` (JSON Schema Validation 6.1.1,
 /// 6.4.2, 6.4.1) in the fused shape: those that the schema has.
-#[derive(Drop)]
+#[derive(Debug, Drop)]
 pub struct AbsorbedKeywords {
     type_: ArrayTypeValidator,
     min_items: Option<MinItemsValidator>,
@@ -56,15 +56,15 @@ impl AbsorbedKeywords {
     ) -> CompilationResult<'a, Box<AbsorbedKeywords>>
         requires { IsTrue (is_fused ctx.now.setting (members_view parent.now.entries)) }
         ensures { let ms = members_view parent.now.entries in
-            Makes (λ a. absorbed_keywords a.value) result
-            (read_words (KeywordName.TypeKeyword ∷ KeywordName.MinItems ∷ KeywordName.MaxItems ∷ [])
-            ctx.now.setting ctx.now.location ms (λ name. part_named name ms)) }
+            CompilesTo (λ a. absorbed_keywords a.value) result
+            (read_keywords (KeywordName.TypeKeyword ∷ KeywordName.MinItems ∷ KeywordName.MaxItems ∷ [])
+            ctx.now.setting ctx.now.location ms (λ name. readings_named name ms)) }
     {
         let location = ctx.keyword_location(alloc, KeywordName::TypeKeyword)?;
         let min_items = compile_bound::<true, F>(alloc, ctx, parent)?;
         let max_items = compile_bound::<false, F>(alloc, ctx, parent)?;
         let absorbed = AbsorbedKeywords {
-            type_: ArrayTypeValidator::new(location),
+            type_: ArrayTypeValidator::at(location),
             min_items,
             max_items,
         };
@@ -119,7 +119,7 @@ impl AbsorbedKeywords {
         path: &Location,
         children: &mut Vec<EvaluationNode>,
     ) -> Result<(), AllocError>
-        ensures { Extends children.old.items children.new.items (units (absorbed_keywords self.now)
+        ensures { AppendsItems children.old.items children.new.items (units (absorbed_keywords self.now)
             (F.Node.tree instance.now) path.now) result }
     {
         let is_array = instance.is_array();
@@ -159,7 +159,7 @@ impl AbsorbedKeywords {
         children: &mut Vec<EvaluationNode>,
     ) -> Result<(), AllocError>
         requires { count ≡ count_of (F.Node.tree instance.now) }
-        ensures { Extends children.old.items children.new.items (units (absorbed_bounds self.now)
+        ensures { AppendsItems children.old.items children.new.items (units (absorbed_bounds self.now)
             (F.Node.tree instance.now) instance_location.now) result }
     {
         let path = instance_location;
@@ -177,10 +177,10 @@ fn compile_bound<'a, const IS_LEAST: bool, F: Json>(
     parent: &'a Map<String, Value>,
 ) -> CompilationResult<'a, Option<SizeLimit<true, IS_LEAST>>>
     requires { IsTrue (takes_size ctx.now.setting (members_view parent.now.entries)
-        (word_of (size_of true IS_LEAST))) }
+        (size_keyword_name (size_of true IS_LEAST))) }
     ensures { let which = size_of true IS_LEAST in let ms = members_view parent.now.entries in
-        Makes (optional (sized which)) result (read_words (word_of which ∷ []) ctx.now.setting
-        ctx.now.location ms (λ name. part_named name ms)) }
+        CompilesTo (optional (sized which)) result (read_keywords (size_keyword_name which ∷ []) ctx.now.setting
+        ctx.now.location ms (λ name. readings_named name ms)) }
 {
     let Some(value) = member_of(parent, bound_keyword::<IS_LEAST>().as_str()) else {
         return Ok(None);
@@ -190,7 +190,7 @@ fn compile_bound<'a, const IS_LEAST: bool, F: Json>(
 
 // Returns `minItems` if `IS_LEAST`, else `maxItems`.
 fn bound_keyword<const IS_LEAST: bool>() -> KeywordName
-    ensures { result ≡ word_of (size_of true IS_LEAST) }
+    ensures { result ≡ size_keyword_name (size_of true IS_LEAST) }
 {
     if IS_LEAST {
         KeywordName::MinItems
@@ -242,7 +242,7 @@ fn evaluate_bound<F: Json, A: Assertion>(
     children: &mut Vec<EvaluationNode>,
 ) -> Result<(), AllocError>
     requires { holds ≡ all_hold (optional A.asserts bound.now) (F.Node.tree instance.now) }
-    ensures { Extends children.old.items children.new.items (units (optional A.asserts bound.now)
+    ensures { AppendsItems children.old.items children.new.items (units (optional A.asserts bound.now)
         (F.Node.tree instance.now) path.now) result }
 {
     let Some(bound) = bound else {

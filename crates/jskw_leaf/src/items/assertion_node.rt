@@ -9,7 +9,7 @@ ghost use Rattle.jskw_report.specs.Observe.{failures_unless};
 
 use jskw_report::validator::evaluate_first;
 use jskw_report::{
-    Assertion, EvaluationNode, EvaluationResult, Fault, Location, ValidationError,
+    Assertion, EvaluationNode, EvaluationResult, Fault, KeywordLocation, Location, ValidationError,
     ValidationErrorKind,
 };
 use jskw_value::Json;
@@ -32,7 +32,7 @@ pub(super) fn evaluate_assertion<F: Json, A: Assertion>(
     let kind = assertion.kind();
     let schema_path = assertion.location();
     let result = evaluate_unless::<F>(alloc, holds, kind, schema_path, instance, path)?;
-    EvaluationNode::new(alloc, result, schema_path, path)
+    EvaluationNode::at_keyword(alloc, result, schema_path, path)
 }
 
 // Returns the evaluation of an assertion: valid if `holds`, else with the error made of the other
@@ -42,7 +42,7 @@ fn evaluate_unless<'i, F: Json>(
     alloc: Global,
     holds: bool,
     kind: ValidationErrorKind<'i>,
-    schema_path: &'i Location,
+    schema_path: &'i KeywordLocation,
     instance: &'i F::Node,
     path: &Location,
 ) -> Result<EvaluationResult, AllocError>
@@ -52,6 +52,6 @@ fn evaluate_unless<'i, F: Json>(
     if holds {
         return Ok(EvaluationResult::valid_empty(alloc));
     }
-    let error = ValidationError::new(kind, path.copy(alloc)?, schema_path, instance);
+    let error = ValidationError::at_keyword(alloc, kind, path.copy()?, schema_path, instance)?;
     evaluate_first::<F>(alloc, Err(Fault::Invalid(error)))
 }

@@ -42,7 +42,7 @@ fn has_type_array<F: Json>(ctx: &Context<'_, F>, parent: &Map<String, Value>) ->
         KeywordName.TypeKeyword (is_string (type_name Array)) }
 {
     match member_of(parent, KeywordName::TypeKeyword.as_str()) {
-        Some(value) => value.as_str() == Some("array") && KeywordName::TypeKeyword.stands(ctx),
+        Some(value) => value.as_str() == Some("array") && KeywordName::TypeKeyword.is_active(ctx),
         None => false,
     }
 }
@@ -53,7 +53,7 @@ fn has_items<F: Json>(ctx: &Context<'_, F>, parent: &Map<String, Value>) -> bool
         KeywordName.Items is_items_schema }
 {
     match member_of(parent, KeywordName::Items.as_str()) {
-        Some(value) => is_items_schema(value) && KeywordName::Items.stands(ctx),
+        Some(value) => is_items_schema(value) && KeywordName::Items.is_active(ctx),
         None => false,
     }
 }
@@ -67,7 +67,7 @@ fn takes_size<F: Json>(
     ensures { result ≡ takes_size ctx.now.setting (members_view parent.now.entries) keyword }
 {
     match member_of(parent, keyword.as_str()) {
-        Some(value) => size_limit(value).is_some() && keyword.stands(ctx),
+        Some(value) => size_limit(value).is_some() && keyword.is_active(ctx),
         None => true,
     }
 }

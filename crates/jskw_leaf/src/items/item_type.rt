@@ -8,7 +8,6 @@ ghost use Rattle.jskw_report.specs.EvaluationView.{result_of};
 ghost use Rattle.jskw_report.specs.Holds.{assertion_holds, keyword_holds};
 ghost use Rattle.jskw_report.specs.Keyword.{type_is};
 ghost use Rattle.jskw_report.specs.Meaning.{as_keyword, one_keyword};
-ghost use Rattle.jskw_report.specs.Paths.{path_of};
 ghost use Rattle.jskw_report.specs.declared.error.TypeKind.TheVariants.{Single};
 ghost use Rattle.jskw_number.specs.QuickSet.{leading};
 ghost use Rattle.jskw_leaf.specs.Items.{bare_items, bare_schema, items_type};
@@ -22,8 +21,8 @@ use crate::type_::{
     TypeValidator,
 };
 use jskw_report::{
-    Annotations, Assertion, EvaluationNode, EvaluationResult, LazyLocation, Location, Report, Stop,
-    TypeKind, Validate, ValidationContext,
+    Annotations, Assertion, EvaluationNode, EvaluationResult, KeywordLocation, LazyLocation,
+    Location, Report, Stop, TypeKind, Validate, ValidationContext,
 };
 use jskw_value::{Array, Json, JsonType, Node};
 use std::alloc::{AllocError, Global};
@@ -40,6 +39,7 @@ pub trait ItemType: TypeTest {
 fn typed<F: Json>(json_type: JsonType, rule: IntegerRule, location: Location) -> LeafValidator<F>
     ensures { leaf_keyword result ≡ as_keyword (type_at json_type (rule_of rule) location) }
 {
+    let location = KeywordLocation::from(location);
     LeafValidator::Types(TypeValidator::new(TypeKind::Single(json_type), rule, location))
 }
 
@@ -93,7 +93,7 @@ impl ItemType for IntegerItemsDraft4 {
 #[derive(Drop)]
 pub struct ItemsTypeValidator<T: ItemType, F: Json> {
     // that of `items`
-    location: Location,
+    location: KeywordLocation,
     // that of the `type` in it
     validator: SingleTypeValidator<T>,
     representation: PhantomData<F>,
@@ -102,13 +102,16 @@ pub struct ItemsTypeValidator<T: ItemType, F: Json> {
 impl<T: ItemType, F: Json> ItemsTypeValidator<T, F> {
     /// Creates the validator. The arguments are the keyword locations of `items` and of the `type`
     /// in it.
-    pub fn new(location: Location, type_location: Location) -> ItemsTypeValidator<T, F>
+    pub fn new(
+        location: KeywordLocation,
+        type_location: KeywordLocation,
+    ) -> ItemsTypeValidator<T, F>
         ensures { items_type T.json_type T.rule result
             ≡ bare_items location (type_at T.json_type T.rule type_location) }
     {
         ItemsTypeValidator {
             location,
-            validator: SingleTypeValidator::new(type_location),
+            validator: SingleTypeValidator::at(type_location),
             representation: PhantomData,
         }
     }
@@ -116,7 +119,7 @@ impl<T: ItemType, F: Json> ItemsTypeValidator<T, F> {
     /// Returns whether each item of `instance` is of the type. `count` must be the number of items,
     /// which is 0 for a non-array, and the instance must be lawful.
     #[inline(never)]
-    pub fn holds_of(&self, count: usize, instance: &F::Node) -> bool
+    pub fn is_valid_counted(&self, count: usize, instance: &F::Node) -> bool
         requires lawful { IsTrue (is_lawful (F.Node.tree instance.now)) }
         requires count { count ≡ length (items (F.Node.tree instance.now)) }
         ensures { result
@@ -138,10 +141,10 @@ impl<T: ItemType, F: Json> ItemsTypeValidator<T, F> {
             (F.Node.tree item.now) path.now) }
     {
         let (check, holds) = (&self.validator, T::matches::<F>(item));
-        let mut children = Vec::new(alloc);
+        let mut children = Vec::with_capacity(alloc, 1)?;
         children.push(evaluate_assertion::<F, _>(alloc, check, holds, item, path)?)?;
         let result = EvaluationResult::from_children(alloc, children);
-        EvaluationNode::new(alloc, result, &self.location, path)
+        EvaluationNode::at_keyword(alloc, result, &self.location, path)
     }
 }
 
@@ -149,7 +152,7 @@ impl<T: ItemType, F: Json> Validate<F> for ItemsTypeValidator<T, F> {
     ghost meaning = { λ v. one_keyword (items_type T.json_type T.rule v) };
 
     fn is_valid(&self, instance: &F::Node, _ctx: &mut ValidationContext) -> bool {
-        self.holds_of(instance.item_count(), instance)
+        self.is_valid_counted(instance.item_count(), instance)
     }
 
     fn report_errors<'i>(
@@ -179,8 +182,9 @@ impl<T: ItemType, F: Json> Validate<F> for ItemsTypeValidator<T, F> {
         location: &mut LazyLocation,
         _ctx: &mut ValidationContext,
     ) -> Result<EvaluationResult, AllocError> {
-        let mut children = Vec::new(alloc);
-        for index in 0..instance.item_count() {
+        let count = instance.item_count();
+        let mut children = Vec::with_capacity(alloc, count)?;
+        for index in 0..count {
             location.push(index)?;
             let path = location.render();
             location.pop();

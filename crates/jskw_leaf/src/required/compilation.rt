@@ -1,9 +1,9 @@
 //! Compiles `required`.
-ghost use Rattle.std.specs.Prelude.{◌≡◌, List, ℕ, IfOk, Some, map, length};
+ghost use Rattle.std.specs.Prelude.{◌≡◌, IfOk, Some, map};
 ghost use Rattle.std.specs.List.{IsDistinct};
 ghost use Rattle.std.specs.Str.{bytes_eq};
 ghost use Rattle.serde_json.specs.View.{view, items_view, members_view};
-ghost use Rattle.jskw_report.specs.Compile.{Makes, Compiles, reading};
+ghost use Rattle.jskw_report.specs.Compile.{CompilesTo, CompilesKeyword, keyword_reading};
 ghost use Rattle.jskw_report.specs.KeywordValue.{map_ok, texts, distinct};
 ghost use Rattle.jskw_report.specs.Meaning.{as_keyword};
 ghost use Rattle.jskw_report.specs.Read.{required_keyword};
@@ -16,14 +16,15 @@ use super::delegation::is_handed_on;
 use super::names::{FewNames, NameList};
 use crate::leaf::LeafValidator;
 use jskw_report::{
-    CompilationResult, CompileFault, Context, KeywordName, Location, ValidationErrorKind,
+    CompilationResult, CompileFault, Context, KeywordLocation, KeywordName, Location,
+    ValidationErrorKind,
 };
 use jskw_value::{Json, JsonType};
 use serde_json::{Map, Value};
 use std::alloc::{AllocError, Global};
 use std::collections::BTreeSet;
 
-/// Compiles `required`. Returns `None` if it is handed on, as [`is_handed_on`](super::is_handed_on)
+/// Compiles `required`. Returns `None` if it is delegated, as [`is_handed_on`](super::is_handed_on)
 /// says: its value is not checked then. Otherwise returns what [`compile_with_path`] does.
 pub fn compile<'a, F: Json>(
     alloc: Global,
@@ -31,14 +32,14 @@ pub fn compile<'a, F: Json>(
     parent: &'a Map<String, Value>,
     schema: &'a Value,
 ) -> Option<CompilationResult<'a, LeafValidator<F>>>
-    ensures { Compiles leaf_keyword result
-        (reading Required ctx.now (members_view parent.now.entries) (view schema.now)) }
+    ensures { CompilesKeyword leaf_keyword result
+        (keyword_reading Required ctx.now (members_view parent.now.entries) (view schema.now)) }
 {
     if is_handed_on(ctx, parent) {
         return None;
     }
     match ctx.keyword_location(alloc, KeywordName::Required) {
-        Ok(location) => compile_with_path(alloc, schema, location),
+        Ok(location) => Some(required_validator(alloc, schema, location)),
         Err(error) => Some(Err(CompileFault::Memory(error))),
     }
 }
@@ -58,18 +59,18 @@ pub fn compile_with_path<'a, F: Json>(
     schema: &'a Value,
     location: Location,
 ) -> Option<CompilationResult<'a, LeafValidator<F>>>
-    ensures { Compiles leaf_keyword result (Some (required_keyword location (view schema.now))) }
+    ensures { CompilesKeyword leaf_keyword result (Some (required_keyword location (view schema.now))) }
 {
-    Some(required_validator(alloc, schema, location))
+    Some(required_validator(alloc, schema, KeywordLocation::from(location)))
 }
 
 // Reads the value of `required`. Refuses one that is not an array of strings.
 fn required_validator<'a, F: Json>(
     alloc: Global,
     schema: &'a Value,
-    location: Location,
+    location: KeywordLocation,
 ) -> CompilationResult<'a, LeafValidator<F>>
-    ensures { Makes leaf_keyword result (required_keyword location (view schema.now)) }
+    ensures { CompilesTo leaf_keyword result (required_keyword location (view schema.now)) }
 {
     let Value::Array(items) = schema else {
         let kind = ValidationErrorKind::of_type(JsonType::Array);
@@ -83,7 +84,7 @@ fn required_validator<'a, F: Json>(
 fn validator_of<F: Json>(
     alloc: Global,
     names: &[&str],
-    location: Location,
+    location: KeywordLocation,
 ) -> Result<LeafValidator<F>, AllocError>
     requires { IsDistinct bytes_eq (map (λ name. name.now) names.now) }
     ensures { IfOk result (λ v. leaf_keyword v
@@ -101,10 +102,10 @@ fn validator_of<F: Json>(
 #[tactic(auto, using(crate::proofs::NamesOnce::next_fault, crate::proofs::NamesOnce::none_after))]
 fn distinct_names<'a>(
     alloc: Global,
-    location: &Location,
+    location: &KeywordLocation,
     items: &'a [Value],
 ) -> CompilationResult<'a, Vec<&'a str>>
-    ensures { Makes (λ v. map (λ name. name.now) v.items) result
+    ensures { CompilesTo (λ v. map (λ name. name.now) v.items) result
         (map_ok distinct (texts location.now (items_view items.now))) }
 {
     let mut seen = BTreeSet::new(alloc);
@@ -121,10 +122,10 @@ fn distinct_names<'a>(
 // Reads an item as a name.
 fn name_of<'a>(
     alloc: Global,
-    location: &Location,
+    location: &KeywordLocation,
     item: &'a Value,
 ) -> CompilationResult<'a, &'a str>
-    ensures { Makes (λ name. name.now) result (name_value location.now (view item.now)) }
+    ensures { CompilesTo (λ name. name.now) result (name_value location.now (view item.now)) }
 {
     match item {
         Value::String(name) => Ok(name.as_str()),

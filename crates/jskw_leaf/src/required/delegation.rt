@@ -1,9 +1,9 @@
-//! The rule by which `required` is handed on to the object layer: it depends on the keywords beside
+//! The rule by which `required` is delegated to the object layer: it depends on the keywords beside
 //! it.
 ghost use Rattle.std.specs.Prelude.{◌≡◌, not};
 ghost use Rattle.serde_json.specs.View.{view, members_view};
 ghost use Rattle.jskw_report.specs.Sibling.{has_few_members, has_items, is_absent, is_false};
-ghost use Rattle.jskw_report.specs.Sibling.{is_handed_on, is_object, member_passes};
+ghost use Rattle.jskw_report.specs.Sibling.{is_handed_on, is_object_value, member_passes};
 ghost use Rattle.jskw_report.specs.Sibling.{requires_one_of_properties, requires_two_of_properties};
 
 use jskw_report::context::member_of;
@@ -11,13 +11,13 @@ use jskw_report::{Context, KeywordName, Vocabulary};
 use jskw_value::Json;
 use serde_json::{Map, Value};
 
-// With this many members of `properties` or more, two required names are not handed on.
-const HASHMAP_THRESHOLD: usize = 15;
+// With this many members of `properties` or more, two required names are not delegated.
+const TOO_MANY_PROPERTIES: usize = 15;
 
-/// Returns whether the `required` of `parent` is active and is handed on to the object layer. Then
+/// Returns whether the `required` of `parent` is active and is delegated to the object layer. Then
 /// [`compile`](super::compile) makes no validator of it, and does not check its value.
 ///
-/// It is handed on if the context has an object layer, the applicator vocabulary is present,
+/// It is delegated if the context has an object layer, the applicator vocabulary is present,
 /// `parent` has no `patternProperties`, and one of these cases applies:
 ///
 /// - `required` is an array of one item, `parent` has `properties`, and its `additionalProperties`
@@ -30,7 +30,7 @@ const HASHMAP_THRESHOLD: usize = 15;
 pub fn is_handed_on<F: Json>(ctx: &Context<'_, F>, parent: &Map<String, Value>) -> bool
     ensures { result ≡ is_handed_on ctx.now.setting (members_view parent.now.entries) }
 {
-    KeywordName::Required.stands(ctx)
+    KeywordName::Required.is_active(ctx)
         && ctx.object_layer()
         && ctx.has_vocabulary(Vocabulary::Applicator)
         && !has_member(parent, "patternProperties")
@@ -97,7 +97,7 @@ fn has_false(parent: &Map<String, Value>, name: &str) -> bool
 
 // Returns whether the member `name` is an object.
 fn has_object(parent: &Map<String, Value>, name: &str) -> bool
-    ensures { result ≡ member_passes is_object name.now (members_view parent.now.entries) }
+    ensures { result ≡ member_passes is_object_value name.now (members_view parent.now.entries) }
 {
     matches!(member_of(parent, name), Some(Value::Object(_)))
 }
@@ -117,7 +117,7 @@ fn has_few_members(value: &Value) -> bool
     ensures { result ≡ has_few_members (view value.now) }
 {
     match value {
-        Value::Object(members) => members.len() < HASHMAP_THRESHOLD,
+        Value::Object(members) => members.len() < TOO_MANY_PROPERTIES,
         _ => false,
     }
 }

@@ -6,7 +6,7 @@ ghost use Rattle.std.specs.Prelude.{not, length, slice_get, slice_index_or};
 ghost use Rattle.std.specs.Int.{bit_at};
 ghost use Rattle.std.specs.List.{list_all};
 ghost use Rattle.jskw_value.specs.Tree.{has_name, is_object};
-ghost use Rattle.jskw_leaf.specs.Required.{is_among, Marks};
+ghost use Rattle.jskw_leaf.specs.Required.{is_among, MarksNames};
 
 use super::names::Names;
 use jskw_value::{Json, Object};
@@ -89,7 +89,7 @@ pub(crate) fn scanned<F: Json, L: Names<F>>(names: &L, object: &F::Node) -> Opti
     requires { IsTrue (is_object (F.Node.tree object.now)) }
     ensures few { IfSome result (λ _. length (L.names names.now) ≤ 16) }
     ensures marks { IfSome result (λ found.
-        Marks found (F.Node.tree object.now) (L.names names.now)) }
+        MarksNames found (F.Node.tree object.now) (L.names names.now)) }
 {
     let count = names.len();
     let most = F::KEYS_PER_LOOKUP.saturating_mul(count);
@@ -112,7 +112,7 @@ pub(crate) fn is_missing<F: Json, L: Names<F>>(
     requires index { index < length (L.names names.now) }
     requires few { IfSome found (λ _. length (L.names names.now) ≤ 16) }
     requires marks { IfSome found (λ found.
-        Marks found (F.Node.tree object.now) (L.names names.now)) }
+        MarksNames found (F.Node.tree object.now) (L.names names.now)) }
     ensures { result ≡ not (has_name (F.Node.tree object.now)
         (slice_index_or (L.names names.now) index [])) }
 {
@@ -126,7 +126,7 @@ pub(crate) fn is_missing<F: Json, L: Names<F>>(
 fn found_by_walk<F: Json, L: Names<F>>(names: &L, object: &F::Node) -> u32
     requires object { IsTrue (is_object (F.Node.tree object.now)) }
     requires few { length (L.names names.now) ≤ 16 }
-    ensures { Marks result (F.Node.tree object.now) (L.names names.now) }
+    ensures { MarksNames result (F.Node.tree object.now) (L.names names.now) }
 {
     let all = bit(names.len()) - 1;
     let mut found = 0;

@@ -6,13 +6,13 @@ ghost use Rattle.jskw_leaf.specs.Required.{required_fails};
 use super::lookup::{is_missing, scanned};
 use super::names::Names;
 use jskw_report::validator::report_error;
-use jskw_report::{LazyLocation, Location, Report, Stop, ValidationErrorKind};
+use jskw_report::{KeywordLocation, LazyLocation, Report, Stop, ValidationErrorKind};
 use jskw_value::{Json, Node};
 
 // Adds the error of each missing name to `report`, until no other is wanted.
 pub(crate) fn report_missing<'i, F: Json + 'i, L: Names<F>>(
     names: &'i L,
-    schema_path: &'i Location,
+    schema_path: &'i KeywordLocation,
     instance: &'i F::Node,
     location: &LazyLocation,
     report: &mut Report<'i, F>,

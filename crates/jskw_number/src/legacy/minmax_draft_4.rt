@@ -4,13 +4,13 @@
 
 ghost use Rattle.std.specs.Prelude.{◌≡◌, false, IfOk, IfSome};
 ghost use Rattle.serde_json.specs.View.{view, members_view};
-ghost use Rattle.jskw_report.specs.Compile.{Compiles, reading};
+ghost use Rattle.jskw_report.specs.Compile.{CompilesKeyword, keyword_reading};
 ghost use Rattle.jskw_report.specs.Setting.{is_after_draft_4};
-ghost use Rattle.jskw_report.specs.declared.keyword.KeywordName.TheVariants as word;
+ghost use Rattle.jskw_report.specs.declared.keyword.KeywordName.TheVariants as keyword_name;
 ghost use Rattle.jskw_number.specs.Meaning.{limit_of, number_keyword};
 
 use crate::helpers::has_true;
-use crate::minmax::{Above, AtLeast, AtMost, Below, make};
+use crate::minmax::{Above, AtLeast, AtMost, Below, compile_limit};
 use crate::number::NumberValidator;
 use jskw_report::{CompilationResult, Context, KeywordName};
 use jskw_value::Json;
@@ -33,14 +33,14 @@ pub fn compile_minimum<'a, F: Json>(
     schema: &'a Value,
 ) -> Option<CompilationResult<'a, NumberValidator>>
     requires { is_after_draft_4 ctx.now.setting.draft ≡ false }
-    ensures keyword { Compiles number_keyword result
-        (reading word.Minimum ctx.now (members_view parent.now.entries) (view schema.now)) }
+    ensures keyword { CompilesKeyword number_keyword result
+        (keyword_reading keyword_name.Minimum ctx.now (members_view parent.now.entries) (view schema.now)) }
     ensures value { IfSome result (λ r. IfOk r (λ v. limit_of v ≡ Some (view schema.now))) }
 {
     if has_true(parent, KeywordName::ExclusiveMinimum) {
-        Some(make::<F, Above>(alloc, ctx, schema))
+        Some(compile_limit::<F, Above>(alloc, ctx, schema))
     } else {
-        Some(make::<F, AtLeast>(alloc, ctx, schema))
+        Some(compile_limit::<F, AtLeast>(alloc, ctx, schema))
     }
 }
 
@@ -60,13 +60,13 @@ pub fn compile_maximum<'a, F: Json>(
     schema: &'a Value,
 ) -> Option<CompilationResult<'a, NumberValidator>>
     requires { is_after_draft_4 ctx.now.setting.draft ≡ false }
-    ensures keyword { Compiles number_keyword result
-        (reading word.Maximum ctx.now (members_view parent.now.entries) (view schema.now)) }
+    ensures keyword { CompilesKeyword number_keyword result
+        (keyword_reading keyword_name.Maximum ctx.now (members_view parent.now.entries) (view schema.now)) }
     ensures value { IfSome result (λ r. IfOk r (λ v. limit_of v ≡ Some (view schema.now))) }
 {
     if has_true(parent, KeywordName::ExclusiveMaximum) {
-        Some(make::<F, Below>(alloc, ctx, schema))
+        Some(compile_limit::<F, Below>(alloc, ctx, schema))
     } else {
-        Some(make::<F, AtMost>(alloc, ctx, schema))
+        Some(compile_limit::<F, AtMost>(alloc, ctx, schema))
     }
 }

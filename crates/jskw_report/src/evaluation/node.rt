@@ -7,7 +7,7 @@ ghost use Rattle.jskw_report.specs.EvaluationParts.{AreSmaller, annotation_of, k
 ghost use Rattle.jskw_report.specs.EvaluationView.{result_of};
 
 use crate::evaluation::{Annotations, ErrorDescription, EvaluationResult};
-use crate::paths::Location;
+use crate::paths::{KeywordLocation, Location};
 use std::alloc::{AllocError, Global};
 use std::marker::Model;
 
@@ -50,16 +50,48 @@ impl Model for EvaluationNode {
 }
 
 impl EvaluationNode {
-    /// Creates the node of a unit. `place` is the location of the keyword or schema; both locations
+    /// Creates the node of a unit. `schema_location` is the location of the keyword or schema; both locations
     /// are copied. If memory runs out, the unit is dropped.
     pub fn new(
         alloc: Global,
         unit: EvaluationResult,
-        place: &Location,
+        schema_location: &Location,
         instance_location: &Location,
     ) -> Result<EvaluationNode, AllocError>
         ensures { IfOk result (λ n. n
-            ≡ node_at place.now instance_location.now (result_of unit)) }
+            ≡ node_at schema_location.now instance_location.now (result_of unit)) }
+    {
+        EvaluationNode::of_unit(alloc, unit, schema_location.copy()?, instance_location)
+    }
+
+    /// Creates the node of a unit for the keyword location of a validator. If memory runs out, the
+    /// unit is dropped.
+    pub fn at_keyword(
+        alloc: Global,
+        unit: EvaluationResult,
+        schema_location: &KeywordLocation,
+        instance_location: &Location,
+    ) -> Result<EvaluationNode, AllocError>
+        ensures { IfOk result (λ n. n
+            ≡ node_at schema_location.now instance_location.now (result_of unit)) }
+    {
+        EvaluationNode::of_unit(
+            alloc,
+            unit,
+            schema_location.to_location(alloc)?,
+            instance_location,
+        )
+    }
+
+    // Creates the node of a unit.
+    fn of_unit(
+        alloc: Global,
+        unit: EvaluationResult,
+        evaluation_path: Location,
+        instance_location: &Location,
+    ) -> Result<EvaluationNode, AllocError>
+        ensures { IfOk result (λ n. n
+            ≡ node_at evaluation_path instance_location.now (result_of unit)) }
     {
         let (valid, annotations, errors, children) = match unit {
             EvaluationResult::Valid {
@@ -73,8 +105,8 @@ impl EvaluationNode {
             } => (false, annotations, errors, children),
         };
         Ok(EvaluationNode {
-            evaluation_path: place.copy(alloc)?,
-            instance_location: instance_location.copy(alloc)?,
+            evaluation_path,
+            instance_location: instance_location.copy()?,
             valid,
             annotations,
             errors,

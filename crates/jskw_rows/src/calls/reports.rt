@@ -84,7 +84,7 @@ pub(super) fn locations(lines: &mut Lines, left: &[Value], right: &[Value]) {
 }
 
 fn push_locations(lines: &mut Lines, left: &Location, right: &Location) {
-    let copy = lines.text.made(left.copy(lines.alloc));
+    let copy = lines.text.made(left.copy());
     let (is_equal, is_copy) = (left == right, copy.as_ref() == Some(right));
     write!(lines.text, "{} {is_equal} {is_copy}", left.as_str());
 }
@@ -139,7 +139,7 @@ fn push_message(lines: &mut Lines, kind: ValidationErrorKind<'_>) {
     lines.text.push(";");
 }
 
-// Whether want of memory is a fault of its own; and the constants of each representation and of each
+// Whether a lack of memory is a fault of its own; and the constants of each representation and of each
 // nullability.
 pub(super) fn wanting(lines: &mut Lines) {
     let is_fault = matches!(Fault::<SerdeJson>::from(AllocError), Fault::Memory(_));

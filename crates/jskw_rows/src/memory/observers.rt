@@ -104,7 +104,7 @@ fn ask_leaf<F: Json, V: Validate<F> + Drop>(
 )
     requires { IsTrue (is_lawful (F.Node.tree instance.now)) }
 {
-    let (mut location, mut ctx) = (two_below(to.alloc()), ValidationContext::new());
+    let (mut location, mut ctx) = (far_below(to.alloc()), ValidationContext::new());
     to.announce(leaf.location.as_str(), false);
     let (asked, mut errors) = (&leaf.validator, Vec::new(to.alloc()));
     let is_valid = asked.is_valid(instance, &mut ctx);
@@ -119,10 +119,11 @@ fn is_valid_unit(unit: &Made<EvaluationResult>) -> bool {
     matches!(unit, Ok(EvaluationResult::Valid { .. }))
 }
 
-// Returns the location of item 2 of item 7 of a whole instance.
-fn two_below(alloc: Global) -> LazyLocation {
+// Returns the location of item 2 of item 7 of an item far behind: its text is so long that it takes
+// memory.
+fn far_below(alloc: Global) -> LazyLocation {
     let mut location = LazyLocation::new(alloc);
-    for index in &[7, 2] {
+    for index in &[1_000_000_000_000_000_000, 7, 2] {
         let _ = location.push(*index);
     }
     location
@@ -134,7 +135,7 @@ fn observe<F: Json>(to: &mut Printer<'_>, node: &SchemaNode<F>, instance: &F::No
     requires { IsTrue (is_lawful (F.Node.tree instance.now)) }
 {
     write!(to, "\tcompiled\n");
-    let (mut location, mut ctx) = (two_below(to.alloc()), ValidationContext::new());
+    let (mut location, mut ctx) = (far_below(to.alloc()), ValidationContext::new());
     to.announce("is_valid", false);
     let is_valid = node.is_valid(instance, &mut ctx);
     write!(to, ", answered {is_valid}\n");
@@ -187,7 +188,7 @@ fn old_error<'i, F: Json>(
 fn ask_below<F: Json>(to: &mut Printer<'_>, node: &SchemaNode<F>, instance: &F::Node)
     requires { IsTrue (is_lawful (F.Node.tree instance.now)) }
 {
-    let (mut location, mut ctx) = (two_below(to.alloc()), ValidationContext::new());
+    let (mut location, mut ctx) = (far_below(to.alloc()), ValidationContext::new());
     to.announce("evaluate_instance_below", true);
     let tree = node.evaluate_instance_below(to.alloc(), instance, &mut location, &mut ctx);
     to.tell_at(tree.is_err(), &location);

@@ -4,7 +4,7 @@ use Rattle.jskw_report.specs.Errors.{failure_of}
 use Rattle.jskw_report.specs.Fail.{Failure, fail}
 use Rattle.jskw_report.specs.Observe.{IsFirst}
 use Rattle.jskw_report.specs.Paths.{path_of}
-use Rattle.jskw_c.proofs.ToldAnswers.{reports_first, reports_no_error}
+use Rattle.jskw_c.proofs.OutcomesOfInstances.{reports_first, reports_no_error}
 use Rattle.jskw_c.proofs.ask.first_error_of.Goals as goal
 
 pub returns-in-Ok : goal.returns-in-Ok
@@ -20,6 +20,7 @@ returns-in-Err-Invalid c =
     let t = decimal_tree c.args.instance.now in
     let f = failure_of decimal_tree c.in-Err-Invalid.error in
     let first : (rest : List Failure) × (fail s t (path_of c.new-location.result) ≡ f ∷ rest) =
-    subst (λ fault. IsFirst decimal_tree (fail s t (path_of c.new-location.result)) (Err fault)) c.in-Err-Invalid.field-0-is c.in-Err-Invalid.ensures.first in
+    subst (λ fault. IsFirst decimal_tree (fail s t (path_of c.new-location.result)) (Err fault))
+    c.in-Err-Invalid.field-0-is c.in-Err-Invalid.ensures.first in
     let all : fail s t [] ≡ f ∷ first.0 = search (rules, first.1) in
     reports_first s t _ f first.0 all refl c.in_ok-error_line-in-Err-Invalid.ensures

@@ -12,4 +12,6 @@ decreases-push_nodes l = 2 * weights (evaluations l.nodes.now) + 1
 
 -- what is written, with the nodes that are left
 abbrev pub invariant-push_nodes-loop-node : goal.invariant-push_nodes-loop-node
-invariant-push_nodes-loop-node l = l.text.items ++ evaluations_text l.later (evaluations (drop l.node-index l.nodes)) ≡ l.initial.text.items ++ evaluations_text false (evaluations l.nodes)
+invariant-push_nodes-loop-node l =
+    l.text.items ++ evaluations_text l.later (evaluations (drop l.node-index l.nodes))
+    ≡ l.initial.text.items ++ evaluations_text false (evaluations l.nodes)

@@ -8,5 +8,7 @@ use Rattle.jskw_c.proofs.evaluation.push_errors.Goals as goal
 pub returns : goal.returns
 unfolding errors_text
 returns c =
-    three_parts _ _ _ _ _ (codes ",\"errors\":[") (strings_text false (keywords_of c.errors.result.now)) (codes "]") _ c.in_ok-push_text.ensures c.in_ok-push_keywords.ensures
-    c.push_text-2.ensures (ap (λ ks. codes ",\"errors\":[" ++ (strings_text false ks ++ codes "]")) (sym c.errors.ensures))
+    three_parts _ _ _ _ _ (codes ",\"errors\":[") (strings_text false (keywords_of c.errors.result.now)) (codes "]") _
+    c.in_ok-push_text.ensures c.in_ok-push_keywords.ensures
+    c.push_text-2.ensures
+    (ap (λ ks. codes ",\"errors\":[" ++ (strings_text false ks ++ codes "]")) (sym c.errors.ensures))

@@ -7,4 +7,5 @@ use Rattle.jskw_c.proofs.line.error_line.Goals as goal
 pub returns : goal.returns
 returns c =
     let line = c.in_ok-push_error.ensures in
-    only_line (failure_of decimal_tree c.args.error.now) c.push_error.new.text.items line.0 line.1 (line.2 ∙ ap (λ text. text ++ line.0) c.new-text.ensures.items)
+    only_line (failure_of decimal_tree c.args.error.now) c.push_error.new.text.items line.0 line.1
+    (line.2 ∙ ap (λ text. text ++ line.0) c.new-text.ensures.items)

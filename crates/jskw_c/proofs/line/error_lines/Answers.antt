@@ -14,12 +14,15 @@ loop-error-preserved c =
     let e = c.error-item.result in
     let all = failures_of decimal_tree errors in
     let here = drop_here errors l.error-index e c.loop-error-test.true c.error-item.is in
-    next_line all (failures_of decimal_tree (drop (l.error-index + 1) errors)) (failure_of decimal_tree e) l.text.items c.push_error.new.text.items c.in_ok-push_error.ensures.0
-    (subst (λ es. (rest : List ℕ) → AreErrorLines (failures_of decimal_tree es) rest → AreErrorLines all (l.text.items ++ rest)) here l.invariant)
+    next_line all (failures_of decimal_tree (drop (l.error-index + 1) errors)) (failure_of decimal_tree e) l.text.items
+    c.push_error.new.text.items c.in_ok-push_error.ensures.0
+    (subst (λ es. (rest : List ℕ) → AreErrorLines (failures_of decimal_tree es) rest
+    → AreErrorLines all (l.text.items ++ rest)) here l.invariant)
     c.in_ok-push_error.ensures.1 c.in_ok-push_error.ensures.2
 
 pub returns : goal.returns
 returns c =
     let l = c.loop-error in
     let errors = c.args.errors.now in
-    last_line (failures_of decimal_tree errors) (failures_of decimal_tree (drop l.error-index errors)) l.text.items (ap (failures_of decimal_tree) (drop_all l.error-index errors (omega arith))) l.invariant
+    last_line (failures_of decimal_tree errors) (failures_of decimal_tree (drop l.error-index errors)) l.text.items
+    (ap (failures_of decimal_tree) (drop_all l.error-index errors (omega arith))) l.invariant

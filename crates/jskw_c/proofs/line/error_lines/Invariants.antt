@@ -6,4 +6,6 @@ use Rattle.jskw_c.proofs.line.error_lines.Given as goal
 
 -- what is written, with the lines of the errors that are left
 abbrev pub invariant-loop-error : goal.invariant-loop-error
-invariant-loop-error l = (rest : List ℕ) → AreErrorLines (failures_of decimal_tree (drop l.error-index l.errors)) rest → AreErrorLines (failures_of decimal_tree l.errors) (l.text.items ++ rest)
+invariant-loop-error l =
+    (rest : List ℕ) → AreErrorLines (failures_of decimal_tree (drop l.error-index l.errors)) rest
+    → AreErrorLines (failures_of decimal_tree l.errors) (l.text.items ++ rest)

@@ -6,4 +6,6 @@ use Rattle.jskw_leaf.proofs.type_.type_set.Given as goal
 
 -- the types so far, with those that are left
 abbrev pub invariant-loop-item : goal.invariant-loop-item
-invariant-loop-item l = with_types l.types (type_set l.location (items_view (drop l.item-index l.items))) ≡ type_set l.location (items_view l.items)
+invariant-loop-item l =
+    with_types l.types (type_set l.location (items_view (drop l.item-index l.items)))
+    ≡ type_set l.location (items_view l.items)

@@ -4,4 +4,6 @@ use Rattle.serde_json.proofs.Views.{view_of_ref, view-lookup}
 use Rattle.jskw_report.proofs.context.member_of.Goals as goal
 
 pub returns : goal.returns
-returns c = view_of_ref c.get.result ∙ ap (option_map view) c.get.ensures.value ∙ view-lookup c.args.name.now c.args.parent.now.entries
+returns c =
+    view_of_ref c.get.result ∙ ap (option_map view) c.get.ensures.value
+    ∙ view-lookup c.args.name.now c.args.parent.now.entries

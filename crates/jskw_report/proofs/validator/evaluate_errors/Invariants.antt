@@ -8,4 +8,5 @@ use Rattle.jskw_report.proofs.validator.evaluate_errors.Given as goal
 abbrev pub invariant-loop-error : goal.invariant-loop-error
 invariant-loop-error g l =
     let tree = g.F.Node.Rooted.tree in
-    keywords_of l.descriptions.items ++ keywords (failures_of tree (drop l.error-index l.errors)) ≡ keywords (failures_of tree l.errors)
+    keywords_of l.descriptions.items ++ keywords (failures_of tree (drop l.error-index l.errors))
+    ≡ keywords (failures_of tree l.errors)

@@ -5,4 +5,6 @@ use Rattle.jskw_service.proofs.request.texts_of.Given as goal
 
 -- those so far, with those that are left
 abbrev pub invariant-loop-item : goal.invariant-loop-item
-invariant-loop-item l = texts_of (items_view l.items) ≡ option_map (λ names. map string_bytes l.texts.items ++ names) (texts_of (items_view (drop l.item-index l.items)))
+invariant-loop-item l =
+    texts_of (items_view l.items)
+    ≡ option_map (λ names. map string_bytes l.texts.items ++ names) (texts_of (items_view (drop l.item-index l.items)))

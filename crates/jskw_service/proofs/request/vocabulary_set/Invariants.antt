@@ -6,4 +6,6 @@ use Rattle.jskw_service.proofs.request.vocabulary_set.Given as goal
 
 -- those so far, with those that are left
 abbrev pub invariant-loop-item : goal.invariant-loop-item
-invariant-loop-item l = vocabulary_set (items_view l.items) ≡ option_map (joined l.vocabularies) (vocabulary_set (items_view (drop l.item-index l.items)))
+invariant-loop-item l =
+    vocabulary_set (items_view l.items)
+    ≡ option_map (joined l.vocabularies) (vocabulary_set (items_view (drop l.item-index l.items)))

@@ -8,4 +8,5 @@ returns-in-Ok c = sym (value_of-text c.args.bytes.now _ c.in-Ok.ensures.ok.0 c.i
 
 pub returns-in-Err-2 : goal.returns-in-Err-2
 returns-in-Err-2 c =
-    sym (value_of-none c.args.bytes.now (c.in-Err.ensures.err (λ m. true≢false (sym (c.is_memory.ensures.1 m) ∙ c.if-is_memory.false))))
+    sym (value_of-none c.args.bytes.now
+    (c.in-Err.ensures.err (λ m. true≢false (sym (c.is_memory.ensures.1 m) ∙ c.if-is_memory.false))))

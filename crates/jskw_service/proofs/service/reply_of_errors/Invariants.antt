@@ -6,4 +6,6 @@ use Rattle.jskw_service.proofs.service.reply_of_errors.Given as goal
 
 -- the lines so far, with those that are left
 abbrev pub invariant-loop-error : goal.invariant-loop-error
-invariant-loop-error l = string_bytes l.text ++ error_lines (failures_of value_tree (drop l.error-index l.found)) ≡ error_lines (failures_of value_tree l.found)
+invariant-loop-error l =
+    string_bytes l.text ++ error_lines (failures_of value_tree (drop l.error-index l.found))
+    ≡ error_lines (failures_of value_tree l.found)

@@ -10,9 +10,11 @@ returns-then-scale-eq0 t c = sym (ap (at_most c.args.negative c.args.numeral.now
 
 pub returns-in-Some : goal.returns-in-Some
 returns-in-Some t c =
-    sym (at_most_is c.args.negative c.args.numeral.now c.args.scale (omega arith) ∙ ap (λ o. option_or o (at_most c.args.negative c.args.numeral.now (c.args.scale - 1))) (sym c.in-Some.ensures))
+    sym (at_most_is c.args.negative c.args.numeral.now c.args.scale (omega arith)
+    ∙ ap (λ o. option_or o (at_most c.args.negative c.args.numeral.now (c.args.scale - 1))) (sym c.in-Some.ensures))
 
 pub returns-in-None : goal.returns-in-None
 returns-in-None t c =
     c.at_most.ensures ∙
-    sym (at_most_is c.args.negative c.args.numeral.now c.args.scale (omega arith) ∙ ap (λ o. option_or o (at_most c.args.negative c.args.numeral.now (c.args.scale - 1))) (sym c.in-None.ensures))
+    sym (at_most_is c.args.negative c.args.numeral.now c.args.scale (omega arith)
+    ∙ ap (λ o. option_or o (at_most c.args.negative c.args.numeral.now (c.args.scale - 1))) (sym c.in-None.ensures))

@@ -1,48 +1,89 @@
-use Rattle.std.proofs.Common.{◌≡◌, ℕ, ◌+◌, ◌-◌, ◌*◌, ◌^◌, ◌<◌, ◌≤◌, ◌++◌, min, length, length-append, ap, ap₂, sym, ◌∙◌, refl, arith}
-use Rattle.std.specs.Str.Parse.{digits_value, AllDigits}
-use Rattle.fast_float.specs.Text.{Parts, tens_up, tens_down}
-use Rattle.jskw_text.specs.NumberText.{quotient, scaled}
-use Rattle.jskw_text.specs.Tens.{HasTens}
-use Rattle.jskw_text.proofs.Numbers.{cut_at, found_quotient}
+use Rattle.std.proofs.Common.{◌≡◌, ℕ, ◌+◌, ◌-◌, ◌*◌, ◌^◌, ◌<◌, ◌≤◌, min, Option, Some, None, IfSome, MatchOption, sym}
+use Rattle.std.proofs.Common.{ap, ◌∙◌, arith, lit<, mul-le-mul_right}
+use native.Mathlib.Nat.{pow-le-pow_right}
+use Rattle.std.specs.Option.{SomeIff}
+use Rattle.core.proofs.dec2flt.ExactLemmas.{ten_to_pos}
+use Rattle.fast_float.specs.Text.{tens_up, tens_down}
+use Rattle.jskw_text.proofs.Numbers.{quotient_is, moved_up, moved_down, scaled_is}
 use Rattle.jskw_text.proofs.number.scaled.Goals as goal
 
--- the saturated tens cut the digits where the true ones do
-kept_is : (p : Parts) (count up down k : ℕ) → HasTens p up down → count < 2 ^ 63 → length p.fraction ≤ count → k ≤ 18
-    → count - (down - (up + k)) ≡ count - (tens_down p - (tens_up p + k))
-kept_is p count up down k h fits behind short =
-    let u = tens_up p in
-    let v = tens_down p in
-    let f = length p.fraction in
-    plain count f u v up down k h.short h.up_is h.down_is h.one h.behind fits behind short
-  where
-    plain : (count f u v up down k : ℕ) → f < 2 ^ 63 → up ≡ min u (2 ^ 64 - 1) → down ≡ f + min (v - f) (2 ^ 64 - 1) → min u (v - f) ≡ 0 → f ≤ v → count < 2 ^ 63 → f ≤ count → k ≤ 18
-        → count - (down - (up + k)) ≡ count - (v - (u + k))
-    plain count f u v up down k a b c d e g h i = omega arith
+-- the saturated tens compare as the true ones do
+fewer : (f u v up down z k : ℕ) → f < 2 ^ 63 → up ≡ min u (2 ^ 64 - 1) → down ≡ f + min (v - f) (2 ^ 64 - 1)
+    → min u (v - f) ≡ 0 → f ≤ v → z < 2 ^ 63 → k ≤ 18
+    → up + z + k < down → z + (u + k) < v
+fewer f u v up down z k a b c d e g h less = omega arith
 
--- and leave as many zeros
-zeros_is : (f u v up down k : ℕ) → f < 2 ^ 63 → up ≡ min u (2 ^ 64 - 1) → down ≡ f + min (v - f) (2 ^ 64 - 1) → min u (v - f) ≡ 0 → f ≤ v → k ≤ 18
-    → min (up + k - down) 20 ≡ min (u + k - v) 20
-zeros_is f u v up down k a b c d e i = omega arith
+-- and differ by as many, or by more than 19
+many : (f u v up down z k : ℕ) → f < 2 ^ 63 → up ≡ min u (2 ^ 64 - 1) → down ≡ f + min (v - f) (2 ^ 64 - 1)
+    → min u (v - f) ≡ 0 → f ≤ v → z < 2 ^ 63 → k ≤ 18
+    → down ≤ up + z + k → (v ≤ z + (u + k)) × (min (z + (u + k) - v) 20 ≡ min (up + z + k - down) 20)
+many f u v up down z k a b c d e g h more = (omega arith, omega arith)
+
+none_or_large : (q : Option ℕ) → q ≡ None → IfSome q (λ n. 2 ^ 64 ≤ n)
+none_or_large None e = tt
+none_or_large (Some n) e = absurd (cc)
+
+large : (q : Option ℕ) (n : ℕ) → q ≡ Some n → 2 ^ 64 ≤ n → IfSome q (λ n. 2 ^ 64 ≤ n)
+large q n e h = rw e h
+
+found : (o q : Option ℕ) (n m : ℕ) → SomeIff o (n < 2 ^ 64) n → q ≡ Some m → n ≡ m
+    → MatchOption o (IfSome q (λ n. 2 ^ 64 ≤ n)) (λ n. q ≡ Some n)
+found None q n m h e s = large q m e (omega (arith, not_less h))
+  where
+    not_less : {n : ℕ} → (n < 2 ^ 64 → ⊥) → 2 ^ 64 ≤ n
+    not_less h = search (arith, h)
+found (Some x) q n m h e s = e ∙ ap Some (sym (h.1 ∙ s))
+
+pub returns-then-significand-eq0 : goal.returns-then-significand-eq0
+returns-then-significand-eq0 c =
+    let p = c.args.numeral.now in
+    let z = c.args.significand.zeros in
+    let s = c.args.significand.size in
+    let a = z + (tens_up p + c.args.scale) in
+    let none : s * 10 ^ a ≡ 0 * 10 ^ tens_down p + 0 = omega (arith, ap (λ x. x * 10 ^ a) c.if-significand-eq0.true) in
+    scaled_is p s z c.args.scale c.requires.digits ∙ quotient_is (s * 10 ^ a) 0 0 (10 ^ tens_down p) none (ten_to_pos _)
+
+pub returns-then-up-down : goal.returns-then-up-down
+returns-then-up-down c =
+    let p = c.args.numeral.now in
+    let z = c.args.significand.zeros in
+    let s = c.args.significand.size in
+    let h = c.tens-up.ensures in
+    let some : 0 < s = omega arith in
+    let less =
+    fewer _ (tens_up p) (tens_down p) c.tens-up.result.0 c.tens-up.result.1 z c.args.scale h.short h.up_is h.down_is
+    h.one h.behind c.requires.digits.short c.requires.scale c.if-up-down.true in
+    none_or_large _ (scaled_is p s z c.args.scale c.requires.digits
+    ∙ moved_down s (z + (tens_up p + c.args.scale)) (tens_down p) c.requires.digits.cut some less)
+
+pub returns-then-zeros-gt19 : goal.returns-then-zeros-gt19
+returns-then-zeros-gt19 c =
+    let p = c.args.numeral.now in
+    let z = c.args.significand.zeros in
+    let s = c.args.significand.size in
+    let a = z + (tens_up p + c.args.scale) in
+    let h = c.tens-up.ensures in
+    let more =
+    many _ (tens_up p) (tens_down p) c.tens-up.result.0 c.tens-up.result.1 z c.args.scale h.short h.up_is h.down_is
+    h.one h.behind c.requires.digits.short c.requires.scale c.if-up-down.false in
+    let some : 1 ≤ s = omega arith in
+    let tens : 10 ^ 20 ≤ 10 ^ (a - tens_down p) =
+    pow-le-pow_right (lit< tt) {i = 20} (omega (arith, more.1, c.if-zeros-gt19.true)) in
+    large _ _ (scaled_is p s z c.args.scale c.requires.digits ∙ moved_up s a (tens_down p) more.0)
+    (omega (arith, tens, mul-le-mul_right (10 ^ (a - tens_down p)) some))
 
 pub returns : goal.returns
-unfolding scaled
 returns c =
     let p = c.args.numeral.now in
-    let w = c.whole-whole.result.now in
-    let f = c.fraction-fraction.result.now in
-    let same : w ++ f ≡ p.whole ++ p.fraction = ap₂ (λ x y. x ++ y) c.whole-whole.ensures.value c.fraction-fraction.ensures in
-    let long = length-append w f in
-    let m = tens_up p + c.args.scale in
-    let v = tens_down p in
+    let z = c.args.significand.zeros in
+    let s = c.args.significand.size in
+    let a = z + (tens_up p + c.args.scale) in
     let h = c.tens-up.ensures in
-    let short : length p.whole + length p.fraction < 2 ^ 63 = c.requires.short in
-    let wholes : length w ≡ length p.whole = ap length c.whole-whole.ensures.value in
-    let parts : length f ≡ length p.fraction = ap length c.fraction-fraction.ensures in
-    let kept : c.saturating_sub-kept.result ≡ length (w ++ f) - (v - m) =
-    omega (arith, kept_is p (length (w ++ f)) c.tens-up.result.0 c.tens-up.result.1 c.args.scale h (omega arith) (omega arith) (omega arith)) in
-    let zeros : c.min-zeros.result ≡ min (m - v) 20 =
-    omega (arith, zeros_is (length p.fraction) (tens_up p) v c.tens-up.result.0 c.tens-up.result.1 c.args.scale h.short h.up_is h.down_is h.one h.behind (omega arith)) in
-    let digits : AllDigits 10 (w ++ f) = rw same c.whole-whole.ensures.digits in
-    let cut = cut_at (w ++ f) c.saturating_sub-kept.result m v (m - v) digits kept refl in
-    found_quotient c.shifted.result _ _ _ (c.shifted.ensures (m - v) zeros)
-    (ap (λ ds. quotient (digits_value 10 ds * 10 ^ m) (10 ^ v)) (sym same) ∙ cut)
+    let more =
+    many _ (tens_up p) (tens_down p) c.tens-up.result.0 c.tens-up.result.1 z c.args.scale h.short h.up_is h.down_is
+    h.one h.behind c.requires.digits.short c.requires.scale c.if-up-down.false in
+    let same : c.tens-up.result.0 + z + c.args.scale - c.tens-up.result.1 ≡ a - tens_down p =
+    omega (arith, more.1, c.if-zeros-gt19.false) in
+    let ten : c.ten_to.result ≡ 10 ^ (a - tens_down p) = c.ten_to.ensures ∙ ap (λ n. 10 ^ n) same in
+    found c.checked_mul.result _ (s * c.ten_to.result) (s * 10 ^ (a - tens_down p)) c.checked_mul.ensures
+    (scaled_is p s z c.args.scale c.requires.digits ∙ moved_up s a (tens_down p) more.0) (ap (λ x. s * x) ten)

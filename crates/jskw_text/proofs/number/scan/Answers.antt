@@ -8,4 +8,5 @@ within : (p q : Parts) (n : ℕ) → p ≡ q → length q.whole + length q.fract
 within p q n e h l fits = rw e (omega (arith, h, ap (λ x. x.len) e))
 
 pub returns-clause-short : goal.returns-clause-short
-returns-clause-short c = within _ _ _ c.scan.ensures.parts (scan_numeral-digits_fit c.args.bytes.now) c.scan.ensures.within (omega arith)
+returns-clause-short c =
+    within _ _ _ c.scan.ensures.parts (scan_numeral-digits_fit c.args.bytes.now) c.scan.ensures.within (omega arith)

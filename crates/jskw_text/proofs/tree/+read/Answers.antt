@@ -1,4 +1,5 @@
-use Rattle.std.proofs.Common.{◌≡◌, suc, ◌-◌, ◌<◌, [], ◌∷◌, length, Some, None, Ok, Err, string_bytes, refl, sym, ap, ap₂, ◌∙◌, arith, rules}
+use Rattle.std.proofs.Common.{◌≡◌, suc, ◌-◌, ◌<◌, [], ◌∷◌, length, map, Some, None, Ok, Err, string_bytes, refl, sym}
+use Rattle.std.proofs.Common.{ap, ap₂, ◌∙◌, arith, rules}
 use Rattle.json.specs.Token.{Token}
 use Rattle.json.specs.Json.{parse_map, after_end_array, read_key, items, members, value}
 use Rattle.json.specs.Reads.{token_of}
@@ -10,11 +11,13 @@ use Rattle.jskw_value.specs.declared.decimal_tree.DecimalTree.{Text, Number, Boo
 use Rattle.jskw_value.proofs.DecimalTrees.{tree_of_array}
 use Rattle.jskw_value.specs.Members.{lasts}
 use Rattle.jskw_text.specs.Members.{members_seen}
-use Rattle.jskw_text.specs.Stop.{Explains}
+use Rattle.jskw_text.specs.Stop.{Explains, location_of}
 use Rattle.jskw_text.specs.declared.fault.Stop.TheVariants.{Broken}
 use Rattle.jskw_text.specs.Reading.{on_found, put, tree_of, items_of, members_of}
 use Rattle.jskw_text.proofs.Members.{tree_of_members, last_seen}
-use Rattle.jskw_text.proofs.Reading.{returned, length-append_one, parsed_array, parsed_object, explained, item_read, item_faulty, items_over, member_read, member_faulty, key_refused, members_over, items_before, items_before-no_items, one_more_item}
+use Rattle.jskw_text.proofs.Reading.{returned, length-append_one, parsed_array, parsed_object, explained, item_read}
+use Rattle.jskw_text.proofs.Reading.{item_faulty, items_over, member_read, member_faulty, key_refused, members_over}
+use Rattle.jskw_text.proofs.Reading.{items_before, items_before-no_items, one_more_item}
 use Rattle.jskw_text.proofs.tree.+read.Goals as goal
 
 pub read-returns-in_err-token-clause-err : goal.read-returns-in_err-token-clause-err
@@ -37,18 +40,28 @@ read-returns-then-depth-eq0-2-clause-err t c =
     let none : c.args.depth ≡ 0 = omega arith in
     ap (parse_map tree_of) (ap₂ value none (first ∙ ap (λ k. token_of k ∷ c.next.new.self) c.in-BeginObject.is))
 
-pub read-returns-in_err-read_items-in-BeginArray-clause-err : goal.read-returns-in_err-read_items-in-BeginArray-clause-err
+pub read-returns-in_err-read_items-in-BeginArray-clause-err
+    : goal.read-returns-in_err-read_items-in-BeginArray-clause-err
 read-returns-in_err-read_items-in-BeginArray-clause-err t c =
     let first : c.args.reader.now ≡ token_of c.in_ok-token.token ∷ c.next.new.self = grind arith in
-    let opened = ap (parse_map tree_of) (ap (value c.args.depth) (first ∙ ap (λ k. token_of k ∷ c.next.new.self) c.in-BeginArray.is) ∙ value-begin_array c.args.depth c.next.new.self (omega arith)) ∙ parsed_array (items (value (c.args.depth - 1)) (length c.next.new.self) c.next.new.self) in
+    let opened =
+    ap (parse_map tree_of) (ap (value c.args.depth)
+    (first ∙ ap (λ k. token_of k ∷ c.next.new.self) c.in-BeginArray.is)
+    ∙ value-begin_array c.args.depth c.next.new.self (omega arith))
+    ∙ parsed_array (items (value (c.args.depth - 1)) (length c.next.new.self) c.next.new.self) in
     let fault = c.in_err-read_items-in-BeginArray in
     let is : c.from_residual-in_err-read_items-in-BeginArray.result ≡ Err fault.field-0.0 = search rules in
     returned _ fault.field-0.0 _ _ is opened (explained array fault.field-0.0 _ fault.ensures.err)
 
-pub read-returns-in_err-read_members-in-BeginObject-clause-err : goal.read-returns-in_err-read_members-in-BeginObject-clause-err
+pub read-returns-in_err-read_members-in-BeginObject-clause-err
+    : goal.read-returns-in_err-read_members-in-BeginObject-clause-err
 read-returns-in_err-read_members-in-BeginObject-clause-err t c =
     let first : c.args.reader.now ≡ token_of c.in_ok-token.token ∷ c.next.new.self = grind arith in
-    let opened = ap (parse_map tree_of) (ap (value c.args.depth) (first ∙ ap (λ k. token_of k ∷ c.next.new.self) c.in-BeginObject.is) ∙ value-begin_object c.args.depth c.next.new.self (omega arith)) ∙ parsed_object (members (value (c.args.depth - 1)) (length c.next.new.self) c.next.new.self) in
+    let opened =
+    ap (parse_map tree_of) (ap (value c.args.depth)
+    (first ∙ ap (λ k. token_of k ∷ c.next.new.self) c.in-BeginObject.is)
+    ∙ value-begin_object c.args.depth c.next.new.self (omega arith))
+    ∙ parsed_object (members (value (c.args.depth - 1)) (length c.next.new.self) c.next.new.self) in
     let fault = c.in_err-read_members-in-BeginObject in
     let is : c.from_residual-in_err-read_members-in-BeginObject.result ≡ Err fault.field-0.0 = search rules in
     returned _ fault.field-0.0 _ _ is opened (explained object fault.field-0.0 _ fault.ensures.err)
@@ -57,28 +70,33 @@ pub read-returns-in_ok-from_str-in-String-clause-ok : goal.read-returns-in_ok-fr
 read-returns-in_ok-from_str-in-String-clause-ok t c =
     let first : c.args.reader.now ≡ token_of c.in_ok-token.token ∷ c.next.new.self = grind arith in
     let is : c.args.reader.now ≡ Token.string c.in-String.text.now ∷ c.next.new.self = grind (arith, first) in
-    let seen : decimal_tree (Text c.in_ok-from_str-in-String.field-0) ≡ string c.in-String.text.now = search (rules, the_lemmas) in
-    ap (parse_map tree_of) (ap (value c.args.depth) is ∙ value_is c.args.depth _) ∙ ap (λ d. Some (Ok d, c.next.new.self)) (sym seen)
+    let seen : decimal_tree (Text c.in_ok-from_str-in-String.field-0) ≡ string c.in-String.text.now =
+    search (rules, the_lemmas) in
+    ap (parse_map tree_of) (ap (value c.args.depth) is ∙ value_is c.args.depth _)
+    ∙ ap (λ d. Some (Ok d, c.next.new.self)) (sym seen)
 
 pub read-returns-in-Bool-clause-ok : goal.read-returns-in-Bool-clause-ok
 read-returns-in-Bool-clause-ok t c =
     let first : c.args.reader.now ≡ token_of c.in_ok-token.token ∷ c.next.new.self = grind arith in
     let is : c.args.reader.now ≡ Token.boolean c.in-Bool.boolean ∷ c.next.new.self = grind (arith, first) in
     let seen : decimal_tree (Bool c.in-Bool.boolean) ≡ boolean c.in-Bool.boolean = search (rules, the_lemmas) in
-    ap (parse_map tree_of) (ap (value c.args.depth) is ∙ value_is c.args.depth _) ∙ ap (λ d. Some (Ok d, c.next.new.self)) (sym seen)
+    ap (parse_map tree_of) (ap (value c.args.depth) is ∙ value_is c.args.depth _)
+    ∙ ap (λ d. Some (Ok d, c.next.new.self)) (sym seen)
 
 pub read-returns-in-Null-clause-ok : goal.read-returns-in-Null-clause-ok
 read-returns-in-Null-clause-ok t c =
     let first : c.args.reader.now ≡ token_of c.in_ok-token.token ∷ c.next.new.self = grind arith in
     let is : c.args.reader.now ≡ Token.null ∷ c.next.new.self = grind (arith, first) in
     let seen : decimal_tree (Null) ≡ null = search (rules, the_lemmas) in
-    ap (parse_map tree_of) (ap (value c.args.depth) is ∙ value_is c.args.depth _) ∙ ap (λ d. Some (Ok d, c.next.new.self)) (sym seen)
+    ap (parse_map tree_of) (ap (value c.args.depth) is ∙ value_is c.args.depth _)
+    ∙ ap (λ d. Some (Ok d, c.next.new.self)) (sym seen)
 
 pub read-returns-in-Some-clause-ok : goal.read-returns-in-Some-clause-ok
 read-returns-in-Some-clause-ok t c =
     let first : c.args.reader.now ≡ token_of c.in_ok-token.token ∷ c.next.new.self = grind arith in
     let is : c.args.reader.now ≡ Token.number c.in-Number.text.now ∷ c.next.new.self = grind (arith, first) in
-    let seen : decimal_tree (Number c.in-Some.decimal) ≡ number (number_value c.in-Some.decimal) = search (rules, the_lemmas) in
+    let seen : decimal_tree (Number c.in-Some.decimal) ≡ number (number_value c.in-Some.decimal) =
+    search (rules, the_lemmas) in
     ap (parse_map tree_of) (ap (value c.args.depth) is ∙ value_is c.args.depth _) ∙ rw (← c.in-Some.ensures, seen)
 
 pub read-returns-in-None-clause-err : goal.read-returns-in-None-clause-err
@@ -87,28 +105,40 @@ read-returns-in-None-clause-err t c =
     let is : c.args.reader.now ≡ Token.number c.in-Number.text.now ∷ c.next.new.self = grind (arith, first) in
     let read : parse_map tree_of (value c.args.depth c.args.reader.now) ≡ Some (Err [], c.next.new.self) =
     ap (parse_map tree_of) (ap (value c.args.depth) is ∙ value_is c.args.depth _) ∙ rw (← c.in-None.ensures) in
-    let empty : [] ≡ string_bytes c.new.result = search rules in
-    rw read (ap Err empty)
+    let empty : c.new.result.items ≡ [] = search rules in
+    rw read (ap (λ ss. Err (location_of (map string_bytes ss))) (sym empty))
 
 pub read-returns-in-EndObject-clause-err : goal.read-returns-in-EndObject-clause-err
 read-returns-in-EndObject-clause-err t c =
     let first : c.args.reader.now ≡ token_of c.in_ok-token.token ∷ c.next.new.self = grind arith in
-    let none : value c.args.depth c.args.reader.now ≡ None = rw (value_is c.args.depth c.args.reader.now, first) (grind arith) in
+    let none : value c.args.depth c.args.reader.now ≡ None =
+    rw (value_is c.args.depth c.args.reader.now, first) (grind arith) in
     ap (parse_map tree_of) none
 
 pub read-returns-in_ok-read_items-in-BeginArray-clause-ok : goal.read-returns-in_ok-read_items-in-BeginArray-clause-ok
 read-returns-in_ok-read_items-in-BeginArray-clause-ok t c =
     let first : c.args.reader.now ≡ token_of c.in_ok-token.token ∷ c.next.new.self = grind arith in
-    let opened = ap (parse_map tree_of) (ap (value c.args.depth) (first ∙ ap (λ k. token_of k ∷ c.next.new.self) c.in-BeginArray.is) ∙ value-begin_array c.args.depth c.next.new.self (omega arith)) ∙ parsed_array (items (value (c.args.depth - 1)) (length c.next.new.self) c.next.new.self) in
+    let opened =
+    ap (parse_map tree_of) (ap (value c.args.depth)
+    (first ∙ ap (λ k. token_of k ∷ c.next.new.self) c.in-BeginArray.is)
+    ∙ value-begin_array c.args.depth c.next.new.self (omega arith))
+    ∙ parsed_array (items (value (c.args.depth - 1)) (length c.next.new.self) c.next.new.self) in
     let found = c.in_ok-read_items-in-BeginArray in
-    opened ∙ ap (parse_map (on_found array)) found.ensures.ok ∙ ap (λ d. Some (Ok d, c.read_items.new.reader)) (sym (tree_of_array found.field-0))
+    opened ∙ ap (parse_map (on_found array)) found.ensures.ok
+    ∙ ap (λ d. Some (Ok d, c.read_items.new.reader)) (sym (tree_of_array found.field-0))
 
-pub read-returns-in_ok-read_members-in-BeginObject-clause-ok : goal.read-returns-in_ok-read_members-in-BeginObject-clause-ok
+pub read-returns-in_ok-read_members-in-BeginObject-clause-ok
+    : goal.read-returns-in_ok-read_members-in-BeginObject-clause-ok
 read-returns-in_ok-read_members-in-BeginObject-clause-ok t c =
     let first : c.args.reader.now ≡ token_of c.in_ok-token.token ∷ c.next.new.self = grind arith in
-    let opened = ap (parse_map tree_of) (ap (value c.args.depth) (first ∙ ap (λ k. token_of k ∷ c.next.new.self) c.in-BeginObject.is) ∙ value-begin_object c.args.depth c.next.new.self (omega arith)) ∙ parsed_object (members (value (c.args.depth - 1)) (length c.next.new.self) c.next.new.self) in
+    let opened =
+    ap (parse_map tree_of) (ap (value c.args.depth)
+    (first ∙ ap (λ k. token_of k ∷ c.next.new.self) c.in-BeginObject.is)
+    ∙ value-begin_object c.args.depth c.next.new.self (omega arith))
+    ∙ parsed_object (members (value (c.args.depth - 1)) (length c.next.new.self) c.next.new.self) in
     let found = c.in_ok-read_members-in-BeginObject in
-    opened ∙ ap (parse_map (on_found object)) found.ensures.ok ∙ ap (λ d. Some (Ok d, c.read_members.new.reader)) (sym (tree_of_members found.field-0))
+    opened ∙ ap (parse_map (on_found object)) found.ensures.ok
+    ∙ ap (λ d. Some (Ok d, c.read_members.new.reader)) (sym (tree_of_members found.field-0))
 
 pub read_items-returns-in-Err-clause-err : goal.read_items-returns-in-Err-clause-err
 read_items-returns-in-Err-clause-err t c =
@@ -119,7 +149,8 @@ read_items-returns-in-Err-clause-err t c =
     let same : Explains c.in-Err.stop (parse_map tree_of (p l.reader)) = rw (← going.1) c.in-Err.ensures.err in
     let place : c.len.result ≡ length l.found.items = search rules in
     rw l.invariant.2 (explained (items_before l.found.items) c.in_item.result _
-    (item_faulty p (length l.found.items) n l.reader c.in-Err.stop c.in_item.result going.0 same (rw (← place) c.in_item.ensures)))
+    (item_faulty p (length l.found.items) n l.reader c.in-Err.stop c.in_item.result going.0 same
+    (rw (← place) c.in_item.ensures)))
 
 pub read_items-items-preserved : goal.read_items-items-preserved
 read_items-items-preserved t c =
@@ -131,13 +162,18 @@ read_items-items-preserved t c =
     let v = c.in-Ok.item in
     let r = c.read.new.reader in
     let less : length r < length l.reader = rw (← going.1) done.shorter in
-    let turn = item_read p (length l.found.items) n l.reader r (decimal_tree v) (omega (arith, l.invariant.1)) going.0 (rw (← going.1) done.ok) in
-    let longer : length c.push.new.self.items ≡ suc (length l.found.items) = ap length c.in_ok-push.ensures.items ∙ length-append_one l.found.items v in (
+    let turn =
+    item_read p (length l.found.items) n l.reader r (decimal_tree v) (omega (arith, l.invariant.1)) going.0
+    (rw (← going.1) done.ok) in
+    let longer : length c.push.new.self.items ≡ suc (length l.found.items) =
+    ap length c.in_ok-push.ensures.items ∙ length-append_one l.found.items v in (
       n - 1,
       omega (arith, l.invariant.1),
       l.invariant.2 ∙ ap (parse_map (on_found (items_before l.found.items))) turn ∙ one_more_item l.found.items v _
-          ∙ ap (λ vs. parse_map (on_found (items_before vs)) (parse_map (items_of (suc (length l.found.items))) (items p (n - 1) r))) (sym c.in_ok-push.ensures.items)
-          ∙ ap (λ i. parse_map (on_found (items_before c.push.new.self.items)) (parse_map (items_of i) (items p (n - 1) r))) (sym longer),
+          ∙ ap (λ vs. parse_map (on_found (items_before vs))
+          (parse_map (items_of (suc (length l.found.items))) (items p (n - 1) r))) (sym c.in_ok-push.ensures.items)
+          ∙ ap (λ i. parse_map (on_found (items_before c.push.new.self.items))
+          (parse_map (items_of i) (items p (n - 1) r))) (sym longer),
       omega (arith, l.invariant.3),
     )
 
@@ -147,7 +183,8 @@ read_items-returns-clause-ok t c =
     let l = c.items in
     let n = l.invariant.0 in
     let r = c.take_end_array.new.self in
-    l.invariant.2 ∙ ap (parse_map (on_found (items_before l.found.items))) (items_over p (length l.found.items) n l.reader r l.invariant.1 (grind arith))
+    l.invariant.2 ∙ ap (parse_map (on_found (items_before l.found.items)))
+    (items_over p (length l.found.items) n l.reader r l.invariant.1 (grind arith))
     ∙ ap (λ ds. Some (Ok ds, r)) (items_before-no_items l.found.items)
 
 pub read_members-returns-in_err-name-clause-err : goal.read_members-returns-in_err-name-clause-err
@@ -169,7 +206,8 @@ read_members-returns-in-Err-clause-err t c =
     let s = c.next_key.new.self in
     let named : read_key l.reader ≡ Some (Some k, s) = grind arith in
     let place : c.as_str.result.now ≡ k = search rules in
-    rw l.invariant.2 (member_faulty p old n k l.reader s c.in-Err.stop c.in_member.result named c.in-Err.ensures.err (rw (← place) c.in_member.ensures))
+    rw l.invariant.2 (member_faulty p old n k l.reader s c.in-Err.stop c.in_member.result named c.in-Err.ensures.err
+    (rw (← place) c.in_member.ensures))
 
 pub read_members-members-preserved : goal.read_members-members-preserved
 read_members-members-preserved t c =
@@ -187,7 +225,8 @@ read_members-members-preserved t c =
     let lesser = done.shorter in
     let copied : string_bytes c.in_ok-key.key ≡ k = search rules in
     let one_more : members_seen (lasts c.push.new.self.items) ≡ put k (decimal_tree v) old =
-    ap (λ ms. members_seen (lasts ms)) c.in_ok-push.ensures.items ∙ last_seen l.found.items _ ∙ ap (λ name. put name (decimal_tree v) old) copied in (
+    ap (λ ms. members_seen (lasts ms)) c.in_ok-push.ensures.items ∙ last_seen l.found.items _
+    ∙ ap (λ name. put name (decimal_tree v) old) copied in (
       n - 1,
       omega (arith, l.invariant.1),
       l.invariant.2 ∙ member_read p old n k l.reader s r (decimal_tree v) (omega (arith, l.invariant.1)) named done.ok
@@ -197,13 +236,20 @@ read_members-members-preserved t c =
 
 pub read_members-members-init : goal.read_members-members-init
 read_members-members-init t c =
-    let r = c.args.reader.now in
-    (length r, omega arith, ap (λ ms. parse_map (members_of (members_seen (lasts ms))) (members (value c.args.depth) (length r) r)) (sym c.new-found.ensures.items), omega arith)
+    let r = c.args.reader.now in (
+      length r,
+      omega arith,
+      ap
+          (λ ms. parse_map (members_of (members_seen (lasts ms))) (members (value c.args.depth) (length r) r))
+          (sym c.new-found.ensures.items),
+      omega arith,
+    )
 
 pub read_members-returns-clause-ok : goal.read_members-returns-clause-ok
 read_members-returns-clause-ok t c =
     let p = value c.args.depth in
     let l = c.members in
     let r = c.next_key.new.self in
-    l.invariant.2 ∙ members_over p (members_seen (lasts l.found.items)) l.invariant.0 l.reader r l.invariant.1 (grind arith)
+    l.invariant.2
+    ∙ members_over p (members_seen (lasts l.found.items)) l.invariant.0 l.reader r l.invariant.1 (grind arith)
     ∙ ap (λ ms. Some (Ok (members_seen ms), r)) (sym c.in_ok-from_last_pairs.ensures)

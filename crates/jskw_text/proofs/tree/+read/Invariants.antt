@@ -20,7 +20,8 @@ abbrev pub invariant-read_items-items : goal.invariant-read_items-items
 invariant-read_items-items l =
     (n : ℕ) × (length l.reader ≤ n)
     × (parse_map (items_of 0) (items (value l.depth) (length l.initial.reader) l.initial.reader)
-    ≡ parse_map (on_found (items_before l.found.items)) (parse_map (items_of (length l.found.items)) (items (value l.depth) n l.reader)))
+    ≡ parse_map (on_found (items_before l.found.items))
+    (parse_map (items_of (length l.found.items)) (items (value l.depth) n l.reader)))
     × (length l.reader ≤ length l.initial.reader)
 
 abbrev pub decreases-read_items-items : goal.decreases-read_items-items

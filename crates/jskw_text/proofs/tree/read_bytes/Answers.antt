@@ -5,4 +5,5 @@ pub read_text-requires : goal.read_text-requires
 read_text-requires c = is_text _ _ c.in-Ok.ensures.cases.0 c.in-Ok.ensures.cases.1
 
 pub returns-in-Err-clause-fault : goal.returns-in-Err-clause-fault
-returns-in-Err-clause-fault c = rw (c.valid_up_to.ensures) (broken_bytes _ _ c.in-Err.ensures.cases.0 c.in-Err.ensures.cases.1)
+returns-in-Err-clause-fault c =
+    rw (c.valid_up_to.ensures) (broken_bytes _ _ c.in-Err.ensures.cases.0 c.in-Err.ensures.cases.1)

@@ -24,7 +24,8 @@ invariant-push_members-loop-name g l =
     let all = members_view l.parent.entries in
     let rest = members_view l.name-iterator in
     record {
-      left : l.list.items ++ unchecked_among rest all l.ctx.setting l.ctx.location ≡ l.initial.list.items ++ unchecked_among all all l.ctx.setting l.ctx.location;
+      left : l.list.items ++ unchecked_among rest all l.ctx.setting l.ctx.location
+          ≡ l.initial.list.items ++ unchecked_among all all l.ctx.setting l.ctx.location;
       depth : members_depth rest ≤ members_depth all;
     }
 

@@ -10,5 +10,6 @@ unfolding word_at
 returns c =
     let s = c.args.bytes.now in
     let i = c.args.start in
-    let word : c.number_of.result ≡ from_le_bytes w64 (padded (take 8 (take (length s - i) (drop i s)))) = c.number_of.ensures in
+    let word : c.number_of.result ≡ from_le_bytes w64 (padded (take 8 (take (length s - i) (drop i s)))) =
+    c.number_of.ensures in
     word ∙ ap (λ xs. from_le_bytes w64 (padded (take 8 xs))) (take_rest s i)

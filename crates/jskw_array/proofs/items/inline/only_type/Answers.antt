@@ -6,4 +6,6 @@ use Rattle.jskw_array.proofs.items.inline.only_type.Goals as goal
 pub returns : goal.returns
 returns c =
     let found = sym (ap (option_map (λ v. view v.now)) c.in-Some.is) ∙ c.get.ensures in
-    only_text (λ s. s.now) (view c.args.schema.now) (view c.in-Some.value.now) c.as_str.result _ c.requires found c.as_str.ensures ∙ ap (λ r. typed r.now) (sym c.unwrap_or.ensures)
+    only_text (λ s. s.now) (view c.args.schema.now)
+    (view c.in-Some.value.now) c.as_str.result _ c.requires found c.as_str.ensures
+    ∙ ap (λ r. typed r.now) (sym c.unwrap_or.ensures)

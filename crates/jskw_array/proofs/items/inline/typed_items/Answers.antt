@@ -8,11 +8,13 @@ returns-in-Draft4 g c = λ j named.
     let a = c.args in
     let d = c.in_default in
     let rule = ap (λ draft. integers_of draft (Single Integer)) c.in-Draft4.is in
-    c.new-in-Draft4.ensures ∙ integer_items a.name.now j a.draft as_written a.location a.type_location c.requires d.not-number d.not-string d.not-boolean named rule
+    c.new-in-Draft4.ensures ∙ integer_items a.name.now j a.draft as_written a.location a.type_location c.requires
+    d.not-number d.not-string d.not-boolean named rule
 
 pub returns-in_default-draft : goal.returns-in_default-draft
 returns-in_default-draft g c = λ j named.
     let a = c.args in
     let d = c.in_default in
     let rule = integers_by_value a.draft c.in_default-draft.not-Draft4 in
-    c.new-in_default-draft.ensures ∙ integer_items a.name.now j a.draft by_value a.location a.type_location c.requires d.not-number d.not-string d.not-boolean named rule
+    c.new-in_default-draft.ensures ∙ integer_items a.name.now j a.draft by_value a.location a.type_location c.requires
+    d.not-number d.not-string d.not-boolean named rule

@@ -5,12 +5,14 @@ use Rattle.jskw_array.proofs.matching.MatchingValidate.report_errors.Goals as go
 
 pub returns-in-Some-clause-counted : goal.returns-in-Some-clause-counted
 returns-in-Some-clause-counted g c =
-    let among = matching_applied (keeps_list c.args.report.now) c.args.self.now (g.F.Node.Rooted.tree c.args.instance.now) in
+    let among =
+    matching_applied (keeps_list c.args.report.now) c.args.self.now (g.F.Node.Rooted.tree c.args.instance.now) in
     let asked = c.failing_location.ensures.counted in
     record { from = asked.from; to = omega (arith, among, asked.to) }
 
 pub returns-in-None-clause-counted : goal.returns-in-None-clause-counted
 returns-in-None-clause-counted g c =
-    let among = matching_applied (keeps_list c.args.report.now) c.args.self.now (g.F.Node.Rooted.tree c.args.instance.now) in
+    let among =
+    matching_applied (keeps_list c.args.report.now) c.args.self.now (g.F.Node.Rooted.tree c.args.instance.now) in
     let asked = c.failing_location.ensures.counted in
     record { from = asked.from; to = omega (arith, among, asked.to) }

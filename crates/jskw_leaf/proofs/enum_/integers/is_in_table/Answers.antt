@@ -9,4 +9,6 @@ pub returns : goal.returns
 returns c =
     let found = c.binary_search_by.ensures in
     let n = c.args.number.now in
-    c.is_ok.ensures.value ∙ searched_integers (coefficient n) n.scale c.args.table.now c.binary_search_by.result c.requires found.bound (found.position (integer_against (coefficient n) n.scale) (always_returns_same _ _ _ (λ a r g called. (search rules, search rules))))
+    c.is_ok.ensures.value ∙ searched_integers (coefficient n) n.scale c.args.table.now c.binary_search_by.result
+    c.requires found.bound (found.position (integer_against (coefficient n) n.scale)
+    (always_returns_same _ _ _ (λ a r g called. (search rules, search rules))))

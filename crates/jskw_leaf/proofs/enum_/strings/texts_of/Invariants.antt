@@ -5,4 +5,6 @@ use Rattle.jskw_leaf.specs.Options.{picked}
 use Rattle.jskw_leaf.proofs.enum_.strings.texts_of.Given as goal
 
 abbrev pub invariant-loop-item : goal.invariant-loop-item
-invariant-loop-item l = map string_bytes l.texts.items ++ picked as_str (items_view (drop l.item-index l.items)) ≡ picked as_str (items_view l.items)
+invariant-loop-item l =
+    map string_bytes l.texts.items ++ picked as_str (items_view (drop l.item-index l.items))
+    ≡ picked as_str (items_view l.items)

@@ -11,5 +11,8 @@ returns g c =
     let x = c.args.assertion.now in
     let a = g.A.Assertion.asserts x in
     let fails = fails_unless a (g.A.Assertion.error x) (g.met.A.Assertion.fails_once x) t p c.args.holds c.requires in
-    let unit_is = c.in_ok-result.ensures ∙ ap₂ (λ k q. of_errors (failures_unless c.args.holds k q t p)) c.kind-kind.ensures c.location-schema_path.ensures ∙ ap of_errors (sym fails) in
-    subst (λ n. IfOk c.new.result (λ node. node ≡ n)) (ap₂ (λ q r. node_at q p r) c.location-schema_path.ensures unit_is) c.new.ensures
+    let unit_is =
+    c.in_ok-result.ensures ∙ ap₂ (λ k q. of_errors (failures_unless c.args.holds k q t p)) c.kind-kind.ensures
+    c.location-schema_path.ensures ∙ ap of_errors (sym fails) in
+    subst (λ n. IfOk c.at_keyword.result (λ node. node ≡ n))
+    (ap₂ (λ q r. node_at q p r) c.location-schema_path.ensures unit_is) c.at_keyword.ensures

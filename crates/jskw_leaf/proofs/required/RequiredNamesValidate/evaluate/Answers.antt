@@ -10,4 +10,5 @@ returns-clause-quiet g c assertion holds =
     let tree = g.F.Node.Rooted.tree in
     let keyword = as_keyword (required_names g.L.Names.names c.args.self.now) in
     c.evaluate_errors.ensures.ok
-    (c.deref.ensures.value ∙ none_appended tree keyword (tree c.args.instance.now) (path_of c.args.location.now) _ _ c.new-errors.ensures.items holds c.in_ok-collect_errors.ensures.appended)
+    (c.deref.ensures.value ∙ none_appended tree keyword (tree c.args.instance.now) (path_of c.args.location.now) _ _
+    c.new-errors.ensures.items holds c.in_ok-collect_errors.ensures.appended)

@@ -10,4 +10,5 @@ pub returns-then-is_valid-clause-reported : goal.returns-then-is_valid-clause-re
 returns-then-is_valid-clause-reported g c =
     let tree = g.F.Node.Rooted.tree in
     let keyword = as_keyword (required_names g.L.Names.names c.args.self.now) in
-    reports_none tree c.args.report.now _ (none_fail keyword (tree c.args.instance.now) (path_of c.args.location.now) (sym c.is_valid.ensures.answer ∙ c.if-is_valid.true))
+    reports_none tree c.args.report.now _ (none_fail keyword (tree c.args.instance.now) (path_of c.args.location.now)
+    (sym c.is_valid.ensures.answer ∙ c.if-is_valid.true))

@@ -8,7 +8,8 @@ returns-then-is_handed_on g c = rw (sym c.is_handed_on.ensures ∙ c.if-is_hande
 
 pub returns-in-Ok : goal.returns-in-Ok
 unfolding asserted
-returns-in-Ok g c = rw (sym c.is_handed_on.ensures ∙ c.if-is_handed_on.false, ← c.in-Ok.ensures) c.compile_with_path.ensures
+returns-in-Ok g c =
+    rw (sym c.is_handed_on.ensures ∙ c.if-is_handed_on.false, ← c.in-Ok.ensures) c.required_validator.ensures
 
 pub returns-in-Err : goal.returns-in-Err
 unfolding asserted

@@ -19,13 +19,19 @@ loop-item-preserved c =
     let is : map (λ k. k.now) c.if-branch.names.items ≡ add done name.now = elim c.if-branch.branch [
       | then-branch+in_ok-push w ↦
           rw (w.names-is, w.in_ok-push.ensures.items) (map_push (λ k. k.now) c.loop-item.names.items name
-          ∙ sym (cond-false _ done _ (sym (c.loop-item.invariant.seen name.now) ∙ not-true _ (sym c.in_ok-insert.ensures.added ∙ w.if-branch.true))))
+          ∙ sym (cond-false _ done _ (sym (c.loop-item.invariant.seen name.now)
+          ∙ not-true _ (sym c.in_ok-insert.ensures.added ∙ w.if-branch.true))))
       | else-branch w ↦
-          rw w.names-is (sym (cond-true _ done _ (sym (c.loop-item.invariant.seen name.now) ∙ not-false _ (sym c.in_ok-insert.ensures.added ∙ w.if-branch.false))))
+          rw w.names-is (sym (cond-true _ done _ (sym (c.loop-item.invariant.seen name.now)
+          ∙ not-false _ (sym c.in_ok-insert.ensures.added ∙ w.if-branch.false))))
     ] in
     record {
-      seen = λ m. seen_added name c.loop-item.seen _ done c.in_ok-insert.ensures.updates c.loop-item.invariant.seen m ∙ ap (λ ns. is_among ns m) (sym is);
-      read = ap (λ ns. map_ok (fold add ns) later) is ∙ sym (next_name _ items i c.item-item.result done name.now c.loop-item-test.true c.item-item.is c.in_ok-name.ensures) ∙ c.loop-item.invariant.read;
+      seen =
+          λ m. seen_added name c.loop-item.seen _ done c.in_ok-insert.ensures.updates c.loop-item.invariant.seen m
+          ∙ ap (λ ns. is_among ns m) (sym is);
+      read =
+          ap (λ ns. map_ok (fold add ns) later) is ∙ sym (next_name _ items i c.item-item.result done name.now
+          c.loop-item-test.true c.item-item.is c.in_ok-name.ensures) ∙ c.loop-item.invariant.read;
     }
 
 pub loop-item-init : goal.loop-item-init

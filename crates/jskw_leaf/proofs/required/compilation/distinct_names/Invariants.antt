@@ -11,5 +11,7 @@ abbrev pub invariant-loop-item : goal.invariant-loop-item
 invariant-loop-item l =
     record {
       seen : (name : List ℕ) → sees l.seen name ≡ is_among (map (λ k. k.now) l.names.items) name;
-      read : map_ok (fold add (map (λ k. k.now) l.names.items)) (texts l.location (items_view (drop l.item-index l.items))) ≡ map_ok distinct (texts l.location (items_view l.items));
+      read : map_ok (fold add (map (λ k. k.now) l.names.items))
+          (texts l.location (items_view (drop l.item-index l.items)))
+          ≡ map_ok distinct (texts l.location (items_view l.items));
     }

@@ -10,4 +10,5 @@ abbrev pub invariant-loop-text : goal.invariant-loop-text
 invariant-loop-text g l =
     let tree = g.F.Node.Rooted.tree in
     let wanted = is_among (g.L.Names.names l.names) in
-    (l.count ≡ length (g.L.Names.names l.names)) × (l.found + count_by wanted (keys_of (left tree l.text-iterator)) ≡ count_by wanted (names (tree l.object)))
+    (l.count ≡ length (g.L.Names.names l.names))
+    × (l.found + count_by wanted (keys_of (left tree l.text-iterator)) ≡ count_by wanted (names (tree l.object)))

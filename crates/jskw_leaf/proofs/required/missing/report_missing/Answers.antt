@@ -8,7 +8,12 @@ use Rattle.jskw_leaf.proofs.required.missing.report_missing.Goals as goal
 use Rattle.jskw_leaf.proofs.required.missing.report_missing.Goals.{then-is_missing+in_ok-report_error, else-is_missing}
 
 pub loop-index-init : goal.loop-index-init
-loop-index-init g c = record { within = c.len-index-end.ensures.count; reported = reported_nothing g.F.Node.Rooted.tree c.args.report.now _ }
+loop-index-init g c =
+    record {
+      within =
+          c.len-index-end.ensures.count;
+      reported = reported_nothing g.F.Node.Rooted.tree c.args.report.now _;
+    }
 
 pub loop-index-preserved : goal.loop-index-preserved
 loop-index-preserved g c =
@@ -19,11 +24,27 @@ loop-index-preserved g c =
     elim c.if-is_missing.branch [
       | then-is_missing+in_ok-report_error w ↦
           let is = w.as_str-property.ensures ∙ get_or_read names i _ within w.at.ensures [] in
-          let here = name_fails c.args.schema_path.now (tree c.args.instance.now) (path_of c.args.location.now) names i _ (sym c.is_object.ensures ∙ c.if-not-is_object.false) within is (not-true _ (sym c.is_missing.ensures ∙ w.if-is_missing.true)) in
-          record { within = c.loop-index.invariant.within; reported = rw w.report-is (reported_more tree (_ ∷ []) _ (rw here at c.loop-index.invariant.reported) w.in_ok-report_error.ensures) }
+          let here =
+          name_fails c.args.schema_path.now (tree c.args.instance.now) (path_of c.args.location.now) names i _
+          (sym c.is_object.ensures ∙ c.if-not-is_object.false) within is
+          (not-true _ (sym c.is_missing.ensures ∙ w.if-is_missing.true)) in
+          record {
+            within =
+                c.loop-index.invariant.within;
+            reported =
+                rw w.report-is
+                (reported_more tree (_ ∷ []) _ (rw here at c.loop-index.invariant.reported)
+                w.in_ok-report_error.ensures);
+          }
       | else-is_missing w ↦
-          let there = fails_there c.args.schema_path.now (tree c.args.instance.now) (path_of c.args.location.now) names i [] within (not-false _ (sym c.is_missing.ensures ∙ w.if-is_missing.false)) in
-          record { within = c.loop-index.invariant.within; reported = rw w.report-is (rw there at c.loop-index.invariant.reported) }
+          let there =
+          fails_there c.args.schema_path.now (tree c.args.instance.now) (path_of c.args.location.now) names i []
+          within (not-false _ (sym c.is_missing.ensures ∙ w.if-is_missing.false)) in
+          record {
+            within =
+                c.loop-index.invariant.within;
+            reported = rw w.report-is (rw there at c.loop-index.invariant.reported);
+          }
     ]
 
 pub returns-in_err-report_error : goal.returns-in_err-report_error
@@ -32,5 +53,9 @@ returns-in_err-report_error g c =
     let i = c.loop-index.index in
     let within : i < length names = omega (arith, c.loop-index.invariant.within, c.loop-index-test.true) in
     let is = c.as_str-property.ensures ∙ get_or_read names i _ within c.at.ensures [] in
-    let here = name_fails c.args.schema_path.now (g.F.Node.Rooted.tree c.args.instance.now) (path_of c.args.location.now) names i _ (sym c.is_object.ensures ∙ c.if-not-is_object.false) within is (not-true _ (sym c.is_missing.ensures ∙ c.if-is_missing.true)) in
-    reported_stopped g.F.Node.Rooted.tree (_ ∷ []) _ _ _ (rw here at c.loop-index.invariant.reported) c.from_residual.ensures.1 c.in_err-report_error.ensures
+    let here =
+    name_fails c.args.schema_path.now (g.F.Node.Rooted.tree c.args.instance.now) (path_of c.args.location.now) names
+    i _ (sym c.is_object.ensures ∙ c.if-not-is_object.false) within is
+    (not-true _ (sym c.is_missing.ensures ∙ c.if-is_missing.true)) in
+    reported_stopped g.F.Node.Rooted.tree (_ ∷ []) _ _ _ (rw here at c.loop-index.invariant.reported)
+    c.from_residual.ensures.1 c.in_err-report_error.ensures

@@ -11,5 +11,7 @@ returns g c =
     let range = c.integers.result in
     let same : to_z w128 (of_z w128 c.to_i128.result) ≡ c.to_i128.result = search rules in
     let is_limit = same ∙ c.to_i128.ensures.value in
-    let within = subst (λ n. (z : ℤ) → in_range range z ≡ true → stands_in relation z 0 n ≡ true) is_limit c.integers.ensures in
-    accepted_limit c.but_numbers.result range relation (g.T.Whole.whole c.args.self.now.limit) c.but_numbers.ensures within
+    let within =
+    subst (λ n. (z : ℤ) → in_range range z ≡ true → stands_in relation z 0 n ≡ true) is_limit c.integers.ensures in
+    accepted_limit c.but_numbers.result range relation
+    (g.T.Whole.whole c.args.self.now.limit) c.but_numbers.ensures within

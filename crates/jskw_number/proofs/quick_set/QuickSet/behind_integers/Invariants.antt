@@ -6,4 +6,7 @@ use Rattle.jskw_number.proofs.quick_set.QuickSet.behind_integers.Given as goal
 abbrev pub invariant-loop-index : goal.invariant-loop-index
 invariant-loop-index g l =
     let ts = items (g.N.Rooted.tree l.instance) in
-    record { answer : l.index + leading (is_in l.self) (drop l.index ts) ≡ l.start + leading (is_in l.self) (drop l.start ts) }
+    record {
+      answer : l.index + leading (is_in l.self) (drop l.index ts)
+          ≡ l.start + leading (is_in l.self) (drop l.start ts);
+    }

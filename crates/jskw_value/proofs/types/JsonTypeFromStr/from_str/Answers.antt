@@ -15,4 +15,12 @@ pub returns-in_default : goal.returns-in_default
 returns-in_default c =
     let n = c.args.name.now in
     let d = c.in_default in
-    rw (other n _ d.not-array, other n _ d.not-boolean, other n _ d.not-integer, other n _ d.not-null, other n _ d.not-number, other n _ d.not-object, other n _ d.not-string) refl
+    rw (
+      other n _ d.not-array,
+      other n _ d.not-boolean,
+      other n _ d.not-integer,
+      other n _ d.not-null,
+      other n _ d.not-number,
+      other n _ d.not-object,
+      other n _ d.not-string,
+    ) refl

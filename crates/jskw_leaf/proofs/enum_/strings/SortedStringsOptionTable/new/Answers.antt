@@ -4,4 +4,6 @@ use Rattle.jskw_leaf.proofs.Options.{are_texts}
 use Rattle.jskw_leaf.proofs.enum_.strings.SortedStringsOptionTable.new.Goals as goal
 
 pub returns : goal.returns
-returns c = are_texts _ _ c.requires (subst (λ texts. IsPermutation texts (map string_bytes c.sorted.result.items)) c.in_ok-texts_of.ensures c.sorted.ensures.same)
+returns c =
+    are_texts _ _ c.requires (subst (λ texts. IsPermutation texts (map string_bytes c.sorted.result.items))
+    c.in_ok-texts_of.ensures c.sorted.ensures.same)

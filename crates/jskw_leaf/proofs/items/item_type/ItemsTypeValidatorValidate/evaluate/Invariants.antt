@@ -12,7 +12,7 @@ invariant-loop-index g l =
     let p = path_of l.initial.location in
     let s = bare_schema l.self.location (single_type g.T.TypeTest.json_type g.T.TypeTest.rule l.self.validator) in
     record {
-      last : l.index-end ≡ length ts;
+      last : l.count ≡ length ts;
       gathered : l.children.items ++ evaluate_each (tree s) l.index (drop l.index ts) p ≡ evaluate_each (tree s) 0 ts p;
       location : l.location ≡ l.initial.location;
     }

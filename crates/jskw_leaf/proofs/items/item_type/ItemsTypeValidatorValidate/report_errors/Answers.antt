@@ -15,7 +15,9 @@ loop-index-init g c =
     record {
       within = omega arith;
       last = omega arith;
-      reported = type_begins g.T.TypeTest.json_type g.T.TypeTest.rule v.location v.validator.location ts (path_of c.args.location.now) tree _ first.result first.ensures.first;
+      reported =
+          type_begins g.T.TypeTest.json_type g.T.TypeTest.rule v.location v.validator.location ts
+          (path_of c.args.location.now) tree _ first.result first.ensures.first;
       location = refl;
       counted = refl;
     }
@@ -23,7 +25,8 @@ loop-index-init g c =
 pub returns-in_err-push-clause-reported : goal.returns-in_err-push-clause-reported
 returns-in_err-push-clause-reported g c =
     let tree = g.F.Node.Rooted.tree in
-    reported_last tree _ _ c.loop-index.invariant.reported (reports_memory tree c.loop-index.report _ _ _ c.from_residual.ensures.1)
+    reported_last tree _ _ c.loop-index.invariant.reported
+    (reports_memory tree c.loop-index.report _ _ _ c.from_residual.ensures.1)
 
 pub returns-in_err-answer-clause-reported : goal.returns-in_err-answer-clause-reported
 returns-in_err-answer-clause-reported g c =
@@ -31,8 +34,10 @@ returns-in_err-answer-clause-reported g c =
     let v = c.args.self.now in
     let tree = g.F.Node.Rooted.tree in
     let at = entered l.index c.in_ok-push.ensures.pushed l.invariant.location in
-    type_stopped g.T.TypeTest.json_type g.T.TypeTest.rule v.location v.validator.location (items (tree c.args.instance.now)) (path_of c.args.location.now) tree
-    l.index (tree c.item-item.result.now) _ _ _ (omega arith) c.item-item.ensures.value at l.invariant.reported c.from_residual-in_err-answer.ensures.1 c.in_err-answer.ensures.reported
+    type_stopped g.T.TypeTest.json_type g.T.TypeTest.rule v.location v.validator.location
+    (items (tree c.args.instance.now)) (path_of c.args.location.now) tree
+    l.index (tree c.item-item.result.now) _ _ _ (omega arith) c.item-item.ensures.value at l.invariant.reported
+    c.from_residual-in_err-answer.ensures.1 c.in_err-answer.ensures.reported
 
 pub loop-index-preserved : goal.loop-index-preserved
 loop-index-preserved g c =
@@ -44,8 +49,11 @@ loop-index-preserved g c =
     record {
       within = omega arith;
       last = l.invariant.last;
-      reported = type_reported g.T.TypeTest.json_type g.T.TypeTest.rule v.location v.validator.location (items (tree c.args.instance.now)) (path_of c.args.location.now) tree
-          l.index next.result (tree c.item-item.result.now) _ (omega arith) c.item-item.ensures.value at next.ensures.first l.invariant.reported c.in_ok-answer.ensures.reported;
+      reported =
+          type_reported g.T.TypeTest.json_type g.T.TypeTest.rule v.location v.validator.location
+          (items (tree c.args.instance.now)) (path_of c.args.location.now) tree
+          l.index next.result (tree c.item-item.result.now) _ (omega arith) c.item-item.ensures.value at
+          next.ensures.first l.invariant.reported c.in_ok-answer.ensures.reported;
       location = grind (arith, common_steps);
       counted = grind (arith, common_steps);
     }

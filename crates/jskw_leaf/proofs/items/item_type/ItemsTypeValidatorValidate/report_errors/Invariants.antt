@@ -16,7 +16,8 @@ invariant-loop-index g l =
     record {
       within : l.index ≤ length ts;
       last : l.count ≡ length ts;
-      reported : Reported tree l.initial.report l.report (each_item (fail s) l.index (drop l.index ts) p) (each_item (fail s) 0 ts p);
+      reported : Reported tree l.initial.report l.report (each_item (fail s) l.index (drop l.index ts) p)
+          (each_item (fail s) 0 ts p);
       location : l.location ≡ l.initial.location;
       counted : l.ctx ≡ l.initial.ctx;
     }

@@ -1,0 +1,25 @@
+use Rattle.std.proofs.Common.{◌∙◌, Ok, Some, ap, subst, sym}
+use Rattle.jskw_array.specs.Words.{CompilesKeyword, keyword_location, keywords_of, validator_keyword}
+use Rattle.jskw_array.proofs.CompiledKeywords.{appends_nothing, appends_one}
+use Rattle.jskw_array.proofs.KeywordsOfParts.{keywords_of_more}
+use Rattle.jskw_array.proofs.compiler.push_part.Goals as goal
+
+pub returns-in-None-clause-made : goal.returns-in-None-clause-made
+returns-in-None-clause-made g c = λ read compiled.
+    let keyword_of =
+    validator_keyword {F = g.row.F.Denot} {Node = g.row.F-Node.Denot} {Number = g.row.F-Node-Number.Denot}
+    {Key = g.row.F-Node-PreparedKey.Denot} in
+    let q = keyword_location c.args.ctx.now.location c.args.keyword in
+    appends_nothing keyword_of (keywords_of c.args.parts.now.items) q read
+    (subst (λ o. CompilesKeyword keyword_of o read) c.in-None.is compiled)
+
+pub returns-in_ok-push_validator-in-Some-Ok-clause-made : goal.returns-in_ok-push_validator-in-Some-Ok-clause-made
+returns-in_ok-push_validator-in-Some-Ok-clause-made g c = λ read compiled.
+    let keyword_of =
+    validator_keyword {F = g.row.F.Denot} {Node = g.row.F-Node.Denot} {Number = g.row.F-Node-Number.Denot}
+    {Key = g.row.F-Node-PreparedKey.Denot} in
+    let q = keyword_location c.args.ctx.now.location c.args.keyword in
+    let made =
+    subst (λ o. CompilesKeyword keyword_of o read) (c.in-Some-Ok.is ∙ ap Some c.in-Some-Ok.field-0-is) compiled in
+    appends_one keyword_of (keywords_of c.args.parts.now.items) q c.in-Some-Ok.validator read made
+    ∙ ap Ok (sym (ap keywords_of c.in_ok-push_validator-in-Some-Ok.ensures ∙ keywords_of_more c.args.parts.now.items _))

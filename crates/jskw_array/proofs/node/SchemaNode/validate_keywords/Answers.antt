@@ -1,4 +1,0 @@
-use Rattle.jskw_array.proofs.node.SchemaNode.validate_keywords.Goals as goal
-
-pub returns-clause-first : goal.returns-clause-first
-returns-clause-first g c = c.into_first.ensures.first _ c.report_errors-reported.ensures.reported

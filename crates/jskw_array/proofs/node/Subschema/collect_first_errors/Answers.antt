@@ -1,0 +1,25 @@
+use Rattle.std.proofs.Common.{◌∙◌, ◌++◌, ap, sym, append-nil, take}
+use Rattle.std.proofs.Math.Seq.{take-nil}
+use Rattle.jskw_array.specs.Words.{fail, failures_of, path_of}
+use Rattle.jskw_array.proofs.AcceptedValues.{counted_within, no_errors}
+use Rattle.jskw_array.proofs.WalksOverParts.{one_pair}
+use Rattle.jskw_array.proofs.node.Subschema.collect_first_errors.Goals as goal
+
+pub returns-then-limit-eq0-clause-appended : goal.returns-then-limit-eq0-clause-appended
+returns-then-limit-eq0-clause-appended g c =
+    let old = failures_of g.F.Node.Rooted.tree c.args.errors.now.items in
+    let all = fail c.args.self.now (g.F.Node.Rooted.tree c.args.instance.now) (path_of c.args.location.now) in
+    sym (ap (λ n. old ++ take n all) c.if-limit-eq0.true ∙ append-nil old)
+
+pub returns-then-apply_if_accepted-clause-appended : goal.returns-then-apply_if_accepted-clause-appended
+returns-then-apply_if_accepted-clause-appended g c =
+    let old = failures_of g.F.Node.Rooted.tree c.args.errors.now.items in
+    let none =
+    no_errors c.args.self.now (g.F.Node.Rooted.tree c.args.instance.now) (path_of c.args.location.now)
+    (c.apply_if_accepted.ensures.valid c.if-apply_if_accepted.true) in
+    sym (ap (λ fs. old ++ take c.args.limit fs) none ∙ ap (λ fs. old ++ fs) (take-nil c.args.limit) ∙ append-nil old)
+
+pub returns-then-apply_if_accepted-clause-counted : goal.returns-then-apply_if_accepted-clause-counted
+returns-then-apply_if_accepted-clause-counted g c =
+    counted_within _ _ _ c.apply_if_accepted.result c.if-apply_if_accepted.true
+    (one_pair c.args.self.now (g.F.Node.Rooted.tree c.args.instance.now)) c.apply_if_accepted.ensures.counted

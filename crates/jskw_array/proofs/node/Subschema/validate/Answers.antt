@@ -1,0 +1,13 @@
+use Rattle.jskw_array.specs.Words.{path_of}
+use Rattle.jskw_array.proofs.AcceptedValues.{counted_within, no_errors, one_needed}
+use Rattle.jskw_array.proofs.node.Subschema.validate.Goals as goal
+
+pub returns-then-apply_if_accepted-clause-first : goal.returns-then-apply_if_accepted-clause-first
+returns-then-apply_if_accepted-clause-first g c =
+    no_errors c.args.self.now (g.F.Node.Rooted.tree c.args.instance.now) (path_of c.args.location.now)
+    (c.apply_if_accepted.ensures.valid c.if-apply_if_accepted.true)
+
+pub returns-then-apply_if_accepted-clause-counted : goal.returns-then-apply_if_accepted-clause-counted
+returns-then-apply_if_accepted-clause-counted g c =
+    counted_within _ _ _ c.apply_if_accepted.result c.if-apply_if_accepted.true
+    (one_needed c.args.self.now (g.F.Node.Rooted.tree c.args.instance.now)) c.apply_if_accepted.ensures.counted
