@@ -18,10 +18,10 @@ use Rattle.jskw_value.specs.contracts.decimal.DecimalJsonNumber.TheImpl as numbe
 use Rattle.jskw_report.proofs.paths.keyword_location.KeywordLocation.TheSendSync as location
 use Rattle.jskw_report.proofs.paths.Location.TheSendSync as text
 use Rattle.jskw_number.proofs.quick_set.QuickSet.TheSendSync as quick
-use Rattle.jskw_leaf.specs.contracts.type_.NumberType as of_number
-use Rattle.jskw_leaf.specs.contracts.type_.StringType as of_string
-use Rattle.jskw_leaf.specs.contracts.type_.BooleanType as of_boolean
-use Rattle.jskw_leaf.specs.contracts.type_.IntegerType as of_integer
+use Rattle.jskw_leaf.specs.contracts.type_.single.NumberType as of_number
+use Rattle.jskw_leaf.specs.contracts.type_.single.StringType as of_string
+use Rattle.jskw_leaf.specs.contracts.type_.single.BooleanType as of_boolean
+use Rattle.jskw_leaf.specs.contracts.type_.single.IntegerType as of_integer
 use Rattle.jskw_leaf.specs.contracts.legacy.type_draft_4.IntegerType as of_integer_4
 use Rattle.jskw_leaf.proofs.items.item_type.ItemsTypeValidator.TheSendSync as item_type
 use Rattle.jskw_leaf.proofs.items.absorbed.AbsorbedKeywords.TheSendSync as absorbed

@@ -13,7 +13,7 @@ use Rattle.jskw_number.specs.Meaning.{number_assertion}
 use Rattle.jskw_leaf.specs.declared.boolean.FalseValidator.{FalseValidator}
 use Rattle.jskw_leaf.specs.declared.type_.IntegerRule.{IntegerRule}
 use Rattle.jskw_leaf.specs.declared.type_.IntegerRule.TheVariants.{ByValue, AsWritten}
-use Rattle.jskw_leaf.specs.declared.type_.SingleTypeValidator.{SingleTypeValidator}
+use Rattle.jskw_leaf.specs.declared.type_.single.SingleTypeValidator.{SingleTypeValidator}
 use Rattle.jskw_leaf.specs.declared.type_.TypeValidator.{TypeValidator}
 use Rattle.jskw_leaf.specs.declared.const_.ConstValueValidator.{ConstValueValidator}
 use Rattle.jskw_leaf.specs.declared.enum_.EnumValidator.{EnumValidator}
