@@ -127,7 +127,14 @@ impl<'s, F: Json> Context<'s, F> {
           location = keyword_location self.now.location keyword;
         }) }
     {
-        self.below(alloc, name_step(alloc, keyword.as_str())?.as_str())
+        let place = self.keyword_location(alloc, keyword)?;
+        Ok(Context {
+            settings: self.settings,
+            object_layer: self.object_layer,
+            location: place.to_location(alloc)?,
+            place,
+            representation: PhantomData,
+        })
     }
 
     // Returns the context that a step leads to.

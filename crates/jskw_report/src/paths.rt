@@ -28,7 +28,7 @@ pub enum LocationSegment<'s> {
 /// A location in a JSON value, as a JSON pointer (RFC 6901). The empty text is the location of the
 /// whole value. Two locations are equal if their texts are.
 ///
-/// A text of up to 23 bytes takes no memory of its own; copies share a longer one.
+/// A text of up to 22 bytes takes no memory of its own; copies share a longer one.
 #[derive(Debug, Drop)]
 pub struct Location {
     text: LocationText,
@@ -74,7 +74,11 @@ impl Location {
     pub(crate) fn join_text(&self, alloc: Global, step: &str) -> Result<Location, AllocError>
         ensures { IfOk result (λ l. l ≡ self.now ++ step.now) }
     {
-        joined(alloc, self.as_str(), step)
+        let mut text = Writing::begin_at(alloc, &self.text)?;
+        text.push(alloc, step)?;
+        Ok(Location {
+            text: text.finish()?,
+        })
     }
 
     // Returns the location of the member of this name, in which nothing is to be escaped.
@@ -82,7 +86,7 @@ impl Location {
         requires { escape name.now ≡ name.now }
         ensures { IfOk result (λ l. l ≡ member_location self.now name.now) }
     {
-        let mut text = Writing::begin(alloc, self.as_str())?;
+        let mut text = Writing::begin_at(alloc, &self.text)?;
         text.push(alloc, "/")?;
         text.push(alloc, name)?;
         Ok(Location {
