@@ -189,7 +189,6 @@ impl<'i, F: Json> ValidationError<'i, F> {
 
     /// Creates the error of an instance for the keyword location of a validator. Fails only if
     /// memory runs out.
-    #[inline(always)]
     pub fn at_keyword(
         alloc: Global,
         kind: ValidationErrorKind<'i>,

@@ -66,6 +66,13 @@ pub(crate) enum Writing {
 }
 
 impl Writing {
+    // Begins with nothing.
+    pub(super) fn empty() -> Writing
+        ensures { written result ≡ [] }
+    {
+        Writing::Short(ShortText::new())
+    }
+
     // Begins with a text.
     pub(super) fn begin(alloc: Global, text: &str) -> Result<Writing, AllocError>
         ensures { IfOk result (λ w. written w ≡ text.now) }
