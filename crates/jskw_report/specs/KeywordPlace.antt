@@ -8,4 +8,4 @@ use Rattle.jskw_report.specs.declared.paths.keyword_location.Place.TheVariants.{
 -- the location of a place
 abbrev pub place_location : Place → Pointer
 place_location (Whole location) = location
-place_location (Below above rest) = arc_str_bytes above ++ rest
+place_location (Below rest above) = arc_str_bytes above ++ rest

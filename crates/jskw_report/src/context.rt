@@ -113,7 +113,8 @@ impl<'s, F: Json> Context<'s, F> {
           location = segment_location self.now.location segment.entry;
         }) }
     {
-        self.below(alloc, step(alloc, segment)?.as_str())
+        let place = self.place_below(alloc, step(alloc, segment)?.as_str())?;
+        self.at(alloc, place)
     }
 
     /// Returns the context of the value of `keyword`, with the same settings and object layer.
@@ -127,28 +128,35 @@ impl<'s, F: Json> Context<'s, F> {
           location = keyword_location self.now.location keyword;
         }) }
     {
-        self.below(alloc, name_step(alloc, keyword.as_str())?.as_str())
+        self.at(alloc, self.keyword_location(alloc, keyword)?)
     }
 
-    // Returns the context that a step leads to.
-    fn below(&self, alloc: Global, step: &str) -> Result<Context<'s, F>, AllocError>
+    // Returns the context of a schema at a keyword location.
+    fn at(&self, alloc: Global, place: KeywordLocation) -> Result<Context<'s, F>, AllocError>
         ensures { IfOk result (λ c. c ≡ record {
           setting = self.now.setting;
-          location = self.now.location ++ step.now;
+          location = place;
         }) }
     {
-        let location = self.location.join_text(alloc, step)?;
-        let place = match self.place.below(&self.location, step)? {
-            Some(place) => place,
-            None => KeywordLocation::from(location.copy()?),
-        };
         Ok(Context {
             settings: self.settings,
             object_layer: self.object_layer,
-            location,
+            location: place.to_location(alloc)?,
             place,
             representation: PhantomData,
         })
+    }
+
+    // Returns the keyword location that a step leads to.
+    fn place_below(&self, alloc: Global, step: &str) -> Result<KeywordLocation, AllocError>
+        ensures { IfOk result (λ location. location ≡ self.now.location ++ step.now) }
+    {
+        if !KeywordLocation::is_whole(&self.location, step) {
+            if let Some(place) = self.place.below(&self.location, step)? {
+                return Ok(place);
+            }
+        }
+        Ok(KeywordLocation::from(self.location.join_text(alloc, step)?))
     }
 
     /// Returns the keyword location as a compiled schema keeps it.
@@ -168,7 +176,7 @@ impl<'s, F: Json> Context<'s, F> {
         ensures { IfOk result (λ location. location
             ≡ keyword_location self.now.location keyword) }
     {
-        self.member_location(alloc, keyword.as_str())
+        self.place_below(alloc, keyword.token())
     }
 
     /// Returns the keyword location of the member `name` of the schema that is compiled here. The
@@ -178,18 +186,7 @@ impl<'s, F: Json> Context<'s, F> {
         ensures { IfOk result (λ location. location
             ≡ member_location self.now.location name.now) }
     {
-        if KeywordLocation::is_whole(&self.location, name) {
-            let location = self.location.join_name(alloc, name)?;
-            return Ok(KeywordLocation::from(location));
-        }
-        let step = name_step(alloc, name)?;
-        match self.place.below(&self.location, step.as_str())? {
-            Some(place) => Ok(place),
-            None => {
-                let location = self.location.join_name(alloc, name)?;
-                Ok(KeywordLocation::from(location))
-            }
-        }
+        self.place_below(alloc, name_step(alloc, name)?.as_str())
     }
 
     /// Returns whether the vocabulary is present: always in Drafts 4, 6 and 7, otherwise if the

@@ -1,5 +1,6 @@
 //! The keywords by name, and which of them are active under given settings.
 ghost use Rattle.std.specs.Prelude.{◌≡◌};
+ghost use Rattle.jskw_value.specs.Pointer.{name_token};
 ghost use Rattle.jskw_report.specs.Overridden.{keyword_index};
 ghost use Rattle.jskw_report.specs.Setting.{is_in_draft, name_of, is_active, vocabulary_of};
 
@@ -101,6 +102,32 @@ impl KeywordName {
             KeywordName::MinProperties => "minProperties",
             KeywordName::MaxProperties => "maxProperties",
             KeywordName::Required => "required",
+        }
+    }
+
+    // Returns the name behind a slash: the reference token of the keyword's member (RFC 6901).
+    pub(crate) fn token(self) -> &'static str
+        ensures { result.now ≡ name_token (name_of self) }
+    {
+        match self {
+            KeywordName::TypeKeyword => "/type",
+            KeywordName::MinItems => "/minItems",
+            KeywordName::MaxItems => "/maxItems",
+            KeywordName::Items => "/items",
+            KeywordName::PrefixItems => "/prefixItems",
+            KeywordName::AdditionalItems => "/additionalItems",
+            KeywordName::Contains => "/contains",
+            KeywordName::UniqueItems => "/uniqueItems",
+            KeywordName::Const => "/const",
+            KeywordName::Enum => "/enum",
+            KeywordName::Minimum => "/minimum",
+            KeywordName::Maximum => "/maximum",
+            KeywordName::ExclusiveMinimum => "/exclusiveMinimum",
+            KeywordName::ExclusiveMaximum => "/exclusiveMaximum",
+            KeywordName::MultipleOf => "/multipleOf",
+            KeywordName::MinProperties => "/minProperties",
+            KeywordName::MaxProperties => "/maxProperties",
+            KeywordName::Required => "/required",
         }
     }
 

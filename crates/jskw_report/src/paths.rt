@@ -28,7 +28,7 @@ pub enum LocationSegment<'s> {
 /// A location in a JSON value, as a JSON pointer (RFC 6901). The empty text is the location of the
 /// whole value. Two locations are equal if their texts are.
 ///
-/// A text of up to 23 bytes takes no memory of its own; copies share a longer one.
+/// A text of up to 22 bytes takes no memory of its own; copies share a longer one.
 #[derive(Debug, Drop)]
 pub struct Location {
     text: LocationText,
@@ -71,20 +71,12 @@ impl Location {
     }
 
     // Returns the location that a step leads to: the text of this one, and that of the step.
+    #[inline(always)]
     pub(crate) fn join_text(&self, alloc: Global, step: &str) -> Result<Location, AllocError>
         ensures { IfOk result (λ l. l ≡ self.now ++ step.now) }
     {
-        joined(alloc, self.as_str(), step)
-    }
-
-    // Returns the location of the member of this name, in which nothing is to be escaped.
-    pub(crate) fn join_name(&self, alloc: Global, name: &str) -> Result<Location, AllocError>
-        requires { escape name.now ≡ name.now }
-        ensures { IfOk result (λ l. l ≡ member_location self.now name.now) }
-    {
-        let mut text = Writing::begin(alloc, self.as_str())?;
-        text.push(alloc, "/")?;
-        text.push(alloc, name)?;
+        let mut text = Writing::begin_at(alloc, &self.text)?;
+        text.push(alloc, step)?;
         Ok(Location {
             text: text.finish()?,
         })
@@ -171,7 +163,7 @@ impl LazyLocation {
         ensures { IfOk result (λ l. l ≡ path_of self.now) }
     {
         let alloc = self.alloc();
-        let mut text = Writing::begin(alloc, "")?;
+        let mut text = Writing::empty();
         for index in &self.indices {
             text.push_index(alloc, *index)?;
         }
@@ -208,7 +200,7 @@ pub(crate) fn step(alloc: Global, segment: LocationSegment) -> Result<Writing, A
             Ok(Writing::Long(token))
         }
         LocationSegment::Index(index) => {
-            let mut token = Writing::begin(alloc, "")?;
+            let mut token = Writing::empty();
             token.push_index(alloc, index)?;
             Ok(token)
         }

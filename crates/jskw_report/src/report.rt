@@ -35,6 +35,7 @@ impl<'i, F: Json> Report<'i, F> {
     ///
     /// - [`Stop::Invalid`] if no other error is wanted.
     /// - [`Stop::Memory`] if memory runs out. The errors are unchanged then.
+    #[inline(always)]
     pub fn add(&mut self, error: ValidationError<'i, F>) -> Result<(), Stop>
         ensures { Reports F.Node.tree self.old self.new (failure_of F.Node.tree error.entry ∷ [])
             result }
@@ -66,6 +67,7 @@ impl<'i, F: Json> Report<'i, F> {
     }
 
     /// Returns the result of `validate` for that of `report_errors`. The report must not be a list.
+    #[inline(always)]
     pub fn first_result(self, reported: Result<(), Stop>) -> Result<(), Fault<'i, F>>
         requires { keeps_list self ≡ false }
         ensures first { (fs : List Failure) → Reports F.Node.tree (First None) self.entry fs reported
@@ -108,6 +110,7 @@ impl<'i, F: Json> Report<'i, F> {
 
 impl<'i, F: Json> ErrorList<'i, F> {
     // Adds an error, if there is room. `Stop::Invalid` if there is none for another then.
+    #[inline(never)]
     fn add(&mut self, error: ValidationError<'i, F>) -> Result<(), Stop>
         ensures { Reports F.Node.tree (Listed self.old) (Listed self.new)
             (failure_of F.Node.tree error.entry ∷ []) result }

@@ -16,7 +16,7 @@ ghost use Rattle.jskw_report.specs.Paths.{path_of};
 
 use crate::error::{Fault, Stop, ValidationError, ValidationErrorKind};
 use crate::evaluation::{ErrorDescription, EvaluationResult};
-use crate::paths::{KeywordLocation, LazyLocation};
+use crate::paths::{KeywordLocation, LazyLocation, Location};
 use crate::report::Report;
 use jskw_value::Json;
 use std::alloc::{AllocError, Global};
@@ -210,7 +210,33 @@ pub fn report_error<'i, F: Json>(
         schema_path.now (F.Node.tree instance.now) (path_of location.now)) result }
 {
     let instance_path = location.render()?;
-    let alloc = location.alloc();
+    match schema_path.whole() {
+        Some(whole) => report.add(ValidationError::new(kind, instance_path, whole, instance)),
+        None => report_copied(
+            location.alloc(),
+            kind,
+            instance_path,
+            schema_path,
+            instance,
+            report,
+        ),
+    }
+}
+
+// Adds an error for a keyword location of which the error needs a text of its own. Apart from
+// `report_error`, in which the error is written at once to where it is kept.
+#[inline(never)]
+fn report_copied<'i, F: Json>(
+    alloc: Global,
+    kind: ValidationErrorKind<'i>,
+    instance_path: Location,
+    schema_path: &'i KeywordLocation,
+    instance: &'i F::Node,
+    report: &mut Report<'i, F>,
+) -> Result<(), Stop>
+    ensures { Reports F.Node.tree report.old report.new (failures_unless false (kind_of kind.entry)
+        schema_path.now (F.Node.tree instance.now) instance_path) result }
+{
     report.add(ValidationError::at_keyword(alloc, kind, instance_path, schema_path, instance)?)
 }
 

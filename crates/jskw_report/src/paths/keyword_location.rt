@@ -28,8 +28,9 @@ pub struct KeywordLocation {
 enum Place {
     // As a text.
     Whole(Location),
-    // The location of a schema above, and what follows it.
-    Below(ArcStr, ShortText),
+    // The location of a schema above, and what follows it: that first, so that nothing is left free
+    // before it.
+    Below(ShortText, ArcStr),
 }
 
 impl Model for KeywordLocation {
@@ -74,7 +75,7 @@ impl KeywordLocation {
     {
         match &self.place {
             Place::Whole(whole) => whole.copy(),
-            Place::Below(above, rest) => joined(alloc, above.as_str(), rest.as_str()),
+            Place::Below(rest, above) => joined(alloc, above.as_str(), rest.as_str()),
         }
     }
 
@@ -84,7 +85,7 @@ impl KeywordLocation {
     {
         let place = match &self.place {
             Place::Whole(whole) => Place::Whole(whole.copy()?),
-            Place::Below(above, rest) => Place::Below(above.clone()?, rest.copy()),
+            Place::Below(rest, above) => Place::Below(rest.copy(), above.clone()?),
         };
         Ok(KeywordLocation { place })
     }
@@ -118,7 +119,7 @@ impl KeywordLocation {
         if KeywordLocation::is_whole(text, step) {
             return Ok(None);
         }
-        if let Place::Below(above, rest) = &self.place {
+        if let Place::Below(rest, above) = &self.place {
             let mut rest = rest.copy();
             if rest.push_str(step) {
                 return Ok(Some(in_parts(above, rest)?));
@@ -149,6 +150,6 @@ fn in_parts(above: &ArcStr, rest: ShortText) -> Result<KeywordLocation, AllocErr
     ensures { IfOk result (λ l. l ≡ arc_str_bytes above.now ++ rest) }
 {
     Ok(KeywordLocation {
-        place: Place::Below(above.clone()?, rest),
+        place: Place::Below(rest, above.clone()?),
     })
 }

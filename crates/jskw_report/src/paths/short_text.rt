@@ -4,11 +4,11 @@ ghost use Rattle.std.specs.Prelude.{◌≡◌, ◌++◌, [], IfSome, true, false
 use std::marker::Model;
 use std::str;
 
-// A text of at most 23 bytes, in place: enough for the step of an index or of a keyword, and for most
+// A text of at most 22 bytes, in place: enough for the step of an index or of a keyword, and for most
 // locations.
 #[derive(Debug, Drop)]
 pub(crate) struct ShortText {
-    bytes: [u8; 23],
+    bytes: [u8; 22],
     len: u8,
 }
 
@@ -19,7 +19,7 @@ impl Model for ShortText {
 
     ghost view = { λ t. take t.len t.bytes };
 
-    ghost invariant = { λ t. (t.len ≤ 23) × (length t.bytes ≡ 23) × ∥ IsUtf8 (take t.len t.bytes) ∥₁ };
+    ghost invariant = { λ t. (t.len ≤ 22) × (length t.bytes ≡ 22) × ∥ IsUtf8 (take t.len t.bytes) ∥₁ };
 }
 
 impl ShortText {
@@ -28,12 +28,12 @@ impl ShortText {
         ensures { result ≡ [] }
     {
         ShortText {
-            bytes: [0; 23],
+            bytes: [0; 22],
             len: 0,
         }
     }
 
-    // Returns the text, if it has at most 23 bytes.
+    // Returns the text, if it has at most 22 bytes.
     pub(crate) fn from(text: &str) -> Option<ShortText>
         ensures { IfSome result (λ short. short ≡ text.now) }
     {
@@ -65,12 +65,13 @@ impl ShortText {
     }
 
     // Appends a part, if there is room for it. Returns whether there is.
+    #[inline(always)]
     pub(crate) fn push_str(&mut self, part: &str) -> bool
         ensures appended { result ≡ true → self.new ≡ self.old ++ part.now }
         ensures unchanged { result ≡ false → self.new ≡ self.old }
     {
         let start = self.len as usize;
-        if part.len() > 23 - start {
+        if part.len() > 22 - start {
             return false;
         }
         let end = start + part.len();

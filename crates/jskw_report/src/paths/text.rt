@@ -1,5 +1,5 @@
 //! The texts of locations: short ones lie in place, longer ones are shared.
-ghost use Rattle.std.specs.Prelude.{◌≡◌, ◌++◌, [], IfOk, IfSome, OnOk, string_bytes};
+ghost use Rattle.std.specs.Prelude.{◌≡◌, ◌++◌, [], IfOk, IfSome, OnOk, string_bytes, true, false};
 ghost use Rattle.std.specs.Arc.{arc_str_bytes};
 ghost use Rattle.jskw_value.specs.Pointer.{index_token};
 ghost use Rattle.jskw_report.specs.LocationText.{text_bytes, written};
@@ -11,7 +11,7 @@ use std::sync::ArcStr;
 // The text of a location.
 #[derive(Debug, Drop)]
 pub(super) enum LocationText {
-    // At most 23 bytes, in place.
+    // At most 22 bytes, in place.
     Short(ShortText),
     // A text that copies share.
     Shared(ArcStr),
@@ -66,6 +66,13 @@ pub(crate) enum Writing {
 }
 
 impl Writing {
+    // Begins with nothing.
+    pub(super) fn empty() -> Writing
+        ensures { written result ≡ [] }
+    {
+        Writing::Short(ShortText::new())
+    }
+
     // Begins with a text.
     pub(super) fn begin(alloc: Global, text: &str) -> Result<Writing, AllocError>
         ensures { IfOk result (λ w. written w ≡ text.now) }
@@ -76,16 +83,48 @@ impl Writing {
         }
     }
 
+    // Begins with the text of a location.
+    pub(super) fn begin_at(alloc: Global, text: &LocationText) -> Result<Writing, AllocError>
+        ensures { IfOk result (λ w. written w ≡ text_bytes text.now) }
+    {
+        match text {
+            LocationText::Short(text) => Ok(Writing::Short(text.copy())),
+            LocationText::Shared(text) => Ok(Writing::Long(longer(alloc, text.as_str())?)),
+        }
+    }
+
     // Appends a part. If memory runs out, a beginning of the text is left.
+    #[inline(always)]
     pub(super) fn push(&mut self, alloc: Global, part: &str) -> Result<(), AllocError>
+        ensures { OnOk result (written self.new ≡ written self.old ++ part.now) }
+    {
+        if self.push_in_place(part) {
+            return Ok(());
+        }
+        self.push_long(alloc, part)
+    }
+
+    // Appends a part to a text in place, if there is room for it. Returns whether there is.
+    #[inline(always)]
+    fn push_in_place(&mut self, part: &str) -> bool
+        ensures appended { result ≡ true → written self.new ≡ written self.old ++ part.now }
+        ensures unchanged { result ≡ false → written self.new ≡ written self.old }
+    {
+        match self {
+            Writing::Short(text) => text.push_str(part),
+            Writing::Long(_) => false,
+        }
+    }
+
+    // Appends a part to a text that is not to be in place. If memory runs out, a beginning of the text
+    // is left.
+    #[inline(never)]
+    fn push_long(&mut self, alloc: Global, part: &str) -> Result<(), AllocError>
         ensures { OnOk result (written self.new ≡ written self.old ++ part.now) }
     {
         match self {
             Writing::Long(text) => text.push_str(part),
             Writing::Short(text) => {
-                if text.push_str(part) {
-                    return Ok(());
-                }
                 let mut long = longer(alloc, text.as_str())?;
                 long.push_str(part)?;
                 *self = Writing::Long(long);

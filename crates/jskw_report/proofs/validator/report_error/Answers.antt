@@ -3,7 +3,3 @@ use Rattle.jskw_report.proofs.validator.report_error.Goals as goal
 
 pub returns-in_err-instance_path : goal.returns-in_err-instance_path
 returns-in_err-instance_path g c = reports_memory g.F.Node.Rooted.tree c.args.report.now _ _ _ c.from_residual.ensures.1
-
-pub returns-in_err-at_keyword : goal.returns-in_err-at_keyword
-returns-in_err-at_keyword g c =
-    reports_memory g.F.Node.Rooted.tree c.args.report.now _ _ _ c.from_residual-in_err-at_keyword.ensures.1
