@@ -1,0 +1,5 @@
+pub mod Shown
+pub mod Documents
+pub mod Devices
+pub mod Streams
+pub mod Schemas
