@@ -1,4 +1,5 @@
 pub mod Shown
+pub mod Reports
 pub mod Documents
 pub mod Devices
 pub mod Streams

@@ -1,5 +1,5 @@
 -- How places, locations, errors and refusals are written.
-use Rattle.std.specs.Prelude.{◌≡◌, ℕ, ◌+◌, ◌/◌, ◌%◌, ◌==◌, ◌||◌, List, [], ◌∷◌, ◌++◌, Bool, true, false, codes, decimal}
+use Rattle.std.specs.Prelude.{◌≡◌, ℕ, ◌+◌, ◌/◌, ◌%◌, ◌==◌, ◌||◌, List, [], ◌∷◌, ◌++◌, Bool, codes, decimal}
 use Rattle.std.specs.Prelude.{flat_map, nat_lt, if◌then◌else◌, Option, Some, None}
 use Rattle.json.specs.Print.{quoted}
 use Rattle.jskw_report.specs.Fail.{Failure}
@@ -78,19 +78,22 @@ error_object message f =
     ++ (quoted_after (codes ",\"instanceLocation\":") f.instance_location
     ++ (quoted_after (codes ",\"error\":") message ++ codes "}"))
 
-abbrev pub IsErrorShown : List ℕ → Bool → Failure → List ℕ → Type 0
-IsErrorShown place later f text = (message : List ℕ) × (text ≡ error_words place message f)
+-- what stands behind the place of a document that has errors: the object of the first, and those of the others
+abbrev pub objects_text : List ℕ → List ℕ → List ℕ
+objects_text first rest = codes ",\"valid\":false,\"errors\":[" ++ (first ++ (rest ++ codes "]}\n"))
 
--- behind a comma, if an error is before
-abbrev pub separator : Bool → List ℕ
-separator true = codes ","
-separator false = []
+abbrev pub IsErrorShown : List ℕ → Failure → List ℕ → Type 0
+IsErrorShown place f text = (message : List ℕ) × (text ≡ error_words place message f)
 
-abbrev pub IsErrorObject : Bool → Failure → List ℕ → Type 0
-IsErrorObject later f text = (message : List ℕ) × (text ≡ separator later ++ error_object message f)
+abbrev pub IsErrorObject : Failure → List ℕ → Type 0
+IsErrorObject f text = (message : List ℕ) × (text ≡ error_object message f)
 
--- the text has one part for each error, in order; the first one is the later of two if one is before
-abbrev pub HasEach : (Bool → Failure → List ℕ → Type 0) → Bool → List Failure → List ℕ → Type 0
-HasEach Is later [] text = text ≡ []
-HasEach Is later (f ∷ fs) text =
-    (first : List ℕ) × (rest : List ℕ) × (text ≡ first ++ rest) × Is later f first × HasEach Is true fs rest
+-- an object behind another
+abbrev pub IsLaterObject : Failure → List ℕ → Type 0
+IsLaterObject f text = (object : List ℕ) × IsErrorObject f object × (text ≡ codes "," ++ object)
+
+-- the text has one part for each error, in order
+abbrev pub HasEach : (Failure → List ℕ → Type 0) → List Failure → List ℕ → Type 0
+HasEach Is [] text = text ≡ []
+HasEach Is (f ∷ fs) text =
+    (first : List ℕ) × (rest : List ℕ) × (text ≡ first ++ rest) × Is f first × HasEach Is fs rest

@@ -6,8 +6,8 @@ ghost use Rattle.jskw_value.specs.DecimalTree.{decimal_tree};
 ghost use Rattle.jskw_report.specs.Errors.{failures_of};
 ghost use Rattle.jskw_report.specs.Fail.{fail, is_empty};
 ghost use Rattle.jskw_report.specs.Holds.{holds};
-ghost use Rattle.jskw_documents.specs.Documents.{IsAnswer, IsRefusalAt, IsReportAs, first_of};
-ghost use Rattle.jskw_documents.specs.Documents.{line_shown, verdict_if, verdict_on};
+ghost use Rattle.jskw_documents.specs.Documents.{IsAnswer, IsRefusalAt, line_shown, verdict_if, verdict_on};
+ghost use Rattle.jskw_documents.specs.Reports.{IsReportAs, first_of};
 ghost use Rattle.jskw_documents.specs.Streams.{worse_of};
 
 use crate::broken::{offset_of_inexact, why_broken};
