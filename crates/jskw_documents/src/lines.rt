@@ -61,7 +61,7 @@ pub fn check_lines<R: Source, W: Sink>(
         verdict: Verdict::Valid,
     };
     let mut block = [0u8; BLOCK];
-    for _ in 0..u64::MAX {
+    'blocks: for _ in 0..u64::MAX {
         if !take_next(alloc, checker, file, &mut lines, &mut block, reader, writer)? {
             return take_last(alloc, checker, file, &lines, writer);
         }

@@ -1,0 +1,78 @@
+-- Lines of bytes, one behind another.
+use Rattle.std.proofs.Common.{◌≡◌, ℕ, ◌==◌, List, [], ◌∷◌, ◌++◌, Bool, true, false, true≢false, if◌then◌else◌, refl, sym}
+use Rattle.std.proofs.Common.{ap, ◌∙◌}
+use Rattle.std.proofs.lemmas.List.{append-nil, append_assoc}
+use Rattle.jskw_documents.specs.Streams.{begun_of, is_in_line, lines_of}
+
+-- ---- of bytes behind others
+
+pub lines_append : (b xs ys : List ℕ) → lines_of b (xs ++ ys) ≡ lines_of b xs ++ lines_of (begun_of b xs) ys
+lines_append b [] ys = refl
+lines_append b (x ∷ xs) ys =
+    elim x == 10 as
+    (λ v. (if v then b ∷ lines_of [] (xs ++ ys) else lines_of (b ++ (x ∷ [])) (xs ++ ys))
+    ≡ (if v then b ∷ lines_of [] xs else lines_of (b ++ (x ∷ [])) xs)
+    ++ lines_of (if v then begun_of [] xs else begun_of (b ++ (x ∷ [])) xs) ys)
+    [ true ↦ ap (λ l. b ∷ l) (lines_append [] xs ys) | false ↦ lines_append (b ++ (x ∷ [])) xs ys ]
+
+pub begun_append : (b xs ys : List ℕ) → begun_of b (xs ++ ys) ≡ begun_of (begun_of b xs) ys
+begun_append b [] ys = refl
+begun_append b (x ∷ xs) ys =
+    elim x == 10 as
+    (λ v. (if v then begun_of [] (xs ++ ys) else begun_of (b ++ (x ∷ [])) (xs ++ ys))
+    ≡ begun_of (if v then begun_of [] xs else begun_of (b ++ (x ∷ [])) xs) ys)
+    [ true ↦ begun_append [] xs ys | false ↦ begun_append (b ++ (x ∷ [])) xs ys ]
+
+-- ---- of bytes in a line, and of a line feed behind them
+
+pub line_ended : (b xs : List ℕ) → is_in_line xs ≡ true → lines_of b (xs ++ (10 ∷ [])) ≡ (b ++ xs) ∷ []
+line_ended b [] h = ap (λ l. l ∷ []) (sym (append-nil b))
+line_ended b (x ∷ xs) h =
+    (elim x == 10 as
+    (λ v. (if v then false else is_in_line xs) ≡ true
+    → (if v then b ∷ lines_of [] (xs ++ (10 ∷ [])) else lines_of (b ++ (x ∷ [])) (xs ++ (10 ∷ [])))
+    ≡ (b ++ (x ∷ xs)) ∷ [])
+    [ true ↦ λ no. absurd (true≢false (sym no))
+    | false ↦ λ yes. line_ended (b ++ (x ∷ [])) xs yes ∙ ap (λ l. l ∷ []) (append_assoc b (x ∷ []) xs)
+    ])
+    h
+
+pub none_begun : (b xs : List ℕ) → is_in_line xs ≡ true → begun_of b (xs ++ (10 ∷ [])) ≡ []
+none_begun b [] h = refl
+none_begun b (x ∷ xs) h =
+    (elim x == 10 as
+    (λ v. (if v then false else is_in_line xs) ≡ true
+    → (if v then begun_of [] (xs ++ (10 ∷ [])) else begun_of (b ++ (x ∷ [])) (xs ++ (10 ∷ []))) ≡ [])
+    [ true ↦ λ no. absurd (true≢false (sym no)) | false ↦ λ yes. none_begun (b ++ (x ∷ [])) xs yes ])
+    h
+
+pub no_line : (b xs : List ℕ) → is_in_line xs ≡ true → lines_of b xs ≡ []
+no_line b [] h = refl
+no_line b (x ∷ xs) h =
+    (elim x == 10 as
+    (λ v. (if v then false else is_in_line xs) ≡ true
+    → (if v then b ∷ lines_of [] xs else lines_of (b ++ (x ∷ [])) xs) ≡ [])
+    [ true ↦ λ no. absurd (true≢false (sym no)) | false ↦ λ yes. no_line (b ++ (x ∷ [])) xs yes ])
+    h
+
+pub more_begun : (b xs : List ℕ) → is_in_line xs ≡ true → begun_of b xs ≡ b ++ xs
+more_begun b [] h = sym (append-nil b)
+more_begun b (x ∷ xs) h =
+    (elim x == 10 as
+    (λ v. (if v then false else is_in_line xs) ≡ true
+    → (if v then begun_of [] xs else begun_of (b ++ (x ∷ [])) xs) ≡ b ++ (x ∷ xs))
+    [ true ↦ λ no. absurd (true≢false (sym no))
+    | false ↦ λ yes. more_begun (b ++ (x ∷ [])) xs yes ∙ append_assoc b (x ∷ []) xs
+    ])
+    h
+
+-- ---- of the bytes before an index
+
+-- one byte more
+pub in_line_more : (xs : List ℕ) (b : ℕ) → is_in_line xs ≡ true → (b == 10) ≡ false → is_in_line (xs ++ (b ∷ [])) ≡ true
+in_line_more [] b h e = ap (λ v. if v then false else true) e
+in_line_more (x ∷ xs) b h e =
+    (elim x == 10 as
+    (λ v. (if v then false else is_in_line xs) ≡ true → (if v then false else is_in_line (xs ++ (b ∷ []))) ≡ true)
+    [ true ↦ λ no. absurd (true≢false (sym no)) | false ↦ λ yes. in_line_more xs b yes e ])
+    h
