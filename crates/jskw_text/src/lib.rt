@@ -1,9 +1,9 @@
 //! Exact decimals from JSON text.
 //!
 //! [`read_bytes`] reads JSON text into a [`DecimalTree`](jskw_value::DecimalTree), or returns a
-//! [`ReadFault`]. [`position_of`] returns the line and the column of an offset. [`parse_decimal`]
-//! reads one number. `specs/Reading.antt` says which tree a text denotes, `specs/NumberText.antt`
-//! which decimal a number.
+//! [`ReadFault`]; [`read_bytes_with`] keeps the room that reading needs. [`position_of`] returns the
+//! line and the column of an offset. [`parse_decimal`] reads one number. `specs/Reading.antt` says
+//! which tree a text denotes, `specs/NumberText.antt` which decimal a number.
 #![tactic(auto)]
 
 mod broken;
@@ -16,4 +16,4 @@ pub mod tree;
 pub use fault::ReadFault;
 pub use number::parse_decimal;
 pub use position::{Position, position_of};
-pub use tree::read_bytes;
+pub use tree::{read_bytes, read_bytes_with};

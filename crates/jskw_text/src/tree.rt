@@ -33,22 +33,38 @@ pub fn read_bytes(alloc: Global, bytes: &[u8]) -> Result<DecimalTree, ReadFault>
     ensures tree { IfOk result (λ tree. reading bytes.now ≡ Some (Ok (decimal_tree tree))) }
     ensures fault { IfErr result (IsFaultOf bytes.now) }
 {
+    read_bytes_with(alloc, bytes, &mut Scratch::new(alloc))
+}
+
+/// Reads the tree that bytes denote as JSON text, as [`read_bytes`] does. `scratch` is room that
+/// reading needs: to keep one for many texts spares each the time in which 16 KB are cleared.
+///
+/// # Errors
+///
+/// The same as those of [`read_bytes`].
+pub fn read_bytes_with(
+    alloc: Global,
+    bytes: &[u8],
+    scratch: &mut Scratch,
+) -> Result<DecimalTree, ReadFault>
+    ensures tree { IfOk result (λ tree. reading bytes.now ≡ Some (Ok (decimal_tree tree))) }
+    ensures fault { IfErr result (IsFaultOf bytes.now) }
+{
     match simdutf8::compat::from_utf8(bytes) {
-        Ok(text) => read_text(alloc, text),
+        Ok(text) => read_text(alloc, text, scratch),
         Err(e) => Err(ReadFault::NotJson(e.valid_up_to())),
     }
 }
 
 // Reads the tree that a text denotes.
-fn read_text(alloc: Global, text: &str) -> Result<DecimalTree, ReadFault>
+fn read_text(alloc: Global, text: &str, scratch: &mut Scratch) -> Result<DecimalTree, ReadFault>
     requires { IsTrue (is_utf8 text.now) }
     ensures tree { IfOk result (λ tree. reading text.now ≡ Some (Ok (decimal_tree tree))) }
     ensures fault { IfErr result (IsFaultOf text.now) }
 {
-    let mut scratch = Scratch::new(alloc);
-    match read_all(alloc, text, &mut scratch) {
+    match read_all(alloc, text, scratch) {
         Ok(tree) => Ok(tree),
-        Err(stop) => Err(fault_of(alloc, text, &mut scratch, stop)?),
+        Err(stop) => Err(fault_of(alloc, text, scratch, stop)?),
     }
 }
 
