@@ -10,10 +10,10 @@ mod usage;
 use arguments::command_of;
 use files::{Trouble, check_files};
 use given::{Command, Given};
-use jskw_documents::{Checker, Options, schema_of};
+use jskw_documents::{Checker, schema_of};
 use std::alloc::{AllocError, Global};
 use std::env::{self, Args};
-use std::io::Write;
+use std::io::{ErrorKind, Write};
 use std::process::ExitCode;
 use std::io;
 use usage::{HELP, USAGE, VERSION};
@@ -44,8 +44,10 @@ fn words_of(trouble: Trouble) -> &'static str {
 
 // Does what the arguments say, and returns the exit status.
 fn run(rt: &HostRuntime) -> Result<u8, Trouble> {
-    let Ok(arguments) = env::args(rt) else {
-        return Err(Trouble::Arguments);
+    let arguments = match env::args(rt) {
+        Ok(arguments) => arguments,
+        Err(error) if error.kind() == ErrorKind::OutOfMemory => return Err(Trouble::Memory),
+        Err(_) => return Err(Trouble::Arguments),
     };
     let words = behind_first(rt.alloc(), arguments)?;
     match command_of(rt.alloc(), words.as_slice())? {

@@ -76,3 +76,12 @@ in_line_more (x ∷ xs) b h e =
     (λ v. (if v then false else is_in_line xs) ≡ true → (if v then false else is_in_line (xs ++ (b ∷ []))) ≡ true)
     [ true ↦ λ no. absurd (true≢false (sym no)) | false ↦ λ yes. in_line_more xs b yes e ])
     h
+
+-- more bytes
+pub in_line_join : (xs ys : List ℕ) → is_in_line xs ≡ true → is_in_line ys ≡ true → is_in_line (xs ++ ys) ≡ true
+in_line_join [] ys h k = k
+in_line_join (x ∷ xs) ys h k =
+    (elim x == 10 as
+    (λ v. (if v then false else is_in_line xs) ≡ true → (if v then false else is_in_line (xs ++ ys)) ≡ true)
+    [ true ↦ λ no. absurd (true≢false (sym no)) | false ↦ λ yes. in_line_join xs ys yes k ])
+    h

@@ -14,11 +14,11 @@ is_control b = nat_lt b 32 || b == 127
 abbrev pub hex_digit : ℕ → ℕ
 hex_digit n = if nat_lt n 10 then 48 + n else 87 + n
 
-abbrev pub escape : ℕ → List ℕ
-escape b = codes "\\u00" ++ (hex_digit (b / 16) ∷ hex_digit (b % 16) ∷ [])
+abbrev pub control_escape : ℕ → List ℕ
+control_escape b = codes "\\u00" ++ (hex_digit (b / 16) ∷ hex_digit (b % 16) ∷ [])
 
 abbrev pub shown_byte : ℕ → List ℕ
-shown_byte b = if is_control b then escape b else (b ∷ [])
+shown_byte b = if is_control b then control_escape b else (b ∷ [])
 
 abbrev pub shown : List ℕ → List ℕ
 shown = flat_map shown_byte

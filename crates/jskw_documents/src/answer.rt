@@ -1,7 +1,8 @@
 //! The answer to one document.
 #![tactic(auto, using(jskw_value::proofs::DecimalTrees::lawful_tree))]
 
-ghost use Rattle.std.specs.Prelude.{◌≡◌, ◌≤◌, [], IfOk, Some, None, length, option_map};
+ghost use Rattle.std.specs.Prelude.{◌≡◌, ◌≤◌, ℕ, List, [], IfOk, length, option_map};
+ghost use Rattle.jskw_text.specs.Position.{line_at};
 ghost use Rattle.jskw_value.specs.DecimalTree.{decimal_tree};
 ghost use Rattle.jskw_report.specs.Errors.{failures_of};
 ghost use Rattle.jskw_report.specs.Fail.{fail, is_empty};
@@ -18,8 +19,9 @@ use crate::place::{Place, refusal};
 use jskw_array::SchemaNode;
 use jskw_report::{LazyLocation, ValidationContext, ValidationError};
 use jskw_service::Verdict;
-use jskw_text::{ReadFault, position_of, read_bytes};
+use jskw_text::{ReadFault, position_of, read_bytes_with};
 use jskw_value::{DecimalJson, DecimalTree};
+use json::Scratch;
 use std::alloc::{AllocError, Global};
 
 /// The answer to a document.
@@ -31,20 +33,22 @@ pub struct Answer {
     pub text: Vec<u8>,
 }
 
-/// Answers the document of these bytes, which is a file, or a line of one.
+/// Answers the document of these bytes, which is a file, or a line of one. `scratch` is room that
+/// reading needs, and can serve for any number of documents.
 pub fn answer_to(
     alloc: Global,
     checker: &Checker,
     file: &str,
     line: Option<usize>,
     document: &[u8],
+    scratch: &mut Scratch,
 ) -> Result<Answer, AllocError>
     ensures verdict { IfOk result
         (λ answer. answer.verdict ≡ verdict_on checker.now.schema document.now) }
     ensures text { IfOk result (λ answer. IsAnswer checker.now.options checker.now.schema file.now line
         document.now answer.text.items) }
 {
-    match read_bytes(alloc, document) {
+    match read_bytes_with(alloc, document, scratch) {
         Ok(tree) => answer_to_tree(alloc, checker, file, line, &tree),
         Err(ReadFault::NotJson(offset)) => {
             let output = checker.options.output;
@@ -53,7 +57,7 @@ pub fn answer_to(
         }
         Err(ReadFault::Inexact(location)) => {
             let output = checker.options.output;
-            let offset = offset_of_inexact(alloc, document)?;
+            let offset = offset_of_inexact(document, scratch)?;
             let why = "the number has no exact decimal";
             let location = Some(location.as_str());
             refuse(alloc, output, file, line, document, offset, location, why)
@@ -94,8 +98,8 @@ fn refuse(
 
 // Returns the line of the document, or the line in the document if it is a whole file.
 fn shown_line(line: Option<usize>, within: usize) -> usize
-    ensures of_file { line ≡ None → result ≡ within }
-    ensures of_line { (n : ℕ) → line ≡ Some n → result ≡ n }
+    ensures { (offset : ℕ) (bytes : List ℕ) → within ≡ line_at offset bytes
+        → result ≡ line_shown line offset bytes }
 {
     match line {
         None => within,

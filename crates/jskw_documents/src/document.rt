@@ -6,6 +6,7 @@ use crate::answer::answer_to;
 use crate::checker::Checker;
 use crate::fault::CheckFault;
 use jskw_service::{ReadFault, Sink, Source, Verdict, read_all, write_all};
+use json::Scratch;
 use std::alloc::Global;
 
 /// Reads a document to its end, writes the answer and nothing else, and returns the verdict. Neither
@@ -33,7 +34,8 @@ pub fn check_document<R: Source, W: Sink>(
         Err(ReadFault::Device) => return Err(CheckFault::Read),
         Err(ReadFault::Memory) => return Err(CheckFault::Memory),
     };
-    let answer = answer_to(alloc, checker, file, None, &document)?;
+    let mut scratch = Scratch::new(alloc);
+    let answer = answer_to(alloc, checker, file, None, &document, &mut scratch)?;
     let Ok(()) = write_all(writer, &answer.text) else {
         return Err(CheckFault::Write);
     };

@@ -1,6 +1,6 @@
 //! The lines of a stream, each of which is a document.
 ghost use Rattle.std.specs.Prelude.{◌≡◌, ◌<◌, ◌+◌, ◌++◌, [], ◌∷◌, ℕ, List, false, true, IfOk, OnOk, Ok, Some};
-ghost use Rattle.std.specs.Prelude.{IsErrOf, length};
+ghost use Rattle.std.specs.Prelude.{IsErrOf, length, take, ◌≤◌};
 ghost use Rattle.std.specs.Io.KnownBytes.{Appends, IsAtEnd};
 ghost use Rattle.jskw_documents.specs.Documents.{IsAnswer, verdict_on};
 ghost use Rattle.jskw_documents.specs.Devices.{is_write_fault};
@@ -11,11 +11,15 @@ use crate::answer::{answer_to, worse_of};
 use crate::checker::Checker;
 use crate::fault::CheckFault;
 use jskw_service::{Sink, Source, Verdict, write_all};
+use json::Scratch;
 use std::alloc::Global;
 use std::mem;
 
 // The number of bytes that one read can return at most.
 const BLOCK: usize = 65536;
+
+// The number of bytes in which a line feed is looked for at once.
+const STRIDE: usize = 32;
 
 // What is known of a stream.
 #[derive(Drop)]
@@ -26,6 +30,8 @@ pub(crate) struct Lines {
     pub(crate) begun: Vec<u8>,
     // The worst verdict on the lines before it.
     pub(crate) verdict: Verdict,
+    // Room that reading needs.
+    pub(crate) scratch: Scratch,
 }
 
 /// Reads a stream to its end, writes the answer to each line and nothing else, and returns the worst
@@ -59,11 +65,12 @@ pub fn check_lines<R: Source, W: Sink>(
         next: 1,
         begun: Vec::new(alloc),
         verdict: Verdict::Valid,
+        scratch: Scratch::new(alloc),
     };
     let mut block = [0u8; BLOCK];
     'blocks: for _ in 0..u64::MAX {
         if !take_next(alloc, checker, file, &mut lines, &mut block, reader, writer)? {
-            return take_last(alloc, checker, file, &lines, writer);
+            return take_last(alloc, checker, file, &mut lines, writer);
         }
     }
     Err(CheckFault::TooLong)
@@ -127,12 +134,39 @@ fn take_block(
 fn line_feed_in(bytes: &[u8]) -> Option<usize>
     ensures { Ends bytes.now result }
 {
-    for (at, &byte) in bytes.iter().enumerate() {
-        if byte == b'\n' {
+    'bytes: for at in blocks_without(bytes)..bytes.len() {
+        if bytes[at] == b'\n' {
             return Some(at);
         }
     }
     None
+}
+
+// Returns how many bytes there are in the first blocks without a line feed.
+fn blocks_without(bytes: &[u8]) -> usize
+    ensures within { result ≤ length bytes.now }
+    ensures inside { is_in_line (take result bytes.now) ≡ true }
+{
+    let mut at = 0;
+    'blocks: while at < bytes.len() - bytes.len() % STRIDE {
+        if has_line_feed(&bytes[at..at + STRIDE]) {
+            return at;
+        }
+        at += STRIDE;
+    }
+    at
+}
+
+// Returns whether a byte is a line feed. It looks at each byte, so that the compiler can look at
+// several at once.
+fn has_line_feed(block: &[u8]) -> bool
+    ensures { result ≡ false → is_in_line block.now ≡ true }
+{
+    let mut found = false;
+    for &byte in block {
+        found |= byte == b'\n';
+    }
+    found
 }
 
 // Appends the answer to the line that these bytes and a line feed end, behind what is begun of it.
@@ -176,7 +210,8 @@ fn answer_line(
     let Some(next) = lines.next.checked_add(1) else {
         return Err(CheckFault::TooLong);
     };
-    let answer = answer_to(alloc, checker, file, Some(lines.next), line)?;
+    let number = Some(lines.next);
+    let answer = answer_to(alloc, checker, file, number, line, &mut lines.scratch)?;
     text.extend_from_slice(&answer.text)?;
     lines.next = next;
     lines.verdict = worse_of(lines.verdict, answer.verdict);
@@ -189,22 +224,24 @@ fn take_last<W: Sink>(
     alloc: Global,
     checker: &Checker,
     file: &str,
-    lines: &Lines,
+    lines: &mut Lines,
     writer: &mut W,
 ) -> Result<Verdict, CheckFault>
     requires { W.has_failed writer.old ≡ false }
-    ensures answer { OnOk result ((answer : List ℕ) × AreAnswers checker.now file.now lines.now.next
-        (last_line_of lines.now.begun.items) answer
+    ensures answer { OnOk result ((answer : List ℕ) × AreAnswers checker.now file.now lines.old.next
+        (last_line_of lines.old.begun.items) answer
         × Appends (W.contents writer.old) (W.contents writer.new) answer) }
-    ensures verdict { IfOk result (λ said. said ≡ verdict_behind checker.now.schema lines.now.verdict
-        (last_line_of lines.now.begun.items)) }
+    ensures verdict { IfOk result (λ said. said ≡ verdict_behind checker.now.schema lines.old.verdict
+        (last_line_of lines.old.begun.items)) }
     ensures failed { W.has_failed writer.new ≡ is_write_fault result }
     ensures no_read { IsErrOf result CheckFault.Read → ⊥ }
 {
     if lines.begun.is_empty() {
         return Ok(lines.verdict);
     }
-    let answer = answer_to(alloc, checker, file, Some(lines.next), &lines.begun)?;
+    let line = mem::replace(&mut lines.begun, Vec::new(alloc));
+    let number = Some(lines.next);
+    let answer = answer_to(alloc, checker, file, number, &line, &mut lines.scratch)?;
     let Ok(()) = write_all(writer, &answer.text) else {
         return Err(CheckFault::Write);
     };

@@ -1,6 +1,6 @@
 //! Parts of the texts that are written.
 ghost use Rattle.std.specs.Prelude.{◌≡◌, ◌++◌, ◌<◌, OnOk, option_map};
-ghost use Rattle.jskw_documents.specs.Shown.{escape, hex_digit, if_some, is_control, number_after};
+ghost use Rattle.jskw_documents.specs.Shown.{control_escape, hex_digit, if_some, is_control, number_after};
 ghost use Rattle.jskw_documents.specs.Shown.{quoted_after, shown, shown_after, shown_byte};
 
 use serde_json::Value;
@@ -30,7 +30,7 @@ fn hex_digit(digit: u8) -> u8
 
 // Appends the escape of a byte.
 fn push_escape(text: &mut Vec<u8>, byte: u8) -> Result<(), AllocError>
-    ensures { OnOk result (text.new.items ≡ text.old.items ++ escape byte) }
+    ensures { OnOk result (text.new.items ≡ text.old.items ++ control_escape byte) }
 {
     push_bytes(text, b"\\u00")?;
     text.push(hex_digit(byte / 16))?;
