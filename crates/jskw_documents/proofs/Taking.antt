@@ -1,6 +1,6 @@
 -- What is taken of a stream, and the answers, step by step.
 use Rattle.std.proofs.Common.{◌≡◌, ℕ, suc, ◌+◌, List, [], ◌∷◌, ◌++◌, true, length, Option, Some, refl, sym, ap, ◌∙◌, subst}
-use Rattle.std.proofs.Common.{add-zero, arith, length-append}
+use Rattle.std.proofs.Common.{add-zero, arith, length-append, Result, Ok, Err, OnOk}
 use Rattle.std.proofs.lemmas.List.{append-nil, append_assoc}
 use Rattle.std.specs.Io.KnownBytes.{Appends, Consumes, IsAtEnd}
 use Rattle.std.proofs.KnownBytes.{Appends-nil, Appends-trans, Consumes-nil, Consumes-trans}
@@ -84,6 +84,16 @@ takes_line c file a b xs t line inside is answer next begun verdict =
       begun = begun ∙ sym (none_begun a.begun.items xs inside);
       verdict = verdict ∙ ap (verdict_behind c.schema a.verdict) (sym ends);
     }
+
+-- the same of a call that may fail, which appends the answer to a text
+pub ends_line : {E : Type 0} (r : Result Unit E) (c : Checker) (file : List ℕ) (a b : Lines) (xs line old new : List ℕ)
+    → is_in_line xs ≡ true → line ≡ a.begun.items ++ xs → b.begun.items ≡ []
+    → OnOk r ((t : List ℕ) × IsAnswer c.options c.schema file (Some a.next) line t × (new ≡ old ++ t))
+    → OnOk r (b.next ≡ a.next + 1) → OnOk r (b.verdict ≡ worse_of a.verdict (verdict_on c.schema line))
+    → OnOk r ((t : List ℕ) × Takes c file a (xs ++ (10 ∷ [])) t b × (new ≡ old ++ t))
+ends_line (Ok y) c file a b xs line old new inside is begun answer next verdict =
+    (answer.0, takes_line c file a b xs answer.0 line inside is answer.1 next begun verdict, answer.2)
+ends_line (Err e) c file a b xs line old new inside is begun answer next verdict = tt
 
 -- bytes in which no line ends
 pub takes_more : (c : Checker) (file : List ℕ) (a b : Lines) (xs : List ℕ) → is_in_line xs ≡ true

@@ -1,5 +1,5 @@
 -- The lines of a stream, each of which is a document, and the answers to them.
-use Rattle.std.specs.Prelude.{◌≡◌, ℕ, suc, ◌+◌, ◌==◌, List, [], ◌∷◌, ◌++◌, length, if◌then◌else◌, Option, Some, Bool}
+use Rattle.std.specs.Prelude.{◌≡◌, ℕ, suc, ◌+◌, eqb, List, [], ◌∷◌, ◌++◌, length, if◌then◌else◌, Option, Some, Bool}
 use Rattle.std.specs.Prelude.{◌<◌, None, take, drop, true, false}
 use Rattle.std.specs.Io.KnownBytes.{Appends, Consumes, IsAtEnd}
 use Rattle.jskw_report.specs.Keyword.{Schema}
@@ -13,11 +13,11 @@ use Rattle.jskw_documents.specs.declared.lines.Lines.{Lines}
 
 abbrev pub lines_of : List ℕ → List ℕ → List (List ℕ)
 lines_of begun [] = []
-lines_of begun (b ∷ bs) = if b == 10 then begun ∷ lines_of [] bs else lines_of (begun ++ (b ∷ [])) bs
+lines_of begun (b ∷ bs) = if eqb b 10 then begun ∷ lines_of [] bs else lines_of (begun ++ (b ∷ [])) bs
 
 abbrev pub begun_of : List ℕ → List ℕ → List ℕ
 begun_of begun [] = begun
-begun_of begun (b ∷ bs) = if b == 10 then begun_of [] bs else begun_of (begun ++ (b ∷ [])) bs
+begun_of begun (b ∷ bs) = if eqb b 10 then begun_of [] bs else begun_of (begun ++ (b ∷ [])) bs
 
 -- the last line needs no line feed
 abbrev pub last_line_of : List ℕ → List (List ℕ)
@@ -30,7 +30,7 @@ documents_of bytes = lines_of [] bytes ++ last_line_of (begun_of [] bytes)
 -- no byte is a line feed
 abbrev pub is_in_line : List ℕ → Bool
 is_in_line [] = true
-is_in_line (b ∷ bs) = if b == 10 then false else is_in_line bs
+is_in_line (b ∷ bs) = if eqb b 10 then false else is_in_line bs
 
 -- the offset of the first line feed, if there is one
 abbrev pub Ends : List ℕ → Option ℕ → Type 0

@@ -148,7 +148,7 @@ fn blocks_without(bytes: &[u8]) -> usize
     ensures inside { is_in_line (take result bytes.now) ≡ true }
 {
     let mut at = 0;
-    'blocks: while at < bytes.len() - bytes.len() % STRIDE {
+    'strides: while at < bytes.len() - bytes.len() % STRIDE {
         if has_line_feed(&bytes[at..at + STRIDE]) {
             return at;
         }
@@ -164,7 +164,9 @@ fn has_line_feed(block: &[u8]) -> bool
 {
     let mut found = false;
     for &byte in block {
-        found |= byte == b'\n';
+        if byte == b'\n' {
+            found = true;
+        }
     }
     found
 }

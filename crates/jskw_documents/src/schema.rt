@@ -1,9 +1,10 @@
 //! The schema that documents are checked against.
-ghost use Rattle.std.specs.Prelude.{◌≡◌, false, IfOk, option_map};
+ghost use Rattle.std.specs.Prelude.{◌≡◌, false, IfOk, Ok, option_map};
 ghost use Rattle.serde_json.specs.View.{view};
 ghost use Rattle.jskw_report.specs.Setting.{with_object_layer};
-ghost use Rattle.jskw_documents.specs.Schemas.{IsSchemaGiven, draft_chosen, draft_of_meta_schema};
-ghost use Rattle.jskw_documents.specs.Schemas.{draft_of_schema, draft_of_value, schema_given, schema_under};
+ghost use Rattle.jskw_documents.specs.Schemas.{IsSchemaGiven, covered_schema, draft_chosen};
+ghost use Rattle.jskw_documents.specs.Schemas.{draft_of_meta_schema, draft_of_schema, draft_of_value, schema_given};
+ghost use Rattle.jskw_documents.specs.Schemas.{schema_under};
 
 use crate::options::Output;
 use crate::place::{Place, refusal};
@@ -66,16 +67,31 @@ fn schema_under(
 {
     let ctx: Context<'_, DecimalJson> = Context::new(alloc, settings);
     let ctx = ctx.with_object_layer(false);
-    let schema = match compile(alloc, &ctx, value) {
-        Ok(schema) => schema,
-        Err(CompileFault::Bad(error)) => return Ok(Err(bad_schema(alloc, file, &error)?)),
-        Err(CompileFault::Memory(error)) => return Err(error),
-    };
-    let members = unchecked(alloc, &ctx, value)?;
-    if allow_unchecked || members.is_empty() {
-        Ok(Ok(schema))
-    } else {
-        Ok(Err(unchecked_lines(alloc, file, members.as_slice())?))
+    match compile(alloc, &ctx, value) {
+        Ok(schema) => {
+            let members = unchecked(alloc, &ctx, value)?;
+            covered_schema(alloc, file, allow_unchecked, schema, members.as_slice())
+        }
+        Err(CompileFault::Bad(error)) => Ok(Err(bad_schema(alloc, file, &error)?)),
+        Err(CompileFault::Memory(error)) => Err(error),
+    }
+}
+
+// Returns a compiled schema, unless these members of it are not checked and that is not allowed.
+fn covered_schema(
+    alloc: Global,
+    file: &str,
+    allow_unchecked: bool,
+    schema: SchemaNode<DecimalJson>,
+    members: &[UncheckedMember],
+) -> Result<Result<SchemaNode<DecimalJson>, Vec<u8>>, AllocError>
+    ensures { IfOk result
+        (λ made. IsSchemaGiven made (covered_schema allow_unchecked members.now (Ok schema))) }
+{
+    match members {
+        [] => Ok(Ok(schema)),
+        [_, ..] if allow_unchecked => Ok(Ok(schema)),
+        [_, ..] => Ok(Err(unchecked_lines(alloc, file, members)?)),
     }
 }
 

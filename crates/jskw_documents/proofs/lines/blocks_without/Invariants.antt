@@ -3,12 +3,12 @@ use Rattle.jskw_documents.specs.Streams.{is_in_line}
 use Rattle.jskw_documents.proofs.lines.blocks_without.Given as goal
 
 -- no line feed so far, in whole blocks
-abbrev pub invariant-blocks : goal.invariant-blocks
-invariant-blocks l = record {
+abbrev pub invariant-strides : goal.invariant-strides
+invariant-strides l = record {
   whole : l.at % 32 ≡ 0;
   within : l.at ≤ length l.bytes - length l.bytes % 32;
   inside : is_in_line (take l.at l.bytes) ≡ true;
 }
 
-abbrev pub decreases-blocks : goal.decreases-blocks
-decreases-blocks l = length l.bytes - l.at
+abbrev pub decreases-strides : goal.decreases-strides
+decreases-strides l = length l.bytes - l.at
