@@ -1,6 +1,6 @@
 -- What is taken of a stream, and the answers, step by step.
 use Rattle.std.proofs.Common.{◌≡◌, ℕ, suc, ◌+◌, List, [], ◌∷◌, ◌++◌, true, length, Option, Some, refl, sym, ap, ◌∙◌, subst}
-use Rattle.std.proofs.Common.{add-zero, arith, length-append, Result, Ok, Err, OnOk}
+use Rattle.std.proofs.Common.{add-zero, arith, length-append, Result, Ok, Err, IfOk, OnOk}
 use Rattle.std.proofs.lemmas.List.{append-nil, append_assoc}
 use Rattle.std.specs.Io.KnownBytes.{Appends, Consumes, IsAtEnd}
 use Rattle.std.proofs.KnownBytes.{Appends-nil, Appends-trans, Consumes-nil, Consumes-trans}
@@ -107,6 +107,31 @@ takes_more c file a b xs inside next begun verdict =
       verdict = verdict ∙ ap (verdict_behind c.schema a.verdict) (sym none);
     }
 
+-- ---- the lines of a block, one by one: those that are done, and the rest
+
+pub next_end : (c : Checker) (file : List ℕ) (a b d : Lines) (block done rest line behind t u new : List ℕ)
+    → done ++ rest ≡ block → Takes c file a done t b → rest ≡ line ++ (10 ∷ behind)
+    → Takes c file b (line ++ (10 ∷ [])) u d → new ≡ t ++ u
+    → (done : List ℕ) × (done ++ behind ≡ block) × Takes c file a done new d
+next_end c file a b d block done rest line behind t u new all before splits ends text =
+    let ended = line ++ (10 ∷ []) in
+    let whole : (done ++ ended) ++ behind ≡ block =
+    append_assoc done ended behind ∙ ap (λ z. done ++ z) (append_assoc line (10 ∷ []) behind ∙ sym splits) ∙ all in
+    (
+      done ++ ended,
+      whole,
+      subst (λ z. Takes c file a (done ++ ended) z d) (sym text)
+      (takes_then c file a b d done ended t u before ends),
+    )
+
+pub block_end : (c : Checker) (file : List ℕ) (a b d : Lines) (block done rest t : List ℕ)
+    → done ++ rest ≡ block → Takes c file a done t b → is_in_line rest ≡ true → d.next ≡ b.next
+    → d.begun.items ≡ b.begun.items ++ rest → d.verdict ≡ b.verdict → Takes c file a block t d
+block_end c file a b d block done rest t all before inside next begun verdict =
+    subst (λ z. Takes c file a z t d) all
+    (subst (λ z. Takes c file a (done ++ rest) z d) (append-nil t)
+    (takes_then c file a b d done rest t [] before (takes_more c file b d rest inside next begun verdict)))
+
 -- ---- devices
 
 pub moves_none : (c : Checker) (file : List ℕ) (a : Lines) (r v : Option (List ℕ)) → Moves c file a a r r v v
@@ -165,6 +190,18 @@ all_answered c file said a b t r s v w x first none valid moved end last wrote s
           ∙ sym (verdict_append c.schema Valid whole rest);
       wrote = Appends-trans v w x moved.text t moved.wrote wrote;
     }
+
+-- the same of a call that may fail
+pub all_answered_if : {E : Type 0} (made : Result Verdict E) (c : Checker) (file : List ℕ) (a b : Lines)
+    (r s v w x : Option (List ℕ))
+    → a.next ≡ 1 → a.begun.items ≡ [] → a.verdict ≡ Valid
+    → Moves c file a b r s v w → IsAtEnd s
+    → OnOk made ((t : List ℕ) × AreAnswers c file b.next (last_line_of b.begun.items) t × Appends w x t)
+    → IfOk made (λ said. said ≡ verdict_behind c.schema b.verdict (last_line_of b.begun.items))
+    → IfOk made (λ said. AnswersLines c file said r s v x)
+all_answered_if (Ok said) c file a b r s v w x first none valid moved end last says =
+    all_answered c file said a b last.0 r s v w x first none valid moved end last.1 last.2 says
+all_answered_if (Err e) c file a b r s v w x first none valid moved end last says = tt
 
 -- the answers to the lines that were read
 pub begun_answered : (c : Checker) (file : List ℕ) (a b : Lines) (r s v w : Option (List ℕ))

@@ -7,6 +7,11 @@ use Rattle.jskw_documents.specs.declared.checker.Checker.{Checker}
 use Rattle.jskw_documents.specs.declared.fault.CheckFault.{CheckFault}
 use Rattle.jskw_documents.specs.declared.fault.CheckFault.TheVariants.{Read, Write, Memory, TooLong}
 
+-- the reader failed
+abbrev pub is_read_fault : {A : Type 0} → Result A CheckFault → Bool
+is_read_fault (Err Read) = true
+is_read_fault r = false
+
 -- the writer failed
 abbrev pub is_write_fault : {A : Type 0} → Result A CheckFault → Bool
 is_write_fault (Err Write) = true

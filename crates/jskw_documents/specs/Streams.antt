@@ -38,6 +38,10 @@ Ends bytes None = is_in_line bytes ≡ true
 Ends bytes (Some n) =
     (is_in_line (take n bytes) ≡ true) × (bytes ≡ take n bytes ++ (10 ∷ drop (n + 1) bytes)) × (n < length bytes)
 
+-- these bytes are before the first line feed, and these behind it
+abbrev pub IsFirstLine : List ℕ → List ℕ → List ℕ → Type 0
+IsFirstLine bytes line behind = (is_in_line line ≡ true) × (bytes ≡ line ++ (10 ∷ behind))
+
 -- ---- verdicts
 
 -- the worse of two: refused, invalid, valid

@@ -1,6 +1,7 @@
 //! Why a document is not JSON, and where its first number is that is not exact.
 ghost use Rattle.std.specs.Prelude.{◌≤◌, IfOk, length};
 
+use crate::surrogate::has_lone_surrogate;
 use jskw_text::parse_decimal;
 use json::{Reader, Scratch, Token};
 use std::alloc::AllocError;
@@ -17,6 +18,8 @@ pub(crate) fn why_broken(document: &[u8], offset: usize) -> &'static str {
         "not JSON: the text begins with a byte order mark"
     } else if is_bracket(document[offset]) && depth_of(&document[..offset]) == MAX_DEPTH {
         "nests more than 127 levels, which JSON allows and jskw does not"
+    } else if document[offset] == b'"' && has_lone_surrogate(&document[offset..]) {
+        "has the escape of a lone surrogate, which JSON allows and jskw does not"
     } else {
         "not JSON"
     }

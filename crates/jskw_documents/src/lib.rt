@@ -20,6 +20,7 @@ mod lines;
 mod options;
 mod place;
 mod schema;
+mod surrogate;
 mod words;
 
 pub use answer::{Answer, answer_to, worse_of};

@@ -1,11 +1,11 @@
 //! The lines of a stream, each of which is a document.
 ghost use Rattle.std.specs.Prelude.{◌≡◌, ◌<◌, ◌+◌, ◌++◌, [], ◌∷◌, ℕ, List, false, true, IfOk, OnOk, Ok, Some};
-ghost use Rattle.std.specs.Prelude.{IsErrOf, length, take, ◌≤◌};
+ghost use Rattle.std.specs.Prelude.{IsErrOf, MatchOption, length, take, ◌≤◌};
 ghost use Rattle.std.specs.Io.KnownBytes.{Appends, IsAtEnd};
 ghost use Rattle.jskw_documents.specs.Documents.{IsAnswer, verdict_on};
-ghost use Rattle.jskw_documents.specs.Devices.{is_write_fault};
-ghost use Rattle.jskw_documents.specs.Streams.{AnswersBegun, AnswersLines, AreAnswers, Ends, Moves, Takes};
-ghost use Rattle.jskw_documents.specs.Streams.{is_in_line, last_line_of, verdict_behind, worse_of};
+ghost use Rattle.jskw_documents.specs.Devices.{is_read_fault, is_write_fault};
+ghost use Rattle.jskw_documents.specs.Streams.{AnswersBegun, AnswersLines, AreAnswers, Ends, IsFirstLine, Moves};
+ghost use Rattle.jskw_documents.specs.Streams.{Takes, is_in_line, last_line_of, verdict_behind, worse_of};
 
 use crate::answer::{answer_to, worse_of};
 use crate::checker::Checker;
@@ -68,7 +68,7 @@ pub fn check_lines<R: Source, W: Sink>(
         scratch: Scratch::new(alloc),
     };
     let mut block = [0u8; BLOCK];
-    'blocks: for _ in 0..u64::MAX {
+    'reads: for _ in 0..u64::MAX {
         if !take_next(alloc, checker, file, &mut lines, &mut block, reader, writer)? {
             return take_last(alloc, checker, file, &mut lines, writer);
         }
@@ -118,16 +118,28 @@ fn take_block(
 ) -> Result<Vec<u8>, CheckFault>
     ensures takes { IfOk result
         (λ text. Takes checker.now file.now lines.old block.now text.items lines.new) }
-    ensures no_device { (result ≡ Err CheckFault.Read → ⊥) × (result ≡ Err CheckFault.Write → ⊥) }
+    ensures no_read { is_read_fault result ≡ false }
+    ensures no_write { is_write_fault result ≡ false }
 {
     let mut text = Vec::new(alloc);
     let mut rest = block;
-    'ends: while let Some(at) = line_feed_in(rest) {
-        end_line(alloc, checker, file, lines, &rest[..at], &mut text)?;
-        rest = &rest[at + 1..];
+    'ends: while let Some((line, behind)) = first_line(rest) {
+        end_line(alloc, checker, file, lines, line, &mut text)?;
+        rest = behind;
     }
     lines.begun.extend_from_slice(rest)?;
     Ok(text)
+}
+
+// Returns the bytes before the first line feed, and those behind it.
+fn first_line(bytes: &[u8]) -> Option<(&[u8], &[u8])>
+    ensures { MatchOption result (is_in_line bytes.now ≡ true)
+        (λ p. IsFirstLine bytes.now p.0.now p.1.now) }
+{
+    match line_feed_in(bytes) {
+        Some(at) => Some((&bytes[..at], &bytes[at + 1..])),
+        None => None,
+    }
 }
 
 // Returns the offset of the first line feed.
@@ -181,9 +193,11 @@ fn end_line(
     text: &mut Vec<u8>,
 ) -> Result<(), CheckFault>
     requires { is_in_line bytes.now ≡ true }
-    ensures { OnOk result ((answer : List ℕ)
+    ensures takes { OnOk result ((answer : List ℕ)
         × Takes checker.now file.now lines.old (bytes.now ++ 10 ∷ []) answer lines.new
         × (text.new.items ≡ text.old.items ++ answer)) }
+    ensures no_read { is_read_fault result ≡ false }
+    ensures no_write { is_write_fault result ≡ false }
 {
     if lines.begun.is_empty() {
         return answer_line(alloc, checker, file, lines, bytes, text);
@@ -208,6 +222,8 @@ fn answer_line(
     ensures begun { lines.new.begun ≡ lines.old.begun }
     ensures verdict { OnOk result (lines.new.verdict
         ≡ worse_of lines.old.verdict (verdict_on checker.now.schema line.now)) }
+    ensures no_read { is_read_fault result ≡ false }
+    ensures no_write { is_write_fault result ≡ false }
 {
     let Some(next) = lines.next.checked_add(1) else {
         return Err(CheckFault::TooLong);
@@ -236,7 +252,7 @@ fn take_last<W: Sink>(
     ensures verdict { IfOk result (λ said. said ≡ verdict_behind checker.now.schema lines.old.verdict
         (last_line_of lines.old.begun.items)) }
     ensures failed { W.has_failed writer.new ≡ is_write_fault result }
-    ensures no_read { IsErrOf result CheckFault.Read → ⊥ }
+    ensures no_read { is_read_fault result ≡ false }
 {
     if lines.begun.is_empty() {
         return Ok(lines.verdict);

@@ -3,8 +3,8 @@ use Rattle.jskw_documents.specs.Streams.{Moves}
 use Rattle.jskw_documents.proofs.lines.check_lines.Given as goal
 
 -- what was read is taken, and its answers are written
-abbrev pub invariant-blocks : goal.invariant-blocks
-invariant-blocks g l = record {
+abbrev pub invariant-reads : goal.invariant-reads
+invariant-reads g l = record {
   moves :
       Moves l.checker l.file l.initial.lines l.lines (g.R.Source.remaining l.fn.reader) (g.R.Source.remaining l.reader)
       (g.W.Sink.contents l.fn.writer) (g.W.Sink.contents l.writer);
