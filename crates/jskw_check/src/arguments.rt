@@ -148,7 +148,11 @@ fn set(
     }
 }
 
-fn set_draft(alloc: Global, draft: &mut Unfinished, value: &str) -> Result<Option<Step>, AllocError> {
+fn set_draft(
+    alloc: Global,
+    draft: &mut Unfinished,
+    value: &str,
+) -> Result<Option<Step>, AllocError> {
     let named = draft_named(value);
     if named.is_none() {
         return Ok(Some(wrong(format!(in alloc;
@@ -180,7 +184,11 @@ fn set_vocabularies(
     Ok(None)
 }
 
-fn set_output(alloc: Global, draft: &mut Unfinished, value: &str) -> Result<Option<Step>, AllocError> {
+fn set_output(
+    alloc: Global,
+    draft: &mut Unfinished,
+    value: &str,
+) -> Result<Option<Step>, AllocError> {
     draft.options.output = match value {
         "text" => Output::Text,
         "basic" => Output::Basic,
@@ -194,7 +202,11 @@ fn set_output(alloc: Global, draft: &mut Unfinished, value: &str) -> Result<Opti
     Ok(None)
 }
 
-fn set_limit(alloc: Global, draft: &mut Unfinished, value: &str) -> Result<Option<Step>, AllocError> {
+fn set_limit(
+    alloc: Global,
+    draft: &mut Unfinished,
+    value: &str,
+) -> Result<Option<Step>, AllocError> {
     match value.parse::<usize>() {
         Ok(limit) if limit > 0 && !value.starts_with('+') => {
             draft.options.limit = limit;

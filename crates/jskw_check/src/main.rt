@@ -13,9 +13,9 @@ use given::{Command, Given};
 use jskw_documents::{Checker, schema_of};
 use std::alloc::{AllocError, Global};
 use std::env::{self, Args};
+use std::io;
 use std::io::{ErrorKind, Write};
 use std::process::ExitCode;
-use std::io;
 use usage::{HELP, USAGE, VERSION};
 
 // The status if something could not be checked.

@@ -4,7 +4,8 @@
 pub(crate) const VERSION: &str = "jskw 0.2.0 (rattle logic dac8208d650f15bf)\n";
 
 // How the program is called.
-pub(crate) const USAGE: &str = "usage: jskw check [-h] --schema SCHEMA [--draft {4,6,7,2019-09,2020-12}]
+pub(crate) const USAGE: &str =
+    "usage: jskw check [-h] --schema SCHEMA [--draft {4,6,7,2019-09,2020-12}]
                   [--vocabularies LIST] [--override NAME] [--lines]
                   [--output {text,basic,quiet}] [--max-errors N] [--allow-unchecked]
                   [--verbose] [--version]
@@ -12,7 +13,8 @@ pub(crate) const USAGE: &str = "usage: jskw check [-h] --schema SCHEMA [--draft 
 ";
 
 // What `--help` prints.
-pub(crate) const HELP: &str = "usage: jskw check [-h] --schema SCHEMA [--draft {4,6,7,2019-09,2020-12}]
+pub(crate) const HELP: &str =
+    "usage: jskw check [-h] --schema SCHEMA [--draft {4,6,7,2019-09,2020-12}]
                   [--vocabularies LIST] [--override NAME] [--lines]
                   [--output {text,basic,quiet}] [--max-errors N] [--allow-unchecked]
                   [--verbose] [--version]

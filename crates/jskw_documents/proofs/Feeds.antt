@@ -34,9 +34,9 @@ line_ended b (x ∷ xs) h =
     (elim (eqb x 10) as
     (λ v. (if v then false else is_in_line xs) ≡ true
     → (if v then b ∷ lines_of [] (xs ++ (10 ∷ [])) else lines_of (b ++ (x ∷ [])) (xs ++ (10 ∷ [])))
-    ≡ (b ++ (x ∷ xs)) ∷ [])
-    [ true ↦ λ no. absurd (true≢false (sym no))
-    | false ↦ λ yes. line_ended (b ++ (x ∷ [])) xs yes ∙ ap (λ l. l ∷ []) (append_assoc b (x ∷ []) xs)
+    ≡ (b ++ (x ∷ xs)) ∷ []) [
+      | true ↦ λ no. absurd (true≢false (sym no))
+      | false ↦ λ yes. line_ended (b ++ (x ∷ [])) xs yes ∙ ap (λ l. l ∷ []) (append_assoc b (x ∷ []) xs)
     ])
     h
 
@@ -63,9 +63,9 @@ more_begun b [] h = sym (append-nil b)
 more_begun b (x ∷ xs) h =
     (elim (eqb x 10) as
     (λ v. (if v then false else is_in_line xs) ≡ true
-    → (if v then begun_of [] xs else begun_of (b ++ (x ∷ [])) xs) ≡ b ++ (x ∷ xs))
-    [ true ↦ λ no. absurd (true≢false (sym no))
-    | false ↦ λ yes. more_begun (b ++ (x ∷ [])) xs yes ∙ append_assoc b (x ∷ []) xs
+    → (if v then begun_of [] xs else begun_of (b ++ (x ∷ [])) xs) ≡ b ++ (x ∷ xs)) [
+      | true ↦ λ no. absurd (true≢false (sym no))
+      | false ↦ λ yes. more_begun (b ++ (x ∷ [])) xs yes ∙ append_assoc b (x ∷ []) xs
     ])
     h
 

@@ -22,8 +22,7 @@ answers_append c file n [] es t u none more =
     let here = subst (λ m. AreAnswers c file m es u) (add-zero n) more in
     subst (AreAnswers c file n es) (ap (λ z. z ++ u) (sym none)) here
 answers_append c file n (d ∷ ds) es t u some more =
-    let same : n + suc (length ds) ≡ suc n + length ds = omega arith in
-    (
+    let same : n + suc (length ds) ≡ suc n + length ds = omega arith in (
       some.0,
       some.1 ++ u,
       ap (λ z. z ++ u) some.2 ∙ append_assoc some.0 some.1 u,
@@ -116,12 +115,11 @@ pub next_end : (c : Checker) (file : List ℕ) (a b d : Lines) (block done rest 
 next_end c file a b d block done rest line behind t u new all before splits ends text =
     let ended = line ++ (10 ∷ []) in
     let whole : (done ++ ended) ++ behind ≡ block =
-    append_assoc done ended behind ∙ ap (λ z. done ++ z) (append_assoc line (10 ∷ []) behind ∙ sym splits) ∙ all in
-    (
+    append_assoc done ended behind ∙ ap (λ z. done ++ z) (append_assoc line (10 ∷ []) behind ∙ sym splits) ∙ all in (
       done ++ ended,
       whole,
       subst (λ z. Takes c file a (done ++ ended) z d) (sym text)
-      (takes_then c file a b d done ended t u before ends),
+          (takes_then c file a b d done ended t u before ends),
     )
 
 pub block_end : (c : Checker) (file : List ℕ) (a b d : Lines) (block done rest t : List ℕ)

@@ -14,7 +14,6 @@ use Rattle.jskw_unchecked.specs.Unchecked.{unchecked}
 use Rattle.jskw_unchecked.specs.declared.member.UncheckedMember.{UncheckedMember}
 use Rattle.jskw_documents.specs.declared.schema.SchemaOptions.{SchemaOptions}
 
-
 abbrev pub draft_of_meta_schema : List ℕ → Option Draft
 draft_of_meta_schema s =
     if bytes_eq s (codes "http://json-schema.org/draft-04/schema") then Some Draft4

@@ -55,10 +55,7 @@ fn depth_of(text: &[u8]) -> usize {
 // Returns the offset of the first number of a document of JSON that is not exact, or the length if
 // there is none. Where a number begins is the reader's word: no clause says it.
 #[cold]
-pub(crate) fn offset_of_inexact(
-    document: &[u8],
-    scratch: &mut Scratch,
-) -> Result<usize, AllocError>
+pub(crate) fn offset_of_inexact(document: &[u8], scratch: &mut Scratch) -> Result<usize, AllocError>
     ensures { IfOk result (λ offset. offset ≤ length document.now) }
 {
     let Ok(text) = simdutf8::compat::from_utf8(document) else {

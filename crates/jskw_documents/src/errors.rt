@@ -193,8 +193,18 @@ fn push_object_of(
     ensures { OnOk result (text.new.items
         ≡ text.old.items ++ error_object message.now (failure_of decimal_tree error.now)) }
 {
-    push_quoted_after(alloc, text, b"{\"keywordLocation\":", error.schema_path().as_str())?;
-    push_quoted_after(alloc, text, b",\"instanceLocation\":", error.instance_path().as_str())?;
+    push_quoted_after(
+        alloc,
+        text,
+        b"{\"keywordLocation\":",
+        error.schema_path().as_str(),
+    )?;
+    push_quoted_after(
+        alloc,
+        text,
+        b",\"instanceLocation\":",
+        error.instance_path().as_str(),
+    )?;
     push_quoted_after(alloc, text, b",\"error\":", message)?;
     push_bytes(text, b"}")
 }

@@ -1,4 +1,4 @@
-use Rattle.std.proofs.Common.{refl}
+use Rattle.std.proofs.Common.{refl, rules}
 use Rattle.jskw_documents.proofs.Taking.{block_end, next_end}
 use Rattle.jskw_documents.proofs.lines.take_block.Goals as goal
 
