@@ -9,7 +9,7 @@ use Rattle.jskw_documents.specs.Documents.{IsAnswer, verdict_on}
 use Rattle.jskw_documents.specs.declared.checker.Checker.{Checker}
 use Rattle.jskw_documents.specs.declared.lines.Lines.{Lines}
 
--- ---- lines: behind the bytes of a line that is begun, the lines that a line feed ends, and the line that is then begun
+-- ---- lines: those that a line feed ends, behind the bytes of a line that is begun, and the line that is then begun
 
 abbrev pub lines_of : List ℕ → List ℕ → List (List ℕ)
 lines_of begun [] = []
