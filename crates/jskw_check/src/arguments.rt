@@ -23,7 +23,7 @@ pub(crate) fn command_of(alloc: Global, words: &[String]) -> Result<Command, All
     while at < words.len() {
         let word = words[at].as_str();
         let next = words.get(at + 1).map(|word| word.as_str());
-        match step(alloc, &mut draft, word, next)? {
+        match take_word(alloc, &mut draft, word, next)? {
             Step::Word => at += 1,
             Step::WordAndValue => at = (at + 2).min(words.len()),
             Step::End(command) => return Ok(command),
@@ -64,7 +64,7 @@ fn wrong(why: String) -> Step {
 }
 
 // Takes one word, to which the next one may belong.
-fn step(
+fn take_word(
     alloc: Global,
     draft: &mut Unfinished,
     word: &str,
@@ -81,7 +81,7 @@ fn step(
         "--lines" => draft.lines = true,
         "--verbose" => draft.options.verbose = true,
         "--allow-unchecked" => draft.schema_options.allow_unchecked = true,
-        _ => return option(alloc, draft, word, next),
+        _ => return take_option(alloc, draft, word, next),
     }
     Ok(Step::Word)
 }
@@ -92,7 +92,7 @@ fn is_value(word: &str) -> bool {
 }
 
 // Takes an option with a value, `NAME VALUE` or `NAME=VALUE`.
-fn option(
+fn take_option(
     alloc: Global,
     draft: &mut Unfinished,
     word: &str,
