@@ -10,12 +10,12 @@ use std::alloc::{AllocError, Global};
 // The number of bytes that one read can return at most.
 const BLOCK: usize = 65536;
 
-// Why reading stopped before the end.
+/// Why reading stopped before the end.
 #[derive(Clone, Copy, Debug, PartialEq, Eq)]
-pub(crate) enum ReadFault {
-    // Memory ran out.
+pub enum ReadFault {
+    /// Memory ran out.
     Memory,
-    // The device failed.
+    /// The device failed.
     Device,
 }
 
@@ -35,9 +35,14 @@ impl From<DeviceFault> for ReadFault {
     }
 }
 
-// Reads to the end. Not inlined: the block would stay on the stack while the request is answered.
+/// Reads to the end. The reader may not have failed before the call.
+///
+/// # Errors
+///
+/// Fails if the reader does, or if memory runs out.
+// Not inlined: the block would stay on the stack while the request is answered.
 #[inline(never)]
-pub(crate) fn read_all<R: Source>(alloc: Global, reader: &mut R) -> Result<Vec<u8>, ReadFault>
+pub fn read_all<R: Source>(alloc: Global, reader: &mut R) -> Result<Vec<u8>, ReadFault>
     requires { R.has_failed reader.old ≡ false }
     ensures bytes { IfOk result
         (λ input. Consumes (R.remaining reader.old) (R.remaining reader.new) input.items) }
@@ -57,8 +62,12 @@ pub(crate) fn read_all<R: Source>(alloc: Global, reader: &mut R) -> Result<Vec<u
     }
 }
 
-// Writes the bytes, in as many writes as it takes.
-pub(crate) fn write_all<W: Sink>(writer: &mut W, bytes: &[u8]) -> Result<(), DeviceFault>
+/// Writes the bytes, in as many writes as it takes. The writer may not have failed before the call.
+///
+/// # Errors
+///
+/// Fails if the writer does; a beginning of the bytes is written then, possibly nothing.
+pub fn write_all<W: Sink>(writer: &mut W, bytes: &[u8]) -> Result<(), DeviceFault>
     requires { W.has_failed writer.old ≡ false }
     ensures ok { OnOk result (Appends (W.contents writer.old) (W.contents writer.new) bytes.now) }
     ensures err { OnErr result

@@ -121,8 +121,8 @@ fn vocabulary_of(item: &Value) -> Option<Vocabulary>
     }
 }
 
-// Returns the vocabulary of this name.
-fn vocabulary_named(name: &str) -> Option<Vocabulary>
+/// Returns the vocabulary of this name, or `None` if there is none.
+pub fn vocabulary_named(name: &str) -> Option<Vocabulary>
     ensures { result ≡ vocabulary_named name.now }
 {
     match name {

@@ -1,0 +1,29 @@
+-- What checking a document does to a reader and a writer.
+use Rattle.std.specs.Prelude.{◌≡◌, ℕ, List, Bool, true, false, Option, None, Result, Ok, Err}
+use Rattle.std.specs.Io.KnownBytes.{Appends, Consumes, IsAtEnd}
+use Rattle.jskw_service.specs.declared.service.Verdict.{Verdict}
+use Rattle.jskw_documents.specs.Documents.{IsAnswer, verdict_on}
+use Rattle.jskw_documents.specs.declared.checker.Checker.{Checker}
+use Rattle.jskw_documents.specs.declared.fault.CheckFault.{CheckFault}
+use Rattle.jskw_documents.specs.declared.fault.CheckFault.TheVariants.{Read, Write, Memory, TooLong}
+
+-- the reader failed
+abbrev pub is_read_fault : {A : Type 0} → Result A CheckFault → Bool
+is_read_fault (Err Read) = true
+is_read_fault r = false
+
+-- the writer failed
+abbrev pub is_write_fault : {A : Type 0} → Result A CheckFault → Bool
+is_write_fault (Err Write) = true
+is_write_fault r = false
+
+-- all was read, what was to be read having gone from r to s, and the answer to it was written, what was written going
+-- from v to w; this is the verdict
+pub record AnswersDocument (c : Checker) (file : List ℕ) (said : Verdict) (r s v w : Option (List ℕ)) : Type 0 where
+  pub bytes : List ℕ
+  pub text : List ℕ
+  pub read : Consumes r s bytes
+  pub whole : IsAtEnd s
+  pub answer : IsAnswer c.options c.schema file None bytes text
+  pub says : said ≡ verdict_on c.schema bytes
+  pub wrote : Appends v w text

@@ -1,0 +1,53 @@
+-- The answer to a document: what is written, and the verdict.
+use Rattle.std.specs.Prelude.{◌≡◌, ◌≤◌, ℕ, List, [], Bool, true, false, length, Option, Some, None, Result, Ok, Err}
+use Rattle.jskw_value.specs.Pointer.{Pointer}
+use Rattle.jskw_value.specs.Tree.{Tree}
+use Rattle.jskw_text.specs.Position.{line_at, column_at}
+use Rattle.jskw_text.specs.Reading.{reading}
+use Rattle.jskw_report.specs.Fail.{fail}
+use Rattle.jskw_report.specs.Holds.{holds}
+use Rattle.jskw_report.specs.Keyword.{Schema}
+use Rattle.jskw_service.specs.declared.service.Verdict.{Verdict}
+use Rattle.jskw_service.specs.declared.service.Verdict.TheVariants.{Valid, Invalid, Refused}
+use Rattle.jskw_documents.specs.Reports.{IsReportAs, first_of}
+use Rattle.jskw_documents.specs.Shown.{refusal_text}
+use Rattle.jskw_documents.specs.declared.options.Options.{Options}
+use Rattle.jskw_documents.specs.declared.options.Output.{Output}
+
+-- ---- the verdict: that of the tree that is read; refused, if none is
+
+abbrev pub verdict_if : Bool → Verdict
+verdict_if true = Valid
+verdict_if false = Invalid
+
+abbrev pub verdict_of_read : Schema → Option (Result Tree Pointer) → Verdict
+verdict_of_read s None = Refused
+verdict_of_read s (Some (Err p)) = Refused
+verdict_of_read s (Some (Ok t)) = verdict_if (holds s t)
+
+abbrev pub verdict_on : Schema → List ℕ → Verdict
+verdict_on s bytes = verdict_of_read s (reading bytes)
+
+-- ---- the text
+
+-- the line of the document in its stream, or that of the offset in a file that is one document
+abbrev pub line_shown : Option ℕ → ℕ → List ℕ → ℕ
+line_shown None offset bytes = line_at offset bytes
+line_shown (Some n) offset bytes = n
+
+-- a refusal for some reason, which names a place in the document
+abbrev pub IsRefusalAt : Output → List ℕ → Option ℕ → List ℕ → Option (List ℕ) → List ℕ → Type 0
+IsRefusalAt output file line bytes location text =
+    (offset : ℕ) × (why : List ℕ) × (offset ≤ length bytes) × (text
+    ≡ refusal_text output file (Some (line_shown line offset bytes)) (Some (column_at offset bytes)) location why)
+
+-- of what was read: nothing where the bytes are not JSON, or the location of a number that is not exact, or a tree
+abbrev pub IsAnswerOf : Options → Schema → List ℕ → Option ℕ → List ℕ → Option (Result Tree Pointer) → List ℕ → Type 0
+IsAnswerOf o s file line bytes None text = IsRefusalAt o.output file line bytes None text
+IsAnswerOf o s file line bytes (Some (Err p)) text = IsRefusalAt o.output file line bytes (Some p) text
+IsAnswerOf o s file line bytes (Some (Ok t)) text =
+    IsReportAs o.output o.verbose file line (first_of o.limit (fail s t [])) text
+
+-- the text is the answer to the document of these bytes
+abbrev pub IsAnswer : Options → Schema → List ℕ → Option ℕ → List ℕ → List ℕ → Type 0
+IsAnswer o s file line bytes text = IsAnswerOf o s file line bytes (reading bytes) text

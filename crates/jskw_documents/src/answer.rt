@@ -1,0 +1,177 @@
+//! The answer to one document.
+#![tactic(auto, using(jskw_value::proofs::DecimalTrees::lawful_tree))]
+
+ghost use Rattle.std.specs.Prelude.{◌≡◌, ◌≤◌, ℕ, List, [], IfOk, length, option_map};
+ghost use Rattle.jskw_text.specs.Position.{line_at};
+ghost use Rattle.jskw_value.specs.DecimalTree.{decimal_tree};
+ghost use Rattle.jskw_report.specs.Errors.{failures_of};
+ghost use Rattle.jskw_report.specs.Fail.{fail, is_empty};
+ghost use Rattle.jskw_report.specs.Holds.{holds};
+ghost use Rattle.jskw_documents.specs.Documents.{IsAnswer, IsRefusalAt, line_shown, verdict_if, verdict_on};
+ghost use Rattle.jskw_documents.specs.Reports.{IsReportAs, first_of};
+ghost use Rattle.jskw_documents.specs.Streams.{worse_of};
+
+use crate::broken::{offset_of_inexact, why_broken};
+use crate::checker::Checker;
+use crate::errors::report;
+use crate::options::Output;
+use crate::place::{Place, refusal};
+use jskw_array::SchemaNode;
+use jskw_report::{LazyLocation, ValidationContext, ValidationError};
+use jskw_service::Verdict;
+use jskw_text::{ReadFault, position_of, read_bytes_with};
+use jskw_value::{DecimalJson, DecimalTree};
+use json::Scratch;
+use std::alloc::{AllocError, Global};
+
+/// The answer to a document.
+#[derive(Debug, Drop)]
+pub struct Answer {
+    /// Whether the document is valid, or was not checked.
+    pub verdict: Verdict,
+    /// What is written.
+    pub text: Vec<u8>,
+}
+
+/// Answers the document of these bytes, which is a file, or a line of one. `scratch` is room that
+/// reading needs, and can serve for any number of documents.
+pub fn answer_to(
+    alloc: Global,
+    checker: &Checker,
+    file: &str,
+    line: Option<usize>,
+    document: &[u8],
+    scratch: &mut Scratch,
+) -> Result<Answer, AllocError>
+    ensures verdict { IfOk result
+        (λ answer. answer.verdict ≡ verdict_on checker.now.schema document.now) }
+    ensures text { IfOk result (λ answer. IsAnswer checker.now.options checker.now.schema file.now line
+        document.now answer.text.items) }
+{
+    match read_bytes_with(alloc, document, scratch) {
+        Ok(tree) => answer_to_tree(alloc, checker, file, line, &tree),
+        Err(ReadFault::NotJson(offset)) => {
+            let output = checker.options.output;
+            let why = why_broken(document, offset);
+            refuse(alloc, output, file, line, document, offset, None, why)
+        }
+        Err(ReadFault::Inexact(location)) => {
+            let output = checker.options.output;
+            let offset = offset_of_inexact(document, scratch)?;
+            let why = "the number has no exact decimal";
+            let location = Some(location.as_str());
+            refuse(alloc, output, file, line, document, offset, location, why)
+        }
+        Err(ReadFault::Memory(error)) => Err(error),
+    }
+}
+
+// Returns the answer to a document that was not checked, for what stands at this offset, which must
+// be at most the length.
+#[cold]
+fn refuse(
+    alloc: Global,
+    output: Output,
+    file: &str,
+    line: Option<usize>,
+    document: &[u8],
+    offset: usize,
+    location: Option<&str>,
+    why: &str,
+) -> Result<Answer, AllocError>
+    requires { offset ≤ length document.now }
+    ensures verdict { IfOk result (λ answer. answer.verdict ≡ Verdict.Refused) }
+    ensures text { IfOk result (λ answer. IsRefusalAt output file.now line document.now
+        (option_map (λ l. l.now) location.entry) answer.text.items) }
+{
+    let position = position_of(document, offset);
+    let place = Place {
+        file,
+        line: Some(shown_line(line, position.line)),
+        column: Some(position.column),
+    };
+    Ok(Answer {
+        verdict: Verdict::Refused,
+        text: refusal(alloc, output, &place, location, why)?,
+    })
+}
+
+// Returns the line of the document, or the line in the document if it is a whole file.
+fn shown_line(line: Option<usize>, within: usize) -> usize
+    ensures { (offset : ℕ) (bytes : List ℕ) → within ≡ line_at offset bytes
+        → result ≡ line_shown line offset bytes }
+{
+    match line {
+        None => within,
+        Some(line) => line,
+    }
+}
+
+// Returns the answer to a document that was read.
+fn answer_to_tree(
+    alloc: Global,
+    checker: &Checker,
+    file: &str,
+    line: Option<usize>,
+    tree: &DecimalTree,
+) -> Result<Answer, AllocError>
+    ensures verdict { IfOk result (λ answer. answer.verdict
+        ≡ verdict_if (holds checker.now.schema (decimal_tree tree.now))) }
+    ensures text { IfOk result (λ answer. IsReportAs checker.now.options.output
+        checker.now.options.verbose file.now line (first_of checker.now.options.limit
+        (fail checker.now.schema (decimal_tree tree.now) [])) answer.text.items) }
+{
+    let errors = first_errors(alloc, checker.options.limit, &checker.schema, tree)?;
+    let place = Place {
+        file,
+        line,
+        column: None,
+    };
+    Ok(Answer {
+        verdict: verdict_of_errors(errors.as_slice()),
+        text: report(alloc, &checker.options, &place, errors.as_slice())?,
+    })
+}
+
+// Returns the verdict on a document that has these errors.
+fn verdict_of_errors(errors: &[ValidationError<'_, DecimalJson>]) -> Verdict
+    ensures { result ≡ verdict_if (is_empty (failures_of decimal_tree errors.now)) }
+{
+    match errors {
+        [] => Verdict::Valid,
+        [_, ..] => Verdict::Invalid,
+    }
+}
+
+// Returns the first `limit` errors of the document, or all if `limit` is 0.
+fn first_errors<'i>(
+    alloc: Global,
+    limit: usize,
+    schema: &'i SchemaNode<DecimalJson>,
+    tree: &'i DecimalTree,
+) -> Result<Vec<ValidationError<'i, DecimalJson>>, AllocError>
+    ensures { IfOk result (λ errors. failures_of decimal_tree errors.items
+        ≡ first_of limit (fail schema.now (decimal_tree tree.now) [])) }
+{
+    let mut errors = Vec::new(alloc);
+    let mut location = LazyLocation::new(alloc);
+    let mut ctx = ValidationContext::new();
+    if limit == 0 {
+        schema.collect_errors(tree, &mut location, &mut ctx, &mut errors)?;
+    } else {
+        schema.collect_first_errors(limit, tree, &mut location, &mut ctx, &mut errors)?;
+    }
+    Ok(errors)
+}
+
+/// Returns the worse of two verdicts: that of a document that was not checked, that of an invalid
+/// one, that of a valid one.
+pub fn worse_of(one: Verdict, other: Verdict) -> Verdict
+    ensures { result ≡ worse_of one other }
+{
+    match (one, other) {
+        (Verdict::Refused, _) | (_, Verdict::Refused) => Verdict::Refused,
+        (Verdict::Invalid, _) | (_, Verdict::Invalid) => Verdict::Invalid,
+        (Verdict::Valid, Verdict::Valid) => Verdict::Valid,
+    }
+}

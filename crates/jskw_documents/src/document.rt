@@ -1,0 +1,43 @@
+//! A document that is read from a device.
+ghost use Rattle.std.specs.Prelude.{◌≡◌, false, true, IfOk, OnOk, IsErrOf};
+ghost use Rattle.jskw_documents.specs.Devices.{AnswersDocument, is_write_fault};
+
+use crate::answer::answer_to;
+use crate::checker::Checker;
+use crate::fault::CheckFault;
+use jskw_service::{ReadFault, Sink, Source, Verdict, read_all, write_all};
+use json::Scratch;
+use std::alloc::Global;
+
+/// Reads a document to its end, writes the answer and nothing else, and returns the verdict. Neither
+/// device may have failed before the call.
+///
+/// # Errors
+///
+/// Fails if a device does, or if memory runs out. Unless the writer failed, nothing was written.
+pub fn check_document<R: Source, W: Sink>(
+    alloc: Global,
+    checker: &Checker,
+    file: &str,
+    reader: &mut R,
+    writer: &mut W,
+) -> Result<Verdict, CheckFault>
+    requires reader_works { R.has_failed reader.old ≡ false }
+    requires writer_works { W.has_failed writer.old ≡ false }
+    ensures answers { IfOk result (λ said. AnswersDocument checker.now file.now said
+        (R.remaining reader.old) (R.remaining reader.new) (W.contents writer.old) (W.contents writer.new)) }
+    ensures failed { W.has_failed writer.new ≡ is_write_fault result }
+    ensures read_failed { IsErrOf result CheckFault.Read → R.has_failed reader.new ≡ true }
+{
+    let document = match read_all(alloc, reader) {
+        Ok(document) => document,
+        Err(ReadFault::Device) => return Err(CheckFault::Read),
+        Err(ReadFault::Memory) => return Err(CheckFault::Memory),
+    };
+    let mut scratch = Scratch::new(alloc);
+    let answer = answer_to(alloc, checker, file, None, &document, &mut scratch)?;
+    let Ok(()) = write_all(writer, &answer.text) else {
+        return Err(CheckFault::Write);
+    };
+    Ok(answer.verdict)
+}

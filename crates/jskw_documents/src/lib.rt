@@ -1,0 +1,33 @@
+//! Checks documents against a compiled schema: files, and the lines of streams.
+//!
+//! - [`schema_of`] compiles the schema of a text.
+//! - [`answer_to`] answers one document that is in memory.
+//! - [`check_document`] reads a document from a reader and writes the answer.
+//! - [`check_lines`] does so for each line of a reader, and keeps one line in memory at a time.
+//!
+//! The repository's docs/USE.md lists what is written, under "Files and streams".
+//!
+//! A call that returns a `Result` with `AllocError` fails only if memory runs out.
+#![tactic(auto)]
+
+mod answer;
+mod broken;
+mod checker;
+mod document;
+mod errors;
+mod fault;
+mod lines;
+mod options;
+mod place;
+mod schema;
+mod surrogate;
+mod words;
+
+pub use answer::{Answer, answer_to, worse_of};
+pub use checker::Checker;
+pub use document::check_document;
+pub use fault::CheckFault;
+pub use lines::check_lines;
+pub use options::{Options, Output};
+pub use place::{Place, refusal};
+pub use schema::{SchemaOptions, schema_of};
