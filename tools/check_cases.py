@@ -31,6 +31,7 @@ FILES = {
     "behind.json": b"[1]\n[2]\n",
     "inexact.json": b"[0, 1e300]",
     "inexact_deep.json": b'{"a/b": [0,\n 0.1234567890123456789]}',
+    "tenfold.json": b'[18446744073709551615, 1e18, {"a": 1e19}]',
     "nul.json": b"\0",
     "nul_within.json": b'["a\0b"]',
     "nul_behind.json": b"[1]\0",
@@ -101,7 +102,7 @@ ARGUMENTS = [
     Case("no value of --vocabularies", f"{S} --vocabularies", "", 2, "",
          usage("argument --vocabularies: expected one argument")),
     Case("a value of an option without one", f"{S} --lines=1", "", 2, "",
-         usage("argument --lines: ignored explicit argument '1'")),
+         usage("unrecognized arguments: --lines=1")),
     Case("an unknown draft", f"{S} --draft 3", "", 2, "",
          usage("argument --draft: invalid choice: '3' (choose from '4', '6', '7', '2019-09', '2020-12')")),
     Case("an unknown output", f"{S} --output x", "", 2, "",
@@ -120,7 +121,7 @@ ARGUMENTS = [
     Case("only files behind --", f"{S} -- --verbose invalid.json", "", 2,
          "--verbose: there is no such file\n" + INVALID),
     Case("an unknown vocabulary", f"{S} --vocabularies core,x valid.json", "", 2, "",
-         "jskw: vocabularies='x' is not one of 'core', 'applicator', 'validation'\n"),
+         usage("argument --vocabularies: 'x' is not one of 'core', 'applicator', 'validation'")),
 ]
 
 SCHEMAS = [
@@ -201,6 +202,8 @@ DOCUMENTS = [
     Case("inexact", f"{S} inexact.json", "", 2, "inexact.json:1:5: /1: the number has no exact decimal\n"),
     Case("inexact, deep", f"{S} inexact_deep.json", "", 2,
          "inexact_deep.json:2:2: /a~1b/1: the number has no exact decimal\n"),
+    Case("inexact by its exponent", "--schema anything.json tenfold.json", "", 2,
+         "tenfold.json:1:36: /2/a: the number has no exact decimal\n"),
     Case("a NUL byte", f"{S} nul.json", "", 2, "nul.json:1:1: not JSON\n"),
     Case("a NUL byte in a string", f"{S} nul_within.json", "", 2, "nul_within.json:1:2: not JSON\n"),
     Case("a NUL byte behind", f"{S} nul_behind.json", "", 2, "nul_behind.json:1:4: not JSON\n"),
