@@ -74,7 +74,7 @@ def files() -> None:
     check("what cannot be checked", asked(*schema, *files), (2, told + lines, ""))
     told = (
         "tenfold.json:1:36: /2/a: the number has no exact decimal\n"
-        "exponent.json:1:5006: /1: the number has no exact decimal\n"
+        "exponent.json:1:5007: /1: the number has no exact decimal\n"
     )
     check("inexact by its exponent", asked(*schema, "tenfold.json", "exponent.json"), (2, told, ""))
     check("no UTF-8", asked(*schema, "latin.json"), (2, "latin.json:1:3: not JSON\n", ""))
