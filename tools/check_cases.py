@@ -129,10 +129,14 @@ SCHEMAS = [
     Case("a schema in what is no folder", "--schema valid.json/a valid.json", "", 2, "",
          "valid.json/a: it cannot be read to its end\n"),
     Case("the schema is a folder", f"--schema {FOLDER} valid.json", "", 2, "", f"{FOLDER}: it is a folder\n"),
-    Case("the schema is empty", "--schema empty.json valid.json", "", 2, "", "empty.json:1:1: the schema is not JSON\n"),
-    Case("the schema is not JSON", "--schema token.json valid.json", "", 2, "", "token.json:2:3: the schema is not JSON\n"),
-    Case("the schema ends early", "--schema broken.json valid.json", "", 2, "", "broken.json:2:3: the schema is not JSON\n"),
-    Case("the schema has a mark", "--schema mark.json valid.json", "", 2, "", "mark.json:1:1: the schema is not JSON\n"),
+    Case("the schema is empty", "--schema empty.json valid.json", "", 2, "",
+         "empty.json:1:1: the schema is not JSON\n"),
+    Case("the schema is not JSON", "--schema token.json valid.json", "", 2, "",
+         "token.json:2:3: the schema is not JSON\n"),
+    Case("the schema ends early", "--schema broken.json valid.json", "", 2, "",
+         "broken.json:2:3: the schema is not JSON\n"),
+    Case("the schema has a mark", "--schema mark.json valid.json", "", 2, "",
+         "mark.json:1:1: the schema is not JSON\n"),
     Case("the schema is not UTF-8", "--schema latin.json valid.json", "", 2, "",
          "latin.json:1:3: the schema is not JSON\n"),
     Case("the schema nests too deep", "--schema deep.json valid.json", "", 2, "",
@@ -277,7 +281,8 @@ STREAMS = [
          '{"file":"crlf.jsonl","line":4,"column":2,"refused":"not JSON"}\n'),
     Case("basic, an inexact line", f"{S} --output basic --lines --verbose", '[1]\n{"a\\"": [1e300]}\n', 2,
          '{"file":"-","line":1,"valid":true}\n'
-         '{"file":"-","line":2,"column":10,"instanceLocation":"/a\\"/0","refused":"the number has no exact decimal"}\n'),
+         '{"file":"-","line":2,"column":10,"instanceLocation":"/a\\"/0",'
+         '"refused":"the number has no exact decimal"}\n'),
     Case("basic, control characters", f"{S} --output basic control.json 'a\nb'", "", 2,
          '{"file":"control.json","valid":false,"errors":[{"keywordLocation":"/items/type","instanceLocation":"/0",'
          '"error":"\\"é😀\\\\u0007\\\\n\\\\u001b[2J\x7f\\" is not of type \\"integer\\""}]}\n'
