@@ -55,10 +55,10 @@ FILES = {
 
 FOLDER = "folder"
 
-# What `--help` prints, but for line breaks and the width of its columns.
+# What `--help` prints, but for line breaks, the width of its columns, and `--progress`, which it may have.
 HELP = """
 usage: {program} [-h] --schema SCHEMA [--draft {4,6,7,2019-09,2020-12}] [--vocabularies LIST] [--override NAME] [--lines]
-[--output {text,basic,quiet}] [--max-errors N] [--allow-unchecked] [--verbose] [--progress] [--version] [FILE ...]
+[--output {text,basic,quiet}] [--max-errors N] [--allow-unchecked] [--verbose] [--version] [FILE ...]
 
 Checks JSON documents against a schema, and writes a line for each error: FILE: instance location: message [keyword
 location]. Each FILE is a document; - is standard input, which is read if there is no FILE.
@@ -79,7 +79,6 @@ not be checked
 --max-errors N writes the first N errors of each document at most
 --allow-unchecked ignores keywords of the schema that are not checked
 --verbose text says of a valid document that it is valid, too
---progress shows on standard error what is done
 --version show program's version number and exit
 
 Exit status: 0 if all documents are valid, 1 if one is invalid, 2 if something could not be checked: then the rest is
