@@ -9,6 +9,21 @@ import textwrap
 from program import ROOT
 
 
+# Sections of docs/PEERS.md. bench/check writes that of lines.
+LINES = "## Lines of a stream"
+IN_PROCESS, MEASURED = "## Calls in process, the text parsed in each", "## How it was measured"
+
+
+def section_of(path, heading):
+    """Returns the lines of a section of a page, without the empty one at its end; none if it is not there."""
+    lines = path.read_text(encoding="utf-8").splitlines() if path.exists() else []
+    if heading not in lines:
+        return []
+    start = lines.index(heading)
+    end = next((place for place in range(start + 1, len(lines)) if lines[place].startswith("## ")), len(lines))
+    return lines[start : end - (lines[end - 1] == "")]
+
+
 def paragraph(*texts):
     return [*textwrap.wrap(" ".join(texts), 118, break_long_words=False, break_on_hyphens=False), ""]
 

@@ -40,6 +40,8 @@ def run() -> None:
             "invalid": '[1, -2, "a"]',
             "broken": "[1,\n 2",
             "inexact": "[0, 1e300]",
+            "tenfold": '[18446744073709551615, 1e18, {"a": 1e19}]',
+            "exponent": f"[1e{'0' * 5000}1, 1e-{'1' * 5000}]",
             "deep": "[" * 128 + "]" * 128,
             "escape": '["\\u001b[2J"]',
             "other": '{"$schema": "https://example.com/mine"}',
@@ -70,6 +72,11 @@ def files() -> None:
     )
     files = ["broken.json", "none.json", "inexact.json", ".", "invalid.json"]
     check("what cannot be checked", asked(*schema, *files), (2, told + lines, ""))
+    told = (
+        "tenfold.json:1:36: /2/a: the number has no exact decimal\n"
+        "exponent.json:1:5007: /1: the number has no exact decimal\n"
+    )
+    check("inexact by its exponent", asked(*schema, "tenfold.json", "exponent.json"), (2, told, ""))
     check("no UTF-8", asked(*schema, "latin.json"), (2, "latin.json:1:3: not JSON\n", ""))
     told = "mark.json:1:1: not JSON: the text begins with a byte order mark\n"
     check("a mark", asked(*schema, "mark.json"), (2, told, ""))
@@ -180,6 +187,9 @@ def ends_early() -> None:
         running.stdout.readline()
         running.send_signal(signal.SIGINT)
         check("interrupted", (running.wait(), running.stderr.read()), (-signal.SIGINT, ""))
+    closed = ["sh", "-c", 'exec "$@" >&-', "sh", *command, "lines.jsonl"]
+    done = subprocess.run(closed, capture_output=True, text=True, env=ENVIRONMENT, check=False)
+    check("closed", (done.returncode, done.stderr), (2, "jskw: the output cannot be written\n"))
     with open("/dev/full", "w", encoding="ascii") as full:
         done = subprocess.run(
             [*command, "lines.jsonl"], stdout=full, stderr=pipe, text=True, env=ENVIRONMENT, check=False

@@ -45,6 +45,8 @@ def main(arguments: list[str] | None = None) -> int:
     # an interrupt ends the program as any other, without a traceback
     signal.signal(signal.SIGINT, signal.SIG_DFL)
     try:
+        if sys.__stdout__ is None:
+            raise OSError  # it is closed
         for name in given.files:
             check.file(name)
         check.progress.end()

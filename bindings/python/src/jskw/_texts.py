@@ -130,17 +130,21 @@ def inexact_number(text: bytes) -> int:
 
 
 def _is_exact(number: str) -> bool:
-    """Returns whether a number is c / 10^k with c from -2^63 to 2^64-1 and k from 0 to 18."""
+    """Returns whether a number is c / 10^k with c from -2^63 to 2^64-1 and k from 0 to 18, or, if it is written with a
+    point or an exponent, k from 1 to 18."""
     digits, _, exponent = number.lower().partition("e")
     whole, _, fraction = digits.partition(".")
     coefficient = (whole + fraction).lstrip("-0").rstrip("0")
     if not coefficient:
         return True
-    scale = len(whole.lstrip("-") + fraction) - len((whole.lstrip("-") + fraction).rstrip("0"))
-    power = int(exponent or "0") - len(fraction) + scale
-    if len(coefficient) > 20 or not -18 <= power <= 20:
+    size = exponent.lstrip("+-0")
+    if len(coefficient) > 20 or len(size) > 18:
         return False
-    value: int = int(coefficient) * 10 ** max(power, 0)
+    scale = len(whole.lstrip("-") + fraction) - len((whole.lstrip("-") + fraction).rstrip("0"))
+    power = int(size or "0") * (-1 if exponent.startswith("-") else 1) - len(fraction) + scale
+    if not -18 <= power <= 20:
+        return False
+    value: int = int(coefficient) * 10 ** max(power + (not number.lstrip("-").isdecimal()), 0)
     return value <= 2**63 if number.startswith("-") else value < 2**64
 
 
