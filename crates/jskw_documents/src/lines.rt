@@ -74,7 +74,9 @@ pub fn check_lines<R: Source, W: Sink, V: Watcher>(
     };
     let mut block = [0u8; BLOCK];
     'reads: for _ in 0..u64::MAX {
-        if !take_next(alloc, checker, file, &mut lines, &mut block, reader, writer, watcher)? {
+        if !take_next(
+            alloc, checker, file, &mut lines, &mut block, reader, writer, watcher,
+        )? {
             return take_last(alloc, checker, file, &mut lines, writer, watcher);
         }
     }
@@ -276,10 +278,12 @@ fn take_last<W: Sink, V: Watcher>(
     let Ok(()) = write_all(writer, &answer.text) else {
         return Err(CheckFault::Write);
     };
-    watcher.saw(lines.counts.plus(Counts {
-        documents: 1,
-        bytes: line.len(),
-        errors: answer.errors,
-    }));
+    watcher.saw(
+        lines.counts.plus(Counts {
+            documents: 1,
+            bytes: line.len(),
+            errors: answer.errors,
+        }),
+    );
     Ok(worse_of(lines.verdict, answer.verdict))
 }
