@@ -122,13 +122,29 @@ fn check_file<W: Sink>(
     if name == "-" {
         progress.begin(None);
         let mut reader = StdSource::new(rt.reader());
-        return check_reader(rt.alloc(), checker, lines, name, &mut reader, writer, progress);
+        return check_reader(
+            rt.alloc(),
+            checker,
+            lines,
+            name,
+            &mut reader,
+            writer,
+            progress,
+        );
     }
     match opened(rt, name) {
         Ok(file) => {
             progress.begin(size_of(&file));
             let mut reader = StdSource::new(file);
-            check_reader(rt.alloc(), checker, lines, name, &mut reader, writer, progress)
+            check_reader(
+                rt.alloc(),
+                checker,
+                lines,
+                name,
+                &mut reader,
+                writer,
+                progress,
+            )
         }
         Err(why) => refuse(rt.alloc(), checker, name, why, writer),
     }
