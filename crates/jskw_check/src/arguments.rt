@@ -39,6 +39,7 @@ fn command_from(alloc: Global, draft: Unfinished) -> Result<Command, AllocError>
         schema_options,
         options,
         lines,
+        progress,
         mut files,
         only_files: _,
     } = draft;
@@ -54,6 +55,7 @@ fn command_from(alloc: Global, draft: Unfinished) -> Result<Command, AllocError>
         schema_options,
         options,
         lines,
+        progress,
         files,
     }))
 }
@@ -79,6 +81,7 @@ fn take_word(
         "--version" => return Ok(Step::End(Command::Version)),
         "--" => draft.only_files = true,
         "--lines" => draft.lines = true,
+        "--progress" => draft.progress = true,
         "--verbose" => draft.options.verbose = true,
         "--allow-unchecked" => draft.schema_options.allow_unchecked = true,
         _ => return take_option(alloc, draft, word, next),

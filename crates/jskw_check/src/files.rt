@@ -1,6 +1,7 @@
 //! The files that are checked, and that of the schema.
 ghost use Rattle.std.specs.Prelude.{◌≡◌, false, OnOk};
 
+use crate::progress::Progress;
 use jskw_documents::{CheckFault, Checker, Place, check_document, check_lines, refusal, worse_of};
 use jskw_service::{
     ReadFault, Sink, Source, StdSink, StdSource, Verdict, read_all, status, write_all,
@@ -37,6 +38,14 @@ fn opened(rt: &HostRuntime, name: &str) -> Result<File, &'static str> {
     match file.metadata() {
         Ok(metadata) if metadata.is_dir() => Err("it is a folder"),
         _ => Ok(file),
+    }
+}
+
+// Returns how many bytes a regular file has.
+fn size_of(file: &File) -> Option<u64> {
+    match file.metadata() {
+        Ok(metadata) if metadata.is_file() => Some(metadata.len()),
+        _ => None,
     }
 }
 
@@ -83,11 +92,12 @@ pub(crate) fn check_files(
     checker: &Checker,
     lines: bool,
     files: &[String],
+    progress: &mut Progress<'_>,
 ) -> Result<u8, Trouble> {
     let mut writer = StdSink::new(io::writer(rt));
     let mut verdict = Verdict::Valid;
     for file in files {
-        match check_file(rt, checker, lines, file.as_str(), &mut writer) {
+        match check_file(rt, checker, lines, file.as_str(), &mut writer, progress) {
             Ok(said) => verdict = worse_of(verdict, said),
             Err(CheckFault::Memory) => return Err(Trouble::Memory),
             Err(CheckFault::TooLong) => return Err(Trouble::TooLong),
@@ -104,18 +114,37 @@ fn check_file<W: Sink>(
     lines: bool,
     name: &str,
     writer: &mut W,
+    progress: &mut Progress<'_>,
 ) -> Result<Verdict, CheckFault>
     requires { W.has_failed writer.old ≡ false }
     ensures { OnOk result (W.has_failed writer.new ≡ false) }
 {
     if name == "-" {
+        progress.begin(None);
         let mut reader = StdSource::new(rt.reader());
-        return check_reader(rt.alloc(), checker, lines, name, &mut reader, writer);
+        return check_reader(
+            rt.alloc(),
+            checker,
+            lines,
+            name,
+            &mut reader,
+            writer,
+            progress,
+        );
     }
     match opened(rt, name) {
         Ok(file) => {
+            progress.begin(size_of(&file));
             let mut reader = StdSource::new(file);
-            check_reader(rt.alloc(), checker, lines, name, &mut reader, writer)
+            check_reader(
+                rt.alloc(),
+                checker,
+                lines,
+                name,
+                &mut reader,
+                writer,
+                progress,
+            )
         }
         Err(why) => refuse(rt.alloc(), checker, name, why, writer),
     }
@@ -129,15 +158,16 @@ fn check_reader<R: Source, W: Sink>(
     name: &str,
     reader: &mut R,
     writer: &mut W,
+    progress: &mut Progress<'_>,
 ) -> Result<Verdict, CheckFault>
     requires reader_works { R.has_failed reader.old ≡ false }
     requires writer_works { W.has_failed writer.old ≡ false }
     ensures { OnOk result (W.has_failed writer.new ≡ false) }
 {
     let said = if lines {
-        check_lines(alloc, checker, name, reader, writer)
+        check_lines(alloc, checker, name, reader, writer, progress)
     } else {
-        check_document(alloc, checker, name, reader, writer)
+        check_document(alloc, checker, name, reader, writer, progress)
     };
     match said {
         Err(CheckFault::Read) => refuse(alloc, checker, name, UNREAD, writer),

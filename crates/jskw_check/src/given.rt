@@ -23,6 +23,7 @@ pub(crate) struct Given {
     pub(crate) schema_options: SchemaOptions,
     pub(crate) options: Options,
     pub(crate) lines: bool,
+    pub(crate) progress: bool,
     pub(crate) files: Vec<String>,
 }
 
@@ -33,6 +34,7 @@ pub(crate) struct Unfinished {
     pub(crate) schema_options: SchemaOptions,
     pub(crate) options: Options,
     pub(crate) lines: bool,
+    pub(crate) progress: bool,
     pub(crate) files: Vec<String>,
     // Behind `--` each word is a file.
     pub(crate) only_files: bool,
@@ -55,6 +57,7 @@ impl Unfinished {
                 limit: 0,
             },
             lines: false,
+            progress: false,
             files: Vec::new(alloc),
             only_files: false,
         }

@@ -5,12 +5,14 @@
 mod arguments;
 mod files;
 mod given;
+mod progress;
 mod usage;
 
 use arguments::command_of;
 use files::{Trouble, check_files};
 use given::{Command, Given};
 use jskw_documents::{Checker, schema_of};
+use progress::Progress;
 use std::alloc::{AllocError, Global};
 use std::env::{self, Args};
 use std::io;
@@ -91,6 +93,7 @@ fn check(rt: &HostRuntime, given: Given) -> Result<u8, Trouble> {
         schema_options,
         options,
         lines,
+        progress,
         files,
     } = given;
     let text = match files::read_file(rt, schema.as_str())? {
@@ -102,7 +105,13 @@ fn check(rt: &HostRuntime, given: Given) -> Result<u8, Trouble> {
         }
     };
     match schema_of(rt.alloc(), schema.as_str(), &text, schema_options)? {
-        Ok(schema) => check_files(rt, &Checker { schema, options }, lines, files.as_slice()),
+        Ok(schema) => {
+            let mut progress = Progress::new(rt, progress);
+            let checker = Checker { schema, options };
+            let status = check_files(rt, &checker, lines, files.as_slice(), &mut progress)?;
+            progress.end();
+            Ok(status)
+        }
         Err(why) => {
             let _ = io::Write::write_all(&mut rt.stderr(), &why);
             Ok(NOT_CHECKED)

@@ -8,7 +8,7 @@ pub(crate) const USAGE: &str =
     "usage: jskw check [-h] --schema SCHEMA [--draft {4,6,7,2019-09,2020-12}]
                   [--vocabularies LIST] [--override NAME] [--lines]
                   [--output {text,basic,quiet}] [--max-errors N] [--allow-unchecked]
-                  [--verbose] [--version]
+                  [--verbose] [--progress] [--version]
                   [FILE ...]
 ";
 
@@ -17,7 +17,7 @@ pub(crate) const HELP: &str =
     "usage: jskw check [-h] --schema SCHEMA [--draft {4,6,7,2019-09,2020-12}]
                   [--vocabularies LIST] [--override NAME] [--lines]
                   [--output {text,basic,quiet}] [--max-errors N] [--allow-unchecked]
-                  [--verbose] [--version]
+                  [--verbose] [--progress] [--version]
                   [FILE ...]
 
 Checks JSON documents against a schema, and writes a line for each error: FILE:
@@ -44,6 +44,7 @@ options:
   --max-errors N        writes the first N errors of each document at most
   --allow-unchecked     ignores keywords of the schema that are not checked
   --verbose             text says of a valid document that it is valid, too
+  --progress            shows on standard error what is done
   --version             show program's version number and exit
 
 Exit status: 0 if all documents are valid, 1 if one is invalid, 2 if something

@@ -29,6 +29,8 @@ use std::alloc::{AllocError, Global};
 pub struct Answer {
     /// Whether the document is valid, or was not checked.
     pub verdict: Verdict,
+    /// How many errors of it were collected.
+    pub errors: usize,
     /// What is written.
     pub text: Vec<u8>,
 }
@@ -92,6 +94,7 @@ fn refuse(
     };
     Ok(Answer {
         verdict: Verdict::Refused,
+        errors: 0,
         text: refusal(alloc, output, &place, location, why)?,
     })
 }
@@ -129,6 +132,7 @@ fn answer_to_tree(
     };
     Ok(Answer {
         verdict: verdict_of_errors(errors.as_slice()),
+        errors: errors.len(),
         text: report(alloc, &checker.options, &place, errors.as_slice())?,
     })
 }

@@ -5,22 +5,24 @@ ghost use Rattle.jskw_documents.specs.Devices.{AnswersDocument, is_write_fault};
 use crate::answer::answer_to;
 use crate::checker::Checker;
 use crate::fault::CheckFault;
+use crate::watcher::{Counts, Watcher};
 use jskw_service::{ReadFault, Sink, Source, Verdict, read_all, write_all};
 use json::Scratch;
 use std::alloc::Global;
 
-/// Reads a document to its end, writes the answer and nothing else, and returns the verdict. Neither
-/// device may have failed before the call.
+/// Reads a document to its end, writes the answer and nothing else, shows the counts to the watcher,
+/// and returns the verdict. Neither device may have failed before the call.
 ///
 /// # Errors
 ///
 /// Fails if a device does, or if memory runs out. Unless the writer failed, nothing was written.
-pub fn check_document<R: Source, W: Sink>(
+pub fn check_document<R: Source, W: Sink, V: Watcher>(
     alloc: Global,
     checker: &Checker,
     file: &str,
     reader: &mut R,
     writer: &mut W,
+    watcher: &mut V,
 ) -> Result<Verdict, CheckFault>
     requires reader_works { R.has_failed reader.old ≡ false }
     requires writer_works { W.has_failed writer.old ≡ false }
@@ -39,5 +41,10 @@ pub fn check_document<R: Source, W: Sink>(
     let Ok(()) = write_all(writer, &answer.text) else {
         return Err(CheckFault::Write);
     };
+    watcher.saw(Counts {
+        documents: 1,
+        bytes: document.len(),
+        errors: answer.errors,
+    });
     Ok(answer.verdict)
 }

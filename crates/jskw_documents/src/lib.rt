@@ -21,6 +21,7 @@ mod options;
 mod place;
 mod schema;
 mod surrogate;
+mod watcher;
 mod words;
 
 pub use answer::{Answer, answer_to, worse_of};
@@ -31,3 +32,4 @@ pub use lines::check_lines;
 pub use options::{Options, Output};
 pub use place::{Place, refusal};
 pub use schema::{SchemaOptions, schema_of};
+pub use watcher::{Counts, Watcher};

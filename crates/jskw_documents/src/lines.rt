@@ -10,6 +10,7 @@ ghost use Rattle.jskw_documents.specs.Streams.{Takes, is_in_line, last_line_of, 
 use crate::answer::{answer_to, worse_of};
 use crate::checker::Checker;
 use crate::fault::CheckFault;
+use crate::watcher::{Counts, Watcher};
 use jskw_service::{Sink, Source, Verdict, write_all};
 use json::Scratch;
 use std::alloc::Global;
@@ -32,25 +33,28 @@ pub(crate) struct Lines {
     pub(crate) verdict: Verdict,
     // Room that reading needs.
     pub(crate) scratch: Scratch,
+    // The counts so far.
+    pub(crate) counts: Counts,
 }
 
 /// Reads a stream to its end, writes the answer to each line and nothing else, and returns the worst
 /// verdict. The last line needs no line feed. Neither device may have failed before the call.
 ///
 /// The answers to the lines that end in a block of the reader are written before the next block is
-/// read. Memory is kept for one line, besides the block, its answers and what the line takes while
+/// read, and the counts are shown to the watcher. Memory is kept for one line, besides the block, its answers and what the line takes while
 /// it is checked.
 ///
 /// # Errors
 ///
 /// Fails if a device does, or if memory runs out. If the reader failed, the answers to all lines
 /// that were read to their end are written.
-pub fn check_lines<R: Source, W: Sink>(
+pub fn check_lines<R: Source, W: Sink, V: Watcher>(
     alloc: Global,
     checker: &Checker,
     file: &str,
     reader: &mut R,
     writer: &mut W,
+    watcher: &mut V,
 ) -> Result<Verdict, CheckFault>
     requires reader_works { R.has_failed reader.old ≡ false }
     requires writer_works { W.has_failed writer.old ≡ false }
@@ -66,18 +70,21 @@ pub fn check_lines<R: Source, W: Sink>(
         begun: Vec::new(alloc),
         verdict: Verdict::Valid,
         scratch: Scratch::new(alloc),
+        counts: Counts::new(),
     };
     let mut block = [0u8; BLOCK];
     'reads: for _ in 0..u64::MAX {
-        if !take_next(alloc, checker, file, &mut lines, &mut block, reader, writer)? {
-            return take_last(alloc, checker, file, &mut lines, writer);
+        if !take_next(
+            alloc, checker, file, &mut lines, &mut block, reader, writer, watcher,
+        )? {
+            return take_last(alloc, checker, file, &mut lines, writer, watcher);
         }
     }
     Err(CheckFault::TooLong)
 }
 
 // Reads a block, writes the answers to the lines that end in it, and returns whether there was one.
-fn take_next<R: Source, W: Sink>(
+fn take_next<R: Source, W: Sink, V: Watcher>(
     alloc: Global,
     checker: &Checker,
     file: &str,
@@ -85,6 +92,7 @@ fn take_next<R: Source, W: Sink>(
     block: &mut [u8],
     reader: &mut R,
     writer: &mut W,
+    watcher: &mut V,
 ) -> Result<bool, CheckFault>
     requires room { 0 < length block.old }
     requires reader_works { R.has_failed reader.old ≡ false }
@@ -105,6 +113,7 @@ fn take_next<R: Source, W: Sink>(
     let Ok(()) = write_all(writer, &text) else {
         return Err(CheckFault::Write);
     };
+    watcher.saw(lines.counts);
     Ok(count > 0)
 }
 
@@ -232,18 +241,24 @@ fn answer_line(
     let answer = answer_to(alloc, checker, file, number, line, &mut lines.scratch)?;
     text.extend_from_slice(&answer.text)?;
     lines.next = next;
+    lines.counts = lines.counts.plus(Counts {
+        documents: 1,
+        bytes: line.len(),
+        errors: answer.errors,
+    });
     lines.verdict = worse_of(lines.verdict, answer.verdict);
     Ok(())
 }
 
 // Writes the answer to a last line without a line feed, if there is one, and returns the worst
 // verdict.
-fn take_last<W: Sink>(
+fn take_last<W: Sink, V: Watcher>(
     alloc: Global,
     checker: &Checker,
     file: &str,
     lines: &mut Lines,
     writer: &mut W,
+    watcher: &mut V,
 ) -> Result<Verdict, CheckFault>
     requires { W.has_failed writer.old ≡ false }
     ensures answer { OnOk result ((answer : List ℕ) × AreAnswers checker.now file.now lines.old.next
@@ -263,5 +278,12 @@ fn take_last<W: Sink>(
     let Ok(()) = write_all(writer, &answer.text) else {
         return Err(CheckFault::Write);
     };
+    watcher.saw(
+        lines.counts.plus(Counts {
+            documents: 1,
+            bytes: line.len(),
+            errors: answer.errors,
+        }),
+    );
     Ok(worse_of(lines.verdict, answer.verdict))
 }

@@ -1,0 +1,139 @@
+//! What is done, shown on standard error.
+use jskw_documents::{Counts, Watcher};
+use std::alloc::AllocError;
+use std::io::{IsTerminal, Write};
+use std::time::Instant;
+
+// The milliseconds between two lines, at least.
+const PAUSE: u128 = 500;
+
+// From how many bytes on progress is shown on a terminal.
+const LARGE: usize = 10_000_000;
+
+// Shows counts on standard error, if that is wanted.
+#[derive(Drop)]
+pub(crate) struct Progress<'r> {
+    rt: &'r HostRuntime,
+    // `--progress` was given.
+    is_asked: bool,
+    is_terminal: bool,
+    begun: Option<Instant>,
+    told: Option<Instant>,
+    // Of the files before this one.
+    before: Counts,
+    // Of this file.
+    counts: Counts,
+    size: Option<u64>,
+}
+
+impl<'r> Progress<'r> {
+    pub(crate) fn new(rt: &'r HostRuntime, is_asked: bool) -> Progress<'r> {
+        let now = now(rt);
+        Progress {
+            rt,
+            is_asked,
+            is_terminal: rt.stderr().is_terminal(),
+            begun: now,
+            told: now,
+            before: Counts::new(),
+            counts: Counts::new(),
+            size: None,
+        }
+    }
+
+    // Begins a file of so many bytes, if its size is known.
+    pub(crate) fn begin(&mut self, size: Option<u64>) {
+        self.before = self.before.plus(self.counts);
+        self.counts = Counts::new();
+        self.size = size;
+    }
+
+    // Shows the last line.
+    pub(crate) fn end(&mut self) {
+        let is_shown = self.is_asked || milliseconds(self.begun, self.told) > 0;
+        if is_shown {
+            self.size = None;
+            self.tell('\n');
+        }
+    }
+
+    // Shows a line. If it cannot be written, it is left out.
+    fn tell(&self, end: char) {
+        if let Ok(line) = self.line(end) {
+            let _ = Write::write_all(&mut self.rt.stderr(), line.as_str().as_bytes());
+        }
+    }
+
+    // Returns the line.
+    fn line(&self, end: char) -> Result<String, AllocError> {
+        let alloc = self.rt.alloc();
+        let all = self.before.plus(self.counts);
+        let time = milliseconds(self.begun, now(self.rt)).max(1);
+        let mut line = grouped(self.rt, all.documents as u128)?;
+        line.push_str(" documents, ")?;
+        line.push_str(tenths(self.rt, all.bytes as u128 / 100_000)?.as_str())?;
+        line.push_str(" MB, ")?;
+        line.push_str(grouped(self.rt, all.errors as u128)?.as_str())?;
+        line.push_str(" errors, ")?;
+        line.push_str(tenths(self.rt, all.bytes as u128 / 100 / time)?.as_str())?;
+        line.push_str(" MB/s")?;
+        if let Some(size) = self.size {
+            let part = self.counts.bytes as u128 * 100 / (size as u128).max(1);
+            line.push_str(format!(in alloc; ", {part}% of the file")?.as_str())?;
+        }
+        let mut padded = format!(in alloc; "{:<79}", line.as_str())?;
+        padded.push(end)?;
+        Ok(padded)
+    }
+}
+
+impl Watcher for Progress<'_> {
+    fn saw(&mut self, counts: Counts) {
+        self.counts = counts;
+        let bytes = self.before.plus(counts).bytes;
+        if self.is_asked || self.is_terminal && bytes > LARGE {
+            let now = now(self.rt);
+            if milliseconds(self.told, now) > PAUSE {
+                self.told = now;
+                self.tell('\r');
+            }
+        }
+    }
+}
+
+// Returns the time, if the clock can be read.
+fn now(rt: &HostRuntime) -> Option<Instant> {
+    Instant::now(rt).ok()
+}
+
+// Returns the milliseconds from one time to another, and 0 if one is not known.
+fn milliseconds(from: Option<Instant>, to: Option<Instant>) -> u128 {
+    match (from, to) {
+        (Some(from), Some(to)) => to.duration_since(from).as_millis(),
+        _ => 0,
+    }
+}
+
+// Returns a number, with a comma before each three digits.
+fn grouped(rt: &HostRuntime, number: u128) -> Result<String, AllocError> {
+    let alloc = rt.alloc();
+    let digits = format!(in alloc; "{number}")?;
+    let mut text = String::new(alloc);
+    let mut left = digits.len();
+    for digit in digits.as_str().chars() {
+        text.push(digit)?;
+        left = left.saturating_sub(1);
+        if left > 0 && left % 3 == 0 {
+            text.push(',')?;
+        }
+    }
+    Ok(text)
+}
+
+// Returns a number of tenths, with one decimal.
+fn tenths(rt: &HostRuntime, number: u128) -> Result<String, AllocError> {
+    let mut text = grouped(rt, number / 10)?;
+    let alloc = rt.alloc();
+    text.push_str(format!(in alloc; ".{}", number % 10)?.as_str())?;
+    Ok(text)
+}
