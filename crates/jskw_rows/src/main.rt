@@ -22,6 +22,7 @@ mod wanted;
 mod whole;
 
 use jskw_service::read_value;
+use jskw_text::read_bytes;
 use serde_json::Value;
 use std::fs::DirEntry;
 use std::process::ExitCode;
@@ -55,8 +56,17 @@ fn check_text(tally: &mut Tally, text: &str) {
                 group::check(tally, group);
             }
         }
-        _ => tally.tell_wrong("the file has to be", "a JSON array"),
+        _ => tell_broken(tally, text.as_bytes()),
     }
+}
+
+// Records where a text is no JSON, or that it is no array.
+fn tell_broken(tally: &mut Tally, text: &[u8]) {
+    let mut place = Text::new(tally.alloc);
+    if let Err(fault) = &read_bytes(tally.alloc, text) {
+        calls::push_fault(&mut place, text, fault);
+    }
+    tally.tell_wrong("the file has to be a JSON array", place.as_str());
 }
 
 // Asks the rows of a file, and prints those that differ and how many there are.
