@@ -83,15 +83,18 @@ fn check_tests(tally: &mut Tally, subject: Subject<'_>) {
         unchecked::check(tally, subject, list);
     }
     for test in items(tally, subject.group, "tests") {
+        let name = test.get("description").and_then(Value::as_str);
+        tally.begin_test(name.unwrap_or("no description"));
+        let mistakes = tally.mistakes;
         if let Some(test) = known(tally, test, TEST) {
-            check_test(tally, subject, test);
+            check_test(tally, subject, test, mistakes);
         }
     }
 }
 
-// Asks a row for each instance of a test, if the test has no mistake.
-fn check_test(tally: &mut Tally, subject: Subject<'_>, test: &Members) {
-    let (mistakes, name) = (tally.mistakes, text(tally, test, "description"));
+// Asks a row for each instance of a test, if no mistake was found since there were so many.
+fn check_test(tally: &mut Tally, subject: Subject<'_>, test: &Members, mistakes: u64) {
+    let name = text(tally, test, "description");
     tally.take_name(subject.draft, name);
     one_of(tally, test, "data each made");
     one_of(tally, test, "valid errors float");

@@ -62,11 +62,12 @@ fn check_text(tally: &mut Tally, text: &str) {
 
 // Records where a text is no JSON, or that it is no array.
 fn tell_broken(tally: &mut Tally, text: &[u8]) {
-    let mut place = Text::new(tally.alloc);
-    if let Err(fault) = &read_bytes(tally.alloc, text) {
-        calls::push_fault(&mut place, text, fault);
+    let mut found = Text::new(tally.alloc);
+    match &read_bytes(tally.alloc, text) {
+        Ok(_) => found.push("another value"),
+        Err(fault) => calls::push_fault(&mut found, text, fault),
     }
-    tally.tell_wrong("the file has to be a JSON array", place.as_str());
+    tally.tell_wrong("the file has to be a JSON array", found.as_str());
 }
 
 // Asks the rows of a file, and prints those that differ and how many there are.
@@ -76,6 +77,7 @@ fn check_file(rt: &HostRuntime, tally: &mut Tally, folder: &str, name: &str) -> 
     tally.begin_file(name);
     let before = tally.rows;
     check_text(tally, text.as_str());
+    tally.begin_group("");
     let rows = tally.rows.saturating_sub(before);
     println!(rt; "{}{name}: {rows} rows", tally.told.as_str())
 }

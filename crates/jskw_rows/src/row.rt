@@ -47,31 +47,19 @@ pub(crate) fn check(tally: &mut Tally, subject: Subject<'_>, test: &Members, ins
     if tally.mistakes != mistakes {
         return;
     }
-    check_layers(tally, subject, test, &wanted, instance, has_decimals);
-    if subject.layers.contains(&false) && !has_decimals {
-        tally.take_layer(None);
-        check_run(tally, request.as_str(), wanted.output.as_str());
-    }
-}
-
-// Asks a row with each object layer.
-fn check_layers(
-    tally: &mut Tally,
-    subject: Subject<'_>,
-    test: &Members,
-    wanted: &Wanted,
-    instance: &Value,
-    has_decimals: bool,
-) {
     for layer in subject.layers {
         let row = Row {
             subject,
             test,
-            wanted,
+            wanted: &wanted,
             object_layer: *layer,
         };
         tally.take_layer(Some(*layer));
         check_all(tally, &row, instance, has_decimals);
+    }
+    if subject.layers.contains(&false) && !has_decimals {
+        tally.take_layer(None);
+        check_run(tally, request.as_str(), wanted.output.as_str());
     }
 }
 

@@ -20,8 +20,9 @@ pub(crate) struct Tally {
     question: Text,
     // the object layer with which the row is asked
     layer: &'static str,
-    // whether an answer of the row differed
+    // whether an answer of the row differed, and how many more have since then
     has_differed: bool,
+    others: u64,
     pub(crate) told: Text,
     pub(crate) rows: u64,
     /// How many answers were not the wanted ones.
@@ -42,6 +43,7 @@ impl Tally {
             question: Text::new(alloc),
             layer: "",
             has_differed: false,
+            others: 0,
             told: Text::new(alloc),
             rows: 0,
             differing: 0,
@@ -59,13 +61,32 @@ impl Tally {
 
     /// Takes the name of a group whose rows are asked next.
     pub(crate) fn begin_group(&mut self, name: &str) {
+        self.begin_test("");
         self.group.set(name);
-        self.test.set("");
+    }
+
+    /// Takes the name of a test that is read and asked next.
+    pub(crate) fn begin_test(&mut self, name: &str) {
+        self.end_row();
+        self.test.set(name);
+    }
+
+    // Appends how many answers of the row differ beside the one that is printed.
+    fn end_row(&mut self) {
+        if self.others > 0 {
+            write!(
+                self.told,
+                "  so do {} answers to other ways of asking it\n",
+                self.others
+            );
+        }
+        self.others = 0;
+        self.has_differed = false;
     }
 
     /// Takes the name of a test in a part of the group, which no other of the file may have.
     pub(crate) fn take_name(&mut self, part: &str, test: &str) {
-        self.test.set(test);
+        self.begin_test(test);
         let (file, group) = (self.file.as_str(), self.group.as_str());
         let name = format!(in self.alloc; "{file}: {group}: {part}: {test}");
         self.take(name, "two tests of one name", part);
@@ -74,9 +95,9 @@ impl Tally {
     /// Counts a row, and takes what it asks, which no other row of any file may ask.
     pub(crate) fn take_row(&mut self, question: &str) {
         self.rows = self.rows.saturating_add(1);
+        self.end_row();
         self.question.set(question);
         self.layer = "";
-        self.has_differed = false;
         let taken = String::from_str(self.alloc, question);
         self.take(taken, "a row that stands elsewhere too", question);
     }
@@ -111,19 +132,19 @@ impl Tally {
     }
 
     /// Records the row if its answer is not the wanted one. `way` is the call that gave it. The first
-    /// such answer of a row is printed, from the first line that differs on, and the ways of the others.
+    /// such answer of a row is printed, from the first line that differs on; the others are counted.
     pub(crate) fn compare(&mut self, way: &str, wanted: &str, found: &str) {
         if wanted == found {
             return;
         }
-        let layer = self.layer;
         self.differing = self.differing.saturating_add(1);
         if self.has_differed {
-            return write!(self.told, "  also: {way}{layer}\n");
+            self.others = self.others.saturating_add(1);
+            return;
         }
         self.has_differed = true;
         self.tell_place();
-        write!(self.told, ", {way}{layer}\n  asked: ");
+        write!(self.told, ", {way}{}\n  asked: ", self.layer);
         self.told.push_cut(self.question.as_str(), COLUMNS);
         let equal = equal_lines(wanted, found);
         self.tell_lines("wanted", wanted, equal);
