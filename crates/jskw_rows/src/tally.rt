@@ -18,8 +18,8 @@ pub(crate) struct Tally {
     test: Text,
     // what the row asks
     question: Text,
-    // the object layer with which the row is asked
-    layer: &'static str,
+    // whether the row is asked with an object layer; `None` if the way has none
+    layer: Option<bool>,
     // whether an answer of the row differed, and how many more have since then
     has_differed: bool,
     others: u64,
@@ -41,7 +41,7 @@ impl Tally {
             group: Text::new(alloc),
             test: Text::new(alloc),
             question: Text::new(alloc),
-            layer: "",
+            layer: None,
             has_differed: false,
             others: 0,
             told: Text::new(alloc),
@@ -97,18 +97,14 @@ impl Tally {
         self.rows = self.rows.saturating_add(1);
         self.end_row();
         self.question.set(question);
-        self.layer = "";
+        self.layer = None;
         let taken = String::from_str(self.alloc, question);
         self.take(taken, "a row that stands elsewhere too", question);
     }
 
     /// Takes the object layer with which the row is asked next, if the way has one to be named.
     pub(crate) fn take_layer(&mut self, layer: Option<bool>) {
-        self.layer = match layer {
-            Some(true) => ", with an object layer",
-            Some(false) => ", without an object layer",
-            None => "",
-        };
+        self.layer = layer;
     }
 
     fn take(&mut self, text: Made<String>, what: &str, with: &str) {
@@ -144,7 +140,8 @@ impl Tally {
         }
         self.has_differed = true;
         self.tell_place();
-        write!(self.told, ", {way}{}\n  asked: ", self.layer);
+        let layer = layer_named(self.layer);
+        write!(self.told, ", {way}{layer}\n  asked: ");
         self.told.push_cut(self.question.as_str(), COLUMNS);
         let equal = equal_lines(wanted, found);
         self.tell_lines("wanted", wanted, equal);
@@ -169,6 +166,14 @@ impl Tally {
             self.told.push("\n    ");
             self.told.push_cut(line, COLUMNS);
         }
+    }
+}
+
+fn layer_named(layer: Option<bool>) -> &'static str {
+    match layer {
+        Some(true) => ", with an object layer",
+        Some(false) => ", without an object layer",
+        None => "",
     }
 }
 
