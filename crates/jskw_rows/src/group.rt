@@ -70,7 +70,8 @@ fn subject_of<'g>(
         schema,
         layers: layers_of(tally, group),
         keywords: keywords_of(tally.alloc, settings, schema),
-        front: front_of(tally, group),
+        is_fused: is_true(tally, group, "fused"),
+        delegates: is_true(tally, group, "handsOnRequired"),
     }
 }
 
@@ -147,16 +148,5 @@ fn layers_of(tally: &mut Tally, group: &Members) -> &'static [bool] {
             tally.tell_wrong("it has to be `[true]` or `[false]`", "objectLayer");
             &[]
         }
-    }
-}
-
-// The lines of what the schema says of itself.
-fn front_of(tally: &mut Tally, group: &Members) -> &'static str {
-    let is_fused = is_true(tally, group, "fused");
-    match (is_fused, is_true(tally, group, "handsOnRequired")) {
-        (false, false) => "",
-        (true, false) => "fused\n",
-        (false, true) => "hands on required\n",
-        (true, true) => "fused\nhands on required\n",
     }
 }

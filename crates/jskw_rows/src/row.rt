@@ -24,8 +24,10 @@ pub(crate) struct Subject<'r> {
     pub(crate) layers: &'static [bool],
     /// The schema, if it is an object in which no keyword that is read has subschemas.
     pub(crate) keywords: Option<&'r Members>,
-    /// The lines of what it says of itself.
-    pub(crate) front: &'static str,
+    /// Whether its keywords of arrays are fused.
+    pub(crate) is_fused: bool,
+    /// Whether a `required` of it is delegated with an object layer. Without one none is.
+    pub(crate) delegates: bool,
 }
 
 /// A schema under a setting, a test of it, and what the test wants of an instance.
@@ -35,6 +37,21 @@ pub(crate) struct Row<'r> {
     pub(crate) test: &'r Members,
     pub(crate) wanted: &'r Wanted,
     pub(crate) object_layer: bool,
+}
+
+impl Row<'_> {
+    // The lines of what the schema says of itself.
+    fn front(&self) -> &'static str {
+        match (
+            self.subject.is_fused,
+            self.subject.delegates && self.object_layer,
+        ) {
+            (false, false) => "",
+            (true, false) => "fused\n",
+            (false, true) => "hands on required\n",
+            (true, true) => "fused\nhands on required\n",
+        }
+    }
 }
 
 /// Asks a row of an instance, of which some texts may stand for decimals, unless the row has a mistake.
@@ -128,7 +145,7 @@ fn check_read(tally: &mut Tally, row: &Row<'_>, own: &str, read: &DecimalTree) {
 
 fn check_float(tally: &mut Tally, row: &Row<'_>, instance: &Value) {
     let mut found = Lines::new(tally.alloc, false, row.wanted.has_messages);
-    found.text.push(row.subject.front);
+    found.text.push(row.front());
     push_float(&mut found, instance);
     check_whole(tally, row, "as decimals", &found);
 }
@@ -160,8 +177,8 @@ fn check_leaves<F: Json>(
 // Compares the lines of a whole schema: what it says of itself before those of its keywords.
 fn check_whole(tally: &mut Tally, row: &Row<'_>, way: &str, found: &Lines) {
     let found = found.text.as_str();
-    match found.strip_prefix(row.subject.front) {
+    match found.strip_prefix(row.front()) {
         Some(found) => tally.compare(way, row.wanted.answer.as_str(), found),
-        None => tally.compare(way, row.subject.front, found),
+        None => tally.compare(way, row.front(), found),
     }
 }
