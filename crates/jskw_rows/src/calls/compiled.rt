@@ -101,13 +101,12 @@ pub(super) fn required(lines: &mut Lines, all: Arguments<'_>) {
 // The nodes of `type`, `minItems` and `maxItems` of a fused shape; nothing of a schema without one.
 pub(super) fn shape(lines: &mut Lines, given: Given<'_>, all: Arguments<'_>) {
     let ctx: Context<DecimalJson> = Context::new(lines.alloc, given.settings);
-    let items = member_of(given.parent, KeywordName::Items.as_str());
-    match items {
-        Some(items) if array_shape_fusion(&ctx, given.parent) => {
-            let compiled = ArrayShapeValidator::compile(lines.alloc, &ctx, given.parent, items);
-            push_compiled(lines, Some(compiled), all.instance(), push_absorbed);
-        }
-        _ => {}
+    if !array_shape_fusion(&ctx, given.parent) {
+        return;
+    }
+    if let Some(items) = member_of(given.parent, KeywordName::Items.as_str()) {
+        let compiled = ArrayShapeValidator::compile(lines.alloc, &ctx, given.parent, items);
+        push_compiled(lines, Some(compiled), all.instance(), push_absorbed);
     }
 }
 
