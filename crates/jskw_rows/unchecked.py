@@ -142,7 +142,7 @@ def main():
         draft, schema, layer = draw.choice(list(OTHERS)), a_schema(draw, 3), draw.random() < 0.5
         vocabularies = [v for v in ("core", "applicator", "validation") if draw.random() < 0.8]
         overridden = draw.sample(NAMES, draw.choice([0, 0, 1, 4]))
-        group = {"drafts": [draft], "vocabularies": vocabularies, "overridden": overridden, "objectLayer": layer, "schema": schema}
+        group = {"drafts": [draft], "vocabularies": vocabularies, "overridden": overridden, "objectLayer": [layer], "schema": schema}
         question = json.dumps(group, sort_keys=True)
         if question in asked:
             continue

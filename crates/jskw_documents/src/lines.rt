@@ -41,8 +41,8 @@ pub(crate) struct Lines {
 /// verdict. The last line needs no line feed. Neither device may have failed before the call.
 ///
 /// The answers to the lines that end in a block of the reader are written before the next block is
-/// read, and the counts are shown to the watcher. Memory is kept for one line, besides the block, its answers and what the line takes while
-/// it is checked.
+/// read, and the counts are shown to the watcher. Memory is kept for one line, besides the block, its
+/// answers and what the line takes while it is checked.
 ///
 /// # Errors
 ///

@@ -15,6 +15,7 @@ use jskw_report::Settings;
 use jskw_value::DecimalTree;
 use serde_json::Value;
 use std::alloc::Global;
+pub(crate) use texts::push_fault;
 
 /// The answer of what is no call, which no row wants.
 pub(crate) const UNKNOWN: &str = "an unknown call, or other arguments";
@@ -79,7 +80,7 @@ fn check_call(tally: &mut Tally, name: &str, call: &Value) {
     let mut asks = Text::new(tally.alloc);
     write!(asks, "{name} ");
     asks.push_made(call.to_string(tally.alloc));
-    tally.take_row("a call", asks.as_str());
+    tally.take_row(asks.as_str());
     check_answer(tally, name, arguments, wanted);
 }
 
@@ -102,7 +103,7 @@ fn tree_of(lines: &mut Lines, value: &Value) -> DecimalTree {
 }
 
 // The calls, and how many arguments each has.
-const CALLS: [(&str, usize); 23] = [
+const CALLS: [(&str, usize); 25] = [
     ("Decimal::new", 2),
     ("Decimal", 3),
     ("Node of decimals", 2),
@@ -125,6 +126,8 @@ const CALLS: [(&str, usize); 23] = [
     ("map_get_u64", 3),
     ("enum", 4),
     ("additional_items::compile", 3),
+    ("required::compile_with_path", 2),
+    ("ArrayShapeValidator::compile", 3),
     ("how often nodes are asked", 6),
 ];
 
@@ -158,6 +161,7 @@ fn answer_of_names(lines: &mut Lines, name: &str, all: Arguments<'_>) {
         "read_bytes" => texts::read(lines, all),
         "Limit::from" => compiled::limits(lines, all.value(0)),
         "new" => compiled::made(lines, all),
+        "required::compile_with_path" => compiled::required(lines, all),
         _ => answer_of_settings(lines, name, all),
     }
 }
@@ -181,6 +185,7 @@ fn answer_given(lines: &mut Lines, given: Given<'_>, name: &str, all: Arguments<
         "map_get_u64" => compiled::bound(lines, given, all.text(2)),
         "enum" => compiled::options(lines, given, all),
         "additional_items::compile" => compiled::additional(lines, given, all),
+        "ArrayShapeValidator::compile" => compiled::shape(lines, given, all),
         "how often nodes are asked" => asked::counted(lines, given, all),
         _ => lines.text.push(UNKNOWN),
     }

@@ -13,7 +13,7 @@ use std::alloc::Global;
 const GROUP: &str =
     "description drafts vocabularies overridden objectLayer schema fused handsOnRequired refused unchecked tests";
 
-const MAKER: &str = "count front choices back crowded again last";
+const MAKER: &str = "count front choices back crowded again more inside";
 
 const TEST: &str =
     "description data each made decimals text valid errors float evaluation applications";
@@ -21,7 +21,7 @@ const TEST: &str =
 /// Asks the rows of a group.
 pub(crate) fn check(tally: &mut Tally, group: &Value) {
     let description = group.get("description").and_then(Value::as_str);
-    tally.group.set(description.unwrap_or("no description"));
+    tally.begin_group(description.unwrap_or("no description"));
     wanted(tally, description, "description");
     if group.get("requests").is_some() {
         return requests::check(tally, group);
@@ -63,16 +63,15 @@ fn subject_of<'g>(
     settings: &'g Settings,
     schema: &'g Value,
 ) -> Subject<'g> {
-    let layer = group.get("objectLayer").and_then(Value::as_bool);
     Subject {
         group,
         draft,
         settings,
         schema,
-        object_layer: layer.unwrap_or(true),
-        by_run: !layer.unwrap_or(false),
+        layers: layers_of(tally, group),
         keywords: keywords_of(tally.alloc, settings, schema),
-        front: front_of(tally, group),
+        is_fused: is_true(tally, group, "fused"),
+        delegates: is_true(tally, group, "handsOnRequired"),
     }
 }
 
@@ -85,14 +84,17 @@ fn check_tests(tally: &mut Tally, subject: Subject<'_>) {
         unchecked::check(tally, subject, list);
     }
     for test in items(tally, subject.group, "tests") {
+        let name = test.get("description").and_then(Value::as_str);
+        tally.begin_test(name.unwrap_or("no description"));
+        let mistakes = tally.mistakes;
         if let Some(test) = known(tally, test, TEST) {
-            check_test(tally, subject, test);
+            check_test(tally, subject, test, mistakes);
         }
     }
 }
 
-// Asks a row for each instance of a test.
-fn check_test(tally: &mut Tally, subject: Subject<'_>, test: &Members) {
+// Asks a row for each instance of a test, if no mistake was found since there were so many.
+fn check_test(tally: &mut Tally, subject: Subject<'_>, test: &Members, mistakes: u64) {
     let name = text(tally, test, "description");
     tally.take_name(subject.draft, name);
     one_of(tally, test, "data each made");
@@ -100,6 +102,12 @@ fn check_test(tally: &mut Tally, subject: Subject<'_>, test: &Members) {
     if let Some(most) = test.get("applications") {
         known(tally, most, "untilFirst ofAll collected");
     }
+    if tally.mistakes == mistakes {
+        check_instances(tally, subject, test);
+    }
+}
+
+fn check_instances(tally: &mut Tally, subject: Subject<'_>, test: &Members) {
     if let Some(instance) = test.get("data") {
         row::check(tally, subject, test, instance);
     }
@@ -130,13 +138,15 @@ fn keywords_of<'s>(alloc: Global, settings: &Settings, schema: &'s Value) -> Opt
     if is_alone { Some(parent) } else { None }
 }
 
-// The lines of what the schema says of itself.
-fn front_of(tally: &mut Tally, group: &Members) -> &'static str {
-    let is_fused = is_true(tally, group, "fused");
-    match (is_fused, is_true(tally, group, "handsOnRequired")) {
-        (false, false) => "",
-        (true, false) => "fused\n",
-        (false, true) => "hands on required\n",
-        (true, true) => "fused\nhands on required\n",
+// The object layers with which the answers of a group hold: `true` is with one.
+fn layers_of(tally: &mut Tally, group: &Members) -> &'static [bool] {
+    match items(tally, group, "objectLayer") {
+        [] => &[true, false],
+        [Value::Bool(true)] => &[true],
+        [Value::Bool(false)] => &[false],
+        _ => {
+            tally.tell_wrong("it has to be `[true]` or `[false]`", "objectLayer");
+            &[]
+        }
     }
 }

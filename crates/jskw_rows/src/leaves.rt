@@ -31,7 +31,7 @@ pub(crate) fn push_answer<'r, F: Json>(
     instance: &'r F::Node,
 ) {
     let root: Context<F> = Context::new(lines.alloc, row.subject.settings);
-    let root = root.with_object_layer(row.subject.object_layer);
+    let root = root.with_object_layer(row.object_layer);
     let ctx = root.new_at_location(lines.alloc, LocationSegment::Name("items"));
     if let Some(ctx) = &lines.text.made(ctx) {
         let leaves = compiled(lines.alloc, ctx, parent);

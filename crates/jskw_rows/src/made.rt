@@ -6,10 +6,13 @@ use serde_json::Value;
 use std::alloc::Global;
 
 /// Returns the array that is described by a value: of an item for each number below `count`, and of
-/// `last`. `README.md` beside `src/` says what the members are. `None` if its text is no JSON.
+/// those of `more`. `README.md` beside `src/` says what the members are. `None` if its text is no JSON.
 pub(crate) fn array_of(alloc: Global, maker: &Value) -> Option<Value> {
+    let is_inside = maker.get("inside").is_some();
     let mut text = Text::new(alloc);
+    text.push_if(is_inside, "[");
     push_array(alloc, &mut text, maker);
+    text.push_if(is_inside, "]");
     Value::from_str(alloc, text.as_str()).ok()
 }
 
@@ -20,9 +23,11 @@ pub(crate) fn push_array(alloc: Global, text: &mut Text, maker: &Value) {
     for item in 0..count.unwrap_or(0) {
         push_item(text, maker, item);
     }
-    if let Some(last) = maker.get("last") {
-        text.push(",");
-        text.push_made(last.to_string(alloc));
+    if let Some(Value::Array(more)) = maker.get("more") {
+        for item in more {
+            text.push(",");
+            text.push_made(item.to_string(alloc));
+        }
     }
     text.push("]");
 }

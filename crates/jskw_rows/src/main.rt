@@ -22,6 +22,7 @@ mod wanted;
 mod whole;
 
 use jskw_service::read_value;
+use jskw_text::read_bytes;
 use serde_json::Value;
 use std::fs::DirEntry;
 use std::process::ExitCode;
@@ -55,8 +56,18 @@ fn check_text(tally: &mut Tally, text: &str) {
                 group::check(tally, group);
             }
         }
-        _ => tally.tell_wrong("the file has to be", "a JSON array"),
+        _ => tell_broken(tally, text.as_bytes()),
     }
+}
+
+// Records where a text is no JSON, or that it is no array.
+fn tell_broken(tally: &mut Tally, text: &[u8]) {
+    let mut found = Text::new(tally.alloc);
+    match &read_bytes(tally.alloc, text) {
+        Ok(_) => found.push("another value"),
+        Err(fault) => calls::push_fault(&mut found, text, fault),
+    }
+    tally.tell_wrong("the file has to be a JSON array", found.as_str());
 }
 
 // Asks the rows of a file, and prints those that differ and how many there are.
@@ -66,6 +77,7 @@ fn check_file(rt: &HostRuntime, tally: &mut Tally, folder: &str, name: &str) -> 
     tally.begin_file(name);
     let before = tally.rows;
     check_text(tally, text.as_str());
+    tally.begin_group("");
     let rows = tally.rows.saturating_sub(before);
     println!(rt; "{}{name}: {rows} rows", tally.told.as_str())
 }

@@ -53,7 +53,7 @@ fn check_one(tally: &mut Tally, members: &Members) {
     let description = text(tally, members, "description");
     let request = text(tally, members, "request");
     tally.take_name("requests", description);
-    tally.take_row(description, request);
+    tally.take_row(request);
     one_of(tally, members, "output");
     let mut wanted = Text::new(tally.alloc);
     push_lines(tally, &mut wanted, members, "output");

@@ -1,7 +1,7 @@
 //! A row, and how it is asked.
 use crate::answer::push_float;
 use crate::lines::Lines;
-use crate::members::{Members, is_true, text};
+use crate::members::{Members, is_true};
 use crate::representations::{Keys, decimals_of};
 use crate::requests::{check_run, request_of};
 use crate::tally::Tally;
@@ -20,13 +20,14 @@ pub(crate) struct Subject<'r> {
     pub(crate) draft: &'r str,
     pub(crate) settings: &'r Settings,
     pub(crate) schema: &'r Value,
-    pub(crate) object_layer: bool,
-    /// Whether `run` is asked too, which has no object layer.
-    pub(crate) by_run: bool,
+    /// With an object layer if `true`. `run`, which has none, is asked too if `false` is among them.
+    pub(crate) layers: &'static [bool],
     /// The schema, if it is an object in which no keyword that is read has subschemas.
     pub(crate) keywords: Option<&'r Members>,
-    /// The lines of what it says of itself.
-    pub(crate) front: &'static str,
+    /// Whether its keywords of arrays are fused.
+    pub(crate) is_fused: bool,
+    /// Whether a `required` of it is delegated with an object layer. Without one none is.
+    pub(crate) delegates: bool,
 }
 
 /// A schema under a setting, a test of it, and what the test wants of an instance.
@@ -35,22 +36,46 @@ pub(crate) struct Row<'r> {
     pub(crate) subject: Subject<'r>,
     pub(crate) test: &'r Members,
     pub(crate) wanted: &'r Wanted,
+    pub(crate) object_layer: bool,
 }
 
-/// Asks a row of an instance, of which some texts may stand for decimals. `run`, which reads no
-/// decimals, is not asked of these.
+impl Row<'_> {
+    // The lines of what the schema says of itself.
+    fn front(&self) -> &'static str {
+        match (
+            self.subject.is_fused,
+            self.subject.delegates && self.object_layer,
+        ) {
+            (false, false) => "",
+            (true, false) => "fused\n",
+            (false, true) => "hands on required\n",
+            (true, true) => "fused\nhands on required\n",
+        }
+    }
+}
+
+/// Asks a row of an instance, of which some texts may stand for decimals, unless the row has a mistake.
+/// `run`, which reads no decimals, is not asked of these.
 pub(crate) fn check(tally: &mut Tally, subject: Subject<'_>, test: &Members, instance: &Value) {
-    let has_decimals = is_true(tally, test, "decimals");
+    let (mistakes, has_decimals) = (tally.mistakes, is_true(tally, test, "decimals"));
     let request = request_of(tally.alloc, subject, instance);
     take_row(tally, subject, test, request.as_str(), has_decimals);
     let wanted = Wanted::of(tally, test, instance);
-    let row = Row {
-        subject,
-        test,
-        wanted: &wanted,
-    };
-    check_all(tally, &row, instance, has_decimals);
-    if subject.by_run && !has_decimals {
+    if tally.mistakes != mistakes {
+        return;
+    }
+    for layer in subject.layers {
+        let row = Row {
+            subject,
+            test,
+            wanted: &wanted,
+            object_layer: *layer,
+        };
+        tally.take_layer(Some(*layer));
+        check_all(tally, &row, instance, has_decimals);
+    }
+    if subject.layers.contains(&false) && !has_decimals {
+        tally.take_layer(None);
         check_run(tally, request.as_str(), wanted.output.as_str());
     }
 }
@@ -63,14 +88,16 @@ fn take_row(
     request: &str,
     has_decimals: bool,
 ) {
-    let name = text(tally, test, "description");
     let mut question = Text::new(tally.alloc);
-    let layer = subject.object_layer;
-    write!(question, "{request}, {layer}, decimals: {has_decimals}");
+    let layers = subject.layers;
+    write!(
+        question,
+        "{request}, object layer: {layers:?}, decimals: {has_decimals}"
+    );
     if let Some(Value::String(text)) = test.get("text") {
         write!(question, ", {text}");
     }
-    tally.take_row(name, question.as_str());
+    tally.take_row(question.as_str());
 }
 
 // Asks a row over each representation.
@@ -118,7 +145,7 @@ fn check_read(tally: &mut Tally, row: &Row<'_>, own: &str, read: &DecimalTree) {
 
 fn check_float(tally: &mut Tally, row: &Row<'_>, instance: &Value) {
     let mut found = Lines::new(tally.alloc, false, row.wanted.has_messages);
-    found.text.push(row.subject.front);
+    found.text.push(row.front());
     push_float(&mut found, instance);
     check_whole(tally, row, "as decimals", &found);
 }
@@ -150,8 +177,8 @@ fn check_leaves<F: Json>(
 // Compares the lines of a whole schema: what it says of itself before those of its keywords.
 fn check_whole(tally: &mut Tally, row: &Row<'_>, way: &str, found: &Lines) {
     let found = found.text.as_str();
-    match found.strip_prefix(row.subject.front) {
+    match found.strip_prefix(row.front()) {
         Some(found) => tally.compare(way, row.wanted.answer.as_str(), found),
-        None => tally.compare(way, row.subject.front, found),
+        None => tally.compare(way, row.front(), found),
     }
 }

@@ -35,6 +35,14 @@ impl Text {
         self.keep(pushed);
     }
 
+    /// Appends the beginning of a text, of so many characters, and whether there are more.
+    pub(crate) fn push_cut(&mut self, part: &str, count: usize) {
+        for character in part.chars().take(count) {
+            write!(self, "{character}");
+        }
+        self.push_if(part.chars().nth(count).is_some(), " ..");
+    }
+
     /// Puts another text in the place of this one.
     pub(crate) fn set(&mut self, text: &str) {
         self.text.clear();

@@ -10,18 +10,22 @@ use jskw_value::SerdeJson;
 use serde_json::Value;
 
 /// Compares the members that are unchecked, with their reasons, with those that a group lists, with
-/// and without an object layer unless the group says which.
+/// each object layer.
 pub(crate) fn check(tally: &mut Tally, subject: Subject<'_>, list: &Value) {
     tally.take_name(subject.draft, "unchecked");
     let request = request_of(tally.alloc, subject, &Value::Null);
     let mut question = Text::new(tally.alloc);
-    let layer = subject.object_layer;
-    write!(question, "{}, {layer}, unchecked", request.as_str());
-    tally.take_row("unchecked", question.as_str());
+    let layers = subject.layers;
+    write!(
+        question,
+        "{}, object layer: {layers:?}, unchecked",
+        request.as_str()
+    );
+    tally.take_row(question.as_str());
     let lines = wanted_lines(tally, list);
-    check_with(tally, subject, layer, &lines);
-    if subject.by_run {
-        check_with(tally, subject, false, &lines);
+    for layer in layers {
+        tally.take_layer(Some(*layer));
+        check_with(tally, subject, *layer, &lines);
     }
 }
 

@@ -64,11 +64,12 @@ impl Wanted {
         let Some(error) = &error_of(tally, error) else {
             return;
         };
+        if error.members.contains_key("value") {
+            tally.tell_wrong("an error of an instance has no `value`", error.keyword);
+        }
         match of.pointer(error.at) {
-            Some(value) if !error.members.contains_key("value") => {
-                self.push_error(tally.alloc, error, value, test.contains_key("decimals"));
-            }
-            _ => tally.tell_wrong("the instance has the value of an error", error.at),
+            Some(value) => self.push_error(tally, error, value, test.contains_key("decimals")),
+            None => tally.tell_wrong("the instance has no such place", error.at),
         }
         let (keyword, at, by) = (error.keyword, error.at, error.by.as_str());
         write!(self.output, "{keyword}\t{at}\t{by}\n");
@@ -79,22 +80,29 @@ impl Wanted {
         if let Some(error) = &error_of(tally, error) {
             let value = error.members.get("value").unwrap_or(&Value::Null);
             self.answer.push("refused: ");
-            self.push_error(tally.alloc, error, value, false);
+            self.push_error(tally, error, value, false);
             let (keyword, by) = (error.keyword, error.by.as_str());
             write!(self.output, "refused: schema\t{keyword}\t{by}\nstatus 2\n");
         }
     }
 
     // Appends the line of an error, with its message if it has one.
-    fn push_error(&mut self, alloc: Global, error: &Error<'_>, value: &Value, has_decimals: bool) {
+    fn push_error(
+        &mut self,
+        tally: &mut Tally,
+        error: &Error<'_>,
+        value: &Value,
+        has_decimals: bool,
+    ) {
         let (keyword, at, by) = (error.keyword, error.at, error.by.as_str());
         write!(self.answer, "{keyword} ");
-        self.answer.push_made(error.payload.to_string(alloc));
+        self.answer.push_made(error.payload.to_string(tally.alloc));
         write!(self.answer, " at {at} by {by} of ");
-        push_value_of(alloc, &mut self.answer, value, has_decimals);
-        if let Some(Value::String(message)) = error.members.get("message") {
+        push_value_of(tally.alloc, &mut self.answer, value, has_decimals);
+        if error.members.contains_key("message") {
             self.has_messages = true;
-            write!(self.answer, ", {message}");
+            self.answer.push(", ");
+            self.answer.push(text(tally, error.members, "message"));
         }
         self.answer.push("\n");
     }

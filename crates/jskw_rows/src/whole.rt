@@ -16,7 +16,7 @@ use serde_json::Value;
 /// Appends what the schema of a row says of itself and of the instance, or its refusal.
 pub(crate) fn push_answer<'r, F: Json>(lines: &mut Lines, row: &'r Row<'r>, instance: &'r F::Node) {
     let root: Context<F> = Context::new(lines.alloc, row.subject.settings);
-    let ctx = root.with_object_layer(row.subject.object_layer);
+    let ctx = root.with_object_layer(row.object_layer);
     let parent = row.subject.schema.as_object();
     let is_fused = parent.is_some_and(|parent| array_shape_fusion(&ctx, parent));
     lines.text.push_if(is_fused, "fused\n");

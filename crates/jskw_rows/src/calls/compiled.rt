@@ -9,19 +9,24 @@ use crate::members::Members;
 use crate::text::Text;
 use jskw_array::compiler::compile;
 use jskw_array::items::{
-    BooleanItems, IntegerItems, IntegerItemsDraft4, ItemType, NumberItems, StringItems,
+    ArrayShapeValidator, BooleanItems, IntegerItems, IntegerItemsDraft4, ItemType, NumberItems,
+    StringItems, array_shape_fusion,
 };
 use jskw_array::{SchemaNode, additional_items};
 use jskw_leaf::boolean::FalseValidator;
 use jskw_leaf::legacy::type_draft_4::IntegerTypeValidator as IntegerTypeDraft4;
+use jskw_leaf::required::compile_with_path;
 use jskw_leaf::type_::{
     ArrayTypeValidator, BooleanTypeValidator, IntegerTypeValidator, NullTypeValidator,
     NumberTypeValidator, ObjectTypeValidator, StringTypeValidator,
 };
 use jskw_number::helpers::map_get_u64;
 use jskw_number::minmax::{Above, AtLeast, AtMost, Below, Limit, LimitTest, Whole};
-use jskw_report::{Context, LazyLocation, Location, LocationSegment, Validate, ValidationContext};
-use jskw_value::{DecimalJson, DecimalTree, SerdeJson};
+use jskw_report::context::member_of;
+use jskw_report::{
+    Context, KeywordName, LazyLocation, Location, LocationSegment, Validate, ValidationContext,
+};
+use jskw_value::{DecimalJson, DecimalTree, Node, SerdeJson};
 use serde_json::Value;
 
 // The value of a limit of each relation that is made of 7 and that value.
@@ -58,32 +63,71 @@ pub(super) fn made(lines: &mut Lines, all: Arguments<'_>) {
 
 fn push_made(lines: &mut Lines, name: &str, at: Location, item: &DecimalTree) {
     match name {
-        "false" => push_said(lines, FalseValidator::new(at), item),
-        "array" => push_said(lines, ArrayTypeValidator::new(at), item),
-        "boolean" => push_said(lines, BooleanTypeValidator::new(at), item),
-        "boolean of items" => push_said(lines, BooleanItems::compile_type(at), item),
-        "integer" => push_said(lines, IntegerTypeValidator::new(at), item),
-        "integer of items" => push_said(lines, IntegerItems::compile_type(at), item),
-        "integer of Draft 4" => push_said(lines, IntegerTypeDraft4::new(at), item),
+        "false" => push_said(lines, &FalseValidator::new(at), item),
+        "array" => push_said(lines, &ArrayTypeValidator::new(at), item),
+        "boolean" => push_said(lines, &BooleanTypeValidator::new(at), item),
+        "boolean of items" => push_said(lines, &BooleanItems::compile_type(at), item),
+        "integer" => push_said(lines, &IntegerTypeValidator::new(at), item),
+        "integer of items" => push_said(lines, &IntegerItems::compile_type(at), item),
+        "integer of Draft 4" => push_said(lines, &IntegerTypeDraft4::new(at), item),
         "integer of Draft 4 of items" => {
-            push_said(lines, IntegerItemsDraft4::compile_type(at), item)
+            push_said(lines, &IntegerItemsDraft4::compile_type(at), item)
         }
-        "null" => push_said(lines, NullTypeValidator::new(at), item),
-        "number" => push_said(lines, NumberTypeValidator::new(at), item),
-        "number of items" => push_said(lines, NumberItems::compile_type(at), item),
-        "object" => push_said(lines, ObjectTypeValidator::new(at), item),
-        "string" => push_said(lines, StringTypeValidator::new(at), item),
-        "string of items" => push_said(lines, StringItems::compile_type(at), item),
+        "null" => push_said(lines, &NullTypeValidator::new(at), item),
+        "number" => push_said(lines, &NumberTypeValidator::new(at), item),
+        "number of items" => push_said(lines, &NumberItems::compile_type(at), item),
+        "object" => push_said(lines, &ObjectTypeValidator::new(at), item),
+        "string" => push_said(lines, &StringTypeValidator::new(at), item),
+        "string of items" => push_said(lines, &StringItems::compile_type(at), item),
         _ => lines.text.push(UNKNOWN),
     }
 }
 
-fn push_said<V: Validate<DecimalJson> + Drop>(lines: &mut Lines, validator: V, item: &DecimalTree) {
+fn push_said<V: Validate<DecimalJson>>(lines: &mut Lines, validator: &V, item: &DecimalTree) {
     let (mut location, mut ctx) = (LazyLocation::new(lines.alloc), ValidationContext::new());
     lines.text.keep(location.push(7));
     lines.push_first(&validator.validate(item, &mut location, &mut ctx));
     let is_valid = lines.text.as_str().is_empty();
     lines.text.push_if(is_valid, "valid");
+}
+
+// What the validator of a value of `required` says of an item of the index 7, or why there is none.
+pub(super) fn required(lines: &mut Lines, all: Arguments<'_>) {
+    let at = Location::new(lines.alloc);
+    let compiled = compile_with_path::<DecimalJson>(lines.alloc, all.value(0), at);
+    push_compiled(lines, compiled, all.instance(), push_said)
+}
+
+// The nodes of `type`, `minItems` and `maxItems` of a fused shape; nothing of a schema without one.
+pub(super) fn shape(lines: &mut Lines, given: Given<'_>, all: Arguments<'_>) {
+    let ctx: Context<DecimalJson> = Context::new(lines.alloc, given.settings);
+    if !array_shape_fusion(&ctx, given.parent) {
+        return;
+    }
+    if let Some(items) = member_of(given.parent, KeywordName::Items.as_str()) {
+        let compiled = ArrayShapeValidator::compile(lines.alloc, &ctx, given.parent, items);
+        push_compiled(lines, Some(compiled), all.instance(), push_absorbed);
+    }
+}
+
+fn push_absorbed(
+    lines: &mut Lines,
+    shape: &ArrayShapeValidator<DecimalJson>,
+    instance: &DecimalTree,
+) {
+    let (alloc, is_array) = (lines.alloc, instance.is_array());
+    let (absorbed, at, mut nodes) = (shape.absorbed(), Location::new(alloc), Vec::new(alloc));
+    let length = instance.item_count() as u64;
+    let count = if is_array { Some(length) } else { None };
+    lines.push_tree(
+        0,
+        &absorbed.evaluate_type::<DecimalJson>(alloc, instance, is_array, &at),
+    );
+    let made = absorbed.evaluate_counts::<DecimalJson>(alloc, instance, count, &at, &mut nodes);
+    lines.text.keep(made);
+    for node in &nodes {
+        lines.push_nodes(0, node);
+    }
 }
 
 // Whether an instance is one of the options of a made array.

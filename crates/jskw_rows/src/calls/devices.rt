@@ -12,18 +12,6 @@ use std::io::{self, ErrorKind, Read, Write};
 // A request, which is read in 8 pieces of 4 bytes and the end. Its reply is written in 5 pieces of 3.
 const REQUEST: &[u8] = b"{\"schema\":false,\"instance\":null}";
 
-// Errors after which a call may be tried again, those that say that nothing is left, and others.
-const ERRORS: [(&str, ErrorKind); 8] = [
-    ("Interrupted", ErrorKind::Interrupted),
-    ("WouldBlock", ErrorKind::WouldBlock),
-    ("TimedOut", ErrorKind::TimedOut),
-    ("UnexpectedEof", ErrorKind::UnexpectedEof),
-    ("WriteZero", ErrorKind::WriteZero),
-    ("OutOfMemory", ErrorKind::OutOfMemory),
-    ("BrokenPipe", ErrorKind::BrokenPipe),
-    ("Other", ErrorKind::Other),
-];
-
 // A device that fails once, after `calls` calls, and works before and afterwards. As a reader or a
 // writer of std without an error to give it moves no byte then.
 #[derive(Drop)]
@@ -166,10 +154,12 @@ pub(super) fn ended(lines: &mut Lines, all: Arguments<'_>) {
     push_end(lines, calls, error_of(all.value(1)));
 }
 
+// Returns the error after which a call may be tried again, if it is named, or another one.
 fn error_of(name: &Value) -> Option<ErrorKind> {
-    let name = name.as_str()?;
-    let found = ERRORS.iter().find(|error| error.0 == name);
-    found.map(|error| error.1)
+    match name.as_str()? {
+        "Interrupted" => Some(ErrorKind::Interrupted),
+        _ => Some(ErrorKind::Other),
+    }
 }
 
 // Runs over devices of std in devices of the service, of which each fails after so many calls: source,

@@ -23,7 +23,8 @@ pub(super) fn read(lines: &mut Lines, all: Arguments<'_>) {
     }
 }
 
-fn push_fault(text: &mut Text, bytes: &[u8], fault: &ReadFault) {
+/// Appends why a text is not read.
+pub(crate) fn push_fault(text: &mut Text, bytes: &[u8], fault: &ReadFault) {
     match fault {
         ReadFault::NotJson(offset) => {
             let at = position_of(bytes, *offset);
