@@ -40,9 +40,9 @@ pub(crate) struct Lines {
 /// Reads a stream to its end, writes the answer to each line and nothing else, and returns the worst
 /// verdict. The last line needs no line feed. Neither device may have failed before the call.
 ///
-/// The answers to the lines that end in a block of the reader are written before the next block is
-/// read, and the counts are shown to the watcher. Memory is kept for one line, besides the block, its answers and what the line takes while
-/// it is checked.
+/// The answers to the lines that end in a block of the reader are written, and the counts shown to
+/// the watcher, before the next block is read. Memory is kept for one line, besides the block, its
+/// answers and what the line takes while it is checked.
 ///
 /// # Errors
 ///
