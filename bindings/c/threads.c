@@ -22,8 +22,9 @@
 
 enum { ASKERS = 8, COMPILERS = 2, THREADS = ASKERS + COMPILERS };
 
+/* A call writes to its handle: those of two threads are not to share a line of the cache. */
 struct job {
-    pthread_t thread;
+    _Alignas(128) pthread_t thread;
     jskw_schema member, list;
     long rounds, wrong, done;
     double seconds, used;
