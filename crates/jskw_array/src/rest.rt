@@ -49,39 +49,22 @@ impl<F: Json> Rest<F> {
             None
         }
     }
-
-    // Returns `is_valid` for an array of `count` items, so that they are not counted again.
-    #[inline(never)]
-    #[cycle(is_valid)]
-    pub(crate) fn is_valid_counted(
-        &self,
-        count: usize,
-        instance: &F::Node,
-        ctx: &mut ValidationContext,
-    ) -> bool
-        requires lawful { IsTrue (is_lawful (F.Node.tree instance.now)) }
-        requires count { count ≡ length (items (F.Node.tree instance.now)) }
-        ensures answer { result ≡ keyword_holds (rest_keyword self.now) (F.Node.tree instance.now) }
-        ensures counted { CountsUpTo ctx.old ctx.new
-            (keyword_needed (rest_keyword self.now) (F.Node.tree instance.now)) }
-    {
-        for index in self.node.skip_valid(self.start, count, instance, ctx)..count {
-            if !self.node.is_valid(instance.item(index), ctx) {
-                return false;
-            }
-        }
-        true
-    }
 }
 
 #[tactic(auto, using(crate::proofs::ValidatorMeanings::rest_no_assertion))]
 impl<F: Json> Validate<F> for Rest<F> {
     ghost meaning = { λ v. one_keyword (rest_keyword v) };
 
+    #[inline(never)]
     #[cycle(is_valid)]
     fn is_valid(&self, instance: &F::Node, ctx: &mut ValidationContext) -> bool {
         let count = instance.item_count();
-        count <= self.start || self.is_valid_counted(count, instance, ctx)
+        for index in self.node.skip_valid(self.start, count, instance, ctx)..count {
+            if !self.node.is_valid(instance.item(index), ctx) {
+                return false;
+            }
+        }
+        true
     }
 
     #[inline(always)]

@@ -94,32 +94,6 @@ impl<F: Json> Validate<F> for Validator<F> {
 }
 
 impl<F: Json> Validator<F> {
-    // Returns `is_valid` for an array of `count` items, so that they are not counted again.
-    #[cycle(is_valid)]
-    pub(crate) fn is_valid_counted(
-        &self,
-        count: usize,
-        instance: &F::Node,
-        ctx: &mut ValidationContext,
-    ) -> bool
-        requires lawful { IsTrue (is_lawful (F.Node.tree instance.now)) }
-        requires count { count ≡ length (items (F.Node.tree instance.now)) }
-        ensures answer { result
-            ≡ keyword_holds (validator_keyword self.now) (F.Node.tree instance.now) }
-        ensures counted { CountsUpTo ctx.old ctx.new
-            (keyword_needed (validator_keyword self.now) (F.Node.tree instance.now)) }
-    {
-        match self {
-            Validator::ItemsNumber(v) => v.is_valid_counted(count, instance),
-            Validator::ItemsString(v) => v.is_valid_counted(count, instance),
-            Validator::ItemsBoolean(v) => v.is_valid_counted(count, instance),
-            Validator::ItemsInteger(v) => v.is_valid_counted(count, instance),
-            Validator::ItemsIntegerDraft4(v) => v.is_valid_counted(count, instance),
-            Validator::Rest(v) => v.is_valid_counted(count, instance, ctx),
-            _ => self.is_valid(instance, ctx),
-        }
-    }
-
     // Returns values that the keyword accepts: one with subschemas accepts everything but arrays.
     pub(crate) fn quick_set(&self) -> QuickSet
         ensures { Accepts result (validator_keyword self.now) }

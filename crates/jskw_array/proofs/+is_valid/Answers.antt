@@ -80,9 +80,9 @@ each::EachValidate::is_valid-returns-clause-counted g t c =
 
 -- ---- one schema for the items from an index on
 
-pub rest::Rest::is_valid_counted-returns-then-not-is_valid-clause-counted
-    : goal.rest::Rest::is_valid_counted-returns-then-not-is_valid-clause-counted
-rest::Rest::is_valid_counted-returns-then-not-is_valid-clause-counted g t c =
+pub rest::RestValidate::is_valid-returns-then-not-is_valid-clause-counted
+    : goal.rest::RestValidate::is_valid-returns-then-not-is_valid-clause-counted
+rest::RestValidate::is_valid-returns-then-not-is_valid-clause-counted g t c =
     let l = c.loop-index in
     let s = c.args.self.now.node in
     let tree = g.F.Node.Rooted.tree in
@@ -96,12 +96,12 @@ rest::Rest::is_valid_counted-returns-then-not-is_valid-clause-counted g t c =
       to = omega (arith, cost, l.invariant.counted_to, next.to);
     }
 
-pub rest::Rest::is_valid_counted-returns-clause-counted : goal.rest::Rest::is_valid_counted-returns-clause-counted
-rest::Rest::is_valid_counted-returns-clause-counted g t c =
+pub rest::RestValidate::is_valid-returns-clause-counted : goal.rest::RestValidate::is_valid-returns-clause-counted
+rest::RestValidate::is_valid-returns-clause-counted g t c =
     record { from = c.loop-index.invariant.counted_from; to = omega (arith, c.loop-index.invariant.counted_to) }
 
-pub rest::Rest::is_valid_counted-loop-index-init : goal.rest::Rest::is_valid_counted-loop-index-init
-rest::Rest::is_valid_counted-loop-index-init g t c =
+pub rest::RestValidate::is_valid-loop-index-init : goal.rest::RestValidate::is_valid-loop-index-init
+rest::RestValidate::is_valid-loop-index-init g t c =
     let v = c.args.self.now in
     let instance = g.F.Node.Rooted.tree c.args.instance.now in
     let ts = items instance in
@@ -122,8 +122,8 @@ rest::Rest::is_valid_counted-loop-index-init g t c =
       counted_to = omega (arith, rest_needs v instance, cost, taken.counted.to);
     }
 
-pub rest::Rest::is_valid_counted-is_valid-requires : goal.rest::Rest::is_valid_counted-is_valid-requires
-rest::Rest::is_valid_counted-is_valid-requires g t c κs within =
+pub rest::RestValidate::is_valid-is_valid-requires : goal.rest::RestValidate::is_valid-is_valid-requires
+rest::RestValidate::is_valid-is_valid-requires g t c κs within =
     (omega (arith, rest_is_as_high c.args.self.now, c.decreases), search rules)
 
 -- ---- the units

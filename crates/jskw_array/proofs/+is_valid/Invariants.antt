@@ -22,9 +22,6 @@ abbrev pub decreases-items::array_shape::ArrayShapeValidatorValidate::is_valid
 decreases-items::array_shape::ArrayShapeValidatorValidate::is_valid g l =
     10 * keyword_height (validator_keyword l.self.now.items.validator) + 6
 
-abbrev pub decreases-validator::Validator::is_valid_counted : goal.decreases-validator::Validator::is_valid_counted
-decreases-validator::Validator::is_valid_counted g l = 10 * keyword_height (validator_keyword l.self.now) + 5
-
 abbrev pub decreases-validator::ValidatorValidate::is_valid : goal.decreases-validator::ValidatorValidate::is_valid
 decreases-validator::ValidatorValidate::is_valid g l = 10 * keyword_height (validator_keyword l.self.now) + 4
 
@@ -36,9 +33,6 @@ decreases-each::Each::are_valid g l = 10 * keyword_height (each_keyword l.self.n
 
 abbrev pub decreases-rest::RestValidate::is_valid : goal.decreases-rest::RestValidate::is_valid
 decreases-rest::RestValidate::is_valid g l = 10 * keyword_height (rest_keyword l.self.now) + 3
-
-abbrev pub decreases-rest::Rest::is_valid_counted : goal.decreases-rest::Rest::is_valid_counted
-decreases-rest::Rest::is_valid_counted g l = 10 * keyword_height (rest_keyword l.self.now) + 2
 
 abbrev pub decreases-matching::MatchingValidate::is_valid : goal.decreases-matching::MatchingValidate::is_valid
 decreases-matching::MatchingValidate::is_valid g l = 10 * height l.self.now.node + 3
@@ -58,8 +52,8 @@ invariant-each::Each::are_valid-loop-index g l =
           ≤ l.initial.ctx + each_needed (schemas_of (drop l.first ss)) (drop l.first ts);
     }
 
-abbrev pub invariant-rest::Rest::is_valid_counted-loop-index : goal.invariant-rest::Rest::is_valid_counted-loop-index
-invariant-rest::Rest::is_valid_counted-loop-index g l =
+abbrev pub invariant-rest::RestValidate::is_valid-loop-index : goal.invariant-rest::RestValidate::is_valid-loop-index
+invariant-rest::RestValidate::is_valid-loop-index g l =
     let t = g.F.Node.Rooted.tree l.instance in
     let s = l.self.node in
     record {

@@ -95,10 +95,8 @@ impl<F: Json> Validate<F> for ArrayShapeValidator<F> {
     #[inline(never)]
     #[cycle(is_valid)]
     fn is_valid(&self, instance: &F::Node, ctx: &mut ValidationContext) -> bool {
-        match self.absorbed.valid_count(instance) {
-            Some(count) => self.items.validator.is_valid_counted(count, instance, ctx),
-            None => false,
-        }
+        self.absorbed.valid_count(instance).is_some()
+            && self.items.validator.is_valid(instance, ctx)
     }
 
     #[cycle(report)]

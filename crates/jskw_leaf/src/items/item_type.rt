@@ -116,18 +116,6 @@ impl<T: ItemType, F: Json> ItemsTypeValidator<T, F> {
         }
     }
 
-    /// Returns whether each item of `instance` is of the type. `count` must be the number of items,
-    /// which is 0 for a non-array, and the instance must be lawful.
-    #[inline(never)]
-    pub fn is_valid_counted(&self, count: usize, instance: &F::Node) -> bool
-        requires lawful { IsTrue (is_lawful (F.Node.tree instance.now)) }
-        requires count { count ≡ length (items (F.Node.tree instance.now)) }
-        ensures { result
-            ≡ keyword_holds (items_type T.json_type T.rule self.now) (F.Node.tree instance.now) }
-    {
-        first_other::<T, F>(0, count, instance) == count
-    }
-
     // Returns the evaluation of the item at `path` by a schema that has only `type`.
     fn evaluate_item(
         &self,
@@ -152,7 +140,8 @@ impl<T: ItemType, F: Json> Validate<F> for ItemsTypeValidator<T, F> {
     ghost meaning = { λ v. one_keyword (items_type T.json_type T.rule v) };
 
     fn is_valid(&self, instance: &F::Node, _ctx: &mut ValidationContext) -> bool {
-        self.is_valid_counted(instance.item_count(), instance)
+        let count = instance.item_count();
+        first_other::<T, F>(0, count, instance) == count
     }
 
     fn report_errors<'i>(

@@ -5,10 +5,10 @@ use Rattle.jskw_number.specs.QuickSet.{leading}
 use Rattle.jskw_leaf.specs.Meaning.{single_type}
 use Rattle.jskw_leaf.proofs.BareTypeChecks.{bare_all_hold}
 use Rattle.jskw_leaf.proofs.TypeWalks.{all_leading}
-use Rattle.jskw_leaf.proofs.items.item_type.ItemsTypeValidator.is_valid_counted.Goals as goal
+use Rattle.jskw_leaf.proofs.items.item_type.ItemsTypeValidatorValidate.is_valid.Goals as goal
 
-pub returns : goal.returns
-returns g c =
+pub returns-clause-answer : goal.returns-clause-answer
+returns-clause-answer g c =
     let v = c.args.self.now in
     let a = single_type g.T.TypeTest.json_type g.T.TypeTest.rule v.validator in
     let check = assertion_holds a.assertion in
