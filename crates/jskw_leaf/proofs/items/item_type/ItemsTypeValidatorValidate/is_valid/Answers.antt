@@ -15,4 +15,4 @@ returns-clause-answer g c =
     let ts = items (g.F.Node.Rooted.tree c.args.instance.now) in
     let first = c.first_other.ensures.first in
     let index : c.first_other.result ≡ leading check ts = omega (arith, first) in
-    ap₂ nat_eq index c.requires.count ∙ all_leading check ts ∙ sym (bare_all_hold v.location a ts)
+    ap₂ nat_eq index c.item_count-count.ensures ∙ all_leading check ts ∙ sym (bare_all_hold v.location a ts)
