@@ -1,11 +1,9 @@
 //! One schema for the items from an index on: `items` (JSON Schema Core 10.3.1.2), and
 //! `additionalItems` (Draft 7 Validation 6.4.2). A non-array has no items.
 ghost use Rattle.std.specs.Prelude.{◌≡◌, ◌-◌};
-ghost use Rattle.jskw_array.specs.Words.{CountsUpTo, IsTrue, CompilesTo, Reading, is_lawful};
-ghost use Rattle.jskw_array.specs.Words.{items, keyword_holds, keyword_needed};
-ghost use Rattle.jskw_array.specs.Words.{IfSome, length, map_ok, one_keyword};
-ghost use Rattle.jskw_array.specs.Words.{rest_keyword, rest_of, true};
-ghost use Rattle.jskw_array.specs.Words.{validator_keyword};
+ghost use Rattle.jskw_array.specs.Words.{CompilesTo, IfSome, IsTrue, Reading, is_lawful};
+ghost use Rattle.jskw_array.specs.Words.{items, keyword_holds, length, map_ok, one_keyword};
+ghost use Rattle.jskw_array.specs.Words.{rest_keyword, rest_of, true, validator_keyword};
 
 use crate::node::Subschema;
 use crate::validator::Validator;

@@ -1,8 +1,7 @@
 //! The validators of all keywords as one type.
 ghost use Rattle.std.specs.Prelude.{◌≡◌};
-ghost use Rattle.jskw_array.specs.Words.{Accepts, CountsUpTo, IsTrue, Tree, in_outline, is_lawful};
-ghost use Rattle.jskw_array.specs.Words.{items, keyword_delegates, keyword_holds, keyword_needed};
-ghost use Rattle.jskw_array.specs.Words.{length, one_keyword, true, validator_keyword};
+ghost use Rattle.jskw_array.specs.Words.{Accepts, Tree, in_outline, keyword_delegates};
+ghost use Rattle.jskw_array.specs.Words.{keyword_holds, one_keyword, true, validator_keyword};
 
 use crate::additional_items::AdditionalItemsBooleanValidator;
 use crate::each::Each;

@@ -5,7 +5,7 @@ ghost use Rattle.std.specs.Prelude.{IfOk, IsTrue, Some, drop, length, nat_lt};
 ghost use Rattle.jskw_value.specs.Tree.{is_array, is_lawful, items};
 ghost use Rattle.jskw_report.specs.Evaluation.{flag, of_children, tree, valid_unit};
 ghost use Rattle.jskw_report.specs.EvaluationView.{result_of};
-ghost use Rattle.jskw_report.specs.Holds.{assertion_holds, keyword_holds};
+ghost use Rattle.jskw_report.specs.Holds.{assertion_holds};
 ghost use Rattle.jskw_report.specs.Keyword.{type_is};
 ghost use Rattle.jskw_report.specs.Meaning.{as_keyword, one_keyword};
 ghost use Rattle.jskw_report.specs.declared.error.TypeKind.TheVariants.{Single};
