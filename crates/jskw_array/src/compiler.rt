@@ -131,7 +131,7 @@ fn node_of<'a, F: Json>(
     if let Err(fault) = made {
         return Err(fault);
     }
-    // a part takes some 250 bytes
+    // a part takes some 200 bytes
     parts.shrink_to_fit();
     let location = ctx.place().copy()?;
     Ok(Subschema::of_keywords(location, required::is_handed_on(ctx, parent), parts))

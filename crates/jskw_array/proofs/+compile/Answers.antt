@@ -1,7 +1,8 @@
 use Rattle.std.proofs.Common.{rules, ◌≡◌, Bool, ℕ, Some, None, Result, Ok, Err, true, false, drop, get_or, refl, sym}
 use Rattle.std.proofs.Common.{ap, ap₂, subst, ◌∙◌, arith}
 use Rattle.jskw_array.specs.Words.{Array, Keyword, CompilesTo, Refusal, Schema, absorbed_keywords, active_member, after}
-use Rattle.jskw_array.specs.Words.{append_keywords, as_array, before, begin_fused, bounds_of, contains, fused_keywords}
+use Rattle.jskw_array.specs.Words.{append_keywords, as_array, before, begin_fused, boxed_bounds, contains}
+use Rattle.jskw_array.specs.Words.{fused_keywords}
 use Rattle.jskw_array.specs.Words.{get_member, is_fused, is_items_schema, items_depth, items_from, items_view, join_ok}
 use Rattle.jskw_array.specs.Words.{keyword, keyword_location, keywords, keywords_of, map_ok, members_view, name_of}
 use Rattle.jskw_array.specs.Words.{no_keywords, of_type, readings_named, read, read_bounds, read_each, read_keywords}
@@ -398,11 +399,11 @@ pub contains::compile-returns : goal.contains::compile-returns
 contains::compile-returns g t c =
     let ms = members_view c.args.parent.now.entries in
     let d = view c.args.schema.now in
-    let made : CompilesTo bounds_of (Ok c.in-Ok.bounds)
+    let made : CompilesTo boxed_bounds (Ok c.in-Ok.bounds)
     (read_bounds c.args.ctx.now.setting c.args.ctx.now.location ms) =
-    subst (λ r. CompilesTo bounds_of r (read_bounds c.args.ctx.now.setting c.args.ctx.now.location ms)) c.in-Ok.is
+    subst (λ r. CompilesTo boxed_bounds r (read_bounds c.args.ctx.now.setting c.args.ctx.now.location ms)) c.in-Ok.is
     c.bounds_beside.ensures in
-    compiles_as _ c.of_schema.result _ _ (contains_of_schema c.args.ctx.now ms d (bounds_of c.in-Ok.bounds) made)
+    compiles_as _ c.of_schema.result _ _ (contains_of_schema c.args.ctx.now ms d (boxed_bounds c.in-Ok.bounds) made)
     (c.of_schema.ensures _ c.compile_at.ensures)
 
 pub contains::compile-returns-in-Err : goal.contains::compile-returns-in-Err
@@ -413,11 +414,11 @@ contains::compile-returns-in-Err g t c =
     let ms = members_view c.args.parent.now.entries in
     let d = view c.args.schema.now in
     let bounds = read_bounds c.args.ctx.now.setting c.args.ctx.now.location ms in
-    let made : CompilesTo bounds_of (Err c.in-Err.fault) bounds =
-    subst (λ r. CompilesTo bounds_of r bounds) c.in-Err.is c.bounds_beside.ensures in
+    let made : CompilesTo boxed_bounds (Err c.in-Err.fault) bounds =
+    subst (λ r. CompilesTo boxed_bounds r bounds) c.in-Err.is c.bounds_beside.ensures in
     let sub = read d c.args.ctx.now.setting (keyword_location c.args.ctx.now.location keyword_name.Contains) in
     compiles_as keyword_of (Some (Err c.in-Err.fault)) _ _ (contains_read c.args.ctx.now ms d)
-    (refused_whole bounds_of keyword_of c.in-Err.fault bounds _ made
+    (refused_whole boxed_bounds keyword_of c.in-Err.fault bounds _ made
     (λ r e. ap (λ b. join_ok (λ b s. contains s b) b sub) e))
 
 -- ---- the calls go down
