@@ -38,7 +38,7 @@ pub compiler::push_parts-push_shape-requires : goal.compiler::push_parts-push_sh
 compiler::push_parts-push_shape-requires g t c κs within =
     let there : is_fused c.args.ctx.now.setting (members_view c.args.parent.now.entries) ≡ true =
     search (rules, c.array_shape_fusion.ensures, c.if-not-array_shape_fusion.false) in
-    (omega (arith, c.decreases), search (rules, c.requires, there))
+    (omega (arith, c.decreases), search (rules, c.requires.empty, there))
 
 pub compiler::push_parts-returns-then-not-array_shape_fusion-clause-made
     : goal.compiler::push_parts-returns-then-not-array_shape_fusion-clause-made
@@ -47,14 +47,14 @@ compiler::push_parts-returns-then-not-array_shape_fusion-clause-made g t c =
     let all =
     read_keywords keywords c.args.ctx.now.setting c.args.ctx.now.location ms (λ name. readings_named name ms) in
     subst (CompilesTo (λ _. keywords_of c.push_keywords.new.parts.items) c.push_keywords.result)
-    (after_empty _ c.requires all) c.push_keywords.ensures.made
+    (after_empty _ c.requires.empty all) c.push_keywords.ensures.made
 
 pub compiler::push_parts-returns-then-not-array_shape_fusion-clause-fused
     : goal.compiler::push_parts-returns-then-not-array_shape_fusion-clause-fused
 compiler::push_parts-returns-then-not-array_shape_fusion-clause-fused g t c =
     let lacks : is_fused c.args.ctx.now.setting (members_view c.args.parent.now.entries) ≡ false =
     search (rules, c.array_shape_fusion.ensures, c.if-not-array_shape_fusion.true) in
-    ok_then c.push_keywords.result (λ _ same. same ∙ ap begin_fused c.requires ∙ sym lacks)
+    ok_then c.push_keywords.result (λ _ same. same ∙ ap begin_fused c.requires.empty ∙ sym lacks)
     c.push_keywords.ensures.fused
 
 pub compiler::push_parts-returns-in_err-push_shape-clause-made
@@ -135,7 +135,7 @@ compiler::push_keywords-compile_keyword-compiled-requires g t c κs within =
     let found : active_member c.args.ctx.now.setting ms w ≡ Some (view c.in-Some.schema.now) =
     search (rules, c.active_member.ensures, c.in-Some.is) in
     let below = active_depth w c.args.ctx.now ms (view c.in-Some.schema.now) found in
-    (omega (arith, below, c.decreases), search rules)
+    (omega (arith, below, c.decreases), search (rules, c.requires))
 
 pub compiler::push_keywords-loop-keyword-init : goal.compiler::push_keywords-loop-keyword-init
 compiler::push_keywords-loop-keyword-init g t c = record { left = refl; fused = refl }
