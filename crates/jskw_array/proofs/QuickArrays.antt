@@ -104,6 +104,17 @@ module _ {F Node Number Key : Type 0} where
           omega (arith, before, more),
         )
 
+  -- lengths that are in another outline too
+  pub adds_lengths : (o own both : Outline) (a : Option (Bor AbsorbedKeywords))
+      (f : Option (Bor (Each F Node Number Key))) (r : Option (Bor (Rest F Node Number Key)))
+      → ((t : Tree) → in_outline both t ≡ true → (in_outline o t && in_outline own t) ≡ true)
+      → AddsKeywords (record { lengths = o; absorbed = a; front = f; rest = r })
+      (record { lengths = both; absorbed = a; front = f; rest = r }) (in_outline own) (λ _. 0)
+  adds_lengths o own both a f r parts t h =
+      let all = five (is_array t) (in_outline both t) (absorbed_hold a t) (front_holds f t) (rest_holds r t) h in
+      let lengths = and_parts (in_outline o t) (in_outline own t) (parts t all.1) in
+      (rw all.0 (rw lengths.0 (rw all.2 (rw all.3 all.4))), lengths.1, omega arith)
+
   -- the fused shape: its bounds, and `items` by a set of them
   pub adds_shape : (o : Outline) (old : Option (Bor AbsorbedKeywords)) (x : Bor AbsorbedKeywords)
       (f : Option (Bor (Each F Node Number Key))) (r : Option (Bor (Rest F Node Number Key)))

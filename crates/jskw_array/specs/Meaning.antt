@@ -1,5 +1,6 @@
 -- What each validator stands for. A node is seen as the schema that it stands for.
-use Rattle.std.specs.Prelude.{ℕ, List, [], ◌∷◌, Bool, false, if◌then◌else◌, unwrap_or}
+use Rattle.std.specs.Prelude.{ℕ, List, [], ◌∷◌, Bool, Box, false, if◌then◌else◌, unwrap_or}
+use Rattle.std.specs.declared.alloc.Global.{Global}
 use Rattle.jskw_value.specs.declared.types.JsonType.TheVariants as json_type
 use Rattle.jskw_report.specs.Keyword.{Schema, Keyword, additional_items, at_most, contains, items_list, items_from}
 use Rattle.jskw_report.specs.Keyword.{prefix_items, Schemas, no_schemas, schema, Bounds, by_value, as_written}
@@ -24,6 +25,10 @@ abbrev pub bounds_of : ItemBounds → Bounds
 bounds_of b =
     record { lower = b.lower; upper = b.upper; few = b.too_few_at; many = unwrap_or b.too_many_at b.too_few_at }
 
+-- the same in a box
+abbrev pub boxed_bounds : Box ItemBounds Global → Bounds
+boxed_bounds b = bounds_of b.value
+
 -- a schema for each item: `prefixItems`, or `items` of an array of schemas
 abbrev pub each_of : Bool → Schemas → Keyword
 each_of is_prefix ss = if is_prefix then prefix_items ss else items_list ss
@@ -44,7 +49,7 @@ module _ {F Node Number Key : Type 0} where
 
   -- the items that match
   abbrev pub matching_keyword : Matching F Node Number Key → Keyword
-  matching_keyword v = contains v.node (bounds_of v.bounds)
+  matching_keyword v = contains v.node (boxed_bounds v.bounds)
 
   -- any of them
   abbrev pub validator_keyword : Validator F Node Number Key → Keyword

@@ -62,8 +62,8 @@ pub use Rattle.jskw_leaf.specs.Items.{absorbed_keywords, bare_items, bare_schema
 pub use Rattle.jskw_leaf.specs.Meaning.{type_at}
 pub use Rattle.jskw_leaf.specs.Names.{is_leaf}
 -- the same of this crate
-pub use Rattle.jskw_array.specs.Meaning.{bounds_of, each_keyword, each_of, matching_keyword, no_additional_items}
-pub use Rattle.jskw_array.specs.Meaning.{rest_keyword, rest_of, schemas_of, validator_keyword}
+pub use Rattle.jskw_array.specs.Meaning.{bounds_of, boxed_bounds, each_keyword, each_of, matching_keyword}
+pub use Rattle.jskw_array.specs.Meaning.{no_additional_items, rest_keyword, rest_of, schemas_of, validator_keyword}
 pub use Rattle.jskw_array.specs.Limits.{deciding_count, failing_locations, locations_of, matching_result}
 pub use Rattle.jskw_array.specs.Fused.{IsBeginning, fused_keywords, shape_keywords, shape_meaning}
 pub use Rattle.jskw_array.specs.Parts.{IsShape, absorbed_by, after, begin_fused, is_shape, keywords_of, part_delegates}

@@ -4,7 +4,7 @@ ghost use Rattle.jskw_array.specs.Words.{[], Asserts, Boolean, CompilesKeyword, 
 ghost use Rattle.jskw_array.specs.Words.{IsTrue, Keywords, CompilesTo, Object, Ok, Reading, Refusal};
 ghost use Rattle.jskw_array.specs.Words.{MarksLengths, Result, Schema, Some, active_member, after};
 ghost use Rattle.jskw_array.specs.Words.{before, begin_fused, boolean_schema, each_of, fused_keywords};
-ghost use Rattle.jskw_array.specs.Words.{get_member, is_fused, is_leaf, items_view};
+ghost use Rattle.jskw_array.specs.Words.{Members, get_member, is_fused, is_handed_on, is_leaf, items_view};
 ghost use Rattle.jskw_array.specs.Words.{keyword_location, keywords};
 ghost use Rattle.jskw_array.specs.Words.{keywords_of, map_ok, members_view, no_keywords, object, of_types};
 ghost use Rattle.jskw_array.specs.Words.{option_map, readings_named, read, read_each, read_keywords};
@@ -92,9 +92,10 @@ fn compile_object<'a, F: Json>(
     ensures { let ms = members_view parent.now.entries in CompilesTo (λ s. s) result
         (read (object ms) ctx.now.setting ctx.now.location) }
 {
+    let delegates = required::is_handed_on(ctx, parent);
     let mut parts = Vec::with_capacity(alloc, parent.len().min(KeywordName::ALL.len()))?;
-    let made = push_parts(alloc, ctx, parent, &mut parts);
-    node_of(alloc, ctx, parent, parts, made)
+    let made = push_parts(alloc, ctx, parent, delegates, &mut parts);
+    node_of(alloc, ctx, parent, delegates, parts, made)
 }
 
 // Returns the node of a boolean schema at the location of `ctx`.
@@ -110,16 +111,19 @@ fn boolean_node<F: Json>(
     Ok(Subschema::of_boolean(alloc, location, accepts))
 }
 
-// Returns the node of an object, if its parts were made. Not a part of the recursion, so that the
-// frames of a deep schema do without what this one needs.
+// Returns the node of an object, if its parts were made. `delegates` is whether its `required` is
+// delegated. Not a part of the recursion, so that the frames of a deep schema do without what this
+// one needs.
 #[inline(never)]
 fn node_of<'a, F: Json>(
     alloc: Global,
     ctx: &Context<'_, F>,
     parent: &Map<String, Value>,
+    delegates: bool,
     mut parts: Vec<Part<F>>,
     made: CompilationResult<'a, ()>,
 ) -> CompilationResult<'a, Subschema<F>>
+    requires delegates { delegates ≡ is_handed_on ctx.now.setting (members_view parent.now.entries) }
     requires made { let ms = members_view parent.now.entries in
         CompilesTo (λ _. keywords_of parts.items) made
         (read_keywords keywords ctx.now.setting ctx.now.location ms (λ name. readings_named name ms)) }
@@ -131,23 +135,25 @@ fn node_of<'a, F: Json>(
     if let Err(fault) = made {
         return Err(fault);
     }
-    // a part takes some 250 bytes
+    // a part takes some 200 bytes
     parts.shrink_to_fit();
     let location = ctx.place().copy()?;
-    Ok(Subschema::of_keywords(location, required::is_handed_on(ctx, parent), parts))
+    Ok(Subschema::of_keywords(location, delegates, parts))
 }
 
 // Appends the parts of an object to an empty vector: its keywords in their order, where the first
-// four may be one part.
+// four may be one part. `delegates` is whether its `required` is delegated.
 #[inline(never)]
 #[cycle(compile)]
 fn push_parts<'a, F: Json>(
     alloc: Global,
     ctx: &Context<'_, F>,
     parent: &'a Map<String, Value>,
+    delegates: bool,
     parts: &mut Vec<Part<F>>,
 ) -> CompilationResult<'a, ()>
-    requires { parts.old.items ≡ [] }
+    requires empty { parts.old.items ≡ [] }
+    requires delegates { delegates ≡ is_handed_on ctx.now.setting (members_view parent.now.entries) }
     ensures made { let ms = members_view parent.now.entries in
         CompilesTo (λ _. keywords_of parts.new.items) result
         (read_keywords keywords ctx.now.setting ctx.now.location ms (λ name. readings_named name ms)) }
@@ -155,10 +161,17 @@ fn push_parts<'a, F: Json>(
         ≡ is_fused ctx.now.setting (members_view parent.now.entries)) }
 {
     if !array_shape_fusion(ctx, parent) {
-        return push_keywords(alloc, ctx, parent, &KeywordName::ALL, parts);
+        return push_keywords(alloc, ctx, parent, delegates, &KeywordName::ALL, parts);
     }
     push_shape(alloc, ctx, parent, parts)?;
-    push_keywords(alloc, ctx, parent, &KeywordName::ALL[FUSED..], parts)
+    push_keywords(
+        alloc,
+        ctx,
+        parent,
+        delegates,
+        &KeywordName::ALL[FUSED..],
+        parts,
+    )
 }
 
 // Appends the part of an object with the fused shape to an empty vector.
@@ -215,16 +228,19 @@ fn no_schema<'a>(alloc: Global, location: &KeywordLocation, value: &'a Value) ->
     CompileFault::wrong(alloc, ValidationErrorKind::of_types(types), location, value)
 }
 
-// Appends a part for each of the given keywords that asserts something, in their order.
+// Appends a part for each of the given keywords that asserts something, in their order. `delegates`
+// is whether the `required` of the object is delegated.
 #[inline(never)]
 #[cycle(compile)]
 fn push_keywords<'a, F: Json>(
     alloc: Global,
     ctx: &Context<'_, F>,
     parent: &'a Map<String, Value>,
+    delegates: bool,
     keywords: &[KeywordName],
     parts: &mut Vec<Part<F>>,
 ) -> CompilationResult<'a, ()>
+    requires { delegates ≡ is_handed_on ctx.now.setting (members_view parent.now.entries) }
     ensures made { let ms = members_view parent.now.entries in
         CompilesTo (λ _. keywords_of parts.new.items) result
         (after (keywords_of parts.old.items)
@@ -238,7 +254,7 @@ fn push_keywords<'a, F: Json>(
         let Some(schema) = active_member(ctx, parent, &lengths, keyword) else {
             continue;
         };
-        let compiled = compile_keyword(alloc, ctx, parent, keyword, schema);
+        let compiled = compile_keyword(alloc, ctx, parent, delegates, keyword, schema);
         push_part(alloc, ctx, keyword, compiled, parts)?;
     }
     Ok(())
@@ -343,7 +359,8 @@ fn location_of<F: Json>(
     ctx.keyword_location(alloc, keyword)
 }
 
-// Compiles a keyword of an object. Returns `None` if it asserts nothing.
+// Compiles a keyword of an object. Returns `None` if it asserts nothing. `delegates` is whether the
+// `required` of the object is delegated.
 #[inline(never)]
 #[tactic(auto, using(crate::proofs::KeywordReadings::others_are_leaves))]
 #[cycle(compile)]
@@ -351,9 +368,11 @@ fn compile_keyword<'a, F: Json>(
     alloc: Global,
     ctx: &Context<'_, F>,
     parent: &'a Map<String, Value>,
+    delegates: bool,
     keyword: KeywordName,
     schema: &'a Value,
 ) -> Option<CompilationResult<'a, Validator<F>>>
+    requires { delegates ≡ is_handed_on ctx.now.setting (members_view parent.now.entries) }
     ensures { CompilesKeyword validator_keyword result
         (keyword_reading keyword ctx.now (members_view parent.now.entries) (view schema.now)) }
 {
@@ -362,7 +381,29 @@ fn compile_keyword<'a, F: Json>(
         KeywordName::PrefixItems => prefix_items::compile(alloc, ctx, parent, schema),
         KeywordName::AdditionalItems => additional_items::compile(alloc, ctx, parent, schema),
         KeywordName::Contains => contains::compile(alloc, ctx, parent, schema),
+        KeywordName::Required => compile_required(alloc, ctx, delegates, schema),
         _ => compile_leaf(alloc, ctx, parent, keyword, schema),
+    }
+}
+
+// Compiles `required`. Returns `None` if it is delegated.
+#[inline(never)]
+fn compile_required<'a, F: Json>(
+    alloc: Global,
+    ctx: &Context<'_, F>,
+    delegates: bool,
+    schema: &'a Value,
+) -> Option<CompilationResult<'a, Validator<F>>>
+    ensures { (ms : Members) → delegates ≡ is_handed_on ctx.now.setting ms
+        → CompilesKeyword validator_keyword result
+        (keyword_reading KeywordName.Required ctx.now ms (view schema.now)) }
+{
+    if delegates {
+        return None;
+    }
+    match required::compile_checked(alloc, ctx, schema) {
+        Ok(validator) => Some(Ok(Validator::Leaf(validator))),
+        Err(fault) => Some(Err(fault)),
     }
 }
 

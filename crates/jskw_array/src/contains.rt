@@ -2,7 +2,7 @@
 //! Validation 6.4.4, 6.4.5).
 ghost use Rattle.std.specs.Prelude.{◌≡◌};
 ghost use Rattle.jskw_array.specs.Words.{CompilesKeyword, IfOk, CompilesTo, Reading, bound_beside};
-ghost use Rattle.jskw_array.specs.Words.{bound_value, bounds_between, bounds_of};
+ghost use Rattle.jskw_array.specs.Words.{bound_value, bounds_between, boxed_bounds};
 ghost use Rattle.jskw_array.specs.Words.{contains as contains_keyword, map_ok, member_location};
 ghost use Rattle.jskw_array.specs.Words.{members_view, read_bounds, keyword_reading, validator_keyword};
 ghost use Rattle.jskw_array.specs.Words.{view};
@@ -59,8 +59,8 @@ fn bounds_beside<'a, F: Json>(
     alloc: Global,
     ctx: &Context<'_, F>,
     parent: &'a Map<String, Value>,
-) -> CompilationResult<'a, ItemBounds>
-    ensures { CompilesTo bounds_of result
+) -> CompilationResult<'a, Box<ItemBounds>>
+    ensures { CompilesTo boxed_bounds result
         (read_bounds ctx.now.setting ctx.now.location (members_view parent.now.entries)) }
 {
     let min_contains = bound_beside(alloc, ctx, parent, "minContains")?;
@@ -101,8 +101,8 @@ fn bounds_between<F: Json>(
     ctx: &Context<'_, F>,
     min_contains: Option<u64>,
     max_contains: Option<u64>,
-) -> Result<ItemBounds, AllocError>
-    ensures { IfOk result (λ bounds. bounds_of bounds
+) -> Result<Box<ItemBounds>, AllocError>
+    ensures { IfOk result (λ bounds. boxed_bounds bounds
         ≡ bounds_between ctx.now.location min_contains max_contains) }
 {
     let (min, max) = ("minContains", "maxContains");
@@ -115,23 +115,24 @@ fn bounds_between<F: Json>(
             Some(ctx.member_location(alloc, max)?),
         ),
     };
-    Ok(ItemBounds {
+    let bounds = ItemBounds {
         lower: min_contains.unwrap_or(1),
         upper: max_contains,
         too_few_at,
         too_many_at,
-    })
+    };
+    Ok(Box::new(alloc, bounds)?)
 }
 
 // Returns the validator of the bounds and of a schema, if that was compiled.
 #[inline(never)]
 fn of_schema<'a, F: Json>(
-    bounds: ItemBounds,
+    bounds: Box<ItemBounds>,
     compiled: CompilationResult<'a, Subschema<F>>,
 ) -> Option<CompilationResult<'a, Validator<F>>>
     ensures { (read : Reading) → CompilesTo (λ s. s) compiled.entry read
         → CompilesKeyword validator_keyword result
-        (Some (map_ok (λ sub. contains_keyword sub (bounds_of bounds)) read)) }
+        (Some (map_ok (λ sub. contains_keyword sub (boxed_bounds bounds)) read)) }
 {
     match compiled {
         Ok(node) => Some(Ok(Validator::Matching(Matching { node, bounds }))),

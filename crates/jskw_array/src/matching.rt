@@ -1,7 +1,7 @@
 //! The items that match one schema: `contains` (JSON Schema Core 10.3.1.3) with `minContains` and
 //! `maxContains` (JSON Schema Validation 6.4.4, 6.4.5).
 ghost use Rattle.std.specs.Prelude.{◌≡◌};
-ghost use Rattle.jskw_array.specs.Words.{CountsUpTo, IfOk, IsTrue, bounds_of, count_by};
+ghost use Rattle.jskw_array.specs.Words.{CountsUpTo, IfOk, IsTrue, bounds_of, boxed_bounds, count_by};
 ghost use Rattle.jskw_array.specs.Words.{deciding_count, failing_bound, failing_locations, holds};
 ghost use Rattle.jskw_array.specs.Words.{is_lawful, items, length, locations_of, matching_keyword};
 ghost use Rattle.jskw_array.specs.Words.{matching_result, needed, one_keyword, result_of, sum_by};
@@ -58,7 +58,8 @@ impl ItemBounds {
 #[derive(Drop)]
 pub struct Matching<F: Json> {
     pub(crate) node: Subschema<F>,
-    pub(crate) bounds: ItemBounds,
+    // in a box: else every keyword would take room for them
+    pub(crate) bounds: Box<ItemBounds>,
 }
 
 impl<F: Json> Matching<F> {
@@ -73,7 +74,7 @@ impl<F: Json> Matching<F> {
     ) -> Option<&KeywordLocation>
         requires { IsTrue (is_lawful (F.Node.tree instance.now)) }
         ensures answer { let t = F.Node.tree instance.now in locations_of result
-            ≡ failing_locations (bounds_of self.now.bounds)
+            ≡ failing_locations (boxed_bounds self.now.bounds)
             (count_by (holds self.now.node) (items t)) t }
         ensures counted { CountsUpTo ctx.old ctx.new
             (sum_by (needed self.now.node) (items (F.Node.tree instance.now))) }
@@ -105,7 +106,7 @@ impl<F: Json> Matching<F> {
         location: &LazyLocation,
     ) -> Result<EvaluationResult, AllocError>
         ensures { IfOk result (λ r. result_of r ≡ matching_result
-            (failing_locations (bounds_of self.now.bounds) (length matches.items)
+            (failing_locations (boxed_bounds self.now.bounds) (length matches.items)
             (F.Node.tree instance.now))
             matches.items children.items) }
     {

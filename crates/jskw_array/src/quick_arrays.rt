@@ -74,7 +74,18 @@ impl<'s, F: Json> QuickArrays<'s, F> {
         match validator {
             Validator::Each(v) => self.and_front(v),
             Validator::Rest(v) => self.and_rest(v),
+            Validator::AdditionalItemsBoolean(_) => Some(self.and_lengths(validator.outline())),
             _ => None,
+        }
+    }
+
+    // Returns those of these lengths too.
+    fn and_lengths(self, lengths: Outline) -> QuickArrays<'s, F>
+        ensures { AddsKeywords self.entry result (in_outline lengths) (λ _. 0) }
+    {
+        QuickArrays {
+            lengths: self.lengths.and(lengths),
+            ..self
         }
     }
 

@@ -11,7 +11,7 @@ mod names;
 mod prepared;
 
 pub use crate::upstream::{Required2Validator, SingleItemRequiredValidator};
-pub use compilation::{compile, compile_with_path};
+pub use compilation::{compile, compile_checked, compile_with_path};
 pub use delegation::is_handed_on;
 use jskw_report::validator::evaluate_errors;
 use jskw_report::{

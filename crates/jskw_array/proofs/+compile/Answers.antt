@@ -1,7 +1,8 @@
 use Rattle.std.proofs.Common.{rules, ◌≡◌, Bool, ℕ, Some, None, Result, Ok, Err, true, false, drop, get_or, refl, sym}
 use Rattle.std.proofs.Common.{ap, ap₂, subst, ◌∙◌, arith}
 use Rattle.jskw_array.specs.Words.{Array, Keyword, CompilesTo, Refusal, Schema, absorbed_keywords, active_member, after}
-use Rattle.jskw_array.specs.Words.{append_keywords, as_array, before, begin_fused, bounds_of, contains, fused_keywords}
+use Rattle.jskw_array.specs.Words.{append_keywords, as_array, before, begin_fused, boxed_bounds, contains}
+use Rattle.jskw_array.specs.Words.{fused_keywords}
 use Rattle.jskw_array.specs.Words.{get_member, is_fused, is_items_schema, items_depth, items_from, items_view, join_ok}
 use Rattle.jskw_array.specs.Words.{keyword, keyword_location, keywords, keywords_of, map_ok, members_view, name_of}
 use Rattle.jskw_array.specs.Words.{no_keywords, of_type, readings_named, read, read_bounds, read_each, read_keywords}
@@ -37,7 +38,7 @@ pub compiler::push_parts-push_shape-requires : goal.compiler::push_parts-push_sh
 compiler::push_parts-push_shape-requires g t c κs within =
     let there : is_fused c.args.ctx.now.setting (members_view c.args.parent.now.entries) ≡ true =
     search (rules, c.array_shape_fusion.ensures, c.if-not-array_shape_fusion.false) in
-    (omega (arith, c.decreases), search (rules, c.requires, there))
+    (omega (arith, c.decreases), search (rules, c.requires.empty, there))
 
 pub compiler::push_parts-returns-then-not-array_shape_fusion-clause-made
     : goal.compiler::push_parts-returns-then-not-array_shape_fusion-clause-made
@@ -46,14 +47,14 @@ compiler::push_parts-returns-then-not-array_shape_fusion-clause-made g t c =
     let all =
     read_keywords keywords c.args.ctx.now.setting c.args.ctx.now.location ms (λ name. readings_named name ms) in
     subst (CompilesTo (λ _. keywords_of c.push_keywords.new.parts.items) c.push_keywords.result)
-    (after_empty _ c.requires all) c.push_keywords.ensures.made
+    (after_empty _ c.requires.empty all) c.push_keywords.ensures.made
 
 pub compiler::push_parts-returns-then-not-array_shape_fusion-clause-fused
     : goal.compiler::push_parts-returns-then-not-array_shape_fusion-clause-fused
 compiler::push_parts-returns-then-not-array_shape_fusion-clause-fused g t c =
     let lacks : is_fused c.args.ctx.now.setting (members_view c.args.parent.now.entries) ≡ false =
     search (rules, c.array_shape_fusion.ensures, c.if-not-array_shape_fusion.true) in
-    ok_then c.push_keywords.result (λ _ same. same ∙ ap begin_fused c.requires ∙ sym lacks)
+    ok_then c.push_keywords.result (λ _ same. same ∙ ap begin_fused c.requires.empty ∙ sym lacks)
     c.push_keywords.ensures.fused
 
 pub compiler::push_parts-returns-in_err-push_shape-clause-made
@@ -134,7 +135,7 @@ compiler::push_keywords-compile_keyword-compiled-requires g t c κs within =
     let found : active_member c.args.ctx.now.setting ms w ≡ Some (view c.in-Some.schema.now) =
     search (rules, c.active_member.ensures, c.in-Some.is) in
     let below = active_depth w c.args.ctx.now ms (view c.in-Some.schema.now) found in
-    (omega (arith, below, c.decreases), search rules)
+    (omega (arith, below, c.decreases), search (rules, c.requires))
 
 pub compiler::push_keywords-loop-keyword-init : goal.compiler::push_keywords-loop-keyword-init
 compiler::push_keywords-loop-keyword-init g t c = record { left = refl; fused = refl }
@@ -398,11 +399,11 @@ pub contains::compile-returns : goal.contains::compile-returns
 contains::compile-returns g t c =
     let ms = members_view c.args.parent.now.entries in
     let d = view c.args.schema.now in
-    let made : CompilesTo bounds_of (Ok c.in-Ok.bounds)
+    let made : CompilesTo boxed_bounds (Ok c.in-Ok.bounds)
     (read_bounds c.args.ctx.now.setting c.args.ctx.now.location ms) =
-    subst (λ r. CompilesTo bounds_of r (read_bounds c.args.ctx.now.setting c.args.ctx.now.location ms)) c.in-Ok.is
+    subst (λ r. CompilesTo boxed_bounds r (read_bounds c.args.ctx.now.setting c.args.ctx.now.location ms)) c.in-Ok.is
     c.bounds_beside.ensures in
-    compiles_as _ c.of_schema.result _ _ (contains_of_schema c.args.ctx.now ms d (bounds_of c.in-Ok.bounds) made)
+    compiles_as _ c.of_schema.result _ _ (contains_of_schema c.args.ctx.now ms d (boxed_bounds c.in-Ok.bounds) made)
     (c.of_schema.ensures _ c.compile_at.ensures)
 
 pub contains::compile-returns-in-Err : goal.contains::compile-returns-in-Err
@@ -413,11 +414,11 @@ contains::compile-returns-in-Err g t c =
     let ms = members_view c.args.parent.now.entries in
     let d = view c.args.schema.now in
     let bounds = read_bounds c.args.ctx.now.setting c.args.ctx.now.location ms in
-    let made : CompilesTo bounds_of (Err c.in-Err.fault) bounds =
-    subst (λ r. CompilesTo bounds_of r bounds) c.in-Err.is c.bounds_beside.ensures in
+    let made : CompilesTo boxed_bounds (Err c.in-Err.fault) bounds =
+    subst (λ r. CompilesTo boxed_bounds r bounds) c.in-Err.is c.bounds_beside.ensures in
     let sub = read d c.args.ctx.now.setting (keyword_location c.args.ctx.now.location keyword_name.Contains) in
     compiles_as keyword_of (Some (Err c.in-Err.fault)) _ _ (contains_read c.args.ctx.now ms d)
-    (refused_whole bounds_of keyword_of c.in-Err.fault bounds _ made
+    (refused_whole boxed_bounds keyword_of c.in-Err.fault bounds _ made
     (λ r e. ap (λ b. join_ok (λ b s. contains s b) b sub) e))
 
 -- ---- the calls go down

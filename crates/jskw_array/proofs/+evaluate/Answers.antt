@@ -2,7 +2,7 @@ use Rattle.std.proofs.Common.{rules, ◌≡◌, ◌∙◌, ◌++◌, [], ◌∷�
 use Rattle.std.proofs.Common.{IfOk, arith, append-nil}
 use Rattle.std.proofs.Math.Nat.{le_trans}
 use Rattle.std.proofs.lemmas.Grind.{common_steps}
-use Rattle.jskw_array.specs.Words.{absorbed_by, absorbed_keywords, all_height, bounds_of, evaluate_pairs}
+use Rattle.jskw_array.specs.Words.{absorbed_by, absorbed_keywords, all_height, boxed_bounds, evaluate_pairs}
 use Rattle.jskw_array.specs.Words.{failing_locations, false_schema, holds, item_location, items, keywords_of}
 use Rattle.jskw_array.specs.Words.{matching_result, meaning_unit, node_at, of_children, pairs, path_of}
 use Rattle.jskw_array.specs.Words.{prefix_annotation, result_of, schema_location, schemas_of, shape_keywords, tree}
@@ -145,7 +145,7 @@ matching::MatchingValidate::evaluate-returns-clause-gives g t c =
     let p = path_of c.args.location.now in
     let nodes = gathered_all _ _ _ (node_end ts l.index (omega arith) (holds s) (tree s) p) l.invariant.gathered in
     let indices = gathered_all _ _ _ (index_end ts l.index (omega arith) (holds s)) l.invariant.matching in
-    let b = bounds_of c.args.self.now.bounds in
+    let b = boxed_bounds c.args.self.now.bounds in
     let is =
     ap₂ (λ is es. matching_result (failing_locations b (length is) instance) is es) indices nodes
     ∙ matching_is_unit s b instance p in

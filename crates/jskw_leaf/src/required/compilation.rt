@@ -6,7 +6,7 @@ ghost use Rattle.serde_json.specs.View.{view, items_view, members_view};
 ghost use Rattle.jskw_report.specs.Compile.{CompilesTo, CompilesKeyword, keyword_reading};
 ghost use Rattle.jskw_report.specs.KeywordValue.{map_ok, texts, distinct};
 ghost use Rattle.jskw_report.specs.Meaning.{as_keyword};
-ghost use Rattle.jskw_report.specs.Read.{required_keyword};
+ghost use Rattle.jskw_report.specs.Read.{keyword_location, required_keyword};
 ghost use Rattle.jskw_report.specs.declared.keyword.KeywordName.TheVariants.{Required};
 ghost use Rattle.jskw_leaf.specs.Meaning.{leaf_keyword, required_at};
 ghost use Rattle.jskw_leaf.specs.Required.{name_value};
@@ -25,7 +25,7 @@ use std::alloc::{AllocError, Global};
 use std::collections::BTreeSet;
 
 /// Compiles `required`. Returns `None` if it is delegated, as [`is_handed_on`](super::is_handed_on)
-/// says: its value is not checked then. Otherwise returns what [`compile_with_path`] does.
+/// says: its value is not checked then. Otherwise returns what [`compile_checked`] does.
 pub fn compile<'a, F: Json>(
     alloc: Global,
     ctx: &Context<'_, F>,
@@ -38,10 +38,25 @@ pub fn compile<'a, F: Json>(
     if is_handed_on(ctx, parent) {
         return None;
     }
-    match ctx.keyword_location(alloc, KeywordName::Required) {
-        Ok(location) => Some(required_validator(alloc, schema, location)),
-        Err(error) => Some(Err(CompileFault::Memory(error))),
-    }
+    Some(compile_checked(alloc, ctx, schema))
+}
+
+/// Compiles a `required` that is not delegated, as [`is_handed_on`](super::is_handed_on) says. `ctx`
+/// is at the object of the keyword.
+///
+/// # Errors
+///
+/// Fails as [`compile_with_path`] does.
+pub fn compile_checked<'a, F: Json>(
+    alloc: Global,
+    ctx: &Context<'_, F>,
+    schema: &'a Value,
+) -> CompilationResult<'a, LeafValidator<F>>
+    ensures { CompilesTo leaf_keyword result
+        (required_keyword (keyword_location ctx.now.location Required) (view schema.now)) }
+{
+    let location = ctx.keyword_location(alloc, KeywordName::Required)?;
+    required_validator(alloc, schema, location)
 }
 
 /// Compiles a value of `required`, whatever is beside it. `location` is the keyword location.
