@@ -9,7 +9,8 @@ use Rattle.std.proofs.lemmas.List.Folds.{list_all-append}
 use Rattle.std.proofs.lemmas.List.Sums.{sum_by-append, sum_by-cons, sum_by_push}
 use Rattle.jskw_report.proofs.AppendedKeywords.{hold_appended, needed_appended}
 use Rattle.jskw_leaf.specs.declared.items.absorbed.AbsorbedKeywords.{AbsorbedKeywords}
-use Rattle.jskw_array.specs.Words.{AddsKeywords, ArraysAreValid, AreSettled, IfSome, Pointer, marked, schema_object}
+use Rattle.jskw_array.specs.Words.{AddsKeywords, AreTuples, ArraysAreValid, AreSettled, IfSome, Pointer, marked}
+use Rattle.jskw_array.specs.Words.{schema_object}
 use Rattle.jskw_array.specs.Words.{absorbed_hold, front_holds, ArrayShapeValidator, Each, Part, Rest, Schema, Tree}
 use Rattle.jskw_array.specs.Words.{absorbed_keywords, all_hold, all_needed, arrays_cost, each_holds, each_keyword}
 use Rattle.jskw_array.specs.Words.{each_needed, front_cost, holds, in_arrays, in_outline, is_array, items}
@@ -194,6 +195,22 @@ module _ {F Node Number Key : Type 0} where
     pub arrays_least : (ts : List Tree) → length ts ≤ sum_by (arrays_cost q) ts
     arrays_least [] = omega arith
     arrays_least (t ∷ ts) = omega (arith, arrays_least ts, sum_by-cons (arrays_cost q) t ts)
+
+  -- ---- tuples: the first items alone have schemas
+
+  module _ (q : QuickArrays F Node Number Key) (v : Each F Node Number Key) (alone : AreTuples q v) where
+    pub tuples_cost : (ts : List Tree)
+        → sum_by (arrays_cost q) ts ≡ sum_by (front_cost q.front) ts + length ts
+    tuples_cost [] = refl
+    tuples_cost (t ∷ ts) =
+        let none = ap (λ r. rest_cost r t) alone.3 in
+        omega (
+          arith,
+          none,
+          tuples_cost ts,
+          sum_by-cons (arrays_cost q) t ts,
+          sum_by-cons (front_cost q.front) t ts,
+        )
 
   -- the arrays of which the settled parts of a schema hold by their lengths, and the others by a set of them
   pub arrays_known : (s : Schema) (q : Pointer) (delegates : Bool) (us : List (Part F Node Number Key))

@@ -46,6 +46,12 @@ module _ {F Node Number Key : Type 0} where
   abbrev pub arrays_cost : QuickArrays F Node Number Key → Tree → ℕ
   arrays_cost q t = front_cost q.front t + rest_cost q.rest t + 1
 
+  -- of the items the first ones alone have schemas, and these are those
+  abbrev pub AreTuples : QuickArrays F Node Number Key → Each F Node Number Key → Type 0
+  AreTuples q v =
+      (q.absorbed ≡ None) × ((t : Tree) → front_holds q.front t ≡ keyword_holds (each_keyword v) t)
+      × ((t : Tree) → front_cost q.front t ≡ min (length (items t)) (length v.nodes.items)) × (q.rest ≡ None)
+
   -- of each tree of the new set the keyword holds too, and its applications are among those that it needs
   abbrev pub AddsKeywords : QuickArrays F Node Number Key → QuickArrays F Node Number Key → (Tree → Bool) → (Tree → ℕ)
       → Type 0

@@ -70,8 +70,8 @@ pub use Rattle.jskw_array.specs.Parts.{IsShape, absorbed_by, after, begin_fused,
 pub use Rattle.jskw_array.specs.Parts.{part_location, part_meaning}
 pub use Rattle.jskw_array.specs.Node.{AreSettled, HasParts, IsLeft, LeftParts, boolean_schema, marked, schema_of}
 pub use Rattle.jskw_array.specs.Outline.{in_outline}
-pub use Rattle.jskw_array.specs.QuickArrays.{AddsKeywords, ArraysAreValid, absorbed_hold, arrays_cost, front_cost}
-pub use Rattle.jskw_array.specs.QuickArrays.{front_holds, in_arrays, rest_cost, rest_holds}
+pub use Rattle.jskw_array.specs.QuickArrays.{AddsKeywords, AreTuples, ArraysAreValid, absorbed_hold, arrays_cost}
+pub use Rattle.jskw_array.specs.QuickArrays.{front_cost, front_holds, in_arrays, rest_cost, rest_holds}
 pub use Rattle.jskw_array.specs.Siblings.{MarksLengths, active_member, array_schema_count}
 pub use Rattle.jskw_array.specs.Agreement.{Agree, RejectsNonArrays}
 pub use Rattle.jskw_array.specs.declared.each.Each.{Each}

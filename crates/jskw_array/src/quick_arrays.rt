@@ -1,7 +1,7 @@
 //! Arrays that are known to be valid by their length and the quick sets of their items: a list of
 //! tuples, rows or pairs is passed over in two loops, without a call for each.
 ghost use Rattle.std.specs.Prelude.{◌≡◌, ◌≤◌, ◌+◌, ◌-◌};
-ghost use Rattle.jskw_array.specs.Words.{AddsKeywords, CountsUpTo, IfSome, IsTrue, Tree, all_hold};
+ghost use Rattle.jskw_array.specs.Words.{AddsKeywords, AreTuples, CountsUpTo, IfSome, IsTrue, Tree, all_hold};
 ghost use Rattle.jskw_array.specs.Words.{all_needed, arrays_cost, drop, in_arrays, in_outline};
 ghost use Rattle.jskw_array.specs.Words.{is_lawful, items, keyword_holds, keyword_needed};
 ghost use Rattle.jskw_array.specs.Words.{keywords_of, length, list_all, meaning_holds};
@@ -203,6 +203,9 @@ impl<'s, F: Json> QuickArrays<'s, F> {
         ensures counted { CountsUpTo ctx.old ctx.new (sum_by (arrays_cost self.now)
             (take (result - start) (drop start (items (F.Node.tree instance.now))))) }
     {
+        if let (None, Some(front), None) = (self.absorbed, self.front, self.rest) {
+            return self.skip_tuples(front, start, count, instance, ctx);
+        }
         for index in start..count {
             match self.applications(instance.item(index)) {
                 Some(applied) => ctx.count_more(applied),
@@ -210,5 +213,84 @@ impl<'s, F: Json> QuickArrays<'s, F> {
             }
         }
         count
+    }
+
+    // Returns the same as `skip` if the first items alone have schemas, which are those of `front`.
+    #[inline(never)]
+    fn skip_tuples(
+        &self,
+        front: &Each<F>,
+        start: usize,
+        count: usize,
+        instance: &F::Node,
+        ctx: &mut ValidationContext,
+    ) -> usize
+        requires lawful { IsTrue (is_lawful (F.Node.tree instance.now)) }
+        requires count { count ≡ length (items (F.Node.tree instance.now)) }
+        requires start { start ≤ count }
+        requires alone { AreTuples self.now front.now }
+        ensures from { start ≤ result }
+        ensures within { result ≤ count }
+        ensures passed { list_all (in_arrays self.now) (take (result - start)
+            (drop start (items (F.Node.tree instance.now)))) ≡ true }
+        ensures applied { min (ctx.old + sum_by (arrays_cost self.now) (take (result - start)
+            (drop start (items (F.Node.tree instance.now))))) u64.MAX ≤ ctx.new }
+        ensures counted { CountsUpTo ctx.old ctx.new (sum_by (arrays_cost self.now)
+            (take (result - start) (drop start (items (F.Node.tree instance.now))))) }
+    {
+        let (index, applied) = self.tuples_passed(front, start, count, instance);
+        ctx.count_more(applied);
+        ctx.count_more(index - start);
+        index
+    }
+
+    // Returns the index of the first item from `start` on that is not in the set, or `count`, and how
+    // many items of those before it have a schema, which is counted in a register.
+    #[inline(always)]
+    fn tuples_passed(
+        &self,
+        front: &Each<F>,
+        start: usize,
+        count: usize,
+        instance: &F::Node,
+    ) -> (usize, usize)
+        requires lawful { IsTrue (is_lawful (F.Node.tree instance.now)) }
+        requires count { count ≡ length (items (F.Node.tree instance.now)) }
+        requires start { start ≤ count }
+        requires alone { AreTuples self.now front.now }
+        ensures from { start ≤ result.0 }
+        ensures within { result.0 ≤ count }
+        ensures passed { list_all (in_arrays self.now) (take (result.0 - start)
+            (drop start (items (F.Node.tree instance.now)))) ≡ true }
+        ensures least { min (sum_by (front_cost self.now.front) (take (result.0 - start)
+            (drop start (items (F.Node.tree instance.now))))) u64.MAX ≤ result.1 }
+        ensures most { result.1 ≤ sum_by (front_cost self.now.front) (take (result.0 - start)
+            (drop start (items (F.Node.tree instance.now)))) }
+    {
+        let mut applied = 0usize;
+        for index in start..count {
+            match self.tuple_count(front, instance.item(index)) {
+                Some(items) => applied = applied.saturating_add(items),
+                None => return (index, applied),
+            }
+        }
+        (count, applied)
+    }
+
+    // Returns how many items of the instance have a schema, or `None` if the instance is not known to
+    // be in the set.
+    #[inline(always)]
+    fn tuple_count(&self, front: &Each<F>, instance: &F::Node) -> Option<usize>
+        requires lawful { IsTrue (is_lawful (F.Node.tree instance.now)) }
+        requires alone { AreTuples self.now front.now }
+        ensures within { IfSome result (λ n.
+            in_arrays self.now (F.Node.tree instance.now) ≡ true) }
+        ensures count { IfSome result (λ n.
+            n ≡ front_cost self.now.front (F.Node.tree instance.now)) }
+    {
+        if !instance.is_array() || !self.lengths.contains(instance) {
+            return None;
+        }
+        front.accepted_count(Array::len(instance), instance)
     }
 }
