@@ -59,7 +59,7 @@ pub use Rattle.jskw_report.specs.EvaluationParts.{annotation_of}
 pub use Rattle.jskw_report.specs.EvaluationView.{result_of}
 pub use Rattle.jskw_number.specs.QuickSet.{Accepts, is_in}
 pub use Rattle.jskw_leaf.specs.Items.{absorbed_keywords, bare_items, bare_schema}
-pub use Rattle.jskw_leaf.specs.Meaning.{type_at}
+pub use Rattle.jskw_leaf.specs.Meaning.{leaf_keyword, type_at}
 pub use Rattle.jskw_leaf.specs.Names.{is_leaf}
 -- the same of this crate
 pub use Rattle.jskw_array.specs.Meaning.{bounds_of, boxed_bounds, each_keyword, each_of, matching_keyword}

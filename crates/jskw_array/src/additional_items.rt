@@ -4,7 +4,8 @@ ghost use Rattle.jskw_array.specs.Words.{AdditionalItems, CompilesKeyword, Ok, a
 ghost use Rattle.jskw_array.specs.Words.{keyword_location, members_view, no_additional_items};
 ghost use Rattle.jskw_array.specs.Words.{keyword_reading, refl, validator_keyword, view};
 
-use crate::compiler::{compile_at, schema_count};
+use crate::compiler::compile_at;
+use crate::compiler::members::schema_count;
 use crate::rest::of_schema;
 pub use crate::upstream::AdditionalItemsObjectValidator;
 use crate::validator::Validator;

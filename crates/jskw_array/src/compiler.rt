@@ -1,21 +1,21 @@
 //! Compiles schemas, keyword by keyword.
-ghost use Rattle.std.specs.Prelude.{◌≡◌, ◌++◌, ◌∷◌};
-ghost use Rattle.jskw_array.specs.Words.{[], Asserts, Boolean, CompilesKeyword, Err, IfOk};
-ghost use Rattle.jskw_array.specs.Words.{IsTrue, Keywords, CompilesTo, Object, Ok, Reading, Refusal};
-ghost use Rattle.jskw_array.specs.Words.{MarksLengths, Result, Schema, Some, active_member, after};
-ghost use Rattle.jskw_array.specs.Words.{before, begin_fused, boolean_schema, each_of, fused_keywords};
-ghost use Rattle.jskw_array.specs.Words.{Members, get_member, is_fused, is_handed_on, is_leaf, items_view};
-ghost use Rattle.jskw_array.specs.Words.{keyword_location, keywords};
-ghost use Rattle.jskw_array.specs.Words.{keywords_of, map_ok, members_view, no_keywords, object, of_types};
-ghost use Rattle.jskw_array.specs.Words.{option_map, readings_named, read, read_each, read_keywords};
-ghost use Rattle.jskw_array.specs.Words.{keyword_reading, array_schema_count, schemas_of, shape_keywords, true};
-ghost use Rattle.jskw_array.specs.Words.{validator_keyword, view, wrong};
-ghost use Rattle.jskw_array.specs.declared.part.Part.TheVariants as part;
+ghost use Rattle.std.specs.Prelude.{◌++◌, ◌∷◌, ◌≡◌};
+ghost use Rattle.jskw_array.specs.Words.{[], Boolean, CompilesKeyword, CompilesTo, Err, IfOk};
+ghost use Rattle.jskw_array.specs.Words.{IsTrue, Keywords, Object, Reading, Refusal, Result};
+ghost use Rattle.jskw_array.specs.Words.{Schema, after, begin_fused, boolean_schema, each_of};
+ghost use Rattle.jskw_array.specs.Words.{fused_keywords, is_fused, is_handed_on, items_view};
+ghost use Rattle.jskw_array.specs.Words.{keyword_location, keyword_reading, keywords, keywords_of};
+ghost use Rattle.jskw_array.specs.Words.{map_ok, members_view, object, of_types, read, read_each};
+ghost use Rattle.jskw_array.specs.Words.{read_keywords, readings_named, schemas_of, shape_keywords};
+ghost use Rattle.jskw_array.specs.Words.{true, validator_keyword, view, wrong};
+
+mod keyword;
+pub(crate) mod members;
 
 use crate::each::of_schemas;
 use crate::items::{ArrayShapeValidator, array_shape_fusion};
 use crate::node::Subschema;
-use crate::part::{LocatedValidator, Part};
+use crate::part::Part;
 use crate::schema::SchemaNode;
 use crate::validator::Validator;
 use crate::{additional_items, contains, items, prefix_items};
@@ -26,6 +26,8 @@ use jskw_report::{
     ValidationErrorKind,
 };
 use jskw_value::{Json, JsonType, JsonTypeSet};
+use keyword::{compile_leaf, compile_required, push_part};
+use members::{active_member, name_lengths};
 use serde_json::{Map, Value};
 use std::alloc::{AllocError, Global};
 
@@ -260,105 +262,6 @@ fn push_keywords<'a, F: Json>(
     Ok(())
 }
 
-// Returns marks of the lengths of an object's names. The mark at an index is for names of that
-// many bytes, the last one for 16 and more.
-fn name_lengths(parent: &Map<String, Value>) -> [bool; 17]
-    ensures { MarksLengths result (members_view parent.now.entries) }
-{
-    let mut lengths = [false; 17];
-    for (name, _) in parent.iter() {
-        lengths[name.as_str().len().min(16)] = true;
-    }
-    lengths
-}
-
-// Returns the value of a keyword, if it is present and active. `lengths` are the marks of
-// `name_lengths`: most keywords are absent, and are not looked up if no name has their length.
-fn active_member<'a, F: Json>(
-    ctx: &Context<'_, F>,
-    parent: &'a Map<String, Value>,
-    lengths: &[bool; 17],
-    keyword: KeywordName,
-) -> Option<&'a Value>
-    requires { MarksLengths lengths.now (members_view parent.now.entries) }
-    ensures { option_map (λ value. view value.now) result
-        ≡ active_member ctx.now.setting (members_view parent.now.entries) keyword }
-{
-    let name = keyword.as_str();
-    if !lengths[name.len().min(16)] {
-        return None;
-    }
-    let value = member_of(parent, name)?;
-    if keyword.is_active(ctx) {
-        Some(value)
-    } else {
-        None
-    }
-}
-
-// Appends the part of a keyword that was compiled, if it asserts something.
-#[inline(never)]
-#[tactic(auto, using(crate::proofs::CompiledKeywords::appends_nothing, crate::proofs::CompiledKeywords::appends_refused))]
-fn push_part<'a, F: Json>(
-    alloc: Global,
-    ctx: &Context<'_, F>,
-    keyword: KeywordName,
-    compiled: Option<CompilationResult<'a, Validator<F>>>,
-    parts: &mut Vec<Part<F>>,
-) -> CompilationResult<'a, ()>
-    ensures made { (read : Asserts) → CompilesKeyword validator_keyword compiled.entry read
-        → CompilesTo (λ _. keywords_of parts.new.items) result (after (keywords_of parts.old.items)
-        (before (keyword_location ctx.now.location keyword) read (Ok no_keywords))) }
-    ensures fused { IfOk result (λ _. begin_fused parts.new.items
-        ≡ begin_fused parts.old.items) }
-{
-    match compiled {
-        None => Ok(()),
-        Some(Ok(validator)) => Ok(push_validator(alloc, ctx, keyword, validator, parts)?),
-        Some(Err(fault)) => Err(fault),
-    }
-}
-
-// Appends a keyword with its validator.
-fn push_validator<F: Json>(
-    alloc: Global,
-    ctx: &Context<'_, F>,
-    keyword: KeywordName,
-    validator: Validator<F>,
-    parts: &mut Vec<Part<F>>,
-) -> Result<(), AllocError>
-    ensures { IfOk result (λ _. parts.new.items ≡ parts.old.items ++ part.Keyword (record {
-      validator = validator;
-      location = keyword_location ctx.now.location keyword;
-    }) ∷ []) }
-{
-    let location = location_of(alloc, ctx, keyword, &validator);
-    parts.push(Part::Keyword(location.map(|location| LocatedValidator {
-        validator,
-        location,
-    })?))?;
-    Ok(())
-}
-
-// Returns the location of a keyword: that of the validator's errors, if it is the same, else one that
-// is made. The errors of a limit of Draft 4 may have that of another keyword.
-fn location_of<F: Json>(
-    alloc: Global,
-    ctx: &Context<'_, F>,
-    keyword: KeywordName,
-    validator: &Validator<F>,
-) -> Result<KeywordLocation, AllocError>
-    ensures { IfOk result (λ location. location ≡ keyword_location ctx.now.location keyword) }
-{
-    if let Validator::Leaf(leaf) = validator {
-        let location = leaf.location();
-        if location.is_member(ctx.location(), keyword.as_str()) {
-            return location.copy();
-        }
-    }
-    ctx.keyword_location(alloc, keyword)
-}
-
 // Compiles a keyword of an object. Returns `None` if it asserts nothing. `delegates` is whether the
 // `required` of the object is delegated.
 #[inline(never)]
@@ -383,46 +286,6 @@ fn compile_keyword<'a, F: Json>(
         KeywordName::Contains => contains::compile(alloc, ctx, parent, schema),
         KeywordName::Required => compile_required(alloc, ctx, delegates, schema),
         _ => compile_leaf(alloc, ctx, parent, keyword, schema),
-    }
-}
-
-// Compiles `required`. Returns `None` if it is delegated.
-#[inline(never)]
-fn compile_required<'a, F: Json>(
-    alloc: Global,
-    ctx: &Context<'_, F>,
-    delegates: bool,
-    schema: &'a Value,
-) -> Option<CompilationResult<'a, Validator<F>>>
-    ensures { (ms : Members) → delegates ≡ is_handed_on ctx.now.setting ms
-        → CompilesKeyword validator_keyword result
-        (keyword_reading KeywordName.Required ctx.now ms (view schema.now)) }
-{
-    if delegates {
-        return None;
-    }
-    match required::compile_checked(alloc, ctx, schema) {
-        Ok(validator) => Some(Ok(Validator::Leaf(validator))),
-        Err(fault) => Some(Err(fault)),
-    }
-}
-
-// Compiles a keyword without subschemas. Returns `None` if it asserts nothing.
-#[inline(never)]
-fn compile_leaf<'a, F: Json>(
-    alloc: Global,
-    ctx: &Context<'_, F>,
-    parent: &'a Map<String, Value>,
-    keyword: KeywordName,
-    schema: &'a Value,
-) -> Option<CompilationResult<'a, Validator<F>>>
-    requires { is_leaf keyword ≡ true }
-    ensures { CompilesKeyword validator_keyword result
-        (keyword_reading keyword ctx.now (members_view parent.now.entries) (view schema.now)) }
-{
-    match jskw_leaf::compile(alloc, ctx, parent, keyword, schema)? {
-        Ok(validator) => Some(Ok(Validator::Leaf(validator))),
-        Err(fault) => Some(Err(fault)),
     }
 }
 
@@ -489,24 +352,4 @@ fn push_node<'a, F: Json>(
 {
     nodes.push(compiled?)?;
     Ok(())
-}
-
-// Returns the number of schemas in the array under a name, or `None` if there is no array.
-pub(crate) fn schema_count(parent: &Map<String, Value>, name: &str) -> Option<usize>
-    ensures { result ≡ array_schema_count (get_member name.now (members_view parent.now.entries)) }
-{
-    match member_of(parent, name) {
-        Some(value) => item_count(value),
-        None => None,
-    }
-}
-
-// Returns the number of items of an array, or `None` for other values.
-fn item_count(value: &Value) -> Option<usize>
-    ensures { result ≡ array_schema_count (Some (view value.now)) }
-{
-    match value {
-        Value::Array(items) => Some(items.len()),
-        _ => None,
-    }
 }

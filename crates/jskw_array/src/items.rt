@@ -9,7 +9,8 @@ ghost use Rattle.jskw_array.specs.Words.{members_view, read, keyword_reading, va
 mod array_shape;
 mod inline;
 
-use crate::compiler::{compile_at, compile_list, schema_count};
+use crate::compiler::members::schema_count;
+use crate::compiler::{compile_at, compile_list};
 use crate::rest::of_schema;
 pub use crate::upstream::{
     ItemsArrayValidator, ItemsObjectSkipPrefixValidator, ItemsObjectValidator,

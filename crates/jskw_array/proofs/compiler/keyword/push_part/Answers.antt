@@ -2,7 +2,7 @@ use Rattle.std.proofs.Common.{◌∙◌, Ok, Some, ap, subst, sym}
 use Rattle.jskw_array.specs.Words.{CompilesKeyword, keyword_location, keywords_of, validator_keyword}
 use Rattle.jskw_array.proofs.CompiledKeywords.{appends_nothing, appends_one}
 use Rattle.jskw_array.proofs.KeywordsOfParts.{keywords_of_more}
-use Rattle.jskw_array.proofs.compiler.push_part.Goals as goal
+use Rattle.jskw_array.proofs.compiler.keyword.push_part.Goals as goal
 
 pub returns-in-None-clause-made : goal.returns-in-None-clause-made
 returns-in-None-clause-made g c = λ read compiled.

@@ -1,7 +1,7 @@
 use Rattle.std.proofs.Common.{Some, ap, sym, ◌∙◌}
 use Rattle.serde_json.proofs.Views.{items_len-items_view, view-Array}
 use Rattle.jskw_array.specs.Words.{array_schema_count, view}
-use Rattle.jskw_array.proofs.compiler.item_count.Goals as goal
+use Rattle.jskw_array.proofs.compiler.members.item_count.Goals as goal
 
 pub returns-in-Array : goal.returns-in-Array
 returns-in-Array c =

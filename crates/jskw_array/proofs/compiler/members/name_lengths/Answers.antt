@@ -1,5 +1,5 @@
 use Rattle.jskw_array.proofs.LengthMarks.{next_marked}
-use Rattle.jskw_array.proofs.compiler.name_lengths.Goals as goal
+use Rattle.jskw_array.proofs.compiler.members.name_lengths.Goals as goal
 
 pub loop-name-preserved : goal.loop-name-preserved
 loop-name-preserved c =

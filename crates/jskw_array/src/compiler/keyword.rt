@@ -1,0 +1,123 @@
+//! A keyword of an object: its validator, if it has no subschemas, and its part of the node.
+ghost use Rattle.std.specs.Prelude.{◌++◌, ◌∷◌, ◌≡◌};
+ghost use Rattle.jskw_array.specs.Words.{[], Asserts, CompilesKeyword, CompilesTo, IfOk, Keyword};
+ghost use Rattle.jskw_array.specs.Words.{Members, Ok, Refusal, Result, after, before, begin_fused};
+ghost use Rattle.jskw_array.specs.Words.{is_handed_on, is_leaf, keyword_location, keyword_reading};
+ghost use Rattle.jskw_array.specs.Words.{keywords_of, leaf_keyword, members_view, no_keywords};
+ghost use Rattle.jskw_array.specs.Words.{true, validator_keyword, view};
+ghost use Rattle.jskw_array.specs.declared.part.Part.TheVariants as part;
+
+use crate::part::{LocatedValidator, Part};
+use crate::validator::Validator;
+use jskw_leaf::{LeafValidator, required};
+use jskw_report::{CompilationResult, Context, KeywordLocation, KeywordName};
+use jskw_value::Json;
+use serde_json::{Map, Value};
+use std::alloc::{AllocError, Global};
+
+// Appends the part of a keyword that was compiled, if it asserts something.
+#[inline(never)]
+#[tactic(auto, using(crate::proofs::CompiledKeywords::appends_nothing, crate::proofs::CompiledKeywords::appends_refused))]
+pub(crate) fn push_part<'a, F: Json>(
+    alloc: Global,
+    ctx: &Context<'_, F>,
+    keyword: KeywordName,
+    compiled: Option<CompilationResult<'a, Validator<F>>>,
+    parts: &mut Vec<Part<F>>,
+) -> CompilationResult<'a, ()>
+    ensures made { (read : Asserts) → CompilesKeyword validator_keyword compiled.entry read
+        → CompilesTo (λ _. keywords_of parts.new.items) result (after (keywords_of parts.old.items)
+        (before (keyword_location ctx.now.location keyword) read (Ok no_keywords))) }
+    ensures fused { IfOk result (λ _. begin_fused parts.new.items
+        ≡ begin_fused parts.old.items) }
+{
+    match compiled {
+        None => Ok(()),
+        Some(Ok(validator)) => Ok(push_validator(alloc, ctx, keyword, validator, parts)?),
+        Some(Err(fault)) => Err(fault),
+    }
+}
+
+// Appends a keyword with its validator.
+fn push_validator<F: Json>(
+    alloc: Global,
+    ctx: &Context<'_, F>,
+    keyword: KeywordName,
+    validator: Validator<F>,
+    parts: &mut Vec<Part<F>>,
+) -> Result<(), AllocError>
+    ensures { IfOk result (λ _. parts.new.items ≡ parts.old.items ++ part.Keyword (record {
+      validator = validator;
+      location = keyword_location ctx.now.location keyword;
+    }) ∷ []) }
+{
+    let location = location_of(alloc, ctx, keyword, &validator);
+    parts.push(Part::Keyword(location.map(|location| LocatedValidator {
+        validator,
+        location,
+    })?))?;
+    Ok(())
+}
+
+// Returns the location of a keyword: that of the validator's errors, if it is the same, else one that
+// is made. The errors of a limit of Draft 4 may have that of another keyword.
+fn location_of<F: Json>(
+    alloc: Global,
+    ctx: &Context<'_, F>,
+    keyword: KeywordName,
+    validator: &Validator<F>,
+) -> Result<KeywordLocation, AllocError>
+    ensures { IfOk result (λ location. location ≡ keyword_location ctx.now.location keyword) }
+{
+    if let Validator::Leaf(leaf) = validator {
+        let location = leaf.location();
+        if location.is_member(ctx.location(), keyword.as_str()) {
+            return location.copy();
+        }
+    }
+    ctx.keyword_location(alloc, keyword)
+}
+
+// Compiles `required`. Returns `None` if it is delegated.
+#[inline(never)]
+pub(crate) fn compile_required<'a, F: Json>(
+    alloc: Global,
+    ctx: &Context<'_, F>,
+    delegates: bool,
+    schema: &'a Value,
+) -> Option<CompilationResult<'a, Validator<F>>>
+    ensures { (ms : Members) → delegates ≡ is_handed_on ctx.now.setting ms
+        → CompilesKeyword validator_keyword result
+        (keyword_reading KeywordName.Required ctx.now ms (view schema.now)) }
+{
+    if delegates {
+        return None;
+    }
+    Some(of_leaf(required::compile_checked(alloc, ctx, schema)))
+}
+
+// Compiles a keyword without subschemas. Returns `None` if it asserts nothing.
+#[inline(never)]
+pub(crate) fn compile_leaf<'a, F: Json>(
+    alloc: Global,
+    ctx: &Context<'_, F>,
+    parent: &'a Map<String, Value>,
+    keyword: KeywordName,
+    schema: &'a Value,
+) -> Option<CompilationResult<'a, Validator<F>>>
+    requires { is_leaf keyword ≡ true }
+    ensures { CompilesKeyword validator_keyword result
+        (keyword_reading keyword ctx.now (members_view parent.now.entries) (view schema.now)) }
+{
+    Some(of_leaf(jskw_leaf::compile(alloc, ctx, parent, keyword, schema)?))
+}
+
+// Returns the validator of a keyword without subschemas, if it was compiled.
+fn of_leaf<'a, F: Json>(
+    compiled: CompilationResult<'a, LeafValidator<F>>,
+) -> CompilationResult<'a, Validator<F>>
+    ensures { (read : Result Keyword Refusal) → CompilesTo leaf_keyword compiled.entry read
+        → CompilesTo validator_keyword result read }
+{
+    Ok(Validator::Leaf(compiled?))
+}
