@@ -1,10 +1,13 @@
 //! `const` (JSON Schema Validation 6.1.3): the instance equals the value of the schema.
-ghost use Rattle.std.specs.Prelude.{◌≡◌, IsSome, refl};
+ghost use Rattle.std.specs.Prelude.{◌≡◌, IsSome, refl, true};
 ghost use Rattle.serde_json.specs.Find.{as_str};
 ghost use Rattle.serde_json.specs.View.{view};
 ghost use Rattle.jskw_value.specs.Equality.{equal};
 ghost use Rattle.jskw_value.specs.Serde.{value_tree};
+ghost use Rattle.jskw_value.specs.Tree.{Tree};
 ghost use Rattle.jskw_report.specs.Kind as kind;
+ghost use Rattle.jskw_report.specs.Meaning.{as_keyword};
+ghost use Rattle.jskw_number.specs.QuickSet.{Accepts, is_in};
 ghost use Rattle.jskw_leaf.specs.Meaning.{const_assertion};
 
 mod compilation;
@@ -14,6 +17,8 @@ pub use crate::upstream::{
     ConstObjectValidator, ConstStringValidator,
 };
 pub use compilation::compile;
+use jskw_number::QuickSet;
+use jskw_number::quick_set::IntegerRange;
 use jskw_report::{Assertion, KeywordLocation, ValidationErrorKind};
 use jskw_value::{Json, Node};
 use serde_json::Value;
@@ -23,6 +28,15 @@ use serde_json::Value;
 pub struct ConstValueValidator {
     value: Value,
     location: KeywordLocation,
+}
+
+impl ConstValueValidator {
+    /// Returns values that equal the value, if this is an integer.
+    pub fn quick_set(&self) -> QuickSet
+        ensures { Accepts result (as_keyword (const_assertion self.now)) }
+    {
+        equal_integers(&self.value)
+    }
 }
 
 impl Assertion for ConstValueValidator {
@@ -49,6 +63,18 @@ impl Assertion for ConstValueValidator {
 
     fn location(&self) -> &KeywordLocation {
         &self.location
+    }
+}
+
+// Returns values that equal the value of a schema: none, unless it is an integer from -2^63 to
+// 2^63-1.
+#[tactic(auto, using(crate::proofs::IntegerSets::equal_to_one))]
+pub(crate) fn equal_integers(value: &Value) -> QuickSet
+    ensures { (t : Tree) → is_in result t ≡ true → equal (value_tree value.now) t ≡ true }
+{
+    match value.as_i64() {
+        Some(integer) => QuickSet::of_integers(IntegerRange::between(integer, integer)),
+        None => QuickSet::none(),
     }
 }
 
