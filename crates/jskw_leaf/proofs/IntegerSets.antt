@@ -1,18 +1,18 @@
 -- Quick sets of what equals integers of a schema.
-use Rattle.std.proofs.Common.{◌≡◌, ℕ, zero, ◌<◌, ◌^◌, ℤ, pos, ◌+ℤ◌, List, get_or, length, nat_lt}
+use Rattle.std.proofs.Common.{◌≡◌, ℕ, zero, suc, ◌<◌, ◌^◌, ℤ, pos, negsuc, ◌+ℤ◌, List, get_or, length, nat_lt}
 use Rattle.std.proofs.Common.{Bool, true, false, ◌&&◌, if◌then◌else◌, Some, None, refl, sym, ap, subst, ◌∙◌, arith}
 use Rattle.std.proofs.Math.IntN.{*ℤ-one, one}
-use Rattle.std.proofs.lemmas.Bool.{and_parts}
+use Rattle.std.proofs.lemmas.Bool.{and_parts, true≢false}
 use Rattle.std.proofs.lemmas.Cmp.{int_eq_equiv}
 use Rattle.std.proofs.lemmas.Int.{ints}
 use Rattle.std.proofs.lemmas.List.Folds.{list_any_at}
-use Rattle.std.specs.Option.{option_map_or}
+use Rattle.std.specs.Option.{option_and_then, option_map_or}
 use Rattle.std.specs.Ordering.{int_eq}
-use Rattle.std.specs.Prelude.{int_le}
+use Rattle.std.specs.Prelude.{int_le, is_none}
 use Rattle.serde_json.specs.Data as json
 use Rattle.serde_json.specs.Data.{Data}
 use Rattle.jskw_value.specs.Equality.{equal}
-use Rattle.jskw_value.specs.Number.{exact, num_equal}
+use Rattle.jskw_value.specs.Number.{Num, exact, float, i64_of, num_equal, written_integer}
 use Rattle.jskw_value.specs.Serde.{tree_of}
 use Rattle.jskw_value.specs.Tree.{Tree, as_number, number}
 use Rattle.jskw_number.specs.declared.quick_set.IntegerRange.{IntegerRange}
@@ -40,6 +40,34 @@ same_integers z w = rw (*ℤ-one z, *ℤ-one w) refl
 
 equal_integer : (z w : ℤ) → z ≡ w → num_equal (exact z zero) (exact w zero) ≡ true
 equal_integer z w h = same_integers z w ∙ rw h (int_eq_equiv.refl w)
+
+i64_is : (c w : ℤ) → i64_of c ≡ Some w → c ≡ w
+i64_is (pos n) w h = go (nat_lt n (2 ^ 63)) h
+  where
+    go : (b : Bool) → (if b then Some (pos n) else None) ≡ Some w → pos n ≡ w
+    go true e = cc
+    go false e = cc
+i64_is (negsuc n) w h = go (nat_lt n (2 ^ 63)) h
+  where
+    go : (b : Bool) → (if b then Some (negsuc n) else None) ≡ Some w → negsuc n ≡ w
+    go true e = cc
+    go false e = cc
+
+-- two integers of 64 bits are compared as words
+pub integers_equal : (d : Data) (t : Tree) (n : Num) (z w : ℤ) → integer_of d ≡ Some z → as_number t ≡ Some n
+    → option_and_then i64_of (written_integer n) ≡ Some w → int_eq z w ≡ equal (tree_of d) t
+integers_equal d (number (exact c zero)) n z w i e h =
+    let same : n ≡ exact c zero = cc in
+    let word : c ≡ w = i64_is c w (ap (λ m. option_and_then i64_of (written_integer m)) (sym same) ∙ h) in
+    ap (int_eq z) (sym word) ∙ sym (same_integers z c)
+    ∙ ap (λ u. equal u (number (exact c zero))) (sym (integer_is d z i))
+integers_equal d (number (exact c (suc k))) n z w i e h =
+    let same : n ≡ exact c (suc k) = cc in
+    absurd (true≢false (ap is_none (ap (λ m. option_and_then i64_of (written_integer m)) (sym same) ∙ h)))
+integers_equal d (number float) n z w i e h =
+    let same : n ≡ float = cc in
+    absurd (true≢false (ap is_none (ap (λ m. option_and_then i64_of (written_integer m)) (sym same) ∙ h)))
+integers_equal d t n z w i e h = cc
 
 -- the range has the integer alone
 pub equal_to_one : (d : Data) (z : ℤ) (q : QuickSet) (g : IntegerRange) → integer_of d ≡ Some z

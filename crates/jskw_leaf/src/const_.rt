@@ -1,10 +1,10 @@
 //! `const` (JSON Schema Validation 6.1.3): the instance equals the value of the schema.
-ghost use Rattle.std.specs.Prelude.{◌≡◌, IsSome, refl, true};
+ghost use Rattle.std.specs.Prelude.{◌≡◌, IsSome, IsTrue, refl, true};
 ghost use Rattle.serde_json.specs.Find.{as_str};
 ghost use Rattle.serde_json.specs.View.{view};
 ghost use Rattle.jskw_value.specs.Equality.{equal};
 ghost use Rattle.jskw_value.specs.Serde.{value_tree};
-ghost use Rattle.jskw_value.specs.Tree.{Tree};
+ghost use Rattle.jskw_value.specs.Tree.{Tree, is_lawful};
 ghost use Rattle.jskw_report.specs.Kind as kind;
 ghost use Rattle.jskw_report.specs.Meaning.{as_keyword};
 ghost use Rattle.jskw_number.specs.QuickSet.{Accepts, is_in};
@@ -20,7 +20,7 @@ pub use compilation::compile;
 use jskw_number::QuickSet;
 use jskw_number::quick_set::IntegerRange;
 use jskw_report::{Assertion, KeywordLocation, ValidationErrorKind};
-use jskw_value::{Json, Node};
+use jskw_value::{Json, JsonNumber, Node};
 use serde_json::Value;
 
 /// The validator of `const`. It accepts an instance that equals the value.
@@ -52,6 +52,7 @@ impl Assertion for ConstValueValidator {
             Value::Null => instance.is_null(),
             Value::Bool(_) => instance.as_boolean() == self.value.as_bool(),
             Value::String(_) => is_string::<F>(&self.value, instance),
+            Value::Number(_) => is_number::<F>(&self.value, instance),
             _ => instance.equals_value(&self.value),
         }
     }
@@ -76,6 +77,23 @@ pub(crate) fn equal_integers(value: &Value) -> QuickSet
         Some(integer) => QuickSet::of_integers(IntegerRange::between(integer, integer)),
         None => QuickSet::none(),
     }
+}
+
+// Returns whether the instance equals the value, which should be a number: integers are compared as
+// words.
+#[inline(never)]
+#[tactic(auto, using(crate::proofs::IntegerSets::integers_equal))]
+fn is_number<F: Json>(value: &Value, instance: &F::Node) -> bool
+    requires { IsTrue (is_lawful (F.Node.tree instance.now)) }
+    ensures { result ≡ equal (value_tree value.now) (F.Node.tree instance.now) }
+{
+    if let Some(integer) = value.as_i64()
+        && let Some(number) = instance.as_number()
+        && let Some(other) = number.as_i64()
+    {
+        return integer == other;
+    }
+    instance.equals_value(value)
 }
 
 // Returns whether the instance equals the value, which must be a string.

@@ -230,16 +230,27 @@ impl QuickSet {
         }
     }
 
+    // Returns the set of all values of some types, but of the numbers only these integers, with or
+    // without those between them that have a fraction.
+    fn limited(types: [bool; 6], has_fractions: bool, integers: IntegerRange) -> QuickSet
+        ensures types { result.types ≡ types }
+        ensures limited { result.is_limited ≡ true }
+        ensures fractions { result.has_fractions ≡ has_fractions }
+        ensures integers { result.integers ≡ integers }
+    {
+        QuickSet {
+            types,
+            is_limited: true,
+            has_fractions,
+            integers,
+        }
+    }
+
     /// Returns the set of all values that are no numbers, and of these integers.
     pub fn but_numbers(integers: IntegerRange) -> QuickSet
         ensures { (n : Num) → is_in result (number n) ≡ has_number integers n }
     {
-        QuickSet {
-            types: [true; 6],
-            is_limited: true,
-            has_fractions: false,
-            integers,
-        }
+        QuickSet::limited([true; 6], false, integers)
     }
 
     /// Returns the set of all values that are no numbers, of these integers, and of the numbers
@@ -247,24 +258,14 @@ impl QuickSet {
     pub fn but_numbers_beyond(integers: IntegerRange) -> QuickSet
         ensures { (n : Num) → is_in result (number n) ≡ (has_fraction integers n || has_number integers n) }
     {
-        QuickSet {
-            types: [true; 6],
-            is_limited: true,
-            has_fractions: true,
-            integers,
-        }
+        QuickSet::limited([true; 6], true, integers)
     }
 
     /// Returns the set of these integers.
     pub fn of_integers(integers: IntegerRange) -> QuickSet
         ensures { (t : Tree) → is_in result t ≡ option_map_or (has_number integers) (as_number t) false }
     {
-        QuickSet {
-            types: [false; 6],
-            is_limited: true,
-            has_fractions: false,
-            integers,
-        }
+        QuickSet::limited([false; 6], false, integers)
     }
 
     /// Returns the empty set.
