@@ -26,7 +26,7 @@ use Rattle.jskw_number.specs.declared.quick_set.QuickSet.{QuickSet}
 use Rattle.std.specs.Int.NonZero.{non_zero_u64_get}
 use Rattle.std.specs.declared.num.NonZeroU64.{NonZeroU64}
 use Rattle.jskw_number.specs.QuickSet.{Accepts, IsNarrower, divides, encloses, has_fraction, has_number, in_range}
-use Rattle.jskw_number.specs.QuickSet.{has_type, is_in, is_within, leading, type_index}
+use Rattle.jskw_number.specs.QuickSet.{has_type, is_in, is_in_limits, leading, type_index}
 use Rattle.jskw_report.proofs.HoldsElsewhere.{IsOther, holds_of_other, subject}
 use Rattle.jskw_number.proofs.Divisors.{divides_other}
 use Rattle.jskw_number.proofs.Limits.{limit_other}
@@ -196,8 +196,10 @@ pub accepted_integers : (q : QuickSet) (g : IntegerRange) (test : Tree → Bool)
     → ((t : Tree) → is_in q t ≡ option_map_or (has_number g) (as_number t) false)
     → ((z : ℤ) → in_range g z ≡ true → test (number (exact z zero)) ≡ true)
     → (t : Tree) → is_in q t ≡ true → test t ≡ true
-accepted_integers q g test e within (number (exact c zero)) h = within c (whole_in g c (sym (e (number (exact c zero))) ∙ h))
-accepted_integers q g test e within (number (exact c (suc k))) h = absurd (true≢false (sym h ∙ e (number (exact c (suc k)))))
+accepted_integers q g test e within (number (exact c zero)) h =
+    within c (whole_in g c (sym (e (number (exact c zero))) ∙ h))
+accepted_integers q g test e within (number (exact c (suc k))) h =
+    absurd (true≢false (sym h ∙ e (number (exact c (suc k)))))
 accepted_integers q g test e within (number float) h = absurd (true≢false (sym h ∙ e (number float)))
 accepted_integers q g test e within null h = absurd (true≢false (sym h ∙ e null))
 accepted_integers q g test e within (boolean b) h = absurd (true≢false (sym h ∙ e (boolean b)))
@@ -215,7 +217,8 @@ pub accepted_limit : (q : QuickSet) (g : IntegerRange) (r : Relation) (n : ℤ)
     → ((z : ℤ) → in_range g z ≡ true → stands_in r z 0 n ≡ true)
     → ((c : ℤ) (k : ℕ) → encloses g (exact c k) ≡ true → stands_in r c k n ≡ true)
     → (t : Tree) → is_in q t ≡ true → limit_holds r n t ≡ true
-accepted_limit q g r n e within enclosed (number (exact c zero)) h = within c (whole_in g c (sym (e (exact c zero)) ∙ h))
+accepted_limit q g r n e within enclosed (number (exact c zero)) h =
+    within c (whole_in g c (sym (e (exact c zero)) ∙ h))
 accepted_limit q g r n e within enclosed (number (exact c (suc k))) h =
     enclosed c (suc k) (or_none _ (sym (e (exact c (suc k))) ∙ h))
 accepted_limit q g r n e within enclosed (number float) h = absurd (true≢false (sym h ∙ e float))
@@ -255,9 +258,9 @@ types_in s =
 by_type : (q : QuickSet) (t : Tree) → as_number t ≡ None → is_in q t ≡ has_type q t
 by_type q t e = go q.is_limited
   where
-    go : (l : Bool) → (if l then option_map_or (is_within q) (as_number t) (has_type q t) else has_type q t)
+    go : (l : Bool) → (if l then option_map_or (is_in_limits q) (as_number t) (has_type q t) else has_type q t)
         ≡ has_type q t
-    go true = ap (λ o. option_map_or (is_within q) o (has_type q t)) e
+    go true = ap (λ o. option_map_or (is_in_limits q) o (has_type q t)) e
     go false = refl
 
 pub accepted_types : (q : QuickSet) (s : JsonTypeSet) → q.types ≡ types_in s
@@ -277,7 +280,7 @@ accepted_types q s e l f rule = go
     other t none h = or_left _ _ (sym (marked t) ∙ sym (by_type q t none) ∙ h)
 
     numbers : (n : Num) (a i : Bool) → q.has_fractions ≡ not (i && not a)
-        → (if i && not a then is_within q n else a) ≡ true → (a || (i && is_integer_by rule (number n))) ≡ true
+        → (if i && not a then is_in_limits q n else a) ≡ true → (a || (i && is_integer_by rule (number n))) ≡ true
     numbers n true i w h = refl
     numbers n false true w h =
         in_range_is_integer rule q.integers n
@@ -287,7 +290,7 @@ accepted_types q s e l f rule = go
     go : (t : Tree) → is_in q t ≡ true → is_of rule s t ≡ true
     go (number n) h =
         numbers n (types.contains s Number) (types.contains s Integer) (f ∙ ap not l)
-        (ap₂ (λ b m. if b then is_within q n else m) (sym l) (sym (marked (number n))) ∙ h)
+        (ap₂ (λ b m. if b then is_in_limits q n else m) (sym l) (sym (marked (number n))) ∙ h)
     go null h = other null refl h
     go (boolean b) h = other (boolean b) refl h
     go (string x) h = other (string x) refl h
@@ -318,7 +321,7 @@ and_none false = refl
 
 -- an integer of 64 bits is in a limited set if it is in the range
 pub integer_within : (q : QuickSet) (n : Num) (z : ℤ) → option_and_then i64_of (written_integer n) ≡ Some z
-    → is_within q n ≡ in_range q.integers z
+    → is_in_limits q n ≡ in_range q.integers z
 integer_within q (exact c zero) z e =
     ap₂ (λ b o. b || option_map_or (in_range q.integers) o false) (and_none q.has_fractions) e
 integer_within q (exact c (suc k)) z e = cc
@@ -326,7 +329,7 @@ integer_within q float z e = cc
 
 -- any other number if it is enclosed and has a fraction
 pub other_within : (q : QuickSet) (n : Num) → option_and_then i64_of (written_integer n) ≡ None
-    → is_within q n ≡ (q.has_fractions && (not (is_written_as_integer n) && encloses q.integers n))
+    → is_in_limits q n ≡ (q.has_fractions && (not (is_written_as_integer n) && encloses q.integers n))
 other_within q n e =
     ap (λ o. (q.has_fractions && has_fraction q.integers n) || option_map_or (in_range q.integers) o false) e
     ∙ or_false (q.has_fractions && has_fraction q.integers n) ∙ ap (λ b. q.has_fractions && b) (written n)
@@ -354,7 +357,7 @@ number_is_in q (number m) n l e h = go q.is_limited l
     within true = refl
     within false = ap (has_number q.integers) same ∙ h
 
-    go : (b : Bool) → b ≡ true → (if b then is_within q m else has_type q (number m)) ≡ true
+    go : (b : Bool) → b ≡ true → (if b then is_in_limits q m else has_type q (number m)) ≡ true
     go true w = within (q.has_fractions && has_fraction q.integers m)
     go false w = absurd (true≢false (sym w))
 number_is_in q _ n l e h = cc
@@ -380,7 +383,8 @@ neither_right false b h = h
 
 -- what is in a set is in two others if each has all of it
 pub both_true : (q r s : QuickSet) → ((t : Tree) → is_in q t ≡ true → is_in r t ≡ true)
-    → ((t : Tree) → is_in q t ≡ true → is_in s t ≡ true) → (t : Tree) → is_in q t ≡ true → (is_in r t && is_in s t) ≡ true
+    → ((t : Tree) → is_in q t ≡ true → is_in s t ≡ true)
+    → (t : Tree) → is_in q t ≡ true → (is_in r t && is_in s t) ≡ true
 both_true q r s one other t h = rw (one t h, other t h) refl
 
 -- A set is part of another if its types, its range and its fractions are. Of the other's range and fractions one need
@@ -403,7 +407,7 @@ is_part q s r typed limited fractions narrower within integers between = go
     whole (pos n) h = kept (pos n) (nat_lt n (2 ^ 63)) h
     whole (negsuc n) h = kept (negsuc n) (nat_lt n (2 ^ 63)) h
 
-    numbers : (n : Num) → is_within q n ≡ true → is_in s (number n) ≡ true
+    numbers : (n : Num) → is_in_limits q n ≡ true → is_in s (number n) ≡ true
     numbers (exact c zero) h =
         integers (exact c zero)
         (whole c (sym (ap (λ b. b || has_number q.integers (exact c zero)) (and_none q.has_fractions)) ∙ h))
@@ -412,11 +416,11 @@ is_part q s r typed limited fractions narrower within integers between = go
         between (exact c (suc k)) (fractions both.0) (enclosed_wider q.integers r narrower (exact c (suc k)) both.1)
     numbers float h = absurd (true≢false (sym (or_none _ h) ∙ and_none q.has_fractions))
 
-    number_in : (n : Num) (l : Bool) → q.is_limited ≡ l → (if l then is_within q n else has_type q (number n)) ≡ true
+    number_in : (n : Num) (l : Bool) → q.is_limited ≡ l → (if l then is_in_limits q n else has_type q (number n)) ≡ true
         → is_in s (number n) ≡ true
     number_in n true e h = numbers n h
     number_in n false e h =
-        ap (λ b. if b then is_within s n else has_type s (number n)) (limited e) ∙ typed Number h
+        ap (λ b. if b then is_in_limits s n else has_type s (number n)) (limited e) ∙ typed Number h
 
     other : (t : Tree) → as_number t ≡ None → is_in q t ≡ true → is_in s t ≡ true
     other t none h = by_type s t none ∙ typed (types.json_type t) (sym (by_type q t none) ∙ h)

@@ -1,8 +1,8 @@
 -- Sets of values that a few instructions test, and what they say of a keyword.
 use Rattle.std.specs.Int.NonZero.{non_zero_u64_get}
 use Rattle.std.specs.Option.{option_and_then, option_map_or}
-use Rattle.std.specs.Prelude.{◌≡◌, ℕ, zero, suc, List, [], ◌∷◌, get_or, if◌then◌else◌, ℤ, int_le, unsigned_abs, ◌%◌, ◌==◌}
-use Rattle.std.specs.Prelude.{◌&&◌, ◌||◌, Bool, true, false, pos, ◌^◌, ◌*ℤ◌, ◌≤ℤ◌}
+use Rattle.std.specs.Prelude.{◌≡◌, ℕ, zero, suc, List, [], ◌∷◌, get_or, if◌then◌else◌, ℤ, int_le, unsigned_abs, ◌%◌}
+use Rattle.std.specs.Prelude.{◌==◌, ◌&&◌, ◌||◌, Bool, true, false, pos, ◌^◌, ◌*ℤ◌, ◌≤ℤ◌}
 use Rattle.std.specs.declared.num.NonZeroU64.{NonZeroU64}
 use Rattle.jskw_value.specs.Number.{Num, exact, float, i64_of, written_integer}
 use Rattle.jskw_value.specs.Tree.{Tree, as_number}
@@ -56,12 +56,12 @@ abbrev pub has_type : QuickSet → Tree → Bool
 has_type q t = get_or q.types (type_index (json_type t)) false
 
 -- the number is in the set, if this is limited: it is in the range, or has a fraction and is between the ends
-abbrev pub is_within : QuickSet → Num → Bool
-is_within q n = (q.has_fractions && has_fraction q.integers n) || has_number q.integers n
+abbrev pub is_in_limits : QuickSet → Num → Bool
+is_in_limits q n = (q.has_fractions && has_fraction q.integers n) || has_number q.integers n
 
 -- the tree is in the set: a number of a limited set by the range, and all else by its type
 abbrev pub is_in : QuickSet → Tree → Bool
-is_in q t = if q.is_limited then option_map_or (is_within q) (as_number t) (has_type q t) else has_type q t
+is_in q t = if q.is_limited then option_map_or (is_in_limits q) (as_number t) (has_type q t) else has_type q t
 
 -- the number of elements before the first that fails the check
 abbrev pub leading : {A : Type 0} → (A → Bool) → List A → ℕ

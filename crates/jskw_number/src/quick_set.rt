@@ -12,7 +12,7 @@ ghost use Rattle.jskw_value.specs.declared.types.JsonType.{JsonType};
 ghost use Rattle.jskw_report.specs.Holds.{is_of};
 ghost use Rattle.jskw_report.specs.Keyword.{Integers};
 ghost use Rattle.jskw_number.specs.QuickSet.{IsNarrower, divides, encloses, has_fraction, has_number, in_range};
-ghost use Rattle.jskw_number.specs.QuickSet.{is_in, is_within, leading, type_index};
+ghost use Rattle.jskw_number.specs.QuickSet.{is_in, is_in_limits, leading, type_index};
 
 use core::dec2flt::ten_to;
 use jskw_value::{Array, Decimal, JsonNumber, JsonType, JsonTypeSet, Node};
@@ -353,7 +353,7 @@ impl QuickSet {
     #[tactic(auto, using(crate::proofs::QuickSets::numbers_within))]
     fn has<A: JsonNumber>(&self, number: &A) -> bool
         requires { IsTrue (is_exact (A.number number.now)) }
-        ensures { result ≡ is_within self.now (A.number number.now) }
+        ensures { result ≡ is_in_limits self.now (A.number number.now) }
     {
         match number.as_i64() {
             Some(integer) => self.integers.contains(integer),
