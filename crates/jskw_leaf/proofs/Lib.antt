@@ -2,6 +2,7 @@ pub mod BareTypeChecks
 pub mod FoundNames
 pub mod FusedErrors
 pub mod FusedReading
+pub mod IntegerSets
 pub mod ItemCounts
 pub mod LeafKeywords
 pub mod Lookups

@@ -9,6 +9,8 @@ ghost use Rattle.jskw_value.specs.Tree.{Tree};
 ghost use Rattle.jskw_value.specs.Types.{no_types};
 ghost use Rattle.jskw_report.specs.Errors.{kind_of};
 ghost use Rattle.jskw_report.specs.Holds.{is_option};
+ghost use Rattle.jskw_report.specs.Meaning.{as_keyword};
+ghost use Rattle.jskw_number.specs.QuickSet.{Accepts};
 ghost use Rattle.jskw_leaf.specs.Options.{not_among, options_of, option_types};
 
 mod compilation;
@@ -17,8 +19,10 @@ mod strings;
 mod table;
 mod values;
 
+use crate::const_::equal_integers;
 pub use compilation::compile;
 pub use integers::IntegerEnumValidator;
+use jskw_number::QuickSet;
 use jskw_report::{Assertion, EnumOptions, KeywordLocation, ValidationErrorKind};
 use jskw_value::{Json, JsonTypeSet, Node};
 use serde_json::Value;
@@ -68,6 +72,17 @@ pub struct SingleValueEnumValidator {
     ghost array: { IsSome (as_array (view options)) },
     ghost one: { (t : Tree) → is_option (options_of (view options)) t
         ≡ equal (value_tree value) t },
+}
+
+impl SingleValueEnumValidator {
+    ghost use Rattle.jskw_leaf.specs.Meaning.{enum_single};
+
+    /// Returns values that equal the option, if this is an integer.
+    pub fn quick_set(&self) -> QuickSet
+        ensures { Accepts result (as_keyword (enum_single self.now)) }
+    {
+        equal_integers(&self.value)
+    }
 }
 
 impl Assertion for SingleValueEnumValidator {

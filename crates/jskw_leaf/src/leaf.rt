@@ -79,7 +79,7 @@ macro_rules! dispatch {
 
 impl<F: Json> LeafValidator<F> {
     /// Returns values that the keyword accepts: those that it does not concern, those of its types,
-    /// the integers within its limit. The keyword may accept more.
+    /// the numbers within its limit, integers among its options. The keyword may accept more.
     pub fn quick_set(&self) -> QuickSet
         ensures { Accepts result (leaf_keyword self.now) }
     {
@@ -89,6 +89,10 @@ impl<F: Json> LeafValidator<F> {
             LeafValidator::UniqueItems(_) => QuickSet::but_arrays(),
             LeafValidator::Required(_) => QuickSet::but_objects(),
             LeafValidator::RequiredFew(_) => QuickSet::but_objects(),
+            LeafValidator::Const(v) => v.quick_set(),
+            LeafValidator::SingleValueEnum(v) => v.quick_set(),
+            LeafValidator::IntegerEnum(v) => v.quick_set(),
+            LeafValidator::NullableIntegerEnum(v) => v.quick_set(),
             _ => QuickSet::none(),
         }
     }

@@ -1,10 +1,10 @@
 -- Sets of values that a few instructions test, and what they say of a keyword.
 use Rattle.std.specs.Int.NonZero.{non_zero_u64_get}
 use Rattle.std.specs.Option.{option_and_then, option_map_or}
-use Rattle.std.specs.Prelude.{◌≡◌, ℕ, suc, List, [], ◌∷◌, get_or, if◌then◌else◌, ℤ, int_le, unsigned_abs, ◌%◌, ◌==◌}
-use Rattle.std.specs.Prelude.{◌&&◌, Bool, true, false}
+use Rattle.std.specs.Prelude.{◌≡◌, ℕ, zero, suc, List, [], ◌∷◌, get_or, if◌then◌else◌, ℤ, int_le, unsigned_abs, ◌%◌}
+use Rattle.std.specs.Prelude.{◌==◌, ◌&&◌, ◌||◌, Bool, true, false, pos, ◌^◌, ◌*ℤ◌, ◌≤ℤ◌}
 use Rattle.std.specs.declared.num.NonZeroU64.{NonZeroU64}
-use Rattle.jskw_value.specs.Number.{Num, i64_of, written_integer}
+use Rattle.jskw_value.specs.Number.{Num, exact, float, i64_of, written_integer}
 use Rattle.jskw_value.specs.Tree.{Tree, as_number}
 use Rattle.jskw_value.specs.Types.{json_type}
 use Rattle.jskw_value.specs.declared.types.JsonType.{JsonType}
@@ -26,6 +26,21 @@ in_range r z = int_le r.low z && int_le z r.high && divides r.divisor z
 abbrev pub has_number : IntegerRange → Num → Bool
 has_number r n = option_map_or (in_range r) (option_and_then i64_of (written_integer n)) false
 
+-- the number is between the ends of the range
+abbrev pub encloses : IntegerRange → Num → Bool
+encloses r (exact c k) = int_le (r.low *ℤ pos (10 ^ k)) c && int_le c (r.high *ℤ pos (10 ^ k))
+encloses r float = false
+
+-- the number is written with a fraction, and between the ends of the range
+abbrev pub has_fraction : IntegerRange → Num → Bool
+has_fraction r (exact c zero) = false
+has_fraction r (exact c (suc k)) = encloses r (exact c (suc k))
+has_fraction r float = false
+
+-- both ends of the range are between those of the other
+abbrev pub IsNarrower : IntegerRange → IntegerRange → Type 0
+IsNarrower r s = (s.low ≤ℤ r.low) × (r.high ≤ℤ s.high)
+
 -- the place of a type in a set
 abbrev pub type_index : JsonType → ℕ
 type_index Null = 0
@@ -40,9 +55,13 @@ type_index Object = 5
 abbrev pub has_type : QuickSet → Tree → Bool
 has_type q t = get_or q.types (type_index (json_type t)) false
 
+-- the number is in the set, if this is limited: it is in the range, or has a fraction and is between the ends
+abbrev pub is_in_limits : QuickSet → Num → Bool
+is_in_limits q n = (q.has_fractions && has_fraction q.integers n) || has_number q.integers n
+
 -- the tree is in the set: a number of a limited set by the range, and all else by its type
 abbrev pub is_in : QuickSet → Tree → Bool
-is_in q t = if q.is_limited then option_map_or (has_number q.integers) (as_number t) (has_type q t) else has_type q t
+is_in q t = if q.is_limited then option_map_or (is_in_limits q) (as_number t) (has_type q t) else has_type q t
 
 -- the number of elements before the first that fails the check
 abbrev pub leading : {A : Type 0} → (A → Bool) → List A → ℕ

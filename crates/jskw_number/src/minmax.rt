@@ -8,9 +8,9 @@
 //! - any other number, such as `1.5`, `2.0` or `-0`, with the kind `CompileError`;
 //! - any other value with the kind `WrongType` and the type number.
 ghost use Rattle.std.specs.Prelude.{◌≡◌, ◌-◌, ◌^◌, ◌≤ℤ◌, ◌<ℤ◌, ℤ, pos, negsuc, true, refl, Some};
-ghost use Rattle.std.specs.Prelude.{IfSome, IsTrue};
+ghost use Rattle.std.specs.Prelude.{IfSome, IsTrue, ℕ};
 ghost use Rattle.serde_json.specs.View.{view};
-ghost use Rattle.jskw_value.specs.Number.{is_exact};
+ghost use Rattle.jskw_value.specs.Number.{exact, is_exact};
 ghost use Rattle.jskw_value.specs.Tree.{number as number_tree};
 ghost use Rattle.jskw_report.specs.Errors.{kind_of};
 ghost use Rattle.jskw_report.specs.Fail.{limit_kind};
@@ -20,7 +20,7 @@ ghost use Rattle.jskw_report.specs.Keyword as relation;
 ghost use Rattle.jskw_report.specs.Meaning.{as_keyword};
 ghost use Rattle.jskw_report.specs.Read.{limit_keyword_name};
 ghost use Rattle.jskw_number.specs.Limit.{allows, stands_to};
-ghost use Rattle.jskw_number.specs.QuickSet.{Accepts, in_range};
+ghost use Rattle.jskw_number.specs.QuickSet.{Accepts, encloses, in_range};
 ghost use Rattle.jskw_number.specs.Meaning.{limit_at, limit_of, number_assertion};
 
 mod compilation;
@@ -94,11 +94,15 @@ pub trait LimitTest {
     fn allows(ordering: Ordering) -> bool
         ensures { result ≡ allows relation ordering };
 
-    /// Returns integers that are within the limit, which must be from -2^63 to 2^64-1.
+    /// Returns integers that are within the limit, which must be from -2^63 to 2^64-1. All numbers
+    /// between them are so too.
     fn integers(limit: i128) -> IntegerRange
         requires low { negsuc (2 ^ 63 - 1) ≤ℤ limit }
         requires high { limit <ℤ pos (2 ^ 64) }
-        ensures { (z : ℤ) → in_range result z ≡ true → stands_in relation z 0 limit ≡ true };
+        ensures integers { (z : ℤ) → in_range result z ≡ true
+            → stands_in relation z 0 limit ≡ true }
+        ensures enclosed { (c : ℤ) (k : ℕ) → encloses result (exact c k) ≡ true
+            → stands_in relation c k limit ≡ true };
 
     /// Returns the kind of error for a number that is not within the limit.
     fn kind<'k>(limit: i128) -> ValidationErrorKind<'k>
@@ -168,7 +172,7 @@ impl<T: Whole, R: LimitTest> Limit<T, R> {
         ensures { Accepts result
             (as_keyword (limit_at R.relation (T.whole self.now.limit) self.now.location)) }
     {
-        QuickSet::but_numbers(R::integers(self.limit.to_i128()))
+        QuickSet::but_numbers_beyond(R::integers(self.limit.to_i128()))
     }
 }
 

@@ -1,17 +1,21 @@
 //! Sets of values that a keyword is known to accept, and that a few instructions test. A keyword
 //! may accept more: a value that is not in its set is tested by the keyword itself.
 ghost use Rattle.std.specs.Prelude.{◌≡◌, ◌≤◌, ◌<◌, ◌+◌, ◌%◌, ◌==◌, ◌&&◌, ◌||◌, IsTrue, ℤ, int_le, true, false};
-ghost use Rattle.std.specs.Prelude.{drop, get_or, length};
+ghost use Rattle.std.specs.Prelude.{◌^◌, ◌*ℤ◌, ◌≤ℤ◌, ℕ, drop, get_or, length, pos};
+ghost use Rattle.std.specs.Option.{option_map_or};
 ghost use Rattle.std.specs.Int.NonZero.{non_zero_u64_get};
-ghost use Rattle.jskw_value.specs.Number.{Num, is_exact, is_multiple_of};
-ghost use Rattle.jskw_value.specs.Tree.{Items, Members, Tree, array, is_array, is_lawful};
+ghost use Rattle.jskw_value.specs.Decimal.{value};
+ghost use Rattle.jskw_value.specs.Number.{Num, exact, is_exact, is_multiple_of};
+ghost use Rattle.jskw_value.specs.Tree.{Items, Members, Tree, array, as_number, is_array, is_lawful};
 ghost use Rattle.jskw_value.specs.Tree.{is_object, items, number, object};
 ghost use Rattle.jskw_value.specs.declared.types.JsonType.{JsonType};
 ghost use Rattle.jskw_report.specs.Holds.{is_of};
 ghost use Rattle.jskw_report.specs.Keyword.{Integers};
-ghost use Rattle.jskw_number.specs.QuickSet.{divides, has_number, in_range, is_in, leading, type_index};
+ghost use Rattle.jskw_number.specs.QuickSet.{IsNarrower, divides, encloses, has_fraction, has_number, in_range};
+ghost use Rattle.jskw_number.specs.QuickSet.{is_in, is_in_limits, leading, type_index};
 
-use jskw_value::{Array, JsonNumber, JsonType, JsonTypeSet, Node};
+use core::dec2flt::ten_to;
+use jskw_value::{Array, Decimal, JsonNumber, JsonType, JsonTypeSet, Node};
 use std::num::NonZeroU64;
 
 /// The integers from `low` to `high` that are multiples of the divisor. That is 1 for all of them.
@@ -23,30 +27,39 @@ pub struct IntegerRange {
 }
 
 impl IntegerRange {
-    // The integers from `low` to `high`.
+    /// Returns the integers from `low` to `high`.
     #[tactic(auto, using(crate::proofs::QuickSets::all_between))]
-    fn between(low: i64, high: i64) -> IntegerRange
-        ensures { (z : ℤ) → in_range result z ≡ (int_le low z && int_le z high) }
+    pub fn between(low: i64, high: i64) -> IntegerRange
+        ensures integers { (z : ℤ) → in_range result z ≡ (int_le low z && int_le z high) }
+        ensures ends { (result.low ≡ low) × (result.high ≡ high) }
     {
         let divisor = NonZeroU64::MIN;
         IntegerRange { low, high, divisor }
     }
 
-    // No integer.
+    // No integer, and nothing between the ends.
+    #[tactic(auto, using(crate::proofs::QuickSets::nothing_enclosed))]
     fn none() -> IntegerRange
-        ensures { (z : ℤ) → in_range result z ≡ false }
+        ensures integers { (z : ℤ) → in_range result z ≡ false }
+        ensures enclosed { (n : Num) → encloses result n ≡ false }
+        ensures ends { (result.low ≡ i64.MAX) × (result.high ≡ i64.MIN) }
     {
-        IntegerRange::between(1, 0)
+        IntegerRange::between(i64::MAX, i64::MIN)
     }
 
     // The integers from -2^63 to 2^63-1.
-    fn all() -> IntegerRange {
+    fn all() -> IntegerRange
+        ensures { (result.low ≡ i64.MIN) × (result.high ≡ i64.MAX) }
+    {
         IntegerRange::between(i64::MIN, i64::MAX)
     }
 
     /// Returns the integers from `limit` on that are below 2^63. `limit` is -2^63 at least.
+    #[tactic(auto, using(crate::proofs::QuickSets::from_low))]
     pub fn at_least(limit: i128) -> IntegerRange
-        ensures { (z : ℤ) → in_range result z ≡ true → int_le limit z ≡ true }
+        ensures integers { (z : ℤ) → in_range result z ≡ true → int_le limit z ≡ true }
+        ensures enclosed { (c : ℤ) (k : ℕ) → encloses result (exact c k) ≡ true
+            → int_le (limit *ℤ pos (10 ^ k)) c ≡ true }
     {
         match i64::try_from(limit) {
             Ok(low) => IntegerRange::between(low, i64::MAX),
@@ -55,8 +68,11 @@ impl IntegerRange {
     }
 
     /// Returns the integers from -2^63 to `limit` that are below 2^63.
+    #[tactic(auto, using(crate::proofs::QuickSets::to_high))]
     pub fn at_most(limit: i128) -> IntegerRange
-        ensures { (z : ℤ) → in_range result z ≡ true → int_le z limit ≡ true }
+        ensures integers { (z : ℤ) → in_range result z ≡ true → int_le z limit ≡ true }
+        ensures enclosed { (c : ℤ) (k : ℕ) → encloses result (exact c k) ≡ true
+            → int_le c (limit *ℤ pos (10 ^ k)) ≡ true }
     {
         match i64::try_from(limit) {
             Ok(high) => IntegerRange::between(i64::MIN, high),
@@ -102,6 +118,19 @@ impl IntegerRange {
         }
     }
 
+    // Returns whether the number is between the ends of the range, with a fraction or without.
+    #[inline(never)]
+    fn encloses(&self, number: Decimal) -> bool
+        ensures { result ≡ encloses self.now (value number) }
+    {
+        let (low, high) = (
+            scaled(self.low, number.scale()),
+            scaled(self.high, number.scale()),
+        );
+        let coefficient = number.coefficient();
+        low <= coefficient && coefficient <= high
+    }
+
     // Returns the same as `has`, by a multiplication by `reciprocal`, which should be 2^64 divided by
     // the divisor, rounded up.
     #[inline(always)]
@@ -119,8 +148,9 @@ impl IntegerRange {
 
     // The integers of the range that are not below the other.
     fn from(self, other: IntegerRange) -> IntegerRange
-        ensures { (z : ℤ) → in_range result z ≡ true
+        ensures integers { (z : ℤ) → in_range result z ≡ true
             → (in_range self z && int_le other.low z) ≡ true }
+        ensures ends { IsNarrower result self × (other.low ≤ℤ result.low) }
     {
         if other.low <= self.low {
             return self;
@@ -133,8 +163,9 @@ impl IntegerRange {
 
     // The integers of the range that are not above the other.
     fn to(self, other: IntegerRange) -> IntegerRange
-        ensures { (z : ℤ) → in_range result z ≡ true
+        ensures integers { (z : ℤ) → in_range result z ≡ true
             → (in_range self z && int_le z other.high) ≡ true }
+        ensures ends { IsNarrower result self × (result.high ≤ℤ other.high) }
     {
         if self.high <= other.high {
             return self;
@@ -148,8 +179,9 @@ impl IntegerRange {
     // Multiples of the divisor in the range: all of them, unless neither divisor is 1.
     #[tactic(auto, using(crate::proofs::QuickSets::one_divides))]
     fn divided_by(self, divisor: NonZeroU64) -> IntegerRange
-        ensures { (z : ℤ) → in_range result z ≡ true
+        ensures integers { (z : ℤ) → in_range result z ≡ true
             → (in_range self z && divides divisor z) ≡ true }
+        ensures ends { IsNarrower result self }
     {
         if divisor.get() == 1 {
             self
@@ -162,8 +194,9 @@ impl IntegerRange {
 
     // Integers that are in both ranges: all of them, unless neither divisor is 1.
     fn and(self, other: IntegerRange) -> IntegerRange
-        ensures { (z : ℤ) → in_range result z ≡ true
+        ensures integers { (z : ℤ) → in_range result z ≡ true
             → (in_range self z && in_range other z) ≡ true }
+        ensures ends { IsNarrower result self × IsNarrower result other }
     {
         let range = self.divided_by(other.divisor);
         range.from(other).to(other)
@@ -171,13 +204,15 @@ impl IntegerRange {
 }
 
 /// A set of values by their types, in which the numbers may be limited to the integers of a range
-/// that are written without a fraction.
+/// that are written without a fraction, or to these and all between them that have one.
 #[derive(Clone, Copy, Debug)]
 pub struct QuickSet {
     // for each type, at its place, whether values of the type are in the set
     types: [bool; 6],
     // the numbers in the set are the integers of the range, whatever `types` has for numbers
     is_limited: bool,
+    // and those with a fraction between its ends
+    has_fractions: bool,
     integers: IntegerRange,
 }
 
@@ -190,7 +225,24 @@ impl QuickSet {
         QuickSet {
             types,
             is_limited: false,
+            has_fractions: true,
             integers: IntegerRange::all(),
+        }
+    }
+
+    // Returns the set of all values of some types, but of the numbers only these integers, with or
+    // without those between them that have a fraction.
+    fn limited(types: [bool; 6], has_fractions: bool, integers: IntegerRange) -> QuickSet
+        ensures types { result.types ≡ types }
+        ensures limited { result.is_limited ≡ true }
+        ensures fractions { result.has_fractions ≡ has_fractions }
+        ensures integers { result.integers ≡ integers }
+    {
+        QuickSet {
+            types,
+            is_limited: true,
+            has_fractions,
+            integers,
         }
     }
 
@@ -198,11 +250,22 @@ impl QuickSet {
     pub fn but_numbers(integers: IntegerRange) -> QuickSet
         ensures { (n : Num) → is_in result (number n) ≡ has_number integers n }
     {
-        QuickSet {
-            types: [true; 6],
-            is_limited: true,
-            integers,
-        }
+        QuickSet::limited([true; 6], false, integers)
+    }
+
+    /// Returns the set of all values that are no numbers, of these integers, and of the numbers
+    /// between the least and the greatest of them that are written with a fraction.
+    pub fn but_numbers_beyond(integers: IntegerRange) -> QuickSet
+        ensures { (n : Num) → is_in result (number n) ≡ (has_fraction integers n || has_number integers n) }
+    {
+        QuickSet::limited([true; 6], true, integers)
+    }
+
+    /// Returns the set of these integers.
+    pub fn of_integers(integers: IntegerRange) -> QuickSet
+        ensures { (t : Tree) → is_in result t ≡ option_map_or (has_number integers) (as_number t) false }
+    {
+        QuickSet::limited([false; 6], false, integers)
     }
 
     /// Returns the empty set.
@@ -240,6 +303,7 @@ impl QuickSet {
     pub fn of_types(types: JsonTypeSet) -> QuickSet
         ensures { (rule : Integers) (t : Tree) → is_in result t ≡ true → is_of rule types t ≡ true }
     {
+        let is_limited = types.contains(JsonType::Integer) && !types.contains(JsonType::Number);
         QuickSet {
             types: [
                 types.contains(JsonType::Null),
@@ -249,7 +313,8 @@ impl QuickSet {
                 types.contains(JsonType::Array),
                 types.contains(JsonType::Object),
             ],
-            is_limited: types.contains(JsonType::Integer) && !types.contains(JsonType::Number),
+            is_limited,
+            has_fractions: !is_limited,
             integers: IntegerRange::all(),
         }
     }
@@ -263,7 +328,7 @@ impl QuickSet {
     {
         if self.is_limited {
             if let Some(number) = instance.as_number() {
-                return self.integers.has(number);
+                return self.has(number);
             }
         }
         self.types[type_index(instance.json_type())]
@@ -283,9 +348,29 @@ impl QuickSet {
         self.types[type_index(JsonType::Object)]
     }
 
-    // Returns a range whose numbers are in the set.
+    // Returns whether the number, which must be lawful, is in the set, which must be limited.
+    #[inline(always)]
+    #[tactic(auto, using(crate::proofs::QuickSets::numbers_within))]
+    fn has<A: JsonNumber>(&self, number: &A) -> bool
+        requires { IsTrue (is_exact (A.number number.now)) }
+        ensures { result ≡ is_in_limits self.now (A.number number.now) }
+    {
+        match number.as_i64() {
+            Some(integer) => self.integers.contains(integer),
+            None => {
+                self.has_fractions
+                    && !number.is_written_as_integer()
+                    && self.integers.encloses(number.decimal())
+            }
+        }
+    }
+
+    // Returns a range whose numbers are in the set, and, if the set has fractions, those with a
+    // fraction that are between its ends.
     fn numbers(self) -> IntegerRange
-        ensures { (n : Num) → has_number result n ≡ true → is_in self (number n) ≡ true }
+        ensures integers { (n : Num) → has_number result n ≡ true → is_in self (number n) ≡ true }
+        ensures fractions { (n : Num) → self.has_fractions ≡ true → has_fraction result n ≡ true
+            → is_in self (number n) ≡ true }
     {
         if self.is_limited || self.types[type_index(JsonType::Number)] {
             self.integers
@@ -372,6 +457,7 @@ impl QuickSet {
         QuickSet {
             types: in_both(&self.types, &other.types),
             is_limited: self.is_limited || other.is_limited,
+            has_fractions: self.has_fractions && other.has_fractions,
             integers: self.numbers().and(other.numbers()),
         }
     }
@@ -387,6 +473,15 @@ fn is_multiple(number: u64, divisor: u64, reciprocal: u64) -> bool
 {
     let quotient = (u128::from(number) * u128::from(reciprocal)) >> 64;
     quotient * u128::from(divisor) == u128::from(number) || number % divisor == 0
+}
+
+// Returns the integer times ten to the power of a scale.
+#[inline(always)]
+fn scaled(integer: i64, scale: u8) -> i128
+    requires { scale ≤ 18 }
+    ensures { result ≡ integer *ℤ pos (10 ^ scale) }
+{
+    i128::from(integer) * ten_to(u64::from(scale)) as i128
 }
 
 // Returns the types that have a mark in both.

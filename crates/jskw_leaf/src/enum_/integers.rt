@@ -1,14 +1,17 @@
 //! Options that are integers from -2^63 to 2^63-1.
-ghost use Rattle.std.specs.Prelude.{◌≡◌, IfOk, zero};
+ghost use Rattle.std.specs.Prelude.{◌≡◌, IfOk, ℤ, true, zero};
 ghost use Rattle.std.specs.List.Sorted.{IsSorted};
 ghost use Rattle.std.specs.Ordering.{int_cmp};
 ghost use Rattle.serde_json.specs.View.{items_view};
 ghost use Rattle.jskw_value.specs.Decimal.{coefficient, value};
 ghost use Rattle.jskw_value.specs.Number.{exact};
+ghost use Rattle.jskw_number.specs.QuickSet.{in_range};
 ghost use Rattle.jskw_leaf.specs.Options.{has_integer, has_null, integer_against, integer_of};
 ghost use Rattle.jskw_leaf.specs.Options.{is_integer_option, picked, some_integer};
 
 use super::table::{OptionTable, TableEnumValidator};
+use jskw_number::QuickSet;
+use jskw_number::quick_set::IntegerRange;
 use jskw_value::{Decimal, Json, JsonNumber, Node};
 use serde_json::Value;
 use std::alloc::{AllocError, Global};
@@ -43,6 +46,13 @@ impl OptionTable for SortedIntegers {
         Ok(SortedIntegers { integers })
     }
 
+    fn quick_set(&self) -> QuickSet {
+        match self.integers.first() {
+            Some(first) => QuickSet::of_integers(first_run(&self.integers, *first)),
+            None => QuickSet::none(),
+        }
+    }
+
     fn has<F: Json>(&self, instance: &F::Node) -> bool {
         let Some(number) = instance.as_number() else {
             return false;
@@ -52,6 +62,20 @@ impl OptionTable for SortedIntegers {
             None => is_in_table(&self.integers, &number.decimal()),
         }
     }
+}
+
+// Returns the integers of the sorted table from its first one to the last before a gap.
+fn first_run(table: &[i64], first: i64) -> IntegerRange
+    ensures { some_integer table.now (exact first zero) ≡ true → (z : ℤ) → in_range result z ≡ true
+        → some_integer table.now (exact z zero) ≡ true }
+{
+    let mut last = first;
+    for integer in table {
+        if last.checked_add(1) == Some(*integer) {
+            last = *integer;
+        }
+    }
+    IntegerRange::between(first, last)
 }
 
 // Returns whether the sorted table has the integer. It is faster than `is_in_table`, since it

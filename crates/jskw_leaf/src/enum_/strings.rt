@@ -7,6 +7,7 @@ ghost use Rattle.jskw_leaf.specs.Options.{has_null, has_text, is_text, picked, s
 
 use super::table::{OptionTable, TableEnumValidator};
 use crate::text_table::{is_in_table, sorted};
+use jskw_number::QuickSet;
 use jskw_value::{Json, KeyHead, Node, PropertyName};
 use serde_json::Value;
 use std::alloc::{AllocError, Global};
@@ -37,6 +38,10 @@ impl OptionTable for FewStrings {
         Ok(FewStrings {
             names: names_of(alloc, items)?,
         })
+    }
+
+    fn quick_set(&self) -> QuickSet {
+        QuickSet::none()
     }
 
     fn has<F: Json>(&self, instance: &F::Node) -> bool {
@@ -73,6 +78,10 @@ impl OptionTable for SortedStrings {
         Ok(SortedStrings {
             texts: sorted(texts_of(alloc, items)?),
         })
+    }
+
+    fn quick_set(&self) -> QuickSet {
+        QuickSet::none()
     }
 
     fn has<F: Json>(&self, instance: &F::Node) -> bool {

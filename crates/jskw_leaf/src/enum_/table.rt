@@ -5,9 +5,12 @@ ghost use Rattle.serde_json.specs.Find.{as_array};
 ghost use Rattle.serde_json.specs.View.{view, items_view};
 ghost use Rattle.jskw_value.specs.Tree.{Tree, is_lawful};
 ghost use Rattle.jskw_report.specs.Holds.{is_option};
+ghost use Rattle.jskw_report.specs.Meaning.{as_keyword};
+ghost use Rattle.jskw_number.specs.QuickSet.{Accepts, is_in};
 ghost use Rattle.jskw_leaf.specs.Options.{AreOptions, not_among, only, options_of};
 
 use super::not_among;
+use jskw_number::QuickSet;
 use jskw_report::{Assertion, KeywordLocation, ValidationErrorKind};
 use jskw_value::{Json, Node, Nullability};
 use serde_json::Value;
@@ -35,6 +38,10 @@ pub trait OptionTable: Sized {
         requires { only takes (items_view items.now) ≡ true }
         ensures { let all = items_view items.now in
             IfOk result (λ table. AreOptions (has table) (leaves_out_null all) all) };
+
+    /// Returns values that equal an option in the table.
+    fn quick_set(&self) -> QuickSet
+        ensures { (t : Tree) → is_in result t ≡ true → has self.now t ≡ true };
 
     /// Returns whether the instance equals an option in the table. The instance must be lawful: it
     /// contains no float. Allocates nothing.
@@ -82,6 +89,14 @@ impl<T: OptionTable, N: Nullability> Listed<T, N> {
         self.table.has::<F>(instance) || (N::ACCEPTS_NULL && instance.is_null())
     }
 
+    // Returns values that equal one of the options.
+    fn quick_set(&self) -> QuickSet
+        ensures { (t : Tree) → is_in result t ≡ true
+            → is_option (options_of (view self.now)) t ≡ true }
+    {
+        self.table.quick_set()
+    }
+
     // Returns the value of `enum`, an array.
     fn options(&self) -> &Value
         ensures value { view result.now ≡ view self.now }
@@ -122,6 +137,13 @@ impl<T: OptionTable, N: Nullability> TableEnumValidator<T, N> {
             nullability: PhantomData,
         };
         Ok(TableEnumValidator { listed, location })
+    }
+
+    /// Returns values that equal one of the options.
+    pub fn quick_set(&self) -> QuickSet
+        ensures { Accepts result (as_keyword (enum_table self.now)) }
+    {
+        self.listed.quick_set()
     }
 }
 

@@ -10,6 +10,7 @@ ghost use Rattle.jskw_leaf.specs.Values.{IsRun, has_value, is_fingerprinted, is_
 
 use super::compilation::types_of;
 use super::table::{OptionTable, TableEnumValidator};
+use jskw_number::QuickSet;
 use jskw_value::fingerprint::of_whole;
 use jskw_value::seed::seed_of;
 use jskw_value::{Json, JsonTypeSet, Node, NotNullable};
@@ -64,6 +65,10 @@ impl OptionTable for SortedValues {
             seed,
             options: sorted,
         })
+    }
+
+    fn quick_set(&self) -> QuickSet {
+        QuickSet::none()
     }
 
     fn has<F: Json>(&self, instance: &F::Node) -> bool {

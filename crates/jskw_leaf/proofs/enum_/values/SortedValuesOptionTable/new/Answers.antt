@@ -1,7 +1,7 @@
 use Rattle.std.proofs.Common.{◌≡◌, true, rules, subst, sym}
 use Rattle.std.proofs.lemmas.Fn.{dedup_same}
 use Rattle.std.proofs.lemmas.List.Sorted.{IsNonDecreasingBy-from_sort_by_key}
-use Rattle.std.specs.List.{dedup, list_all}
+use Rattle.std.specs.List.{list_all}
 use Rattle.std.specs.List.Sorted.{IsNonDecreasingBy}
 use Rattle.jskw_leaf.specs.Values.{is_fingerprinted, is_repeat}
 use Rattle.jskw_leaf.proofs.OptionFingerprints.{are_values, in_order_once, no_value, fingerprinted_moved}

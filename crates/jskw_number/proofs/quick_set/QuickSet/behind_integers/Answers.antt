@@ -1,0 +1,19 @@
+use Rattle.std.proofs.Common.{rules, ◌≡◌, ◌∙◌, ap, arith, sym, true}
+use Rattle.jskw_value.specs.Tree.{items}
+use Rattle.jskw_number.specs.QuickSet.{is_in}
+use Rattle.jskw_number.proofs.QuickSets.{leading_next, number_is_in}
+use Rattle.jskw_number.proofs.quick_set.QuickSet.behind_integers.Goals as goal
+
+pub loop-index-preserved : goal.loop-index-preserved
+loop-index-preserved g c =
+    let q = c.args.self.now in
+    let item = g.N.Rooted.tree c.item.result.now in
+    let here : is_in q item ≡ true =
+    number_is_in q item _ (search (rules, c.if-not-self.false)) (sym c.in-Some.ensures.value)
+    (sym c.has.ensures ∙ c.if-has.true) in
+    record {
+      answer =
+          leading_next (is_in q) (items (g.N.Rooted.tree c.args.instance.now)) c.loop-index.index item
+          (omega (arith, c.requires.count, c.loop-index-test.true)) (ap (is_in q) (sym c.item.ensures.value) ∙ here)
+          ∙ c.loop-index.invariant.answer;
+    }
