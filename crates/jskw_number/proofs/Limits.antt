@@ -1,7 +1,7 @@
 -- Relations of numbers by how they are ordered.
 use Rattle.std.proofs.Common.{◌≡◌, ℤ, pos, Bool, true, false, cond, Some, None, refl, ap, sym, arith, ◌^◌, ◌*ℤ◌}
 use Rattle.std.specs.declared.cmp.Ordering.TheVariants.{Less, Equal, Greater}
-use Rattle.std.specs.Ordering.{is_lt, is_le, is_gt, is_ge}
+use Rattle.std.specs.Ordering.{int_cmp, is_lt, is_le, is_gt, is_ge}
 use Rattle.std.specs.Option.{option_map_or}
 use Rattle.std.specs.Prelude.{int_le, int_lt}
 use Rattle.std.proofs.lemmas.Int.{ints}
@@ -55,6 +55,13 @@ is_lt_of : (a b : ℤ) (x y : Bool) → is_lt (cond x Less (cond y Greater Equal
 is_lt_of a b true y = refl
 is_lt_of a b false true = refl
 is_lt_of a b false false = refl
+
+-- integers by their order and by their relation
+pub order_ge : (a b : ℤ) → is_ge (int_cmp a b) ≡ int_le b a
+order_ge a b = is_ge_of a b _ _ _ refl refl refl
+
+pub order_le : (a b : ℤ) → is_le (int_cmp a b) ≡ int_le a b
+order_le a b = is_le_of a b _ _ _ refl refl refl
 
 -- a number is within a limit where its order to it is allowed
 pub by_order : (r : Relation) (z : ℤ) (t : Tree) → limit_holds r z t ≡ option_map_or (allows r) (stands_to z t) true
