@@ -7,10 +7,14 @@
 #![tactic(auto)]
 
 mod broken;
+mod cursor;
 pub mod fault;
 pub mod laws;
 pub mod number;
 pub mod position;
+mod quick;
+mod scan;
+mod sorted;
 pub mod tree;
 
 pub use fault::ReadFault;

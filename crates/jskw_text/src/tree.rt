@@ -15,6 +15,7 @@ ghost use Rattle.jskw_text.specs.Reading.{document, reading, tree_of, items_of, 
 use crate::broken::offset_of_break;
 use crate::fault::{ReadFault, Stop};
 use crate::number::parse_decimal;
+use crate::quick::{Unread, read_quickly};
 use jskw_value::pointer::{push_index, push_name};
 use jskw_value::{DecimalTree, Member, Members};
 use json::{Reader, Scratch, Token};
@@ -62,6 +63,11 @@ fn read_text(alloc: Global, text: &str, scratch: &mut Scratch) -> Result<Decimal
     ensures tree { IfOk result (λ tree. reading text.now ≡ Some (Ok (decimal_tree tree))) }
     ensures fault { IfErr result (IsFaultOf text.now) }
 {
+    match read_quickly(alloc, text) {
+        Ok(tree) => return Ok(tree),
+        Err(Unread::Memory(e)) => return Err(ReadFault::Memory(e)),
+        Err(Unread::Text) => {}
+    }
     match read_all(alloc, text, scratch) {
         Ok(tree) => Ok(tree),
         Err(stop) => Err(fault_of(alloc, text, scratch, stop)?),
