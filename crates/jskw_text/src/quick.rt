@@ -8,12 +8,10 @@ ghost use Rattle.jskw_text.specs.Reading.{reading};
 
 use crate::cursor::Cursor;
 use crate::sorted::put;
+use crate::spare::Spare;
 use crate::tree::MAX_DEPTH;
 use jskw_value::{DecimalTree, Member, Members};
 use std::alloc::{AllocError, AllocFailed, Global};
-
-// The most room that a new array or object gets at once.
-const MOST_ROOM: usize = 8;
 
 // Why a text was not read.
 #[derive(Drop)]
@@ -36,24 +34,16 @@ impl<T: Drop> From<AllocFailed<T>> for Unread {
     }
 }
 
-// For how many items and members there is room in a new array and object: as many as the last ones
-// had, because neighbours are often alike.
-#[derive(Drop)]
-struct Room {
-    items: usize,
-    members: usize,
-}
-
 // Reads the tree that a text denotes, or gives up.
-pub(crate) fn read_quickly(alloc: Global, text: &str) -> Result<DecimalTree, Unread>
+pub(crate) fn read_quickly(
+    alloc: Global,
+    text: &str,
+    spare: &mut Spare,
+) -> Result<DecimalTree, Unread>
     ensures { IfOk result (λ tree. reading text.now ≡ Some (Ok (decimal_tree tree))) }
 {
     let mut cursor = Cursor::new(text);
-    let mut room = Room {
-        items: MOST_ROOM,
-        members: MOST_ROOM,
-    };
-    let tree = read(alloc, &mut cursor, &mut room, MAX_DEPTH)?;
+    let tree = read(alloc, &mut cursor, spare, MAX_DEPTH)?;
     cursor.skip_spaces();
     if !cursor.is_at_end() {
         return Err(Unread::Text);
@@ -67,7 +57,7 @@ pub(crate) fn read_quickly(alloc: Global, text: &str) -> Result<DecimalTree, Unr
 fn read(
     alloc: Global,
     cursor: &mut Cursor<'_>,
-    room: &mut Room,
+    spare: &mut Spare,
     depth: usize,
 ) -> Result<DecimalTree, Unread>
     ensures ok { IfOk result (λ tree. Reads depth cursor.old (decimal_tree tree) cursor.new) }
@@ -75,20 +65,20 @@ fn read(
 {
     cursor.skip_spaces();
     match cursor.peek() {
-        b'"' => read_text(alloc, cursor),
+        b'"' => read_text(alloc, cursor, spare),
         b'[' => {
             if depth == 0 {
                 return Err(Unread::Text);
             }
             cursor.advance();
-            Ok(DecimalTree::Array(read_items(alloc, cursor, room, depth - 1)?))
+            Ok(DecimalTree::Array(read_items(alloc, cursor, spare, depth - 1)?))
         }
         b'{' => {
             if depth == 0 {
                 return Err(Unread::Text);
             }
             cursor.advance();
-            Ok(DecimalTree::Object(read_members(alloc, cursor, room, depth - 1)?))
+            Ok(DecimalTree::Object(read_members(alloc, cursor, spare, depth - 1)?))
         }
         _ => read_word(cursor),
     }
@@ -96,12 +86,16 @@ fn read(
 
 // Reads a string.
 #[inline(always)]
-fn read_text(alloc: Global, cursor: &mut Cursor<'_>) -> Result<DecimalTree, Unread>
+fn read_text(
+    alloc: Global,
+    cursor: &mut Cursor<'_>,
+    spare: &mut Spare,
+) -> Result<DecimalTree, Unread>
     requires { head cursor.old ≡ 34 }
     ensures { IfOk result (λ tree. PassesLeaf cursor.old (decimal_tree tree) cursor.new) }
 {
     match cursor.string() {
-        Some(text) => Ok(DecimalTree::Text(String::from_str(alloc, text)?)),
+        Some(text) => Ok(DecimalTree::Text(spare.text(alloc, text)?)),
         None => Err(Unread::Text),
     }
 }
@@ -130,7 +124,7 @@ fn read_word(cursor: &mut Cursor<'_>) -> Result<DecimalTree, Unread>
 fn read_items(
     alloc: Global,
     cursor: &mut Cursor<'_>,
-    room: &mut Room,
+    spare: &mut Spare,
     depth: usize,
 ) -> Result<Vec<DecimalTree>, Unread>
     ensures ok { IfOk result
@@ -140,9 +134,9 @@ fn read_items(
     if cursor.takes(b']') {
         return Ok(Vec::new(alloc));
     }
-    let mut found = Vec::with_capacity(alloc, room.items)?;
+    let mut found = spare.list(alloc)?;
     'items: loop {
-        let item = read(alloc, cursor, room, depth)?;
+        let item = read(alloc, cursor, spare, depth)?;
         found.push(item)?;
         if !cursor.takes(b',') {
             break;
@@ -151,7 +145,7 @@ fn read_items(
     if !cursor.takes(b']') {
         return Err(Unread::Text);
     }
-    room.items = found.len().min(MOST_ROOM);
+    spare.had_items(found.len());
     Ok(found)
 }
 
@@ -161,7 +155,7 @@ fn read_items(
 fn read_members(
     alloc: Global,
     cursor: &mut Cursor<'_>,
-    room: &mut Room,
+    spare: &mut Spare,
     depth: usize,
 ) -> Result<Members, Unread>
     ensures ok { IfOk result (λ ms. ReadsMembers depth cursor.old (members_seen ms) cursor.new) }
@@ -170,10 +164,10 @@ fn read_members(
     if cursor.takes(b'}') {
         return Ok(Members::new(alloc));
     }
-    let mut found = Vec::with_capacity(alloc, room.members)?;
+    let mut found = spare.pairs(alloc)?;
     'members: loop {
-        let name = read_name(alloc, cursor)?;
-        let value = read(alloc, cursor, room, depth)?;
+        let name = read_name(alloc, cursor, spare)?;
+        let value = read(alloc, cursor, spare, depth)?;
         put(&mut found, Member { name, value })?;
         if !cursor.takes(b',') {
             break;
@@ -182,13 +176,13 @@ fn read_members(
     if !cursor.takes(b'}') {
         return Err(Unread::Text);
     }
-    room.members = found.len().min(MOST_ROOM);
+    spare.had_members(found.len());
     Ok(Members::from_last_pairs(found)?)
 }
 
 // Reads a name and its colon.
 #[inline(always)]
-fn read_name(alloc: Global, cursor: &mut Cursor<'_>) -> Result<String, Unread>
+fn read_name(alloc: Global, cursor: &mut Cursor<'_>, spare: &mut Spare) -> Result<String, Unread>
     ensures { IfOk result (λ name. PassesName cursor.old (string_bytes name) cursor.new) }
 {
     cursor.skip_spaces();
@@ -196,7 +190,7 @@ fn read_name(alloc: Global, cursor: &mut Cursor<'_>) -> Result<String, Unread>
         return Err(Unread::Text);
     }
     match cursor.string() {
-        Some(text) if cursor.takes(b':') => Ok(String::from_str(alloc, text)?),
+        Some(text) if cursor.takes(b':') => Ok(spare.text(alloc, text)?),
         _ => Err(Unread::Text),
     }
 }

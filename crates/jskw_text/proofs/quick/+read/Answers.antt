@@ -87,7 +87,7 @@ read_items-items-init t c =
           (parse_map (items_of 0) (items (value depth) n (punctuate fresh l)))) spaces.lexed
           ∙ ap (λ vs. parse_map (on_found (items_before vs))
           (parse_map (items_of (length vs)) (items (value depth) n (punctuate fresh (lex between cursor)))))
-          (sym c.in_ok-found.ensures.items),
+          (sym c.in_ok-found.ensures),
       omega (arith, spaces.shorter),
     )
 
@@ -159,7 +159,7 @@ read_members-members-init t c =
       omega (arith, ap (λ l. length (punctuate fresh l)) spaces.lexed),
       ap (λ l. parse_map (members_of no_members) (members (value depth) n (punctuate fresh l))) spaces.lexed
           ∙ ap (λ ms. parse_map (members_of (members_seen (lasts ms)))
-          (members (value depth) n (punctuate fresh (lex between cursor)))) (sym c.in_ok-found.ensures.items),
+          (members (value depth) n (punctuate fresh (lex between cursor)))) (sym c.in_ok-found.ensures),
       omega (arith, spaces.shorter),
     )
 
