@@ -19,9 +19,8 @@ use crate::place::{Place, refusal};
 use jskw_array::SchemaNode;
 use jskw_report::{LazyLocation, ValidationContext, ValidationError};
 use jskw_service::Verdict;
-use jskw_text::{ReadFault, position_of, read_bytes_with};
+use jskw_text::{ReadFault, TreeReader, position_of};
 use jskw_value::{DecimalJson, DecimalTree};
-use json::Scratch;
 use std::alloc::{AllocError, Global};
 
 /// The answer to a document.
@@ -35,23 +34,27 @@ pub struct Answer {
     pub text: Vec<u8>,
 }
 
-/// Answers the document of these bytes, which is a file, or a line of one. `scratch` is room that
-/// reading needs, and can serve for any number of documents.
+/// Answers the document of these bytes, which is a file, or a line of one. `reader` can serve for any
+/// number of documents.
 pub fn answer_to(
     alloc: Global,
     checker: &Checker,
     file: &str,
     line: Option<usize>,
     document: &[u8],
-    scratch: &mut Scratch,
+    reader: &mut TreeReader,
 ) -> Result<Answer, AllocError>
     ensures verdict { IfOk result
         (λ answer. answer.verdict ≡ verdict_on checker.now.schema document.now) }
     ensures text { IfOk result (λ answer. IsAnswer checker.now.options checker.now.schema file.now line
         document.now answer.text.items) }
 {
-    match read_bytes_with(alloc, document, scratch) {
-        Ok(tree) => answer_to_tree(alloc, checker, file, line, &tree),
+    match reader.read(document) {
+        Ok(tree) => {
+            let answer = answer_to_tree(alloc, checker, file, line, &tree);
+            reader.reuse(tree);
+            answer
+        }
         Err(ReadFault::NotJson(offset)) => {
             let output = checker.options.output;
             let why = why_broken(document, offset);
@@ -59,7 +62,7 @@ pub fn answer_to(
         }
         Err(ReadFault::Inexact(location)) => {
             let output = checker.options.output;
-            let offset = offset_of_inexact(document, scratch)?;
+            let offset = offset_of_inexact(document, reader.scratch())?;
             let why = "the number has no exact decimal";
             let location = Some(location.as_str());
             refuse(alloc, output, file, line, document, offset, location, why)

@@ -7,7 +7,7 @@ use crate::checker::Checker;
 use crate::fault::CheckFault;
 use crate::watcher::{Counts, Watcher};
 use jskw_service::{ReadFault, Sink, Source, Verdict, read_all, write_all};
-use json::Scratch;
+use jskw_text::TreeReader;
 use std::alloc::Global;
 
 /// Reads a document to its end, writes the answer and nothing else, shows the counts to the watcher,
@@ -36,8 +36,8 @@ pub fn check_document<R: Source, W: Sink, V: Watcher>(
         Err(ReadFault::Device) => return Err(CheckFault::Read),
         Err(ReadFault::Memory) => return Err(CheckFault::Memory),
     };
-    let mut scratch = Scratch::new(alloc);
-    let answer = answer_to(alloc, checker, file, None, &document, &mut scratch)?;
+    let mut tree_reader = TreeReader::new(alloc);
+    let answer = answer_to(alloc, checker, file, None, &document, &mut tree_reader)?;
     let Ok(()) = write_all(writer, &answer.text) else {
         return Err(CheckFault::Write);
     };

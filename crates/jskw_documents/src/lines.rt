@@ -12,7 +12,7 @@ use crate::checker::Checker;
 use crate::fault::CheckFault;
 use crate::watcher::{Counts, Watcher};
 use jskw_service::{Sink, Source, Verdict, write_all};
-use json::Scratch;
+use jskw_text::TreeReader;
 use std::alloc::Global;
 use std::mem;
 
@@ -31,8 +31,8 @@ pub(crate) struct Lines {
     pub(crate) begun: Vec<u8>,
     // The worst verdict on the lines before it.
     pub(crate) verdict: Verdict,
-    // Room that reading needs.
-    pub(crate) scratch: Scratch,
+    // What reads lines.
+    pub(crate) reader: TreeReader,
     // The counts so far.
     pub(crate) counts: Counts,
 }
@@ -42,7 +42,7 @@ pub(crate) struct Lines {
 ///
 /// The answers to the lines that end in a block of the reader are written before the next block is
 /// read, and the counts are shown to the watcher. Memory is kept for one line, besides the block, its
-/// answers and what the line takes while it is checked.
+/// answers, what the line takes while it is checked, and 2.5 MB for trees of lines that follow.
 ///
 /// # Errors
 ///
@@ -69,7 +69,7 @@ pub fn check_lines<R: Source, W: Sink, V: Watcher>(
         next: 1,
         begun: Vec::new(alloc),
         verdict: Verdict::Valid,
-        scratch: Scratch::new(alloc),
+        reader: TreeReader::new(alloc),
         counts: Counts::new(),
     };
     let mut block = [0u8; BLOCK];
@@ -238,7 +238,7 @@ fn answer_line(
         return Err(CheckFault::TooLong);
     };
     let number = Some(lines.next);
-    let answer = answer_to(alloc, checker, file, number, line, &mut lines.scratch)?;
+    let answer = answer_to(alloc, checker, file, number, line, &mut lines.reader)?;
     text.extend_from_slice(&answer.text)?;
     lines.next = next;
     lines.counts = lines.counts.plus(Counts {
@@ -274,7 +274,7 @@ fn take_last<W: Sink, V: Watcher>(
     }
     let line = mem::replace(&mut lines.begun, Vec::new(alloc));
     let number = Some(lines.next);
-    let answer = answer_to(alloc, checker, file, number, &line, &mut lines.scratch)?;
+    let answer = answer_to(alloc, checker, file, number, &line, &mut lines.reader)?;
     let Ok(()) = write_all(writer, &answer.text) else {
         return Err(CheckFault::Write);
     };

@@ -1,6 +1,7 @@
 pub mod Laws
 pub mod Members
 pub mod NumberText
+pub mod Passing
 pub mod Position
 pub mod ReadFault
 pub mod Reading

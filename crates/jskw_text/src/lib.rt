@@ -1,19 +1,27 @@
 //! Exact decimals from JSON text.
 //!
 //! [`read_bytes`] reads JSON text into a [`DecimalTree`](jskw_value::DecimalTree), or returns a
-//! [`ReadFault`]; [`read_bytes_with`] keeps the room that reading needs. [`position_of`] returns the
-//! line and the column of an offset. [`parse_decimal`] reads one number. `specs/Reading.antt` says
-//! which tree a text denotes, `specs/NumberText.antt` which decimal a number.
+//! [`ReadFault`]. [`read_bytes_with`] keeps the room that reading needs, [`TreeReader`] also that of
+//! trees that are no longer needed. [`position_of`] returns the line and the column of an offset.
+//! [`parse_decimal`] reads one number. `specs/Reading.antt` says which tree a text denotes,
+//! `specs/NumberText.antt` which decimal a number.
 #![tactic(auto)]
 
 mod broken;
+mod cursor;
 pub mod fault;
 pub mod laws;
 pub mod number;
 pub mod position;
+mod quick;
+pub mod reader;
+mod scan;
+mod sorted;
+mod spare;
 pub mod tree;
 
 pub use fault::ReadFault;
 pub use number::parse_decimal;
 pub use position::{Position, position_of};
+pub use reader::TreeReader;
 pub use tree::{read_bytes, read_bytes_with};

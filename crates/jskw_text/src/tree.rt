@@ -15,6 +15,8 @@ ghost use Rattle.jskw_text.specs.Reading.{document, reading, tree_of, items_of, 
 use crate::broken::offset_of_break;
 use crate::fault::{ReadFault, Stop};
 use crate::number::parse_decimal;
+use crate::quick::{Unread, read_quickly};
+use crate::spare::Spare;
 use jskw_value::pointer::{push_index, push_name};
 use jskw_value::{DecimalTree, Member, Members};
 use json::{Reader, Scratch, Token};
@@ -50,18 +52,41 @@ pub fn read_bytes_with(
     ensures tree { IfOk result (λ tree. reading bytes.now ≡ Some (Ok (decimal_tree tree))) }
     ensures fault { IfErr result (IsFaultOf bytes.now) }
 {
+    read_with(alloc, bytes, scratch, &mut Spare::new(alloc))
+}
+
+// Reads the tree that bytes denote as JSON text, in room of trees that are no longer needed.
+pub(crate) fn read_with(
+    alloc: Global,
+    bytes: &[u8],
+    scratch: &mut Scratch,
+    spare: &mut Spare,
+) -> Result<DecimalTree, ReadFault>
+    ensures tree { IfOk result (λ tree. reading bytes.now ≡ Some (Ok (decimal_tree tree))) }
+    ensures fault { IfErr result (IsFaultOf bytes.now) }
+{
     match simdutf8::compat::from_utf8(bytes) {
-        Ok(text) => read_text(alloc, text, scratch),
+        Ok(text) => read_text(alloc, text, scratch, spare),
         Err(e) => Err(ReadFault::NotJson(e.valid_up_to())),
     }
 }
 
 // Reads the tree that a text denotes.
-fn read_text(alloc: Global, text: &str, scratch: &mut Scratch) -> Result<DecimalTree, ReadFault>
+fn read_text(
+    alloc: Global,
+    text: &str,
+    scratch: &mut Scratch,
+    spare: &mut Spare,
+) -> Result<DecimalTree, ReadFault>
     requires { IsTrue (is_utf8 text.now) }
     ensures tree { IfOk result (λ tree. reading text.now ≡ Some (Ok (decimal_tree tree))) }
     ensures fault { IfErr result (IsFaultOf text.now) }
 {
+    match read_quickly(alloc, text, spare) {
+        Ok(tree) => return Ok(tree),
+        Err(Unread::Memory(e)) => return Err(ReadFault::Memory(e)),
+        Err(Unread::Text) => {}
+    }
     match read_all(alloc, text, scratch) {
         Ok(tree) => Ok(tree),
         Err(stop) => Err(fault_of(alloc, text, scratch, stop)?),

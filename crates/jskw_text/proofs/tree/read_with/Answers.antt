@@ -1,5 +1,5 @@
 use Rattle.jskw_text.proofs.Utf8.{is_text, broken_bytes}
-use Rattle.jskw_text.proofs.tree.read_bytes_with.Goals as goal
+use Rattle.jskw_text.proofs.tree.read_with.Goals as goal
 
 pub read_text-requires : goal.read_text-requires
 read_text-requires c = is_text _ _ c.in-Ok.ensures.cases.0 c.in-Ok.ensures.cases.1

@@ -1,0 +1,305 @@
+-- From what a cursor passes over to the trees that tokens denote.
+use Rattle.std.proofs.Common.{◌≡◌, ℕ, suc, ◌-◌, ◌<◌, ◌≤◌, Bool, true, false, List, [], ◌∷◌, ◌++◌, length, Option, Some, None}
+use Rattle.std.proofs.Common.{Result, Ok, Err, IfOk, option_map, refl, sym, ap, ◌∙◌, arith}
+use Rattle.std.proofs.lemmas.Bool.{true≢false, false≢true}
+use Rattle.std.specs.Str.{is_utf8}
+use Rattle.json.proofs.Found.{not_found}
+use Rattle.json.proofs.Grammar.{value_is, value-begin_array, value-begin_object, skip_value-shorter}
+use Rattle.json.specs.Json.{parse_map, after_end_array, read_key, items, members, value}
+use Rattle.json.specs.Lex.{Lexeme, comma, colon, token as token_lexeme, begins_colon, between, lex, tokens, Place, fresh}
+use Rattle.json.specs.Lex.{after_value, after_comma, after_key, may_begin, may_close, place_token}
+use Rattle.json.specs.Lex.{punctuate}
+use Rattle.json.specs.Token as token
+use Rattle.json.specs.Token.{Token}
+use Rattle.jskw_value.specs.DecimalTree.{decimal_tree}
+use Rattle.jskw_value.specs.Pointer.{Pointer}
+use Rattle.jskw_value.specs.Tree.{Tree, array, object, Items, no_items, item, Members, no_members}
+use Rattle.jskw_value.specs.declared.decimal_tree.DecimalTree.{DecimalTree}
+use Rattle.jskw_text.specs.Passing.{Passes, PassesLeaf, PassesName, Reads, ReadsItems, ReadsMembers, token_tree}
+use Rattle.jskw_text.specs.Reading.{on_found, put, tree_of, items_of, members_of, reading, max_depth}
+use Rattle.jskw_text.proofs.Reading.{parsed_some, parsed_array, parsed_object, item_read, items_over, member_read}
+use Rattle.jskw_text.proofs.Reading.{members_over, items_before, one_more_item, length-append_one}
+
+pub if_ok : {A E : Type 0} (r : Result A E) {P Q : A → Type 0} → ((a : A) → P a → Q a) → IfOk r P → IfOk r Q
+if_ok (Ok a) f h = f a h
+if_ok (Err e) f h = tt
+
+-- ---- where a value may begin
+
+abbrev is_closing : Token → Bool
+is_closing token.begin_object = false
+is_closing token.end_object = true
+is_closing token.begin_array = false
+is_closing token.end_array = true
+is_closing (token.key s) = false
+is_closing (token.string s) = false
+is_closing (token.number s) = false
+is_closing (token.boolean b) = false
+is_closing token.null = false
+is_closing token.bad = false
+
+-- the same tokens as at the beginning
+after_comma_too : (t : Token) (ls : List Lexeme) → is_closing t ≡ false
+    → punctuate after_comma (token_lexeme t ∷ ls) ≡ punctuate fresh (token_lexeme t ∷ ls)
+unfolding punctuate
+after_comma_too token.begin_object ls h = refl
+after_comma_too token.end_object ls h = absurd (true≢false h)
+after_comma_too token.begin_array ls h = refl
+after_comma_too token.end_array ls h = absurd (true≢false h)
+after_comma_too (token.key s) ls h = refl
+after_comma_too (token.string s) ls h = by_colon (begins_colon ls)
+  where
+    by_colon : (b : Bool) → place_token after_comma (token.string s) b (λ next. punctuate next ls)
+        ≡ place_token fresh (token.string s) b (λ next. punctuate next ls)
+    by_colon true = refl
+    by_colon false = refl
+after_comma_too (token.number s) ls h = refl
+after_comma_too (token.boolean b) ls h = refl
+after_comma_too token.null ls h = refl
+after_comma_too token.bad ls h = refl
+
+begun : (p : Place) (t : Token) (ls : List Lexeme) → may_begin p ≡ true → is_closing t ≡ false
+    → punctuate p (token_lexeme t ∷ ls) ≡ punctuate fresh (token_lexeme t ∷ ls)
+begun fresh t ls m h = refl
+begun after_value t ls m h = absurd (false≢true m)
+begun after_comma t ls m h = after_comma_too t ls h
+begun after_key t ls m h = absurd (false≢true m)
+
+-- ---- a value that is one token
+
+leaf_opens : (k : Token) (t : Tree) → token_tree k ≡ Some (Ok t) → is_closing k ≡ false
+leaf_opens token.begin_object t e = refl
+leaf_opens token.end_object t e = not_found (Ok t) e
+leaf_opens token.begin_array t e = refl
+leaf_opens token.end_array t e = not_found (Ok t) e
+leaf_opens (token.key s) t e = refl
+leaf_opens (token.string s) t e = refl
+leaf_opens (token.number s) t e = refl
+leaf_opens (token.boolean b) t e = refl
+leaf_opens token.null t e = refl
+leaf_opens token.bad t e = refl
+
+leaf_token : (depth : ℕ) (k : Token) (ls : List Lexeme) (t : Tree) → token_tree k ≡ Some (Ok t)
+    → begins_colon ls ≡ false
+    → parse_map tree_of (value depth (punctuate fresh (token_lexeme k ∷ ls))) ≡ Some (Ok t, punctuate after_value ls)
+unfolding punctuate
+leaf_token depth token.begin_object ls t e h = not_found (Ok t) e
+leaf_token depth token.end_object ls t e h = not_found (Ok t) e
+leaf_token depth token.begin_array ls t e h = not_found (Ok t) e
+leaf_token depth token.end_array ls t e h = not_found (Ok t) e
+leaf_token depth (token.key s) ls t e h = not_found (Ok t) e
+leaf_token depth (token.string s) ls t e h =
+    rw h (ap (parse_map tree_of) (value_is depth (token.string s ∷ punctuate after_value ls))
+    ∙ ap (option_map (λ r. (r, punctuate after_value ls))) e)
+leaf_token depth (token.number s) ls t e h =
+    ap (parse_map tree_of) (value_is depth (token.number s ∷ punctuate after_value ls))
+    ∙ ap (option_map (λ r. (r, punctuate after_value ls))) e
+leaf_token depth (token.boolean b) ls t e h =
+    ap (parse_map tree_of) (value_is depth (token.boolean b ∷ punctuate after_value ls))
+    ∙ ap (option_map (λ r. (r, punctuate after_value ls))) e
+leaf_token depth token.null ls t e h =
+    ap (parse_map tree_of) (value_is depth (token.null ∷ punctuate after_value ls))
+    ∙ ap (option_map (λ r. (r, punctuate after_value ls))) e
+leaf_token depth token.bad ls t e h = not_found (Ok t) e
+
+pub leaf_read : (depth : ℕ) (old : List ℕ) (t : Tree) (new : List ℕ) → PassesLeaf old t new → Reads depth old t new
+leaf_read depth old t new leaf p may plain =
+    let k = leaf.0 in
+    let ls = lex between new in
+    ap (λ l. parse_map tree_of (value depth (punctuate p l))) leaf.1.lexed
+    ∙ ap (λ ts. parse_map tree_of (value depth ts)) (begun p k ls may (leaf_opens k t leaf.2))
+    ∙ leaf_token depth k ls t leaf.2 plain
+
+-- ---- spaces in front
+
+pub read_behind : (depth : ℕ) (old inner : List ℕ) (t : Tree) (new : List ℕ) → Passes old [] inner
+    → Reads depth inner t new → Reads depth old t new
+read_behind depth old inner t new passes reads p may plain =
+    ap (λ l. parse_map tree_of (value depth (punctuate p l))) passes.lexed ∙ reads p may plain
+
+-- ---- arrays and objects
+
+pub array_read : (depth : ℕ) (old inner : List ℕ) (found : Items) (new : List ℕ) → 0 < depth
+    → Passes old (token_lexeme token.begin_array ∷ []) inner → ReadsItems (depth - 1) inner found new
+    → Reads depth old (array found) new
+unfolding punctuate
+array_read depth old inner found new some passes reads p may plain =
+    let ts = punctuate fresh (lex between inner) in
+    ap (λ l. parse_map tree_of (value depth (punctuate p l))) passes.lexed
+    ∙ ap (λ us. parse_map tree_of (value depth us)) (begun p token.begin_array (lex between inner) may refl)
+    ∙ ap (parse_map tree_of) (value-begin_array depth ts some)
+    ∙ parsed_array (items (value (depth - 1)) (length ts) ts) ∙ ap (parse_map (on_found array)) reads
+
+pub object_read : (depth : ℕ) (old inner : List ℕ) (found : Members) (new : List ℕ) → 0 < depth
+    → Passes old (token_lexeme token.begin_object ∷ []) inner → ReadsMembers (depth - 1) inner found new
+    → Reads depth old (object found) new
+unfolding punctuate
+object_read depth old inner found new some passes reads p may plain =
+    let ts = punctuate fresh (lex between inner) in
+    ap (λ l. parse_map tree_of (value depth (punctuate p l))) passes.lexed
+    ∙ ap (λ us. parse_map tree_of (value depth us)) (begun p token.begin_object (lex between inner) may refl)
+    ∙ ap (parse_map tree_of) (value-begin_object depth ts some)
+    ∙ parsed_object (members (value (depth - 1)) (length ts) ts) ∙ ap (parse_map (on_found object)) reads
+
+-- ---- one item or member
+
+-- a value is no end of an array
+goes_on : (depth : ℕ) (ts : List Token) (x : Result Tree Pointer × List Token)
+    → parse_map tree_of (value depth ts) ≡ Some x → after_end_array ts ≡ None
+goes_on depth [] x e = refl
+goes_on depth (token.begin_object ∷ ts) x e = refl
+goes_on depth (token.end_object ∷ ts) x e = refl
+goes_on depth (token.begin_array ∷ ts) x e = refl
+goes_on depth (token.end_array ∷ ts) x e =
+    not_found x (sym (ap (parse_map tree_of) (value_is depth (token.end_array ∷ ts))) ∙ e)
+goes_on depth (token.key s ∷ ts) x e = refl
+goes_on depth (token.string s ∷ ts) x e = refl
+goes_on depth (token.number s ∷ ts) x e = refl
+goes_on depth (token.boolean b ∷ ts) x e = refl
+goes_on depth (token.null ∷ ts) x e = refl
+goes_on depth (token.bad ∷ ts) x e = refl
+
+-- a value takes a token at least
+takes_one : (depth : ℕ) (ts r : List Token) (t : Tree) → parse_map tree_of (value depth ts) ≡ Some (Ok t, r)
+    → length r < length ts
+takes_one depth ts r t e =
+    let j = parsed_some tree_of (value depth ts) (Ok t) r e in
+    skip_value-shorter depth ts r (ap (option_map (λ p. p.1)) j.1)
+
+pub record ItemTurn (depth i n : ℕ) (p : Place) (old : List ℕ) (t : Tree) (ls : List Lexeme) : Type 0 where
+  pub one : parse_map (items_of i) (items (value depth) n (punctuate p (lex between old)))
+      ≡ parse_map (on_found (item t)) (parse_map (items_of (suc i)) (items (value depth) (n - 1) (punctuate after_value ls)))
+  pub fewer : length (punctuate after_value ls) ≤ n - 1
+
+pub item_turn : (depth i n : ℕ) (p : Place) (old : List ℕ) (t : Tree) (new : List ℕ) (ls : List Lexeme)
+    → may_begin p ≡ true → length (punctuate p (lex between old)) ≤ n → Reads depth old t new → lex between new ≡ ls
+    → begins_colon ls ≡ false → ItemTurn depth i n p old t ls
+item_turn depth i n p old t new ls may enough reads e plain =
+    let ts = punctuate p (lex between old) in
+    let r = punctuate after_value ls in
+    let read : parse_map tree_of (value depth ts) ≡ Some (Ok t, r) =
+    reads p may (ap begins_colon e ∙ plain) ∙ ap (λ l. Some (Ok t, punctuate after_value l)) e in
+    let less = takes_one depth ts r t read in
+    record {
+      one = item_read (value depth) i n ts r t (omega (arith, less, enough)) (goes_on depth ts (Ok t, r) read) read;
+      fewer = omega (arith, less, enough);
+    }
+
+-- a name, its colon and a value
+named : (p : Place) (k : List ℕ) (ls : List Lexeme) → may_begin p ≡ true
+    → punctuate p (token_lexeme (token.string k) ∷ colon ∷ ls) ≡ token.key k ∷ punctuate fresh ls
+unfolding punctuate
+named p k ls may = begun p (token.string k) (colon ∷ ls) may refl
+
+pub record MemberTurn (depth n : ℕ) (p : Place) (found : Members) (old k : List ℕ) (t : Tree) (ls : List Lexeme) : Type 0 where
+  pub one : parse_map (members_of found) (members (value depth) n (punctuate p (lex between old)))
+      ≡ parse_map (members_of (put k t found)) (members (value depth) (n - 1) (punctuate after_value ls))
+  pub fewer : length (punctuate after_value ls) ≤ n - 1
+
+pub member_turn : (depth n : ℕ) (p : Place) (found : Members) (old k inner : List ℕ) (t : Tree) (new : List ℕ)
+    (ls : List Lexeme) → may_begin p ≡ true → length (punctuate p (lex between old)) ≤ n → PassesName old k inner
+    → Reads depth inner t new → lex between new ≡ ls → begins_colon ls ≡ false → MemberTurn depth n p found old k t ls
+member_turn depth n p found old k inner t new ls may enough name reads e plain =
+    let ts = punctuate p (lex between old) in
+    let us = punctuate fresh (lex between inner) in
+    let r = punctuate after_value ls in
+    let begins : ts ≡ token.key k ∷ us = ap (punctuate p) name.lexed ∙ named p k (lex between inner) may in
+    let key : read_key ts ≡ Some (Some k, us) = ap read_key begins in
+    let read : parse_map tree_of (value depth us) ≡ Some (Ok t, r) =
+    reads fresh refl (ap begins_colon e ∙ plain) ∙ ap (λ l. Some (Ok t, punctuate after_value l)) e in
+    let less = takes_one depth us r t read in
+    let longer : length ts ≡ suc (length us) = ap length begins in
+    record {
+      one = member_read (value depth) found n k ts us r t (omega (arith, longer, enough)) key read;
+      fewer = omega (arith, less, longer, enough);
+    }
+
+-- what was found of an array, and the items that are left, are the whole array; so are one item more and fewer left
+pub items_go_on : (depth n : ℕ) (p : Place) (found vs : List DecimalTree) (v : DecimalTree) (old new : List ℕ)
+    (ls : List Lexeme) (whole : Option (Result Items Pointer × List Token)) → may_begin p ≡ true
+    → length (punctuate p (lex between old)) ≤ n → Reads depth old (decimal_tree v) new → lex between new ≡ ls
+    → begins_colon ls ≡ false → vs ≡ found ++ v ∷ []
+    → whole ≡ parse_map (on_found (items_before found))
+    (parse_map (items_of (length found)) (items (value depth) n (punctuate p (lex between old))))
+    → whole ≡ parse_map (on_found (items_before vs))
+    (parse_map (items_of (length vs)) (items (value depth) (n - 1) (punctuate after_value ls)))
+items_go_on depth n p found vs v old new ls whole may enough reads e plain pushed is =
+    let turn = item_turn depth (length found) n p old (decimal_tree v) new ls may enough reads e plain in
+    let rest = items (value depth) (n - 1) (punctuate after_value ls) in
+    let longer : length vs ≡ suc (length found) = ap length pushed ∙ length-append_one found v in
+    is ∙ ap (parse_map (on_found (items_before found))) turn.one ∙ one_more_item found v _
+    ∙ ap (λ us. parse_map (on_found (items_before us)) (parse_map (items_of (suc (length found))) rest)) (sym pushed)
+    ∙ ap (λ i. parse_map (on_found (items_before vs)) (parse_map (items_of i) rest)) (sym longer)
+
+pub members_go_on : (depth n : ℕ) (p : Place) (found more : Members) (old k inner : List ℕ) (t : Tree) (new : List ℕ)
+    (ls : List Lexeme) (whole : Option (Result Members Pointer × List Token)) → may_begin p ≡ true
+    → length (punctuate p (lex between old)) ≤ n → PassesName old k inner → Reads depth inner t new
+    → lex between new ≡ ls → begins_colon ls ≡ false → more ≡ put k t found
+    → whole ≡ parse_map (members_of found) (members (value depth) n (punctuate p (lex between old)))
+    → whole ≡ parse_map (members_of more) (members (value depth) (n - 1) (punctuate after_value ls))
+members_go_on depth n p found more old k inner t new ls whole may enough name reads e plain added is =
+    let turn = member_turn depth n p found old k inner t new ls may enough name reads e plain in
+    let rest = members (value depth) (n - 1) (punctuate after_value ls) in
+    is ∙ turn.one ∙ ap (λ ms. parse_map (members_of ms) rest) (sym added)
+
+-- ---- the ends
+
+pub items_done : (depth i n : ℕ) (p : Place) (ls : List Lexeme) → may_close p ≡ true
+    → length (punctuate p (token_lexeme token.end_array ∷ ls)) ≤ n
+    → parse_map (items_of i) (items (value depth) n (punctuate p (token_lexeme token.end_array ∷ ls)))
+    ≡ Some (Ok no_items, punctuate after_value ls)
+unfolding punctuate
+items_done depth i n fresh ls may enough =
+    items_over (value depth) i n (token.end_array ∷ punctuate after_value ls) (punctuate after_value ls) enough refl
+items_done depth i n after_value ls may enough =
+    items_over (value depth) i n (token.end_array ∷ punctuate after_value ls) (punctuate after_value ls) enough refl
+items_done depth i n after_comma ls may enough = absurd (false≢true may)
+items_done depth i n after_key ls may enough = absurd (false≢true may)
+
+pub members_done : (depth n : ℕ) (p : Place) (found : Members) (ls : List Lexeme) → may_close p ≡ true
+    → length (punctuate p (token_lexeme token.end_object ∷ ls)) ≤ n
+    → parse_map (members_of found) (members (value depth) n (punctuate p (token_lexeme token.end_object ∷ ls)))
+    ≡ Some (Ok found, punctuate after_value ls)
+unfolding punctuate
+members_done depth n fresh found ls may enough =
+    members_over (value depth) found n (token.end_object ∷ punctuate after_value ls) (punctuate after_value ls) enough refl
+members_done depth n after_value found ls may enough =
+    members_over (value depth) found n (token.end_object ∷ punctuate after_value ls) (punctuate after_value ls) enough refl
+members_done depth n after_comma found ls may enough = absurd (false≢true may)
+members_done depth n after_key found ls may enough = absurd (false≢true may)
+
+-- an array and an object of nothing
+pub no_items_read : (depth : ℕ) (old new : List ℕ) → Passes old (token_lexeme token.end_array ∷ []) new
+    → ReadsItems depth old no_items new
+no_items_read depth old new passes =
+    ap (λ l. parse_map (items_of 0) (items (value depth) (length (punctuate fresh l)) (punctuate fresh l))) passes.lexed
+    ∙ items_done depth 0 (length (punctuate fresh (token_lexeme token.end_array ∷ lex between new))) fresh
+    (lex between new) refl (omega arith)
+
+pub no_members_read : (depth : ℕ) (old new : List ℕ) → Passes old (token_lexeme token.end_object ∷ []) new
+    → ReadsMembers depth old no_members new
+no_members_read depth old new passes =
+    ap (λ l. parse_map (members_of no_members)
+    (members (value depth) (length (punctuate fresh l)) (punctuate fresh l))) passes.lexed
+    ∙ members_done depth (length (punctuate fresh (token_lexeme token.end_object ∷ lex between new))) fresh no_members
+    (lex between new) refl (omega arith)
+
+-- a comma is passed over
+pub comma_passed : (ls : List Lexeme) → punctuate after_value (comma ∷ ls) ≡ punctuate after_comma ls
+unfolding punctuate
+comma_passed ls = refl
+
+-- ---- the whole text
+
+pub nothing_left : (t : List ℕ) → t ≡ [] → lex between t ≡ []
+unfolding lex
+nothing_left t e = ap (lex between) e
+
+pub whole_read : (text new : List ℕ) (t : Tree) → is_utf8 text ≡ true → Reads max_depth text t new
+    → lex between new ≡ [] → reading text ≡ Some (Ok t)
+unfolding punctuate
+whole_read text new t utf8 reads ended =
+    let read : parse_map tree_of (value max_depth (tokens text)) ≡ Some (Ok t, []) =
+    reads fresh refl (ap begins_colon ended) ∙ ap (λ l. Some (Ok t, punctuate after_value l)) ended in
+    let j = parsed_some tree_of (value max_depth (tokens text)) (Ok t) [] read in
+    rw (utf8, j.1) (ap Some j.2)

@@ -1,0 +1,196 @@
+//! The tree of a text in one pass. It reads most texts, and gives the others up.
+ghost use Rattle.std.specs.Prelude.{◌≡◌, ◌≤◌, Some, Ok, IfOk, OnOk, length, map, string_bytes};
+ghost use Rattle.json.specs.Word.{head};
+ghost use Rattle.jskw_value.specs.DecimalTree.{decimal_tree, items_from};
+ghost use Rattle.jskw_text.specs.Members.{members_seen};
+ghost use Rattle.jskw_text.specs.Passing.{PassesLeaf, PassesName, Reads, ReadsItems, ReadsMembers};
+ghost use Rattle.jskw_text.specs.Reading.{reading};
+
+use crate::cursor::Cursor;
+use crate::sorted::put;
+use crate::spare::Spare;
+use crate::tree::MAX_DEPTH;
+use jskw_value::{DecimalTree, Member, Members};
+use std::alloc::{AllocError, AllocFailed, Global};
+
+// Why a text was not read.
+#[derive(Drop)]
+pub(crate) enum Unread {
+    // It has an escape, a number of many digits or with an exponent, or is no JSON.
+    Text,
+    // Memory ran out.
+    Memory(AllocError),
+}
+
+impl From<AllocError> for Unread {
+    fn from(e: AllocError) -> Unread {
+        Unread::Memory(e)
+    }
+}
+
+impl<T: Drop> From<AllocFailed<T>> for Unread {
+    fn from(e: AllocFailed<T>) -> Unread {
+        Unread::Memory(AllocError::from(e))
+    }
+}
+
+// Reads the tree that a text denotes, or gives up.
+pub(crate) fn read_quickly(
+    alloc: Global,
+    text: &str,
+    spare: &mut Spare,
+) -> Result<DecimalTree, Unread>
+    ensures { IfOk result (λ tree. reading text.now ≡ Some (Ok (decimal_tree tree))) }
+{
+    let mut cursor = Cursor::new(text);
+    let tree = read(alloc, &mut cursor, spare, MAX_DEPTH)?;
+    cursor.skip_spaces();
+    if !cursor.is_at_end() {
+        return Err(Unread::Text);
+    }
+    Ok(tree)
+}
+
+// Reads the tree of the next value.
+#[cycle(read)]
+#[inline(always)]
+fn read(
+    alloc: Global,
+    cursor: &mut Cursor<'_>,
+    spare: &mut Spare,
+    depth: usize,
+) -> Result<DecimalTree, Unread>
+    ensures ok { IfOk result (λ tree. Reads depth cursor.old (decimal_tree tree) cursor.new) }
+    ensures shorter { OnOk result (length cursor.new ≤ length cursor.old) }
+{
+    cursor.skip_spaces();
+    match cursor.peek() {
+        b'"' => read_text(alloc, cursor, spare),
+        b'[' => {
+            if depth == 0 {
+                return Err(Unread::Text);
+            }
+            cursor.advance();
+            Ok(DecimalTree::Array(read_items(alloc, cursor, spare, depth - 1)?))
+        }
+        b'{' => {
+            if depth == 0 {
+                return Err(Unread::Text);
+            }
+            cursor.advance();
+            Ok(DecimalTree::Object(read_members(alloc, cursor, spare, depth - 1)?))
+        }
+        _ => read_word(cursor),
+    }
+}
+
+// Reads a string.
+#[inline(always)]
+fn read_text(
+    alloc: Global,
+    cursor: &mut Cursor<'_>,
+    spare: &mut Spare,
+) -> Result<DecimalTree, Unread>
+    requires { head cursor.old ≡ 34 }
+    ensures { IfOk result (λ tree. PassesLeaf cursor.old (decimal_tree tree) cursor.new) }
+{
+    match cursor.string() {
+        Some(text) => Ok(DecimalTree::Text(spare.text(alloc, text)?)),
+        None => Err(Unread::Text),
+    }
+}
+
+// Reads a number, a boolean or null.
+#[inline(always)]
+fn read_word(cursor: &mut Cursor<'_>) -> Result<DecimalTree, Unread>
+    ensures { IfOk result (λ tree. PassesLeaf cursor.old (decimal_tree tree) cursor.new) }
+{
+    if let Some(decimal) = cursor.number() {
+        Ok(DecimalTree::Number(decimal))
+    } else if cursor.takes_word(b"true") {
+        Ok(DecimalTree::Bool(true))
+    } else if cursor.takes_word(b"false") {
+        Ok(DecimalTree::Bool(false))
+    } else if cursor.takes_word(b"null") {
+        Ok(DecimalTree::Null)
+    } else {
+        Err(Unread::Text)
+    }
+}
+
+// Reads the trees of the items up to the end of an array.
+#[cycle(read)]
+#[inline(never)]
+fn read_items(
+    alloc: Global,
+    cursor: &mut Cursor<'_>,
+    spare: &mut Spare,
+    depth: usize,
+) -> Result<Vec<DecimalTree>, Unread>
+    ensures ok { IfOk result
+        (λ v. ReadsItems depth cursor.old (items_from (map decimal_tree v.items)) cursor.new) }
+    ensures shorter { OnOk result (length cursor.new ≤ length cursor.old) }
+{
+    if cursor.takes(b']') {
+        return Ok(Vec::new(alloc));
+    }
+    let mut found = spare.list(alloc)?;
+    'items: loop {
+        let item = read(alloc, cursor, spare, depth)?;
+        found.push(item)?;
+        if !cursor.takes(b',') {
+            break;
+        }
+    }
+    if !cursor.takes(b']') {
+        return Err(Unread::Text);
+    }
+    spare.had_items(found.len());
+    Ok(found)
+}
+
+// Reads the members up to the end of an object.
+#[cycle(read)]
+#[inline(never)]
+fn read_members(
+    alloc: Global,
+    cursor: &mut Cursor<'_>,
+    spare: &mut Spare,
+    depth: usize,
+) -> Result<Members, Unread>
+    ensures ok { IfOk result (λ ms. ReadsMembers depth cursor.old (members_seen ms) cursor.new) }
+    ensures shorter { OnOk result (length cursor.new ≤ length cursor.old) }
+{
+    if cursor.takes(b'}') {
+        return Ok(Members::new(alloc));
+    }
+    let mut found = spare.pairs(alloc)?;
+    'members: loop {
+        let name = read_name(alloc, cursor, spare)?;
+        let value = read(alloc, cursor, spare, depth)?;
+        put(&mut found, Member { name, value })?;
+        if !cursor.takes(b',') {
+            break;
+        }
+    }
+    if !cursor.takes(b'}') {
+        return Err(Unread::Text);
+    }
+    spare.had_members(found.len());
+    Ok(Members::from_last_pairs(found)?)
+}
+
+// Reads a name and its colon.
+#[inline(always)]
+fn read_name(alloc: Global, cursor: &mut Cursor<'_>, spare: &mut Spare) -> Result<String, Unread>
+    ensures { IfOk result (λ name. PassesName cursor.old (string_bytes name) cursor.new) }
+{
+    cursor.skip_spaces();
+    if cursor.peek() != b'"' {
+        return Err(Unread::Text);
+    }
+    match cursor.string() {
+        Some(text) if cursor.takes(b':') => Ok(spare.text(alloc, text)?),
+        _ => Err(Unread::Text),
+    }
+}

@@ -1,0 +1,151 @@
+//! Room of trees that are no longer needed, for trees that are read later.
+ghost use Rattle.std.specs.Prelude.{◌≡◌, [], IfOk, string_bytes};
+
+use jskw_value::{DecimalTree, Member};
+use std::alloc::{AllocError, Global};
+
+// For how many items or members a new array or object has room.
+const MOST_ROOM: usize = 8;
+
+// How many texts are kept, and how many bytes each has room for at most.
+const MOST_TEXTS: usize = 4096;
+
+const MOST_BYTES: usize = 64;
+
+// How many lists are kept, and how many items each has room for at most.
+const MOST_LISTS: usize = 256;
+
+const MOST_ITEMS: usize = 256;
+
+// How many arrays and objects of a tree are taken apart at most.
+const MOST_TREES: usize = 65536;
+
+// Room of trees that are no longer needed, up to 2.5 MB.
+#[derive(Drop)]
+pub(crate) struct Spare {
+    texts: Vec<String>,
+    lists: Vec<Vec<DecimalTree>>,
+    // Parts of a tree that are still to be taken apart.
+    parts: Vec<DecimalTree>,
+    // How many items and members the last array and object had that were read, up to `MOST_ROOM`:
+    // neighbours are often alike.
+    items: usize,
+    members: usize,
+}
+
+impl Spare {
+    // Creates one that has no room yet.
+    pub(crate) fn new(alloc: Global) -> Spare {
+        Spare {
+            texts: Vec::new(alloc),
+            lists: Vec::new(alloc),
+            parts: Vec::new(alloc),
+            items: MOST_ROOM,
+            members: MOST_ROOM,
+        }
+    }
+
+    // Returns a copy of a text.
+    #[inline(always)]
+    pub(crate) fn text(&mut self, alloc: Global, text: &str) -> Result<String, AllocError>
+        ensures { IfOk result (λ copy. string_bytes copy ≡ text.now) }
+    {
+        match self.texts.pop() {
+            Some(mut copy) => {
+                copy.clear();
+                copy.push_str(text)?;
+                Ok(copy)
+            }
+            None => String::from_str(alloc, text),
+        }
+    }
+
+    // Returns an empty list for the items of an array.
+    #[inline(always)]
+    pub(crate) fn list(&mut self, alloc: Global) -> Result<Vec<DecimalTree>, AllocError>
+        ensures { IfOk result (λ list. list.items ≡ []) }
+    {
+        match self.lists.pop() {
+            Some(mut list) => {
+                list.clear();
+                Ok(list)
+            }
+            None => Vec::with_capacity(alloc, self.items),
+        }
+    }
+
+    // Returns an empty list for the members of an object.
+    #[inline(always)]
+    pub(crate) fn pairs(&mut self, alloc: Global) -> Result<Vec<Member<DecimalTree>>, AllocError>
+        ensures { IfOk result (λ pairs. pairs.items ≡ []) }
+    {
+        Vec::with_capacity(alloc, self.members)
+    }
+
+    // Says how many items an array had.
+    #[inline(always)]
+    pub(crate) fn had_items(&mut self, count: usize) {
+        self.items = count.min(MOST_ROOM);
+    }
+
+    // Says how many members an object had.
+    #[inline(always)]
+    pub(crate) fn had_members(&mut self, count: usize) {
+        self.members = count.min(MOST_ROOM);
+    }
+
+    // Takes the room of a tree.
+    pub(crate) fn take(&mut self, tree: DecimalTree) {
+        let _ = self.parts.push(tree);
+        'parts: for _ in 0..MOST_TREES {
+            let Some(part) = self.parts.pop() else {
+                return;
+            };
+            self.take_whole(part);
+        }
+        self.parts.clear();
+    }
+
+    // Takes the room of a tree, and puts those of its parts aside that have parts themselves.
+    #[inline(always)]
+    fn take_whole(&mut self, tree: DecimalTree) {
+        match tree {
+            DecimalTree::Text(text) => self.take_text(text),
+            DecimalTree::Array(items) => self.take_items(items),
+            DecimalTree::Object(_)
+            | DecimalTree::Null
+            | DecimalTree::Bool(_)
+            | DecimalTree::Number(_) => {}
+        }
+    }
+
+    // Takes the room of a text.
+    #[inline(always)]
+    fn take_text(&mut self, text: String) {
+        if self.texts.len() < MOST_TEXTS && text.capacity() <= MOST_BYTES {
+            let _ = self.texts.push(text);
+        }
+    }
+
+    // Takes the room of a part, or puts it aside if it has parts itself.
+    #[inline(always)]
+    fn take_part(&mut self, tree: DecimalTree) {
+        match tree {
+            DecimalTree::Text(text) => self.take_text(text),
+            DecimalTree::Array(_) | DecimalTree::Object(_) => {
+                let _ = self.parts.push(tree);
+            }
+            DecimalTree::Null | DecimalTree::Bool(_) | DecimalTree::Number(_) => {}
+        }
+    }
+
+    // Takes the room of a list and of its items.
+    fn take_items(&mut self, mut items: Vec<DecimalTree>) {
+        'items: while let Some(item) = items.pop() {
+            self.take_part(item);
+        }
+        if self.lists.len() < MOST_LISTS && items.capacity() <= MOST_ITEMS {
+            let _ = self.lists.push(items);
+        }
+    }
+}
