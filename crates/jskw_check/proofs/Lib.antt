@@ -2,3 +2,4 @@ pub mod Numbers
 pub mod Words
 pub mod Behind
 pub mod Steps
+pub mod RowsArguments

@@ -16,7 +16,7 @@ use jskw_service::{ReadFault, Sink, Source, push_bytes, read_all, status, write_
 use std::alloc::Global;
 
 // The status if something could not be checked.
-const NOT_CHECKED: u8 = 2;
+pub(crate) const NOT_CHECKED: u8 = 2;
 
 // What shows progress, if it is asked to.
 pub(crate) trait Show: Watcher {

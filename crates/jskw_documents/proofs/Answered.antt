@@ -1,69 +1,30 @@
 -- The answers to files, one by one.
 use Rattle.std.proofs.Common.{◌≡◌, ℕ, List, [], ◌∷◌, ◌++◌, Bool, true, false, Option, Some, None, Result, Ok, Err, IfOk}
-use Rattle.std.proofs.Common.{refl, sym, ap, ◌∙◌, subst, inl, inr}
+use Rattle.std.proofs.Common.{refl, sym, subst, inr}
 use Rattle.std.proofs.lemmas.List.{append-nil, append_assoc}
-use Rattle.std.specs.Io.KnownBytes.{Appends, Consumes, IsAtEnd}
+use Rattle.std.specs.Io.KnownBytes.{Appends}
 use Rattle.std.proofs.KnownBytes.{Appends-nil, Appends-trans}
 use Rattle.jskw_service.specs.declared.service.Verdict.{Verdict}
 use Rattle.jskw_service.specs.declared.service.Verdict.TheVariants.{Valid, Invalid, Refused}
-use Rattle.jskw_documents.specs.Devices.{AnswersDocument}
-use Rattle.jskw_documents.specs.Files.{AnswersFile, AnswersFiles, AnswersPart, AnswersWhole, BeginsWithBytes, HasBytes}
+use Rattle.jskw_documents.specs.Files.{AnswersFile, AnswersFiles, AnswersPart, BeginsWithBytes}
 use Rattle.jskw_documents.specs.Files.{IsUnread}
-use Rattle.jskw_documents.specs.Streams.{AnswersBegun, AnswersLines, worse_of}
+use Rattle.jskw_documents.specs.Streams.{worse_of}
 use Rattle.jskw_documents.specs.declared.checker.Checker.{Checker}
 
--- ---- bytes that were read
-
-has_bytes : (r s : Option (List ℕ)) (bytes : List ℕ) → Consumes r s bytes → IsAtEnd s → HasBytes r bytes
-has_bytes None s bytes read end = tt
-has_bytes (Some xs) None bytes read end = absurd read
-has_bytes (Some xs) (Some ys) bytes read end = read ∙ ap (λ z. bytes ++ z) end ∙ append-nil bytes
-
-begins_with : (r s : Option (List ℕ)) (bytes : List ℕ) → Consumes r s bytes → BeginsWithBytes r bytes
-begins_with None s bytes read = tt
-begins_with (Some xs) None bytes read = absurd read
-begins_with (Some xs) (Some ys) bytes read = (ys, read)
-
-begins_with_none : (r : Option (List ℕ)) → BeginsWithBytes r []
-begins_with_none None = tt
-begins_with_none (Some xs) = (xs, refl)
-
--- ---- a reader
+nothing_begins : (r : Option (List ℕ)) → BeginsWithBytes r []
+nothing_begins None = tt
+nothing_begins (Some xs) = (xs, refl)
 
 -- what was written goes from v to w, by a text of this kind
 abbrev pub Writes : (List ℕ → Type 0) → Option (List ℕ) → Option (List ℕ) → Type 0
 Writes Is v w = (text : List ℕ) × Is text × Appends v w text
 
-pub whole_lines : {E : Type 0} (made : Result Verdict E) (c : Checker) (file : List ℕ) (r s v w : Option (List ℕ))
-    → IfOk made (λ said. AnswersLines c file said r s v w)
-    → IfOk made (λ said. Writes (AnswersWhole c true file r said) v w)
-whole_lines (Ok said) c file r s v w a = (
-  a.text,
-  record { bytes = a.bytes; has = has_bytes r s a.bytes a.read a.whole; answer = a.answers; says = a.says },
-  a.wrote,
-)
-whole_lines (Err e) c file r s v w a = tt
-
-pub whole_document : {E : Type 0} (made : Result Verdict E) (c : Checker) (file : List ℕ) (r s v w : Option (List ℕ))
-    → IfOk made (λ said. AnswersDocument c file said r s v w)
-    → IfOk made (λ said. Writes (AnswersWhole c false file r said) v w)
-whole_document (Ok said) c file r s v w a = (
-  a.text,
-  record { bytes = a.bytes; has = has_bytes r s a.bytes a.read a.whole; answer = a.answer; says = a.says },
-  a.wrote,
-)
-whole_document (Err e) c file r s v w a = tt
-
-pub part_lines : (c : Checker) (file : List ℕ) (r s v w : Option (List ℕ)) → AnswersBegun c file r s v w
-    → Writes (AnswersPart c true file r) v w
-part_lines c file r s v w a =
-    (a.text, record { bytes = a.bytes; begins = begins_with r s a.bytes a.read; answer = a.answers }, a.wrote)
-
+-- a document that could not be read to its end: nothing was written
 pub part_document : (c : Checker) (file : List ℕ) (r v w : Option (List ℕ)) → w ≡ v
     → Writes (AnswersPart c false file r) v w
 part_document c file r v w same = (
   [],
-  record { bytes = []; begins = begins_with_none r; answer = refl },
+  record { bytes = []; begins = nothing_begins r; answer = refl },
   subst (λ z. Appends v z []) (sym same) (Appends-nil v),
 )
 
@@ -73,10 +34,6 @@ part_document c file r v w same = (
 abbrev pub Refuses : Checker → List ℕ → Option (List ℕ) → Option (List ℕ) → Verdict → Type 0
 Refuses c file v w said =
     (text : List ℕ) × (said ≡ Refused) × IsUnread c.options.output file text × Appends v w text
-
-pub answers_whole : (c : Checker) (lines : Bool) (file : List ℕ) (r v w : Option (List ℕ)) (said : Verdict)
-    → Writes (AnswersWhole c lines file r said) v w → Writes (AnswersFile c lines file r said) v w
-answers_whole c lines file r v w said a = (a.0, inl a.1, a.2)
 
 -- behind a part that was read
 pub refuses_behind : {E : Type 0} (made : Result Verdict E) (c : Checker) (lines : Bool) (file : List ℕ)
@@ -97,8 +54,8 @@ refuses_behind (Ok said) c lines file r v w x part a = (
 refuses_behind (Err e) c lines file r v w x part a = tt
 
 nothing_read : (c : Checker) (lines : Bool) (file : List ℕ) (r : Option (List ℕ)) → AnswersPart c lines file r []
-nothing_read c true file r = record { bytes = []; begins = begins_with_none r; answer = refl }
-nothing_read c false file r = record { bytes = []; begins = begins_with_none r; answer = refl }
+nothing_read c true file r = record { bytes = []; begins = nothing_begins r; answer = refl }
+nothing_read c false file r = record { bytes = []; begins = nothing_begins r; answer = refl }
 
 -- a file that was not opened
 pub refuses_unopened : {E : Type 0} (made : Result Verdict E) (c : Checker) (lines : Bool) (file : List ℕ)

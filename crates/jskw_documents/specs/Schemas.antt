@@ -1,5 +1,5 @@
 -- The schema that a text is, if it is one that documents may be checked against.
-use Rattle.std.specs.Prelude.{◌≡◌, ◌||◌, ℕ, List, [], ◌∷◌, Bool, true, false, bytes_eq, codes, if◌then◌else◌, Option}
+use Rattle.std.specs.Prelude.{◌≡◌, ◌||◌, ℕ, List, [], Bool, false, bytes_eq, codes, if◌then◌else◌, Option}
 use Rattle.std.specs.Prelude.{Some, None, Result, Ok, Err, map, string_bytes, option_and_then}
 use Rattle.serde_json.specs.Data.{Data, object, string}
 use Rattle.serde_json.specs.Find.{get_member}

@@ -22,6 +22,6 @@ pub trait Folder {
 
     /// Opens the file of this name, or returns why it cannot be read.
     fn open(&self, name: &str) -> Result<Opened<Self::Reader>, &'static str>
-        ensures bytes { IfOk result (λ file. Reader.remaining file.reader ≡ bytes_of self.now name.now) }
-        ensures works { IfOk result (λ file. Reader.has_failed file.reader ≡ false) };
+        ensures bytes { IfOk result (λ file. Self.Reader.remaining file.reader ≡ bytes_of self.now name.now) }
+        ensures works { IfOk result (λ file. Self.Reader.has_failed file.reader ≡ false) };
 }
