@@ -1,39 +1,49 @@
 //! Reads the arguments.
+ghost use Rattle.std.specs.Prelude.{◌≡◌, ◌<◌, ◌++◌, [], ◌∷◌, IfOk, MatchOption, MatchResult, Ok, Err, OnOk, length};
+ghost use Rattle.std.specs.Prelude.{map, option_map, string_bytes};
+ghost use Rattle.jskw_report.specs.Setting.{no_vocabulary};
+ghost use Rattle.jskw_service.specs.Request.{draft_named};
+ghost use Rattle.jskw_check.specs.Arguments.{alone, draft, is_value, limit_in, max_errors, name_in};
+ghost use Rattle.jskw_check.specs.Arguments.{names_of, next_value, no_draft, no_limit, no_output, option_in, output};
+ghost use Rattle.jskw_check.specs.Arguments.{output_named, some_or, takes_next, takes_value, value_in, valued};
+ghost use Rattle.jskw_check.specs.Arguments.{vocabularies_or, with_names};
+ghost use Rattle.jskw_check.specs.CommandView.{IsStep, TakesArgument, command_view, unfinished_view};
+ghost use Rattle.jskw_check.specs.Commands.{command, command_said};
+
 use crate::given::{Command, Given, Unfinished};
 use jskw_documents::Output;
 use jskw_report::VocabularySet;
 use jskw_service::{draft_named, vocabulary_named};
 use std::alloc::{AllocError, Global};
 
-// What a word of the arguments is.
+// What was done with the first words.
 #[derive(Drop)]
-enum Step {
-    // A word by itself.
-    Word,
-    // An option, and the next word is its value.
-    WordAndValue,
-    // Nothing behind it counts.
+pub(crate) enum Step {
+    // So many were taken.
+    Taken(usize),
+    // Nothing behind them counts.
     End(Command),
 }
 
 // Returns what the arguments ask for.
-pub(crate) fn command_of(alloc: Global, words: &[String]) -> Result<Command, AllocError> {
-    let mut draft = Unfinished::new(alloc);
-    let mut at = 0;
-    while at < words.len() {
-        let word = words[at].as_str();
-        let next = words.get(at + 1).map(|word| word.as_str());
-        match take_word(alloc, &mut draft, word, next)? {
-            Step::Word => at += 1,
-            Step::WordAndValue => at = (at + 2).min(words.len()),
+pub(crate) fn command_of(alloc: Global, words: &[String]) -> Result<Command, AllocError>
+    ensures { IfOk result (λ c. command_view c ≡ command (map string_bytes words.now)) }
+{
+    let mut said = Unfinished::new(alloc);
+    let mut rest = words;
+    'words: while !rest.is_empty() {
+        match take_words(alloc, &mut said, rest)? {
+            Step::Taken(count) => rest = rest.split_at(count).1,
             Step::End(command) => return Ok(command),
         }
     }
-    command_from(alloc, draft)
+    command_from(alloc, said)
 }
 
 // Returns what arguments that were read to their end ask for. Without a file it is standard input.
-fn command_from(alloc: Global, draft: Unfinished) -> Result<Command, AllocError> {
+fn command_from(alloc: Global, said: Unfinished) -> Result<Command, AllocError>
+    ensures { IfOk result (λ c. command_view c ≡ command_said (unfinished_view said)) }
+{
     let Unfinished {
         schema,
         schema_options,
@@ -41,8 +51,7 @@ fn command_from(alloc: Global, draft: Unfinished) -> Result<Command, AllocError>
         lines,
         progress,
         mut files,
-        only_files: _,
-    } = draft;
+    } = said;
     let Some(schema) = schema else {
         let why = "the following arguments are required: --schema";
         return Ok(Command::Wrong(String::from_str(alloc, why)?));
@@ -60,65 +69,94 @@ fn command_from(alloc: Global, draft: Unfinished) -> Result<Command, AllocError>
     }))
 }
 
-// Returns that an argument is wrong, and why.
-fn wrong(why: String) -> Step {
-    Step::End(Command::Wrong(why))
+// Takes the first argument of these words, which is one of them or two. Behind `--` each is a file.
+fn take_words(alloc: Global, said: &mut Unfinished, words: &[String]) -> Result<Step, AllocError>
+    requires { 0 < length words.now }
+    ensures { IfOk result (λ step. IsStep words.now said.old said.new step) }
+{
+    let word = words[0].as_str();
+    if word == "--" {
+        push_all(alloc, &mut said.files, &words[1..])?;
+        return Ok(Step::Taken(words.len()));
+    }
+    match value_behind(words) {
+        Some(value) => Ok(step_of(set(alloc, said, word, value)?, 2)),
+        None => Ok(step_of(take_alone(alloc, said, word)?, 1)),
+    }
 }
 
-// Takes one word, to which the next one may belong.
-fn take_word(
-    alloc: Global,
-    draft: &mut Unfinished,
-    word: &str,
-    next: Option<&str>,
-) -> Result<Step, AllocError> {
-    if draft.only_files || is_value(word) {
-        draft.files.push(String::from_str(alloc, word)?)?;
-        return Ok(Step::Word);
+// Returns the step of an argument that has so many words.
+fn step_of(taken: Option<Command>, count: usize) -> Step
+    ensures { MatchOption taken (result ≡ Step.Taken count) (λ command. result ≡ Step.End command) }
+{
+    match taken {
+        Some(command) => Step::End(command),
+        None => Step::Taken(count),
     }
-    match word {
-        "-h" | "--help" => return Ok(Step::End(Command::Help)),
-        "--version" => return Ok(Step::End(Command::Version)),
-        "--" => draft.only_files = true,
-        "--lines" => draft.lines = true,
-        "--progress" => draft.progress = true,
-        "--verbose" => draft.options.verbose = true,
-        "--allow-unchecked" => draft.schema_options.allow_unchecked = true,
-        _ => return take_option(alloc, draft, word, next),
+}
+
+// Appends copies of the words.
+fn push_all(alloc: Global, files: &mut Vec<String>, words: &[String]) -> Result<(), AllocError>
+    ensures { OnOk result (map string_bytes files.new.items
+        ≡ map string_bytes files.old.items ++ map string_bytes words.now) }
+{
+    for word in words {
+        files.push(String::from_str(alloc, word.as_str())?)?;
     }
-    Ok(Step::Word)
+    Ok(())
+}
+
+// Returns the second word, if it is the value of the option that the first word is.
+fn value_behind(words: &[String]) -> Option<&str>
+    ensures { option_map (λ v. v.now) result ≡ next_value (map string_bytes words.now) }
+{
+    let [word, value, ..] = words else {
+        return None;
+    };
+    value_of(word.as_str(), value.as_str())
+}
+
+// Returns the word `next`, if it is the value of the option that `word` is.
+fn value_of<'w>(word: &str, next: &'w str) -> Option<&'w str>
+    ensures { option_map (λ v. v.now) result ≡ next_value (word.now ∷ next.now ∷ []) }
+{
+    if takes_next(word) && is_value(next) {
+        Some(next)
+    } else {
+        None
+    }
 }
 
 // Returns whether a word can be a file or the value of an option.
-fn is_value(word: &str) -> bool {
+fn is_value(word: &str) -> bool
+    ensures { result ≡ is_value word.now }
+{
     word == "-" || !word.starts_with('-')
 }
 
-// Takes an option with a value, `NAME VALUE` or `NAME=VALUE`.
-fn take_option(
-    alloc: Global,
-    draft: &mut Unfinished,
-    word: &str,
-    next: Option<&str>,
-) -> Result<Step, AllocError> {
-    let (name, attached) = match word.split_once('=') {
+// Returns whether the word is an option that has its value in the next word.
+fn takes_next(word: &str) -> bool
+    ensures { result ≡ takes_next word.now }
+{
+    let (name, value) = split_option(word);
+    takes_value(name) && value.is_none()
+}
+
+// Splits the option NAME=VALUE.
+fn split_option(word: &str) -> (&str, Option<&str>)
+    ensures name { result.0.now ≡ name_in word.now }
+    ensures value { option_map (λ v. v.now) result.1 ≡ value_in word.now }
+{
+    match word.split_once('=') {
         Some((name, value)) => (name, Some(value)),
         None => (word, None),
-    };
-    if !takes_value(name) {
-        return Ok(wrong(format!(in alloc; "unrecognized arguments: {word}")?));
-    }
-    match (attached, next) {
-        (Some(value), _) => Ok(set(alloc, draft, name, value)?.unwrap_or(Step::Word)),
-        (None, Some(value)) if is_value(value) => {
-            Ok(set(alloc, draft, name, value)?.unwrap_or(Step::WordAndValue))
-        }
-        _ => Ok(wrong(format!(in alloc; "argument {name}: expected one argument")?)),
     }
 }
 
 // Returns whether this is an option with a value.
-fn takes_value(name: &str) -> bool {
+fn takes_value(name: &str) -> bool
+    ensures { result ≡ takes_value name.now }
+{
     match name {
         "--schema" | "--draft" | "--vocabularies" | "--override" | "--output" | "--max-errors" => {
             true
@@ -127,96 +165,212 @@ fn takes_value(name: &str) -> bool {
     }
 }
 
-// Sets the value of an option, or returns that it is none.
+// Takes the argument that a word is by itself.
+fn take_alone(
+    alloc: Global,
+    said: &mut Unfinished,
+    word: &str,
+) -> Result<Option<Command>, AllocError>
+    ensures { TakesArgument (alone word.now) said.old said.new result }
+{
+    if is_value(word) {
+        said.files.push(String::from_str(alloc, word)?)?;
+        return Ok(None);
+    }
+    match word {
+        "-h" | "--help" => return Ok(Some(Command::Help)),
+        "--version" => return Ok(Some(Command::Version)),
+        "--lines" => said.lines = true,
+        "--progress" => said.progress = true,
+        "--verbose" => said.options.verbose = true,
+        "--allow-unchecked" => said.schema_options.allow_unchecked = true,
+        _ => return take_option(alloc, said, word),
+    }
+    Ok(None)
+}
+
+// Takes the option NAME=VALUE.
+fn take_option(
+    alloc: Global,
+    said: &mut Unfinished,
+    word: &str,
+) -> Result<Option<Command>, AllocError>
+    ensures { TakesArgument (option_in word.now) said.old said.new result }
+{
+    let (name, value) = split_option(word);
+    if !takes_value(name) {
+        let why = format!(in alloc; "unrecognized arguments: {word}")?;
+        return Ok(Some(Command::Wrong(why)));
+    }
+    match value {
+        Some(value) => set(alloc, said, name, value),
+        None => {
+            let why = format!(in alloc; "argument {word}: expected one argument")?;
+            Ok(Some(Command::Wrong(why)))
+        }
+    }
+}
+
+// Sets the value of an option.
 fn set(
     alloc: Global,
-    draft: &mut Unfinished,
+    said: &mut Unfinished,
     name: &str,
     value: &str,
-) -> Result<Option<Step>, AllocError> {
+) -> Result<Option<Command>, AllocError>
+    ensures { TakesArgument (valued name.now value.now) said.old said.new result }
+{
     match name {
         "--schema" => {
-            draft.schema = Some(String::from_str(alloc, value)?);
+            said.schema = Some(String::from_str(alloc, value)?);
             Ok(None)
         }
         "--override" => {
-            let names = &mut draft.schema_options.overridden;
+            let names = &mut said.schema_options.overridden;
             names.push(String::from_str(alloc, value)?)?;
             Ok(None)
         }
-        "--draft" => set_draft(alloc, draft, value),
-        "--vocabularies" => set_vocabularies(alloc, draft, value),
-        "--output" => set_output(alloc, draft, value),
-        _ => set_limit(alloc, draft, value),
+        "--draft" => set_draft(alloc, said, value),
+        "--vocabularies" => set_vocabularies(alloc, said, value),
+        "--output" => set_output(alloc, said, value),
+        _ => set_limit(alloc, said, value),
     }
 }
 
 fn set_draft(
     alloc: Global,
-    draft: &mut Unfinished,
+    said: &mut Unfinished,
     value: &str,
-) -> Result<Option<Step>, AllocError> {
-    let named = draft_named(value);
-    if named.is_none() {
-        return Ok(Some(wrong(format!(in alloc;
-            "argument --draft: invalid choice: '{value}' (choose from '4', '6', '7', '2019-09', '2020-12')"
-        )?)));
+) -> Result<Option<Command>, AllocError>
+    ensures { TakesArgument (some_or draft (no_draft value.now) (draft_named value.now)) said.old said.new
+        result }
+{
+    match draft_named(value) {
+        Some(draft) => {
+            said.schema_options.draft = Some(draft);
+            Ok(None)
+        }
+        None => {
+            let why = format!(in alloc;
+                "argument --draft: invalid choice: '{value}' (choose from '4', '6', '7', '2019-09', '2020-12')"
+            )?;
+            Ok(Some(Command::Wrong(why)))
+        }
     }
-    draft.schema_options.draft = named;
-    Ok(None)
 }
 
 // Sets the vocabularies that a list names, with a comma between two.
 fn set_vocabularies(
     alloc: Global,
-    draft: &mut Unfinished,
+    said: &mut Unfinished,
     value: &str,
-) -> Result<Option<Step>, AllocError> {
-    let mut vocabularies = VocabularySet::empty();
-    if !value.is_empty() {
-        for name in value.split(',') {
-            let Some(vocabulary) = vocabulary_named(name) else {
-                return Ok(Some(wrong(format!(in alloc;
-                    "argument --vocabularies: '{name}' is not one of 'core', 'applicator', 'validation'"
-                )?)));
-            };
-            vocabularies = vocabularies.insert(vocabulary);
+) -> Result<Option<Command>, AllocError>
+    ensures { TakesArgument (vocabularies_or (with_names no_vocabulary (names_of value.now))) said.old said.new
+        result }
+{
+    match vocabularies_in(value) {
+        Ok(vocabularies) => {
+            said.schema_options.vocabularies = vocabularies;
+            Ok(None)
+        }
+        Err(name) => {
+            let why = format!(in alloc;
+                "argument --vocabularies: '{name}' is not one of 'core', 'applicator', 'validation'"
+            )?;
+            Ok(Some(Command::Wrong(why)))
         }
     }
-    draft.schema_options.vocabularies = vocabularies;
-    Ok(None)
+}
+
+// Returns the vocabularies that a list names, or the first name of it that is none.
+fn vocabularies_in(list: &str) -> Result<VocabularySet, &str>
+    ensures { MatchResult result
+        (λ set. with_names no_vocabulary (names_of list.now) ≡ Ok set)
+        (λ name. with_names no_vocabulary (names_of list.now) ≡ Err name.now) }
+{
+    let mut vocabularies = VocabularySet::empty();
+    if list.is_empty() {
+        return Ok(vocabularies);
+    }
+    let mut rest = list;
+    'names: while let Some((name, behind)) = rest.split_once(',') {
+        let Some(vocabulary) = vocabulary_named(name) else {
+            return Err(name);
+        };
+        vocabularies = vocabularies.insert(vocabulary);
+        rest = behind;
+    }
+    match vocabulary_named(rest) {
+        Some(vocabulary) => Ok(vocabularies.insert(vocabulary)),
+        None => Err(rest),
+    }
 }
 
 fn set_output(
     alloc: Global,
-    draft: &mut Unfinished,
+    said: &mut Unfinished,
     value: &str,
-) -> Result<Option<Step>, AllocError> {
-    draft.options.output = match value {
-        "text" => Output::Text,
-        "basic" => Output::Basic,
-        "quiet" => Output::Quiet,
-        _ => {
-            return Ok(Some(wrong(format!(in alloc;
-                "argument --output: invalid choice: '{value}' (choose from 'text', 'basic', 'quiet')"
-            )?)));
+) -> Result<Option<Command>, AllocError>
+    ensures { TakesArgument (some_or output (no_output value.now) (output_named value.now)) said.old said.new
+        result }
+{
+    match output_named(value) {
+        Some(output) => {
+            said.options.output = output;
+            Ok(None)
         }
-    };
-    Ok(None)
+        None => {
+            let why = format!(in alloc;
+                "argument --output: invalid choice: '{value}' (choose from 'text', 'basic', 'quiet')"
+            )?;
+            Ok(Some(Command::Wrong(why)))
+        }
+    }
+}
+
+// Returns the output of this name, or `None` if there is none.
+fn output_named(name: &str) -> Option<Output>
+    ensures { result ≡ output_named name.now }
+{
+    match name {
+        "text" => Some(Output::Text),
+        "basic" => Some(Output::Basic),
+        "quiet" => Some(Output::Quiet),
+        _ => None,
+    }
 }
 
 fn set_limit(
     alloc: Global,
-    draft: &mut Unfinished,
+    said: &mut Unfinished,
     value: &str,
-) -> Result<Option<Step>, AllocError> {
-    match value.parse::<usize>() {
-        Ok(limit) if limit > 0 && !value.starts_with('+') => {
-            draft.options.limit = limit;
+) -> Result<Option<Command>, AllocError>
+    ensures { TakesArgument (some_or max_errors (no_limit value.now) (limit_in value.now)) said.old said.new
+        result }
+{
+    match limit_in(value) {
+        Some(limit) => {
+            said.options.limit = limit;
             Ok(None)
         }
-        _ => Ok(Some(wrong(format!(in alloc;
-            "argument --max-errors: '{value}' is no number from 1 to 2^64-1"
-        )?))),
+        None => {
+            let why = format!(in alloc;
+                "argument --max-errors: '{value}' is no number from 1 to 2^64-1"
+            )?;
+            Ok(Some(Command::Wrong(why)))
+        }
+    }
+}
+
+// Returns the number that a text of digits is, or `None` if it is 0 or above 2^64-1.
+fn limit_in(text: &str) -> Option<usize>
+    ensures { result ≡ limit_in text.now }
+{
+    if text.starts_with('+') {
+        return None;
+    }
+    match text.parse::<usize>() {
+        Ok(limit) if limit > 0 => Some(limit),
+        _ => None,
     }
 }

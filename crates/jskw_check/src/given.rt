@@ -1,4 +1,8 @@
 //! What the arguments ask for.
+ghost use Rattle.std.specs.Prelude.{◌≡◌};
+ghost use Rattle.jskw_check.specs.CommandView.{unfinished_view};
+ghost use Rattle.jskw_check.specs.Commands.{nothing_said};
+
 use jskw_documents::{Options, Output, SchemaOptions};
 use jskw_report::VocabularySet;
 use std::alloc::Global;
@@ -27,7 +31,7 @@ pub(crate) struct Given {
     pub(crate) files: Vec<String>,
 }
 
-// The arguments so far.
+// What the arguments say that were read so far.
 #[derive(Drop)]
 pub(crate) struct Unfinished {
     pub(crate) schema: Option<String>,
@@ -36,13 +40,13 @@ pub(crate) struct Unfinished {
     pub(crate) lines: bool,
     pub(crate) progress: bool,
     pub(crate) files: Vec<String>,
-    // Behind `--` each word is a file.
-    pub(crate) only_files: bool,
 }
 
 impl Unfinished {
-    // Returns what is given by no arguments.
-    pub(crate) fn new(alloc: Global) -> Unfinished {
+    // Returns what no arguments say.
+    pub(crate) fn new(alloc: Global) -> Unfinished
+        ensures { unfinished_view result ≡ nothing_said }
+    {
         Unfinished {
             schema: None,
             schema_options: SchemaOptions {
@@ -59,7 +63,6 @@ impl Unfinished {
             lines: false,
             progress: false,
             files: Vec::new(alloc),
-            only_files: false,
         }
     }
 }

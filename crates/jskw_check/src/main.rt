@@ -3,65 +3,56 @@
 #![tactic(auto)]
 
 mod arguments;
-mod files;
 mod given;
+mod host;
+mod program;
 mod progress;
+mod trouble;
 mod usage;
 
-use arguments::command_of;
-use files::{Trouble, check_files};
-use given::{Command, Given};
-use jskw_documents::{Checker, schema_of};
+use host::HostFolder;
+use jskw_service::StdSink;
+use program::{NOT_CHECKED, run};
 use progress::Progress;
 use std::alloc::{AllocError, Global};
 use std::env::{self, Args};
-use std::io;
-use std::io::{ErrorKind, Write};
+use std::io::{self, ErrorKind};
 use std::process::ExitCode;
-use usage::{HELP, USAGE, VERSION};
-
-// The status if something could not be checked.
-const NOT_CHECKED: u8 = 2;
+use trouble::Trouble;
 
 fn main(rt: HostRuntime) -> ExitCode {
-    let status = match run(&rt) {
+    let status = match run_on(&rt) {
         Ok(status) => status,
         Err(trouble) => {
-            let _ = rt.eprintln(words_of(trouble));
+            let _ = rt.eprintln(trouble.words());
             NOT_CHECKED
         }
     };
     ExitCode::from(status)
 }
 
-// Returns what is said of a run that ended early.
-fn words_of(trouble: Trouble) -> &'static str {
-    match trouble {
-        Trouble::Output => "jskw: the output cannot be written",
-        Trouble::Memory => "jskw: memory ran out",
-        Trouble::TooLong => "jskw: a file has 2^64 lines or blocks",
-        Trouble::Arguments => "jskw: an argument is not UTF-8",
-    }
-}
-
-// Does what the arguments say, and returns the exit status.
-fn run(rt: &HostRuntime) -> Result<u8, Trouble> {
+// Does what the arguments say, on the system's files and outputs, and returns the exit status.
+fn run_on(rt: &HostRuntime) -> Result<u8, Trouble> {
     let arguments = match env::args(rt) {
         Ok(arguments) => arguments,
         Err(error) if error.kind() == ErrorKind::OutOfMemory => return Err(Trouble::Memory),
         Err(_) => return Err(Trouble::Arguments),
     };
     let words = behind_first(rt.alloc(), arguments)?;
-    match command_of(rt.alloc(), words.as_slice())? {
-        Command::Help => print(rt, HELP),
-        Command::Version => print(rt, VERSION),
-        Command::Wrong(why) => {
-            let why = why.as_str();
-            let _ = eprintln!(rt; "{USAGE}jskw check: error: {why}");
-            Ok(NOT_CHECKED)
-        }
-        Command::Check(given) => check(rt, given),
-    }
+    let folder = HostFolder { rt };
+    let mut out = StdSink::new(io::writer(rt));
+    let mut errors = StdSink::new(rt.stderr());
+    let mut progress = Progress::new(rt);
+    let status = run(
+        rt.alloc(),
+        words.as_slice(),
+        &folder,
+        &mut out,
+        &mut errors,
+        &mut progress,
+    )?;
+    progress.end();
+    Ok(status)
 }
 
 // Returns the arguments without the first, which names the program.
@@ -75,46 +66,4 @@ fn behind_first(alloc: Global, arguments: Args) -> Result<Vec<String>, AllocErro
         is_behind = true;
     }
     Ok(words)
-}
-
-// Prints a text on standard output.
-fn print(rt: &HostRuntime, text: &str) -> Result<u8, Trouble> {
-    let mut writer = io::writer(rt);
-    match writer.write_all(text.as_bytes()) {
-        Ok(()) => Ok(0),
-        Err(_) => Err(Trouble::Output),
-    }
-}
-
-// Checks the files, if there is a schema.
-fn check(rt: &HostRuntime, given: Given) -> Result<u8, Trouble> {
-    let Given {
-        schema,
-        schema_options,
-        options,
-        lines,
-        progress,
-        files,
-    } = given;
-    let text = match files::read_file(rt, schema.as_str())? {
-        Ok(text) => text,
-        Err(why) => {
-            let schema = schema.as_str();
-            let _ = eprintln!(rt; "{schema}: {why}");
-            return Ok(NOT_CHECKED);
-        }
-    };
-    match schema_of(rt.alloc(), schema.as_str(), &text, schema_options)? {
-        Ok(schema) => {
-            let mut progress = Progress::new(rt, progress);
-            let checker = Checker { schema, options };
-            let status = check_files(rt, &checker, lines, files.as_slice(), &mut progress)?;
-            progress.end();
-            Ok(status)
-        }
-        Err(why) => {
-            let _ = io::Write::write_all(&mut rt.stderr(), &why);
-            Ok(NOT_CHECKED)
-        }
-    }
 }

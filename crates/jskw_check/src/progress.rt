@@ -1,4 +1,5 @@
 //! What is done, shown on standard error.
+use crate::program::Show;
 use jskw_documents::{Counts, Watcher};
 use std::alloc::AllocError;
 use std::io::{IsTerminal, Write};
@@ -17,6 +18,8 @@ pub(crate) struct Progress<'r> {
     // `--progress` was given.
     is_asked: bool,
     is_terminal: bool,
+    // A file was begun.
+    has_begun: bool,
     begun: Option<Instant>,
     told: Option<Instant>,
     // Of the files before this one.
@@ -27,31 +30,24 @@ pub(crate) struct Progress<'r> {
 }
 
 impl<'r> Progress<'r> {
-    pub(crate) fn new(rt: &'r HostRuntime, is_asked: bool) -> Progress<'r> {
-        let now = now(rt);
+    pub(crate) fn new(rt: &'r HostRuntime) -> Progress<'r> {
         Progress {
             rt,
-            is_asked,
+            is_asked: false,
             is_terminal: rt.stderr().is_terminal(),
-            begun: now,
-            told: now,
+            has_begun: false,
+            begun: None,
+            told: None,
             before: Counts::new(),
             counts: Counts::new(),
             size: None,
         }
     }
 
-    // Begins a file of so many bytes, if its size is known.
-    pub(crate) fn begin(&mut self, size: Option<u64>) {
-        self.before = self.before.plus(self.counts);
-        self.counts = Counts::new();
-        self.size = size;
-    }
-
-    // Shows the last line.
+    // Shows the last line, if files were checked.
     pub(crate) fn end(&mut self) {
         let is_shown = self.is_asked || milliseconds(self.begun, self.told) > 0;
-        if is_shown {
+        if self.has_begun && is_shown {
             self.size = None;
             self.tell('\n');
         }
@@ -87,7 +83,25 @@ impl<'r> Progress<'r> {
     }
 }
 
+impl Show for Progress<'_> {
+    fn ask(&mut self) {
+        self.is_asked = true;
+    }
+}
+
 impl Watcher for Progress<'_> {
+    // The first file begins the time.
+    fn begins(&mut self, size: Option<u64>) {
+        if !self.has_begun {
+            self.has_begun = true;
+            self.begun = now(self.rt);
+            self.told = self.begun;
+        }
+        self.before = self.before.plus(self.counts);
+        self.counts = Counts::new();
+        self.size = size;
+    }
+
     fn saw(&mut self, counts: Counts) {
         self.counts = counts;
         let bytes = self.before.plus(counts).bytes;

@@ -1,5 +1,5 @@
 -- Lines of bytes, one behind another.
-use Rattle.std.proofs.Common.{◌≡◌, ℕ, ◌+◌, ◌<◌, List, [], ◌∷◌, ◌++◌, Bool, true, false, true≢false, refl, sym, ap, ◌∙◌}
+use Rattle.std.proofs.Common.{◌≡◌, ℕ, ◌+◌, ◌<◌, List, [], ◌∷◌, ◌++◌, true, false, true≢false, refl, sym, ap, ◌∙◌}
 use Rattle.std.proofs.Common.{if◌then◌else◌, get_or, length, subst, take}
 use Rattle.std.proofs.Common.{drop, eqb, take-append-drop}
 use Rattle.std.proofs.Math.Seq.{take-add}

@@ -1,24 +1,35 @@
 -- Texts of errors, one by one.
-use Rattle.std.proofs.Common.{◌≡◌, ℕ, List, [], ◌∷◌, ◌++◌, refl, sym, ap, ◌∙◌, subst, Result, Ok, Err, OnOk}
-use Rattle.std.proofs.lemmas.List.{append-nil, append_assoc}
+use Rattle.std.proofs.Common.{◌≡◌, ℕ, ◌+◌, ◌<◌, ◌≤◌, List, [], ◌++◌, refl, sym, ap, ◌∙◌, subst, drop, get_or, length}
+use Rattle.std.proofs.Common.{map, Result, Ok, Err, OnOk}
+use Rattle.std.proofs.lemmas.List.{append-nil, append_assoc, drop_all}
 use Rattle.jskw_report.specs.Fail.{Failure}
+use Rattle.jskw_report.proofs.GatheredNodes.{drop_here}
 use Rattle.jskw_documents.specs.Shown.{HasEach}
 
--- the part of the next error, with the parts that are left
-pub next_part : (Is : Failure → List ℕ → Type 0) (all fs : List Failure) (f : Failure) (old new part : List ℕ)
-    → ((rest : List ℕ) → HasEach Is (f ∷ fs) rest → HasEach Is all (old ++ rest))
-    → Is f part → new ≡ old ++ part
-    → (rest : List ℕ) → HasEach Is fs rest → HasEach Is all (new ++ rest)
-next_part Is all fs f old new part so_far is grown rest parts =
+-- of a list of errors: what is written, with what is left to write from an index on
+abbrev pub IsWritten : {X : Type 0} → (Failure → List ℕ → Type 0) → (X → Failure) → List X → ℕ → List ℕ → Type 0
+IsWritten Is failure errors i text =
+    (rest : List ℕ) → HasEach Is (map failure (drop i errors)) rest → HasEach Is (map failure errors) (text ++ rest)
+
+-- the next error, which adds its part to the text
+pub next_written : {X : Type 0} (Is : Failure → List ℕ → Type 0) (failure : X → Failure) (errors : List X) (i : ℕ) (e : X)
+    (old new : List ℕ) → i < length errors → e ≡ get_or errors i e → IsWritten Is failure errors i old
+    → (part : List ℕ) × Is (failure e) part × (new ≡ old ++ part) → IsWritten Is failure errors (i + 1) new
+next_written Is failure errors i e old new within is so_far grown rest parts =
+    let part = grown.0 in
     let joined : old ++ (part ++ rest) ≡ new ++ rest =
-    sym (append_assoc old part rest) ∙ ap (λ t. t ++ rest) (sym grown) in
-    subst (HasEach Is all) joined (so_far (part ++ rest) (part, rest, refl, is, parts))
+    sym (append_assoc old part rest) ∙ ap (λ t. t ++ rest) (sym grown.2) in
+    let here : HasEach Is (map failure (drop i errors)) (part ++ rest) =
+    subst (λ es. HasEach Is (map failure es) (part ++ rest)) (sym (drop_here errors i e within is))
+    (part, rest, refl, grown.1, parts) in
+    subst (HasEach Is (map failure errors)) joined (so_far (part ++ rest) here)
 
 -- where no error is left, all parts are written
-pub last_part : (Is : Failure → List ℕ → Type 0) (all fs : List Failure) (text : List ℕ) → fs ≡ []
-    → ((rest : List ℕ) → HasEach Is fs rest → HasEach Is all (text ++ rest)) → HasEach Is all text
-last_part Is all fs text none so_far =
-    subst (HasEach Is all) (append-nil text) (so_far [] (subst (λ gs. HasEach Is gs []) (sym none) refl))
+pub all_written : {X : Type 0} (Is : Failure → List ℕ → Type 0) (failure : X → Failure) (errors : List X) (i : ℕ)
+    (text : List ℕ) → length errors ≤ i → IsWritten Is failure errors i text → HasEach Is (map failure errors) text
+all_written Is failure errors i text past so_far =
+    subst (HasEach Is (map failure errors)) (append-nil text)
+    (so_far [] (subst (λ es. HasEach Is (map failure es) []) (sym (drop_all i errors past)) refl))
 
 -- a text of four parts, written one by one
 pub four_parts : {E : Type 0} (r : Result Unit E) (old a b c new u v w x text : List ℕ)

@@ -2,13 +2,13 @@
 use Rattle.std.proofs.Common.{◌≡◌, ℕ, suc, ◌+◌, List, [], ◌∷◌, ◌++◌, true, length, Option, Some, refl, sym, ap, ◌∙◌}
 use Rattle.std.proofs.Common.{add-zero, arith, length-append, subst, Result, Ok, Err, IfOk, OnOk}
 use Rattle.std.proofs.lemmas.List.{append-nil, append_assoc}
-use Rattle.std.specs.Io.KnownBytes.{Appends, Consumes, IsAtEnd}
+use Rattle.std.specs.Io.KnownBytes.{Appends, IsAtEnd}
 use Rattle.std.proofs.KnownBytes.{Appends-nil, Appends-trans, Consumes-nil, Consumes-trans}
 use Rattle.jskw_report.specs.Keyword.{Schema}
 use Rattle.jskw_service.specs.declared.service.Verdict.{Verdict}
 use Rattle.jskw_service.specs.declared.service.Verdict.TheVariants.{Valid}
 use Rattle.jskw_documents.specs.Documents.{IsAnswer, verdict_on}
-use Rattle.jskw_documents.specs.Streams.{AnswersBegun, AnswersLines, AreAnswers, Moves, Takes, begun_of, documents_of}
+use Rattle.jskw_documents.specs.Streams.{AnswersBegun, AnswersLines, AreAnswers, Moves, Takes, begun_of}
 use Rattle.jskw_documents.specs.Streams.{is_in_line, last_line_of, lines_of, verdict_behind, worse_of}
 use Rattle.jskw_documents.specs.declared.checker.Checker.{Checker}
 use Rattle.jskw_documents.specs.declared.lines.Lines.{Lines}

@@ -1,11 +1,11 @@
 -- What checking a document does to a reader and a writer.
-use Rattle.std.specs.Prelude.{◌≡◌, ℕ, List, Bool, true, false, Option, None, Result, Ok, Err}
+use Rattle.std.specs.Prelude.{◌≡◌, ℕ, List, Bool, true, false, Option, None, Result, Err}
 use Rattle.std.specs.Io.KnownBytes.{Appends, Consumes, IsAtEnd}
 use Rattle.jskw_service.specs.declared.service.Verdict.{Verdict}
 use Rattle.jskw_documents.specs.Documents.{IsAnswer, verdict_on}
 use Rattle.jskw_documents.specs.declared.checker.Checker.{Checker}
 use Rattle.jskw_documents.specs.declared.fault.CheckFault.{CheckFault}
-use Rattle.jskw_documents.specs.declared.fault.CheckFault.TheVariants.{Read, Write, Memory, TooLong}
+use Rattle.jskw_documents.specs.declared.fault.CheckFault.TheVariants.{Read, Write}
 
 -- the reader failed
 abbrev pub is_read_fault : {A : Type 0} → Result A CheckFault → Bool

@@ -4,3 +4,4 @@ pub mod Documents
 pub mod Devices
 pub mod Streams
 pub mod Schemas
+pub mod Files

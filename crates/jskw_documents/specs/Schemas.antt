@@ -1,5 +1,5 @@
 -- The schema that a text is, if it is one that documents may be checked against.
-use Rattle.std.specs.Prelude.{◌≡◌, ◌||◌, ℕ, List, [], ◌∷◌, Bool, true, false, bytes_eq, codes, if◌then◌else◌, Option}
+use Rattle.std.specs.Prelude.{◌≡◌, ◌||◌, ℕ, List, [], Bool, false, bytes_eq, codes, if◌then◌else◌, Option}
 use Rattle.std.specs.Prelude.{Some, None, Result, Ok, Err, map, string_bytes, option_and_then}
 use Rattle.serde_json.specs.Data.{Data, object, string}
 use Rattle.serde_json.specs.Find.{get_member}
@@ -9,6 +9,7 @@ use Rattle.jskw_report.specs.Read.{Reading, read}
 use Rattle.jskw_report.specs.Setting.{Setting}
 use Rattle.jskw_report.specs.declared.settings.Draft.{Draft}
 use Rattle.jskw_report.specs.declared.settings.Draft.TheVariants.{Draft4, Draft6, Draft7, Draft201909, Draft202012}
+use Rattle.jskw_report.specs.declared.settings.VocabularySet.{VocabularySet}
 use Rattle.jskw_service.specs.Request.{value_of}
 use Rattle.jskw_unchecked.specs.Unchecked.{unchecked}
 use Rattle.jskw_unchecked.specs.declared.member.UncheckedMember.{UncheckedMember}
@@ -44,15 +45,27 @@ abbrev pub draft_chosen : Option Draft → Data → Option Draft
 draft_chosen (Some draft) d = Some draft
 draft_chosen None d = draft_of_schema d
 
--- there is no object layer
-abbrev pub setting_chosen : SchemaOptions → Draft → Setting
-setting_chosen o draft =
+-- how a schema is read: under the draft that is asked for, or that it names, with these vocabularies, without asserting
+-- the keywords of these names, and whether something of it may be unchecked
+pub record HowRead : Type 0 where
+  pub draft : Option Draft
+  pub vocabularies : VocabularySet
+  pub overridden : List (List ℕ)
+  pub allow_unchecked : Bool
+
+abbrev pub how_read : SchemaOptions → HowRead
+how_read o =
     record {
-      draft = draft;
+      draft = o.draft;
       vocabularies = o.vocabularies;
       overridden = map string_bytes o.overridden.items;
-      object_layer = false;
+      allow_unchecked = o.allow_unchecked;
     }
+
+-- there is no object layer
+abbrev pub setting_chosen : HowRead → Draft → Setting
+setting_chosen how draft =
+    record { draft = draft; vocabularies = how.vocabularies; overridden = how.overridden; object_layer = false }
 
 -- a schema that compiles, unless something of it is not checked and that is not allowed
 abbrev pub covered_schema : Bool → List UncheckedMember → Reading → Option Schema
@@ -62,13 +75,13 @@ covered_schema allowed members (Ok s) = if allowed || is_empty members then Some
 abbrev pub schema_under : Bool → Setting → Data → Option Schema
 schema_under allowed setting d = covered_schema allowed (unchecked d setting []) (read d setting [])
 
-abbrev pub schema_of_value : SchemaOptions → Data → Option Schema
-schema_of_value o d =
-    option_and_then (λ draft. schema_under o.allow_unchecked (setting_chosen o draft) d) (draft_chosen o.draft d)
+abbrev pub schema_of_value : HowRead → Data → Option Schema
+schema_of_value how d =
+    option_and_then (λ draft. schema_under how.allow_unchecked (setting_chosen how draft) d) (draft_chosen how.draft d)
 
 -- the schema of a text; nothing, if it is none that documents may be checked against
-abbrev pub schema_given : SchemaOptions → List ℕ → Option Schema
-schema_given o bytes = option_and_then (schema_of_value o) (value_of bytes)
+abbrev pub schema_given : HowRead → List ℕ → Option Schema
+schema_given how bytes = option_and_then (schema_of_value how) (value_of bytes)
 
 -- what was made is that schema, or nothing was made and there is none
 abbrev pub IsSchemaGiven : {A : Type 0} → Result Schema A → Option Schema → Type 0

@@ -4,7 +4,7 @@ use Rattle.std.specs.Prelude.{flat_map, nat_lt, if◌then◌else◌, Option, Som
 use Rattle.json.specs.Print.{quoted}
 use Rattle.jskw_report.specs.Fail.{Failure}
 use Rattle.jskw_documents.specs.declared.options.Output.{Output}
-use Rattle.jskw_documents.specs.declared.options.Output.TheVariants.{Text, Basic, Quiet}
+use Rattle.jskw_documents.specs.declared.options.Output.TheVariants.{Basic}
 
 -- ---- words of a line: a control character is written as its escape of JSON, so that a line is one line
 

@@ -30,6 +30,7 @@ pub fn check_document<R: Source, W: Sink, V: Watcher>(
         (R.remaining reader.old) (R.remaining reader.new) (W.contents writer.old) (W.contents writer.new)) }
     ensures failed { W.has_failed writer.new ≡ is_write_fault result }
     ensures read_failed { IsErrOf result CheckFault.Read → R.has_failed reader.new ≡ true }
+    ensures unread { IsErrOf result CheckFault.Read → W.contents writer.new ≡ W.contents writer.old }
 {
     let document = match read_all(alloc, reader) {
         Ok(document) => document,

@@ -9,8 +9,9 @@ ghost use Rattle.jskw_documents.specs.Shown.{place_words};
 
 use crate::options::{Options, Output};
 use crate::place::{Place, push_place, push_place_members};
-use crate::words::{push_bytes, push_quoted_after, push_shown_after};
+use crate::words::{push_quoted_after, push_shown_after};
 use jskw_report::ValidationError;
+use jskw_service::push_bytes;
 use jskw_value::DecimalJson;
 use std::alloc::{AllocError, Global};
 

@@ -4,6 +4,7 @@
 //! - [`answer_to`] answers one document that is in memory.
 //! - [`check_document`] reads a document from a reader and writes the answer.
 //! - [`check_lines`] does so for each line of a reader, and keeps one line in memory at a time.
+//! - [`check_files`] checks the files of a [`Folder`], one behind the other.
 //!
 //! The repository's docs/USE.md lists what is written, under "Files and streams".
 //!
@@ -16,6 +17,8 @@ mod checker;
 mod document;
 mod errors;
 mod fault;
+mod files;
+mod folder;
 mod lines;
 mod options;
 mod place;
@@ -28,6 +31,8 @@ pub use answer::{Answer, answer_to, worse_of};
 pub use checker::Checker;
 pub use document::check_document;
 pub use fault::CheckFault;
+pub use files::{UNREAD, check_files};
+pub use folder::{Folder, Opened};
 pub use lines::check_lines;
 pub use options::{Options, Output};
 pub use place::{Place, refusal};

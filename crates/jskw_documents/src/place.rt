@@ -4,9 +4,10 @@ ghost use Rattle.jskw_documents.specs.Shown.{place_members, place_words, refusal
 
 use crate::options::Output;
 use crate::words::{
-    push_bytes, push_number_if_some, push_quoted_after, push_quoted_if_some, push_shown,
-    push_shown_after, push_shown_if_some,
+    push_number_if_some, push_quoted_after, push_quoted_if_some, push_shown, push_shown_after,
+    push_shown_if_some,
 };
+use jskw_service::push_bytes;
 use std::alloc::{AllocError, Global};
 
 /// A file, and what is known of the place in it.

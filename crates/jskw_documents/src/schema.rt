@@ -3,17 +3,17 @@ ghost use Rattle.std.specs.Prelude.{◌≡◌, false, IfOk, Ok, option_map};
 ghost use Rattle.serde_json.specs.View.{view};
 ghost use Rattle.jskw_report.specs.Setting.{with_object_layer};
 ghost use Rattle.jskw_documents.specs.Schemas.{IsSchemaGiven, covered_schema, draft_chosen};
-ghost use Rattle.jskw_documents.specs.Schemas.{draft_of_meta_schema, draft_of_schema, draft_of_value, schema_given};
-ghost use Rattle.jskw_documents.specs.Schemas.{schema_under};
+ghost use Rattle.jskw_documents.specs.Schemas.{draft_of_meta_schema, draft_of_schema, draft_of_value, how_read};
+ghost use Rattle.jskw_documents.specs.Schemas.{schema_given, schema_under};
 
 use crate::options::Output;
 use crate::place::{Place, refusal};
-use crate::words::{push_bytes, push_shown_after};
+use crate::words::push_shown_after;
 use jskw_array::SchemaNode;
 use jskw_array::compiler::compile;
 use jskw_report::context::member_of;
 use jskw_report::{CompileFault, Context, Draft, Settings, ValidationError, VocabularySet};
-use jskw_service::read_value;
+use jskw_service::{push_bytes, read_value};
 use jskw_text::{ReadFault, position_of, read_bytes};
 use jskw_unchecked::{UncheckedMember, unchecked};
 use jskw_value::{DecimalJson, SerdeJson};
@@ -41,7 +41,7 @@ pub fn schema_of(
     text: &[u8],
     options: SchemaOptions,
 ) -> Result<Result<SchemaNode<DecimalJson>, Vec<u8>>, AllocError>
-    ensures { IfOk result (λ made. IsSchemaGiven made (schema_given options text.now)) }
+    ensures { IfOk result (λ made. IsSchemaGiven made (schema_given (how_read options) text.now)) }
 {
     let Some(value) = read_value(alloc, text)? else {
         return Ok(Err(not_json(alloc, file, text)?));

@@ -3,15 +3,9 @@ ghost use Rattle.std.specs.Prelude.{◌≡◌, ◌++◌, ◌<◌, OnOk, option_m
 ghost use Rattle.jskw_documents.specs.Shown.{control_escape, hex_digit, if_some, is_control, number_after};
 ghost use Rattle.jskw_documents.specs.Shown.{quoted_after, shown, shown_after, shown_byte};
 
+use jskw_service::push_bytes;
 use serde_json::Value;
 use std::alloc::{AllocError, Global};
-
-// Appends bytes as they are.
-pub(crate) fn push_bytes(text: &mut Vec<u8>, part: &[u8]) -> Result<(), AllocError>
-    ensures { OnOk result (text.new.items ≡ text.old.items ++ part.now) }
-{
-    text.extend_from_slice(part)
-}
 
 // Returns whether the byte is a control character.
 fn is_control(byte: u8) -> bool

@@ -12,12 +12,14 @@
 //! A call that returns a `Result` with `AllocError` fails only if memory runs out.
 #![tactic(auto)]
 
+mod bytes;
 mod device;
 mod io;
 mod request;
 mod service;
 mod std_device;
 
+pub use bytes::push_bytes;
 pub use device::{DeviceFault, Sink, Source};
 pub use io::{ReadFault, read_all, write_all};
 pub use request::{draft_named, overridden_of, vocabularies_of, vocabulary_named};

@@ -1,0 +1,5 @@
+pub mod Numbers
+pub mod Words
+pub mod Behind
+pub mod Steps
+pub mod RowsArguments
