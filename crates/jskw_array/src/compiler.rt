@@ -388,6 +388,7 @@ fn compile_keyword<'a, F: Json>(
 
 // Compiles `required`. Returns `None` if it is delegated.
 #[inline(never)]
+#[tactic(auto, unfolding(jskw_report::specs::Read::asserted))]
 fn compile_required<'a, F: Json>(
     alloc: Global,
     ctx: &Context<'_, F>,
