@@ -118,9 +118,19 @@ impl IntegerRange {
         }
     }
 
-    // Returns whether the number is between the ends of the range, with a fraction or without.
+    // Returns whether the number, which must be lawful, is between the ends of the range, with a
+    // fraction or without.
     #[inline(never)]
-    fn encloses(&self, number: Decimal) -> bool
+    fn encloses<A: JsonNumber>(&self, number: &A) -> bool
+        requires { IsTrue (is_exact (A.number number.now)) }
+        ensures { result ≡ encloses self.now (A.number number.now) }
+    {
+        self.encloses_decimal(number.decimal())
+    }
+
+    // Returns `encloses` of a decimal.
+    #[inline(always)]
+    fn encloses_decimal(&self, number: Decimal) -> bool
         ensures { result ≡ encloses self.now (value number) }
     {
         let (low, high) = (
@@ -253,8 +263,8 @@ impl QuickSet {
         QuickSet::limited([true; 6], false, integers)
     }
 
-    /// Returns the set of all values that are no numbers, of these integers, and of the numbers
-    /// between the least and the greatest of them that are written with a fraction.
+    /// Returns the set of all values that are no numbers, of these integers, and of the numbers that
+    /// are written with a fraction and are between the ends of the range.
     pub fn but_numbers_beyond(integers: IntegerRange) -> QuickSet
         ensures { (n : Num) → is_in result (number n) ≡ (has_fraction integers n || has_number integers n) }
     {
@@ -360,7 +370,7 @@ impl QuickSet {
             None => {
                 self.has_fractions
                     && !number.is_written_as_integer()
-                    && self.integers.encloses(number.decimal())
+                    && self.integers.encloses(number)
             }
         }
     }
