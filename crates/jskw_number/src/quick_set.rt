@@ -75,8 +75,8 @@ impl QuickSet {
         QuickSet::limited([true; 6], false, integers)
     }
 
-    /// Returns the set of all values that are no numbers, of these integers, and of the numbers
-    /// between the least and the greatest of them that are written with a fraction.
+    /// Returns the set of all values that are no numbers, of these integers, and of the numbers that
+    /// are written with a fraction and are between the ends of the range.
     pub fn but_numbers_beyond(integers: IntegerRange) -> QuickSet
         ensures { (n : Num) → is_in result (number n) ≡ (has_fraction integers n || has_number integers n) }
     {
@@ -182,7 +182,7 @@ impl QuickSet {
             None => {
                 self.has_fractions
                     && !number.is_written_as_integer()
-                    && self.integers.encloses(number.decimal())
+                    && self.integers.encloses(number)
             }
         }
     }

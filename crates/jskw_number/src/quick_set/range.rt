@@ -103,10 +103,20 @@ impl IntegerRange {
         }
     }
 
-    // Returns whether the number is between the ends of the range, with a fraction or without.
+    // Returns whether the number, which must be lawful, is between the ends of the range, with a
+    // fraction or without.
     #[inline(never)]
+    pub(super) fn encloses<A: JsonNumber>(&self, number: &A) -> bool
+        requires { IsTrue (is_exact (A.number number.now)) }
+        ensures { result ≡ encloses self.now (A.number number.now) }
+    {
+        self.encloses_decimal(number.decimal())
+    }
+
+    // Returns `encloses` of a decimal.
+    #[inline(always)]
     #[tactic(auto, using(crate::proofs::Limits::order_ge, crate::proofs::Limits::order_le))]
-    pub(super) fn encloses(&self, number: Decimal) -> bool
+    fn encloses_decimal(&self, number: Decimal) -> bool
         ensures { result ≡ encloses self.now (value number) }
     {
         number.cmp_whole(i128::from(self.low)).is_ge()
