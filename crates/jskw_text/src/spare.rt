@@ -22,8 +22,10 @@ const MOST_OBJECTS: usize = 256;
 
 const MOST_MEMBERS: usize = 64;
 
-// How many arrays and objects of a tree are taken apart at most.
+// How many arrays and objects of a tree are taken apart at most, and how many wait for it.
 const MOST_TREES: usize = 65536;
+
+const MOST_PARTS: usize = 4096;
 
 // Room of trees that are no longer needed, up to 4 MB.
 #[derive(Drop)]
@@ -109,7 +111,7 @@ impl Spare {
 
     // Takes the room of a tree.
     pub(crate) fn take(&mut self, tree: DecimalTree) {
-        let _ = self.parts.push(tree);
+        self.put_aside(tree);
         'parts: for _ in 0..MOST_TREES {
             let Some(part) = self.parts.pop() else {
                 return;
@@ -143,10 +145,15 @@ impl Spare {
     fn take_part(&mut self, tree: DecimalTree) {
         match tree {
             DecimalTree::Text(text) => self.take_text(text),
-            DecimalTree::Array(_) | DecimalTree::Object(_) => {
-                let _ = self.parts.push(tree);
-            }
+            DecimalTree::Array(_) | DecimalTree::Object(_) => self.put_aside(tree),
             DecimalTree::Null | DecimalTree::Bool(_) | DecimalTree::Number(_) => {}
+        }
+    }
+
+    // Puts a tree aside, to be taken apart.
+    fn put_aside(&mut self, tree: DecimalTree) {
+        if self.parts.len() < MOST_PARTS {
+            let _ = self.parts.push(tree);
         }
     }
 
