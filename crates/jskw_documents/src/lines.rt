@@ -42,7 +42,7 @@ pub(crate) struct Lines {
 ///
 /// The answers to the lines that end in a block of the reader are written before the next block is
 /// read, and the counts are shown to the watcher. Memory is kept for one line, besides the block, its
-/// answers, what the line takes while it is checked, and 2.5 MB for trees of lines that follow.
+/// answers, what the line takes while it is checked, and 4 MB for trees of lines that follow.
 ///
 /// # Errors
 ///

@@ -7,6 +7,7 @@ ghost use Rattle.jskw_text.specs.Passing.{PassesLeaf, PassesName, Reads, ReadsIt
 ghost use Rattle.jskw_text.specs.Reading.{reading};
 
 use crate::cursor::Cursor;
+use crate::scan::has_backslash;
 use crate::sorted::put;
 use crate::spare::Spare;
 use crate::tree::MAX_DEPTH;
@@ -42,6 +43,9 @@ pub(crate) fn read_quickly(
 ) -> Result<DecimalTree, Unread>
     ensures { IfOk result (λ tree. reading text.now ≡ Some (Ok (decimal_tree tree))) }
 {
+    if has_backslash(text.as_bytes()) {
+        return Err(Unread::Text);
+    }
     let mut cursor = Cursor::new(text);
     let tree = read(alloc, &mut cursor, spare, MAX_DEPTH)?;
     cursor.skip_spaces();

@@ -11,7 +11,7 @@ use jskw_value::DecimalTree;
 use json::Scratch;
 use std::alloc::Global;
 
-/// Reads texts one after another. It keeps the room that reading needs, and up to 2.5 MB of the room
+/// Reads texts one after another. It keeps the room that reading needs, and up to 4 MB of the room
 /// of trees that are no longer needed.
 #[derive(Drop)]
 pub struct TreeReader {

@@ -24,6 +24,18 @@ pub(crate) fn byte_at(bytes: &[u8], at: usize) -> u8
     if at < bytes.len() { bytes[at] } else { b' ' }
 }
 
+// Returns whether there is a backslash. It looks at each byte, so that the compiler can look at
+// several at once.
+pub(crate) fn has_backslash(bytes: &[u8]) -> bool {
+    let mut found = false;
+    for &byte in bytes {
+        if byte == b'\\' {
+            found = true;
+        }
+    }
+    found
+}
+
 // Returns whether a byte is a space between tokens.
 #[inline(always)]
 fn is_space(byte: u8) -> bool

@@ -1,7 +1,7 @@
 //! Room of trees that are no longer needed, for trees that are read later.
 ghost use Rattle.std.specs.Prelude.{◌≡◌, [], IfOk, string_bytes};
 
-use jskw_value::{DecimalTree, Member};
+use jskw_value::{DecimalTree, Member, Members};
 use std::alloc::{AllocError, Global};
 
 // For how many items or members a new array or object has room.
@@ -17,14 +17,22 @@ const MOST_LISTS: usize = 256;
 
 const MOST_ITEMS: usize = 256;
 
-// How many arrays and objects of a tree are taken apart at most.
+// How many lists of members are kept, and how many members each has room for at most.
+const MOST_OBJECTS: usize = 256;
+
+const MOST_MEMBERS: usize = 64;
+
+// How many arrays and objects of a tree are taken apart at most, and how many wait for it.
 const MOST_TREES: usize = 65536;
 
-// Room of trees that are no longer needed, up to 2.5 MB.
+const MOST_PARTS: usize = 4096;
+
+// Room of trees that are no longer needed, up to 4 MB.
 #[derive(Drop)]
 pub(crate) struct Spare {
     texts: Vec<String>,
     lists: Vec<Vec<DecimalTree>>,
+    objects: Vec<Vec<Member<DecimalTree>>>,
     // Parts of a tree that are still to be taken apart.
     parts: Vec<DecimalTree>,
     // How many items and members the last array and object had that were read, up to `MOST_ROOM`:
@@ -39,6 +47,7 @@ impl Spare {
         Spare {
             texts: Vec::new(alloc),
             lists: Vec::new(alloc),
+            objects: Vec::new(alloc),
             parts: Vec::new(alloc),
             items: MOST_ROOM,
             members: MOST_ROOM,
@@ -79,7 +88,13 @@ impl Spare {
     pub(crate) fn pairs(&mut self, alloc: Global) -> Result<Vec<Member<DecimalTree>>, AllocError>
         ensures { IfOk result (λ pairs. pairs.items ≡ []) }
     {
-        Vec::with_capacity(alloc, self.members)
+        match self.objects.pop() {
+            Some(mut pairs) => {
+                pairs.clear();
+                Ok(pairs)
+            }
+            None => Vec::with_capacity(alloc, self.members),
+        }
     }
 
     // Says how many items an array had.
@@ -96,7 +111,7 @@ impl Spare {
 
     // Takes the room of a tree.
     pub(crate) fn take(&mut self, tree: DecimalTree) {
-        let _ = self.parts.push(tree);
+        self.put_aside(tree);
         'parts: for _ in 0..MOST_TREES {
             let Some(part) = self.parts.pop() else {
                 return;
@@ -112,10 +127,8 @@ impl Spare {
         match tree {
             DecimalTree::Text(text) => self.take_text(text),
             DecimalTree::Array(items) => self.take_items(items),
-            DecimalTree::Object(_)
-            | DecimalTree::Null
-            | DecimalTree::Bool(_)
-            | DecimalTree::Number(_) => {}
+            DecimalTree::Object(members) => self.take_members(members),
+            DecimalTree::Null | DecimalTree::Bool(_) | DecimalTree::Number(_) => {}
         }
     }
 
@@ -132,10 +145,15 @@ impl Spare {
     fn take_part(&mut self, tree: DecimalTree) {
         match tree {
             DecimalTree::Text(text) => self.take_text(text),
-            DecimalTree::Array(_) | DecimalTree::Object(_) => {
-                let _ = self.parts.push(tree);
-            }
+            DecimalTree::Array(_) | DecimalTree::Object(_) => self.put_aside(tree),
             DecimalTree::Null | DecimalTree::Bool(_) | DecimalTree::Number(_) => {}
+        }
+    }
+
+    // Puts a tree aside, to be taken apart.
+    fn put_aside(&mut self, tree: DecimalTree) {
+        if self.parts.len() < MOST_PARTS {
+            let _ = self.parts.push(tree);
         }
     }
 
@@ -146,6 +164,18 @@ impl Spare {
         }
         if self.lists.len() < MOST_LISTS && items.capacity() <= MOST_ITEMS {
             let _ = self.lists.push(items);
+        }
+    }
+
+    // Takes the room of a list, and of its names and values.
+    fn take_members(&mut self, members: Members) {
+        let mut pairs = members.into_pairs();
+        'pairs: while let Some(Member { name, value }) = pairs.pop() {
+            self.take_text(name);
+            self.take_part(value);
+        }
+        if self.objects.len() < MOST_OBJECTS && pairs.capacity() <= MOST_MEMBERS {
+            let _ = self.objects.push(pairs);
         }
     }
 }

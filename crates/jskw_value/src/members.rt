@@ -24,11 +24,16 @@ pub struct Member<V> {
 }
 
 impl<V> Member<V> {
-    // Compares the name with another.
+    // Compares the name with another. The first bytes are compared by themselves, because they tell
+    // most names apart.
     fn against(&self, name: &str) -> Ordering
         ensures { result ≡ against name.now self.now }
     {
-        self.name.as_str().cmp(name)
+        let (left, right) = (self.name.as_bytes(), name.as_bytes());
+        if left.is_empty() || right.is_empty() || left[0] == right[0] {
+            return self.name.as_str().cmp(name);
+        }
+        left[0].cmp(&right[0])
     }
 }
 
@@ -110,6 +115,14 @@ impl<V> MemberList<V> {
         ensures { result ≡ pairs.items }
     {
         MemberList { list: pairs }
+    }
+
+    /// Returns the members in the order of their names, which are distinct.
+    pub fn into_pairs(self) -> Vec<Member<V>>
+        ensures members { result.items ≡ self }
+        ensures sorted { AreSorted (member_names result.items) }
+    {
+        self.list
     }
 
     /// Returns the number of members. Their names are distinct and sorted.
