@@ -31,6 +31,7 @@ use Rattle.jskw_array.specs.contracts.schema.SchemaNode as whole
 use Rattle.jskw_array.specs.contracts.schema.SchemaNode.TheInside as inside
 use Rattle.jskw_array.proofs.part.SettledParts.TheSendSync as begun
 use Rattle.jskw_array.proofs.additional_items.AdditionalItemsBooleanValidator.TheSendSync as additional
+use Rattle.jskw_array.specs.contracts.matching.ItemBounds as item_bounds
 use Rattle.jskw_array.proofs.matching.ItemBounds.TheSendSync as bounds
 use Rattle.jskw_c.proofs.CrossingValues.{row_send, row_sync}
 use Rattle.jskw_c.proofs.CrossingLeaves.{leaf_send, leaf_sync}
@@ -66,7 +67,8 @@ subschema_send = knot.send-Subschema S V N K rooted.ghosts object.ghosts numbere
     (item_type.the_send of_number.the_row S V N K) (item_type.the_send of_string.the_row S V N K)
     (item_type.the_send of_boolean.the_row S V N K) (item_type.the_send of_integer.the_row S V N K)
     (item_type.the_send of_integer_4.the_row S V N K)
-    additional.the_send absorbed.the_send bounds.the_send (as_row_send usize-field (plain_send _ _ _ _ _))
+    additional.the_send absorbed.the_send (std.Box-send item_bounds.the_row bounds.the_send)
+    (as_row_send usize-field (plain_send _ _ _ _ _))
 
 subschema_sync : IsSync subschema_row
 subschema_sync = knot.sync-Subschema S V N K rooted.ghosts object.ghosts numbered.ghosts
@@ -76,7 +78,8 @@ subschema_sync = knot.sync-Subschema S V N K rooted.ghosts object.ghosts numbere
     (item_type.the_sync of_number.the_row S V N K) (item_type.the_sync of_string.the_row S V N K)
     (item_type.the_sync of_boolean.the_row S V N K) (item_type.the_sync of_integer.the_row S V N K)
     (item_type.the_sync of_integer_4.the_row S V N K)
-    additional.the_sync absorbed.the_sync bounds.the_sync (as_row_sync usize-field (plain_sync _ _ _ _ _))
+    additional.the_sync absorbed.the_sync (std.Box-sync item_bounds.the_row bounds.the_sync)
+    (as_row_sync usize-field (plain_sync _ _ _ _ _))
 
 abbrev pub schema_row : RattleType
 schema_row = whole.the_row S V N K rooted.ghosts object.ghosts numbered.ghosts
