@@ -80,6 +80,7 @@ fn location_of<F: Json>(
 
 // Compiles `required`. Returns `None` if it is delegated.
 #[inline(never)]
+#[tactic(auto, unfolding(jskw_report::specs::Read::asserted))]
 pub(crate) fn compile_required<'a, F: Json>(
     alloc: Global,
     ctx: &Context<'_, F>,
