@@ -3,3 +3,4 @@ pub mod Words
 pub mod Behind
 pub mod Steps
 pub mod RowsArguments
+pub mod Runs

@@ -7,7 +7,7 @@ use Rattle.jskw_service.specs.declared.service.Verdict.{Verdict}
 use Rattle.jskw_documents.specs.Files.{AnswersFiles, HasBytes}
 use Rattle.jskw_documents.specs.Schemas.{schema_given}
 use Rattle.jskw_check.specs.Commands.{Asked, Command, check, help, version, wrong}
-use Rattle.jskw_check.specs.declared.TheConstants.{HELP, USAGE, VERSION}
+use Rattle.jskw_check.specs.declared.usage.TheConstants.{HELP, USAGE, VERSION}
 use Rattle.jskw_check.specs.declared.trouble.Trouble.{Trouble}
 use Rattle.jskw_check.specs.declared.trouble.Trouble.TheVariants.{Output}
 

@@ -2,6 +2,7 @@
 ghost use Rattle.std.specs.Prelude.{◌≡◌, ℕ, List, false, map, string_bytes, IfOk};
 ghost use Rattle.std.specs.Io.KnownBytes.{Appends};
 ghost use Rattle.jskw_service.specs.Run.{status_of_verdict};
+ghost use Rattle.jskw_service.specs.declared.service.Verdict.{Verdict};
 ghost use Rattle.jskw_documents.specs.Files.{AnswersFiles, HasBytes};
 ghost use Rattle.jskw_check.specs.CommandView.{command_view, given_view};
 ghost use Rattle.jskw_check.specs.Commands.{check, command};
