@@ -1,28 +1,30 @@
 //! A compiled schema: the validators of its keywords, in the order in which a schema is read.
-ghost use Rattle.std.specs.Prelude.{◌+◌, ◌≡◌, ◌≤◌};
-ghost use Rattle.jskw_array.specs.Words.{CountsUpTo, HasParts, IfOk, IfSome, IsBeginning, IsTrue};
-ghost use Rattle.jskw_array.specs.Words.{LeftParts, Reports, applications, boolean_schema, fail};
-ghost use Rattle.jskw_array.specs.Words.{false_schema, hands_on_required, holds, is_fused_schema};
-ghost use Rattle.jskw_array.specs.Words.{is_lawful, is_some, item_location, keeps_list};
-ghost use Rattle.jskw_array.specs.Words.{keywords_in, keywords_of, marked, min, needed, pairs};
-ghost use Rattle.jskw_array.specs.Words.{path_of, schema_location, schema_object, schemas_delegate};
-ghost use Rattle.jskw_array.specs.Words.{schemas_of, shape_keywords, tree};
-
-mod errors;
-mod quick;
+ghost use Rattle.std.specs.Prelude.{◌≡◌, ◌+◌, ◌-◌, ◌≤◌};
+ghost use Rattle.jskw_array.specs.Words.{[], Appends, IsBeginning, CountsUpTo, HasParts, IfOk};
+ghost use Rattle.jskw_array.specs.Words.{IfSome, IsFirst, IsTrue, LeftParts, Reports};
+ghost use Rattle.jskw_array.specs.Words.{applications};
+ghost use Rattle.jskw_array.specs.Words.{boolean_schema, schemas_delegate, fail, false_schema};
+ghost use Rattle.jskw_array.specs.Words.{hands_on_required, keeps_list};
+ghost use Rattle.std.specs.Prelude.{if◌then◌else◌};
+ghost use Rattle.jskw_array.specs.Words.{drop, holds, is_fused_schema, is_lawful, is_some};
+ghost use Rattle.jskw_array.specs.Words.{items, length, limited, list_all, take};
+ghost use Rattle.jskw_array.specs.Words.{item_location, keywords_in, keywords_of, marked, min};
+ghost use Rattle.jskw_array.specs.Words.{needed, pairs, path_of, schema_location, schema_object};
+ghost use Rattle.jskw_array.specs.Words.{ArraysAreValid, schemas_of, shape_keywords, sum_by, tree, true};
 
 use crate::items::ArrayShapeValidator;
 use crate::part::{
     Part, SettledParts, evaluate_parts, parts_are_valid, quick_set_of, report_parts, settled_parts,
     some_part_delegates,
 };
+use crate::quick_arrays::QuickArrays;
 pub use crate::schema::SchemaNode;
 pub use crate::validator::Validator;
 use jskw_number::QuickSet;
 use jskw_report::validator::{evaluate_first, report_error};
 use jskw_report::{
-    EvaluationNode, EvaluationResult, KeywordLocation, LazyLocation, Report, Stop, Validate,
-    ValidationContext, ValidationErrorKind,
+    EvaluationNode, EvaluationResult, Fault, KeywordLocation, LazyLocation, Report, Stop, Validate,
+    ValidationContext, ValidationError, ValidationErrorKind,
 };
 use jskw_value::Json;
 use std::alloc::{AllocError, Global};
@@ -188,6 +190,140 @@ impl<F: Json> Subschema<F> {
         }
     }
 
+    // Returns whether the instance is known to be valid without a look at the keywords.
+    #[inline(always)]
+    pub(crate) fn is_accepted(&self, instance: &F::Node) -> bool
+        requires { IsTrue (is_lawful (F.Node.tree instance.now)) }
+        ensures { result ≡ true → holds self.now (F.Node.tree instance.now) ≡ true }
+    {
+        self.accepted.contains(instance)
+    }
+
+    // Returns the index of the first item from `start` on that is not in the quick set, or `count`, if
+    // there is none. `count` is the number of items.
+    #[inline(always)]
+    pub(crate) fn first_not_accepted(&self, start: usize, count: usize, instance: &F::Node) -> usize
+        requires lawful { IsTrue (is_lawful (F.Node.tree instance.now)) }
+        requires count { count ≡ length (items (F.Node.tree instance.now)) }
+        requires start { start ≤ count }
+        ensures from { start ≤ result }
+        ensures within { result ≤ count }
+        ensures valid { list_all (holds self.now) (take (result - start)
+            (drop start (items (F.Node.tree instance.now)))) ≡ true }
+    {
+        self.accepted.first_outside(start, count, instance)
+    }
+
+    // Applies the schema to the items from `start` on, as far as it takes them. Returns the index of
+    // the first that it does not take; if there is none, `count`, the number of items, or `start` if
+    // that is past them.
+    #[inline(always)]
+    fn skip_accepted(
+        &self,
+        start: usize,
+        count: usize,
+        instance: &F::Node,
+        ctx: &mut ValidationContext,
+    ) -> usize
+        requires lawful { IsTrue (is_lawful (F.Node.tree instance.now)) }
+        requires count { count ≡ length (items (F.Node.tree instance.now)) }
+        ensures from { start ≤ result }
+        ensures within { result - start ≤ length (drop start (items (F.Node.tree instance.now))) }
+        ensures valid { list_all (holds self.now) (take (result - start)
+            (drop start (items (F.Node.tree instance.now)))) ≡ true }
+        ensures applied { min (ctx.old + (result - start)) u64.MAX ≤ ctx.new }
+        ensures counted { CountsUpTo ctx.old ctx.new (result - start) }
+    {
+        if start >= count {
+            return start;
+        }
+        let index = self.first_not_accepted(start, count, instance);
+        ctx.count_more(index - start);
+        index
+    }
+
+    // Returns arrays that are known to be valid by their length and the quick sets of their items, or
+    // `None` if the schema asks for more.
+    fn quick_arrays(&self) -> Option<QuickArrays<'_, F>>
+        ensures { IfSome result (λ q. ArraysAreValid self.now q) }
+    {
+        let parts = match &self.assertions {
+            Assertions::Never => return None,
+            Assertions::Keywords(parts) => parts.as_slice(),
+        };
+        QuickArrays::of_parts(self.settled.outline, &parts[self.settled.count..])
+    }
+
+    // Applies the schema to the items from `start` on, as far as they are arrays whose items are in
+    // quick sets. Returns the index of the first that is not, or `count`, the number of items.
+    fn skip_arrays(
+        &self,
+        start: usize,
+        count: usize,
+        instance: &F::Node,
+        ctx: &mut ValidationContext,
+    ) -> usize
+        requires lawful { IsTrue (is_lawful (F.Node.tree instance.now)) }
+        requires count { count ≡ length (items (F.Node.tree instance.now)) }
+        requires start { start ≤ count }
+        ensures from { start ≤ result }
+        ensures within { result ≤ count }
+        ensures valid { list_all (holds self.now) (take (result - start)
+            (drop start (items (F.Node.tree instance.now)))) ≡ true }
+        ensures applied { min (ctx.old + (result - start)) u64.MAX ≤ ctx.new }
+        ensures counted { CountsUpTo ctx.old ctx.new (sum_by (needed self.now)
+            (take (result - start) (drop start (items (F.Node.tree instance.now))))) }
+    {
+        match self.quick_arrays() {
+            Some(arrays) => arrays.skip(start, count, instance, ctx),
+            None => start,
+        }
+    }
+
+    // Applies the schema to the items from `start` on, as far as `skip_accepted` does, and then as far
+    // as `skip_arrays` does. Returns the index of the first that neither passes over; if there is
+    // none, `count`, the number of items, or `start` if that is past them.
+    #[inline(always)]
+    pub(crate) fn skip_valid(
+        &self,
+        start: usize,
+        count: usize,
+        instance: &F::Node,
+        ctx: &mut ValidationContext,
+    ) -> usize
+        requires lawful { IsTrue (is_lawful (F.Node.tree instance.now)) }
+        requires count { count ≡ length (items (F.Node.tree instance.now)) }
+        ensures from { start ≤ result }
+        ensures within { result - start ≤ length (drop start (items (F.Node.tree instance.now))) }
+        ensures valid { list_all (holds self.now) (take (result - start)
+            (drop start (items (F.Node.tree instance.now)))) ≡ true }
+        ensures applied { min (ctx.old + (result - start)) u64.MAX ≤ ctx.new }
+        ensures counted { CountsUpTo ctx.old ctx.new (sum_by (needed self.now)
+            (take (result - start) (drop start (items (F.Node.tree instance.now))))) }
+    {
+        let first = self.skip_accepted(start, count, instance, ctx);
+        if first >= count {
+            return first;
+        }
+        self.skip_arrays(first, count, instance, ctx)
+    }
+
+    // Applies the schema to an instance that is known to be valid without a look at the keywords.
+    // Returns whether it is; if not, nothing is applied.
+    #[inline(always)]
+    pub(crate) fn apply_if_accepted(&self, instance: &F::Node, ctx: &mut ValidationContext) -> bool
+        requires { IsTrue (is_lawful (F.Node.tree instance.now)) }
+        ensures valid { result ≡ true → holds self.now (F.Node.tree instance.now) ≡ true }
+        ensures applied { result ≡ true → min (ctx.old + 1) u64.MAX ≤ ctx.new }
+        ensures counted { CountsUpTo ctx.old ctx.new (if result then 1 else 0) }
+    {
+        let accepted = self.is_accepted(instance);
+        if accepted {
+            ctx.count_one();
+        }
+        accepted
+    }
+
     // Returns whether the instance is valid.
     #[inline(always)]
     #[cycle(is_valid)]
@@ -216,6 +352,116 @@ impl<F: Json> Subschema<F> {
             [part] => part.is_valid(instance, ctx),
             _ => parts_are_valid(parts, instance, ctx),
         }
+    }
+
+    // Returns `Ok` if the instance is valid, else the first error.
+    #[inline(always)]
+    pub(crate) fn validate<'i>(
+        &'i self,
+        instance: &'i F::Node,
+        location: &mut LazyLocation,
+        ctx: &mut ValidationContext,
+    ) -> Result<(), Fault<'i, F>>
+        requires { IsTrue (is_lawful (F.Node.tree instance.now)) }
+        ensures first { IsFirst F.Node.tree
+            (fail self.now (F.Node.tree instance.now) (path_of location.old)) result }
+        ensures location { location.new ≡ location.old }
+        ensures applied { min (ctx.old + 1) u64.MAX ≤ ctx.new }
+        ensures counted { CountsUpTo ctx.old ctx.new (needed self.now (F.Node.tree instance.now)) }
+    {
+        if self.apply_if_accepted(instance, ctx) {
+            return Ok(());
+        }
+        self.validate_keywords(instance, location, ctx)
+    }
+
+    // `validate` by the keywords.
+    #[inline(never)]
+    fn validate_keywords<'i>(
+        &'i self,
+        instance: &'i F::Node,
+        location: &mut LazyLocation,
+        ctx: &mut ValidationContext,
+    ) -> Result<(), Fault<'i, F>>
+        requires { IsTrue (is_lawful (F.Node.tree instance.now)) }
+        ensures first { IsFirst F.Node.tree
+            (fail self.now (F.Node.tree instance.now) (path_of location.old)) result }
+        ensures location { location.new ≡ location.old }
+        ensures applied { min (ctx.old + 1) u64.MAX ≤ ctx.new }
+        ensures counted { CountsUpTo ctx.old ctx.new (needed self.now (F.Node.tree instance.now)) }
+    {
+        let mut report = Report::First(None);
+        let reported = self.report_errors(instance, location, ctx, &mut report);
+        report.first_result(reported)
+    }
+
+    // Appends all errors of the instance.
+    #[inline(always)]
+    pub(crate) fn collect_errors<'i>(
+        &'i self,
+        instance: &'i F::Node,
+        location: &mut LazyLocation,
+        ctx: &mut ValidationContext,
+        errors: &mut Vec<ValidationError<'i, F>>,
+    ) -> Result<(), AllocError>
+        requires { IsTrue (is_lawful (F.Node.tree instance.now)) }
+        ensures appended { Appends F.Node.tree errors.old.items errors.new.items
+            (fail self.now (F.Node.tree instance.now) (path_of location.old)) result }
+        ensures location { location.new ≡ location.old }
+        ensures applied { min (ctx.old + 1) u64.MAX ≤ ctx.new }
+        ensures counted { CountsUpTo ctx.old ctx.new (pairs self.now (F.Node.tree instance.now)) }
+    {
+        if self.apply_if_accepted(instance, ctx) {
+            return Ok(());
+        }
+        self.collect_of_keywords(None, instance, location, ctx, errors)
+    }
+
+    // Appends the first errors of the instance, at most `limit`.
+    pub(crate) fn collect_first_errors<'i>(
+        &'i self,
+        limit: usize,
+        instance: &'i F::Node,
+        location: &mut LazyLocation,
+        ctx: &mut ValidationContext,
+        errors: &mut Vec<ValidationError<'i, F>>,
+    ) -> Result<(), AllocError>
+        requires { IsTrue (is_lawful (F.Node.tree instance.now)) }
+        ensures appended { Appends F.Node.tree errors.old.items errors.new.items (take limit
+            (fail self.now (F.Node.tree instance.now) (path_of location.old))) result }
+        ensures location { location.new ≡ location.old }
+        ensures applied { 1 ≤ limit → min (ctx.old + 1) u64.MAX ≤ ctx.new }
+        ensures counted { CountsUpTo ctx.old ctx.new (pairs self.now (F.Node.tree instance.now)) }
+    {
+        if limit == 0 {
+            return Ok(());
+        }
+        if self.apply_if_accepted(instance, ctx) {
+            return Ok(());
+        }
+        self.collect_of_keywords(Some(limit), instance, location, ctx, errors)
+    }
+
+    // `collect_errors` by the keywords, or `collect_first_errors` if there is a limit.
+    #[inline(never)]
+    fn collect_of_keywords<'i>(
+        &'i self,
+        limit: Option<usize>,
+        instance: &'i F::Node,
+        location: &mut LazyLocation,
+        ctx: &mut ValidationContext,
+        errors: &mut Vec<ValidationError<'i, F>>,
+    ) -> Result<(), AllocError>
+        requires { IsTrue (is_lawful (F.Node.tree instance.now)) }
+        ensures appended { Appends F.Node.tree errors.old.items errors.new.items (limited limit
+            (fail self.now (F.Node.tree instance.now) (path_of location.old))) result }
+        ensures location { location.new ≡ location.old }
+        ensures applied { min (ctx.old + 1) u64.MAX ≤ ctx.new }
+        ensures counted { CountsUpTo ctx.old ctx.new (pairs self.now (F.Node.tree instance.now)) }
+    {
+        let mut report = Report::appending_to(errors, limit);
+        let reported = self.report_errors(instance, location, ctx, &mut report);
+        report.into_list(reported, errors)
     }
 
     // Adds the errors to `report`, by the keywords, until no other is wanted.

@@ -1,20 +1,18 @@
 //! Sets of values that a keyword is known to accept, and that a few instructions test. A keyword
 //! may accept more: a value that is not in its set is tested by the keyword itself.
-ghost use Rattle.std.specs.Prelude.{◌%◌, ◌&&◌, ◌+◌, ◌<◌, ◌==◌, ◌||◌, ◌≡◌, ◌≤◌, IsTrue, drop, false};
-ghost use Rattle.std.specs.Prelude.{get_or, length, true};
-ghost use Rattle.std.specs.Option.{option_map_or};
-ghost use Rattle.jskw_value.specs.Number.{Num, is_exact};
-ghost use Rattle.jskw_value.specs.Tree.{Items, Members, Tree, array, as_number, is_array};
-ghost use Rattle.jskw_value.specs.Tree.{is_lawful, is_object, items, number, object};
+ghost use Rattle.std.specs.Prelude.{◌%◌, ◌&&◌, ◌*ℤ◌, ◌+◌, ◌<◌, ◌==◌, ◌^◌, ◌≡◌, ◌≤ℤ◌, ◌≤◌, IsTrue};
+ghost use Rattle.std.specs.Prelude.{ℕ, ℤ, drop, false, get_or, int_le, length, pos, true};
+ghost use Rattle.jskw_value.specs.Number.{Num, exact, is_exact, is_multiple_of};
+ghost use Rattle.jskw_value.specs.Tree.{Items, Members, array, is_lawful, items, number, object};
 ghost use Rattle.jskw_value.specs.declared.types.JsonType.{JsonType};
-ghost use Rattle.jskw_report.specs.Holds.{is_of};
-ghost use Rattle.jskw_report.specs.Keyword.{Integers};
-ghost use Rattle.jskw_number.specs.QuickSet.{has_fraction, has_number, is_in, is_in_limits};
-ghost use Rattle.jskw_number.specs.QuickSet.{leading, type_index};
+ghost use Rattle.jskw_number.specs.QuickSet.{IsNarrower, divides, encloses, has_number, in_range};
+ghost use Rattle.jskw_number.specs.QuickSet.{is_in, is_in_limits, leading, type_index};
+ghost use Rattle.std.specs.Int.NonZero.{non_zero_u64_get};
+ghost use Rattle.jskw_value.specs.Decimal.{value};
 
-mod range;
+mod making;
 
-use jskw_value::{Array, JsonNumber, JsonType, JsonTypeSet, Node};
+use jskw_value::{Array, Decimal, JsonNumber, JsonType, Node};
 use std::num::NonZeroU64;
 
 /// The integers from `low` to `high` that are multiples of the divisor. That is 1 for all of them.
@@ -23,6 +21,190 @@ pub struct IntegerRange {
     low: i64,
     high: i64,
     divisor: NonZeroU64,
+}
+
+impl IntegerRange {
+    /// Returns the integers from `low` to `high`.
+    #[tactic(auto, using(crate::proofs::QuickSets::all_between))]
+    pub fn between(low: i64, high: i64) -> IntegerRange
+        ensures integers { (z : ℤ) → in_range result z ≡ (int_le low z && int_le z high) }
+        ensures ends { (result.low ≡ low) × (result.high ≡ high) }
+    {
+        let divisor = NonZeroU64::MIN;
+        IntegerRange { low, high, divisor }
+    }
+
+    // No integer, and nothing between the ends.
+    #[tactic(auto, using(crate::proofs::QuickSets::nothing_enclosed))]
+    fn none() -> IntegerRange
+        ensures integers { (z : ℤ) → in_range result z ≡ false }
+        ensures enclosed { (n : Num) → encloses result n ≡ false }
+        ensures ends { (result.low ≡ i64.MAX) × (result.high ≡ i64.MIN) }
+    {
+        IntegerRange::between(i64::MAX, i64::MIN)
+    }
+
+    // The integers from -2^63 to 2^63-1.
+    fn all() -> IntegerRange
+        ensures { (result.low ≡ i64.MIN) × (result.high ≡ i64.MAX) }
+    {
+        IntegerRange::between(i64::MIN, i64::MAX)
+    }
+
+    /// Returns the integers from `limit` on that are below 2^63. `limit` is -2^63 at least.
+    #[tactic(auto, using(crate::proofs::QuickSets::from_low))]
+    pub fn at_least(limit: i128) -> IntegerRange
+        ensures integers { (z : ℤ) → in_range result z ≡ true → int_le limit z ≡ true }
+        ensures enclosed { (c : ℤ) (k : ℕ) → encloses result (exact c k) ≡ true
+            → int_le (limit *ℤ pos (10 ^ k)) c ≡ true }
+    {
+        match i64::try_from(limit) {
+            Ok(low) => IntegerRange::between(low, i64::MAX),
+            Err(_) => IntegerRange::none(),
+        }
+    }
+
+    /// Returns the integers from -2^63 to `limit` that are below 2^63.
+    #[tactic(auto, using(crate::proofs::QuickSets::to_high))]
+    pub fn at_most(limit: i128) -> IntegerRange
+        ensures integers { (z : ℤ) → in_range result z ≡ true → int_le z limit ≡ true }
+        ensures enclosed { (c : ℤ) (k : ℕ) → encloses result (exact c k) ≡ true
+            → int_le c (limit *ℤ pos (10 ^ k)) ≡ true }
+    {
+        match i64::try_from(limit) {
+            Ok(high) => IntegerRange::between(i64::MIN, high),
+            Err(_) if limit > 0 => IntegerRange::all(),
+            Err(_) => IntegerRange::none(),
+        }
+    }
+
+    /// Returns the multiples of `divisor` from -2^63 to 2^63-1.
+    #[tactic(auto, using(crate::proofs::QuickSets::multiple_whole))]
+    pub fn multiples_of(divisor: NonZeroU64) -> IntegerRange
+        ensures { (z : ℤ) → in_range result z ≡ true
+            → is_multiple_of z 0 (non_zero_u64_get divisor) ≡ true }
+    {
+        IntegerRange {
+            divisor,
+            ..IntegerRange::all()
+        }
+    }
+
+    // Returns whether `number` is in the range. No number is divided by 1.
+    #[tactic(auto, using(crate::proofs::QuickSets::one_divides))]
+    fn contains(&self, number: i64) -> bool
+        ensures { result ≡ in_range self.now number }
+    {
+        if number < self.low || self.high < number {
+            return false;
+        }
+        let divisor = self.divisor.get();
+        divisor == 1 || number.unsigned_abs() % divisor == 0
+    }
+
+    // Returns whether the number, which must be lawful, is an integer of the range that is written
+    // without a fraction.
+    #[inline(always)]
+    fn has<A: JsonNumber>(&self, number: &A) -> bool
+        requires { IsTrue (is_exact (A.number number.now)) }
+        ensures { result ≡ has_number self.now (A.number number.now) }
+    {
+        match number.as_i64() {
+            Some(number) => self.contains(number),
+            None => false,
+        }
+    }
+
+    // Returns whether the number, which must be lawful, is between the ends of the range, with a
+    // fraction or without.
+    #[inline(never)]
+    fn encloses<A: JsonNumber>(&self, number: &A) -> bool
+        requires { IsTrue (is_exact (A.number number.now)) }
+        ensures { result ≡ encloses self.now (A.number number.now) }
+    {
+        self.encloses_decimal(number.decimal())
+    }
+
+    // Returns `encloses` of a decimal.
+    #[inline(always)]
+    #[tactic(auto, using(crate::proofs::Limits::order_ge, crate::proofs::Limits::order_le))]
+    fn encloses_decimal(&self, number: Decimal) -> bool
+        ensures { result ≡ encloses self.now (value number) }
+    {
+        number.cmp_whole(i128::from(self.low)).is_ge()
+            && number.cmp_whole(i128::from(self.high)).is_le()
+    }
+
+    // Returns the same as `has`, by a multiplication by `reciprocal`, which should be 2^64 divided by
+    // the divisor, rounded up.
+    #[inline(always)]
+    fn has_by_reciprocal<A: JsonNumber>(&self, reciprocal: u64, number: &A) -> bool
+        requires { IsTrue (is_exact (A.number number.now)) }
+        ensures { result ≡ has_number self.now (A.number number.now) }
+    {
+        match number.as_i64() {
+            Some(number) if self.low <= number && number <= self.high => {
+                is_multiple(number.unsigned_abs(), self.divisor.get(), reciprocal)
+            }
+            _ => false,
+        }
+    }
+
+    // The integers of the range that are not below the other.
+    fn from(self, other: IntegerRange) -> IntegerRange
+        ensures integers { (z : ℤ) → in_range result z ≡ true
+            → (in_range self z && int_le other.low z) ≡ true }
+        ensures ends { IsNarrower result self × (other.low ≤ℤ result.low) }
+    {
+        if other.low <= self.low {
+            return self;
+        }
+        IntegerRange {
+            low: other.low,
+            ..self
+        }
+    }
+
+    // The integers of the range that are not above the other.
+    fn to(self, other: IntegerRange) -> IntegerRange
+        ensures integers { (z : ℤ) → in_range result z ≡ true
+            → (in_range self z && int_le z other.high) ≡ true }
+        ensures ends { IsNarrower result self × (result.high ≤ℤ other.high) }
+    {
+        if self.high <= other.high {
+            return self;
+        }
+        IntegerRange {
+            high: other.high,
+            ..self
+        }
+    }
+
+    // Multiples of the divisor in the range: all of them, unless neither divisor is 1.
+    #[tactic(auto, using(crate::proofs::QuickSets::one_divides))]
+    fn divided_by(self, divisor: NonZeroU64) -> IntegerRange
+        ensures integers { (z : ℤ) → in_range result z ≡ true
+            → (in_range self z && divides divisor z) ≡ true }
+        ensures ends { IsNarrower result self }
+    {
+        if divisor.get() == 1 {
+            self
+        } else if self.divisor.get() == 1 {
+            IntegerRange { divisor, ..self }
+        } else {
+            IntegerRange::none()
+        }
+    }
+
+    // Integers that are in both ranges: all of them, unless neither divisor is 1.
+    fn and(self, other: IntegerRange) -> IntegerRange
+        ensures integers { (z : ℤ) → in_range result z ≡ true
+            → (in_range self z && in_range other z) ≡ true }
+        ensures ends { IsNarrower result self × IsNarrower result other }
+    {
+        let range = self.divided_by(other.divisor);
+        range.from(other).to(other)
+    }
 }
 
 /// A set of values by their types, in which the numbers may be limited to the integers of a range
@@ -39,108 +221,6 @@ pub struct QuickSet {
 }
 
 impl QuickSet {
-    // Returns the set of all values of some types: those with a mark at their places.
-    fn of_marks(types: [bool; 6]) -> QuickSet
-        ensures types { result.types ≡ types }
-        ensures unlimited { result.is_limited ≡ false }
-    {
-        QuickSet {
-            types,
-            is_limited: false,
-            has_fractions: true,
-            integers: IntegerRange::all(),
-        }
-    }
-
-    // Returns the set of all values of some types, but of the numbers only these integers, with or
-    // without those between them that have a fraction.
-    fn limited(types: [bool; 6], has_fractions: bool, integers: IntegerRange) -> QuickSet
-        ensures types { result.types ≡ types }
-        ensures limited { result.is_limited ≡ true }
-        ensures fractions { result.has_fractions ≡ has_fractions }
-        ensures integers { result.integers ≡ integers }
-    {
-        QuickSet {
-            types,
-            is_limited: true,
-            has_fractions,
-            integers,
-        }
-    }
-
-    /// Returns the set of all values that are no numbers, and of these integers.
-    pub fn but_numbers(integers: IntegerRange) -> QuickSet
-        ensures { (n : Num) → is_in result (number n) ≡ has_number integers n }
-    {
-        QuickSet::limited([true; 6], false, integers)
-    }
-
-    /// Returns the set of all values that are no numbers, of these integers, and of the numbers that
-    /// are written with a fraction and are between the ends of the range.
-    pub fn but_numbers_beyond(integers: IntegerRange) -> QuickSet
-        ensures { (n : Num) → is_in result (number n) ≡ (has_fraction integers n || has_number integers n) }
-    {
-        QuickSet::limited([true; 6], true, integers)
-    }
-
-    /// Returns the set of these integers.
-    pub fn of_integers(integers: IntegerRange) -> QuickSet
-        ensures { (t : Tree) → is_in result t ≡ option_map_or (has_number integers) (as_number t) false }
-    {
-        QuickSet::limited([false; 6], false, integers)
-    }
-
-    /// Returns the empty set.
-    pub fn none() -> QuickSet
-        ensures { (t : Tree) → is_in result t ≡ false }
-    {
-        QuickSet::of_marks([false; 6])
-    }
-
-    /// Returns the set of all values.
-    pub fn all() -> QuickSet
-        ensures { (t : Tree) → is_in result t ≡ true }
-    {
-        QuickSet::of_marks([true; 6])
-    }
-
-    /// Returns the set of all values but arrays.
-    pub fn but_arrays() -> QuickSet
-        ensures { (t : Tree) → is_in result t ≡ true → is_array t ≡ false }
-    {
-        QuickSet::of_marks([true, true, true, true, false, true])
-    }
-
-    /// Returns the set of all values but objects.
-    pub fn but_objects() -> QuickSet
-        ensures { (t : Tree) → is_in result t ≡ true → is_object t ≡ false }
-    {
-        QuickSet::of_marks([true, true, true, true, true, false])
-    }
-
-    /// Returns values of these types (JSON Schema Validation 6.1.1), by whichever rule of integers:
-    /// all of them, but of the integers, if `number` is none of the types, only those from -2^63 to
-    /// 2^63-1 that are written without a fraction.
-    #[tactic(auto, using(crate::proofs::QuickSets::accepted_types))]
-    pub fn of_types(types: JsonTypeSet) -> QuickSet
-        ensures { (rule : Integers) (t : Tree) → is_in result t ≡ true → is_of rule types t ≡ true }
-    {
-        let is_limited = types.contains(JsonType::Integer) && !types.contains(JsonType::Number);
-        QuickSet {
-            types: [
-                types.contains(JsonType::Null),
-                types.contains(JsonType::Boolean),
-                types.contains(JsonType::Number),
-                types.contains(JsonType::String),
-                types.contains(JsonType::Array),
-                types.contains(JsonType::Object),
-            ],
-            is_limited,
-            has_fractions: !is_limited,
-            integers: IntegerRange::all(),
-        }
-    }
-
     /// Returns whether the instance is in the set. The instance must be lawful: it contains no
     /// float. Allocates nothing.
     #[inline(always)]
@@ -184,20 +264,6 @@ impl QuickSet {
                     && !number.is_written_as_integer()
                     && self.integers.encloses(number)
             }
-        }
-    }
-
-    // Returns a range whose numbers are in the set, and, if the set has fractions, those with a
-    // fraction that are between its ends.
-    fn numbers(self) -> IntegerRange
-        ensures integers { (n : Num) → has_number result n ≡ true → is_in self (number n) ≡ true }
-        ensures fractions { (n : Num) → self.has_fractions ≡ true → has_fraction result n ≡ true
-            → is_in self (number n) ≡ true }
-    {
-        if self.is_limited || self.types[type_index(JsonType::Number)] {
-            self.integers
-        } else {
-            IntegerRange::none()
         }
     }
 
@@ -269,19 +335,6 @@ impl QuickSet {
             }
         }
         count
-    }
-
-    /// Returns values that are in both sets.
-    #[must_use]
-    pub fn and(self, other: QuickSet) -> QuickSet
-        ensures { (t : Tree) → is_in result t ≡ true → (is_in self t && is_in other t) ≡ true }
-    {
-        QuickSet {
-            types: in_both(&self.types, &other.types),
-            is_limited: self.is_limited || other.is_limited,
-            has_fractions: self.has_fractions && other.has_fractions,
-            integers: self.numbers().and(other.numbers()),
-        }
     }
 }
 
