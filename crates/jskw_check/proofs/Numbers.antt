@@ -1,9 +1,8 @@
 -- The limit on errors, as `parse` reads it.
 use Rattle.std.proofs.Common.{◌≡◌, ◌≢◌, ℕ, ◌<◌, ◌^◌, List, [], ◌∷◌, Bool, true, false, Result, Ok, Err, Option, Some, None}
-use Rattle.std.proofs.Common.{if◌then◌else◌, arith, get_or, length, refl, rules, sym, ap, ◌∙◌, ◌&&◌, ◌==◌}
+use Rattle.std.proofs.Common.{if◌then◌else◌, arith, get_or, length, refl, sym, ap, ◌∙◌, ◌&&◌, ◌==◌}
 use Rattle.std.proofs.Math.Bool.{and-true}
 use Rattle.std.proofs.lemmas.Bool.{lt-ltb, ltb-true}
-use Rattle.std.specs.Char.{is_ascii_digit}
 use Rattle.std.specs.Prelude.{nat_lt}
 use Rattle.std.specs.Result.{OkIff}
 use Rattle.std.specs.Str.{all_ascii_digits}

@@ -1,13 +1,13 @@
 -- Worked rows: the commands that command lines are. A row is the words of a line, and the command that is wanted.
 use Prim.Native.String.{String}
-use Rattle.std.specs.Prelude.{◌≡◌, ℕ, List, [], ◌∷◌, codes, map, Option, Some, None, true, false}
+use Rattle.std.specs.Prelude.{◌≡◌, ℕ, List, [], ◌∷◌, codes, map, Some, None, true, false}
 use Rattle.std.proofs.Common.{refl}
 use Rattle.jskw_report.specs.Setting.{all_vocabularies, no_vocabulary, with_vocabulary}
 use Rattle.jskw_report.specs.declared.settings.Draft.{Draft}
-use Rattle.jskw_report.specs.declared.settings.Draft.TheVariants.{Draft4, Draft7, Draft201909}
+use Rattle.jskw_report.specs.declared.settings.Draft.TheVariants.{Draft7, Draft201909}
 use Rattle.jskw_report.specs.declared.settings.Vocabulary.TheVariants.{Core, Validation}
 use Rattle.jskw_report.specs.declared.settings.VocabularySet.{VocabularySet}
-use Rattle.jskw_documents.specs.declared.options.Output.TheVariants.{Basic, Quiet, Text}
+use Rattle.jskw_documents.specs.declared.options.Output.TheVariants.{Basic, Text}
 use Rattle.jskw_check.specs.Commands.{Asked, Command, check, command, help, version, wrong}
 
 abbrev Word : Type 0

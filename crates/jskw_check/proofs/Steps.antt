@@ -4,7 +4,7 @@ use Rattle.std.proofs.Common.{Option, Some, None, subst, get_or, Result, Ok, Err
 use Rattle.std.proofs.lemmas.List.{append-nil, drop_all}
 use Rattle.std.specs.Prelude.{MatchOption, String, option_map, string_bytes}
 use Rattle.std.specs.declared.alloc.Global.{Global}
-use Rattle.jskw_check.specs.Arguments.{Argument, alone, arguments, file, is_separator, next_value, valued, wrong}
+use Rattle.jskw_check.specs.Arguments.{Argument, alone, arguments, is_separator, next_value, valued, wrong}
 use Rattle.jskw_check.specs.CommandView.{IsStep, command_view, unfinished_view}
 use Rattle.jskw_check.specs.Commands.{Said, command_behind, command_said, ended, said_behind}
 use Rattle.jskw_check.specs.Commands as asked

@@ -1,5 +1,5 @@
 -- The words of a command line, one argument at a time.
-use Rattle.std.proofs.Common.{◌≡◌, ℕ, ◌<◌, ◌+◌, List, [], ◌∷◌, ◌∙◌, ap, map, Bool, true, false, refl, Option, Some, None, drop, Result, Ok, Err}
+use Rattle.std.proofs.Common.{◌≡◌, ℕ, ◌<◌, ◌+◌, List, [], ◌∷◌, ◌∙◌, ap, map, Bool, true, false, refl, Some, None, drop, Result, Err}
 use Rattle.std.proofs.Common.{◌&&◌, if◌then◌else◌, sym, cond, not, length, arith}
 use Rattle.std.proofs.lemmas.List.Splits.{slice_split_first}
 use Rattle.std.specs.List.{after_first, before_first, onto_first, position_or_len, slice_split}

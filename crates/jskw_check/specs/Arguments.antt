@@ -1,5 +1,5 @@
 -- The words of a command line, in bytes, as arguments: files, options with their values, and what is wrong.
-use Rattle.std.specs.Prelude.{ℕ, ◌==◌, ◌^◌, ◌&&◌, ◌||◌, List, [], ◌∷◌, ◌++◌, Bool, true, false, not, bytes_eq, codes}
+use Rattle.std.specs.Prelude.{ℕ, ◌==◌, ◌^◌, ◌&&◌, ◌||◌, List, [], ◌∷◌, ◌++◌, Bool, false, not, bytes_eq, codes}
 use Rattle.std.specs.Prelude.{if◌then◌else◌, is_none, length, map, nat_lt, Option, Some, None, Result, Ok, Err}
 use Rattle.std.specs.List.{after_first, before_first, position_or_len, slice_split}
 use Rattle.std.specs.Str.{all_ascii_digits}

@@ -1,5 +1,5 @@
 -- What a command of the code, and one that is not read to its end, stand for.
-use Rattle.std.specs.Prelude.{◌≡◌, ◌<◌, ◌≤◌, ℕ, List, [], ◌∷◌, drop, length, map, option_map, string_bytes, Option}
+use Rattle.std.specs.Prelude.{◌≡◌, ◌<◌, ◌≤◌, List, [], ◌∷◌, drop, length, map, option_map, string_bytes, Option}
 use Rattle.std.specs.Prelude.{Result, String, IfOk}
 use Rattle.std.specs.declared.alloc.Global.{Global}
 use Rattle.jskw_documents.specs.Schemas.{how_read}

@@ -1,5 +1,5 @@
 -- What a command line asks for.
-use Rattle.std.specs.Prelude.{ℕ, List, [], ◌∷◌, ◌++◌, Bool, true, false, codes, filter_map, option_map, unwrap_or}
+use Rattle.std.specs.Prelude.{ℕ, List, [], ◌∷◌, ◌++◌, Bool, true, false, codes, filter_map, unwrap_or}
 use Rattle.std.specs.Prelude.{Option, Some, None}
 use Rattle.jskw_report.specs.Setting.{all_vocabularies}
 use Rattle.jskw_report.specs.declared.settings.Draft.{Draft}

@@ -1,4 +1,4 @@
-use Rattle.std.proofs.Common.{◌≡◌, arith, length, rules}
+use Rattle.std.proofs.Common.{◌≡◌, length, rules}
 use Rattle.jskw_check.proofs.Steps.{at_end}
 use Rattle.jskw_check.proofs.arguments.command_of.Goals as goal
 

@@ -4,7 +4,7 @@ use Rattle.std.specs.Io.KnownBytes.{Appends}
 use Rattle.jskw_service.specs.Run.{status_of_verdict}
 use Rattle.jskw_service.specs.declared.service.Verdict.{Verdict}
 use Rattle.jskw_documents.specs.Files.{AnswersFiles, HasBytes}
-use Rattle.jskw_documents.specs.Schemas.{IsSchemaGiven, how_read, schema_given}
+use Rattle.jskw_documents.specs.Schemas.{IsSchemaGiven, schema_given}
 use Rattle.jskw_check.specs.CommandView.{given_view}
 use Rattle.jskw_check.specs.Program.{Tells, schema_unread}
 use Rattle.jskw_check.proofs.Runs.{runs_files, runs_refused, runs_unread}
