@@ -10,7 +10,8 @@ use Rattle.std.specs.List.{prefix_len, slice_range, starts_with}
 use Rattle.json.proofs.Printed.Numbers.{lex-number, in_word-ended}
 use Rattle.json.proofs.Printed.Strings.{content-escape, lex-escape, escape_to_stop}
 use Rattle.json.specs.Align.{is_blank}
-use Rattle.json.specs.Lex.{space, operator, class, operator_lexeme, string_token, token, between, in_string, lex_byte, lex}
+use Rattle.json.specs.Lex.{space, operator, class, operator_lexeme, string_token, token, between, in_string}
+use Rattle.json.specs.Lex.{lex_byte, lex}
 use Rattle.json.specs.Print.{escape}
 use Rattle.json.specs.Run.{is_plain}
 use Rattle.json.specs.Token.{Token, string, boolean, null}

@@ -87,7 +87,8 @@ all_appended : (found ms ns : List (Member DecimalTree)) → put_all found (ms +
 all_appended found [] ns = refl
 all_appended found (m ∷ ms) ns = all_appended (put_member m found) ms ns
 
-pub put_inside : (ms : List (Member DecimalTree)) (i : ℕ) (m : Member DecimalTree) → AreBehind (string_bytes m.name) ms i
+pub put_inside : (ms : List (Member DecimalTree)) (i : ℕ) (m : Member DecimalTree)
+    → AreBehind (string_bytes m.name) ms i
     → members_seen (lasts (take i ms ++ m ∷ drop i ms))
     ≡ put (string_bytes m.name) (decimal_tree m.value) (members_seen (lasts ms))
 put_inside ms i m g =

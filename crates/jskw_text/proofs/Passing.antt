@@ -1,12 +1,14 @@
 -- From what a cursor passes over to the trees that tokens denote.
-use Rattle.std.proofs.Common.{◌≡◌, ℕ, suc, ◌-◌, ◌<◌, ◌≤◌, Bool, true, false, List, [], ◌∷◌, ◌++◌, length, Option, Some, None}
+use Rattle.std.proofs.Common.{◌≡◌, ℕ, suc, ◌-◌, ◌<◌, ◌≤◌, Bool, true, false, List, [], ◌∷◌, ◌++◌, length, Option}
+use Rattle.std.proofs.Common.{Some, None}
 use Rattle.std.proofs.Common.{Result, Ok, Err, IfOk, option_map, refl, sym, ap, ◌∙◌, arith}
 use Rattle.std.proofs.lemmas.Bool.{true≢false, false≢true}
 use Rattle.std.specs.Str.{is_utf8}
 use Rattle.json.proofs.Found.{not_found}
 use Rattle.json.proofs.Grammar.{value_is, value-begin_array, value-begin_object, skip_value-shorter}
 use Rattle.json.specs.Json.{parse_map, after_end_array, read_key, items, members, value}
-use Rattle.json.specs.Lex.{Lexeme, comma, colon, token as token_lexeme, begins_colon, between, lex, tokens, Place, fresh}
+use Rattle.json.specs.Lex.{Lexeme, comma, colon, token as token_lexeme, begins_colon, between, lex, tokens, Place}
+use Rattle.json.specs.Lex.{fresh}
 use Rattle.json.specs.Lex.{after_value, after_comma, after_key, may_begin, may_close, place_token}
 use Rattle.json.specs.Lex.{punctuate}
 use Rattle.json.specs.Token as token
@@ -168,7 +170,8 @@ takes_one depth ts r t e =
 
 pub record ItemTurn (depth i n : ℕ) (p : Place) (old : List ℕ) (t : Tree) (ls : List Lexeme) : Type 0 where
   pub one : parse_map (items_of i) (items (value depth) n (punctuate p (lex between old)))
-      ≡ parse_map (on_found (item t)) (parse_map (items_of (suc i)) (items (value depth) (n - 1) (punctuate after_value ls)))
+      ≡ parse_map (on_found (item t))
+      (parse_map (items_of (suc i)) (items (value depth) (n - 1) (punctuate after_value ls)))
   pub fewer : length (punctuate after_value ls) ≤ n - 1
 
 pub item_turn : (depth i n : ℕ) (p : Place) (old : List ℕ) (t : Tree) (new : List ℕ) (ls : List Lexeme)
@@ -191,7 +194,8 @@ named : (p : Place) (k : List ℕ) (ls : List Lexeme) → may_begin p ≡ true
 unfolding punctuate
 named p k ls may = begun p (token.string k) (colon ∷ ls) may refl
 
-pub record MemberTurn (depth n : ℕ) (p : Place) (found : Members) (old k : List ℕ) (t : Tree) (ls : List Lexeme) : Type 0 where
+pub record MemberTurn (depth n : ℕ) (p : Place) (found : Members) (old k : List ℕ) (t : Tree) (ls : List Lexeme)
+    : Type 0 where
   pub one : parse_map (members_of found) (members (value depth) n (punctuate p (lex between old)))
       ≡ parse_map (members_of (put k t found)) (members (value depth) (n - 1) (punctuate after_value ls))
   pub fewer : length (punctuate after_value ls) ≤ n - 1
@@ -262,9 +266,11 @@ pub members_done : (depth n : ℕ) (p : Place) (found : Members) (ls : List Lexe
     ≡ Some (Ok found, punctuate after_value ls)
 unfolding punctuate
 members_done depth n fresh found ls may enough =
-    members_over (value depth) found n (token.end_object ∷ punctuate after_value ls) (punctuate after_value ls) enough refl
+    members_over (value depth) found n (token.end_object ∷ punctuate after_value ls) (punctuate after_value ls) enough
+    refl
 members_done depth n after_value found ls may enough =
-    members_over (value depth) found n (token.end_object ∷ punctuate after_value ls) (punctuate after_value ls) enough refl
+    members_over (value depth) found n (token.end_object ∷ punctuate after_value ls) (punctuate after_value ls) enough
+    refl
 members_done depth n after_comma found ls may enough = absurd (false≢true may)
 members_done depth n after_key found ls may enough = absurd (false≢true may)
 

@@ -1,7 +1,8 @@
 -- Numbers of few digits without an exponent, within a text.
 use Rattle.std.proofs.Common.{◌≡◌, ℕ, ◌+◌, ◌-◌, ◌*◌, ◌%◌, ◌^◌, ◌<◌, ◌≤◌, ◌==◌, ◌||◌, List}
 use Rattle.std.proofs.Common.{length, drop, take, get_or, Bool, true, false, cond, Option, Some, None, IfSome}
-use Rattle.std.proofs.Common.{option_map, option_and_then, inl, inr, ◌⊎◌, refl, sym, ap, ◌∙◌, arith, length-drop, add-zero}
+use Rattle.std.proofs.Common.{option_map, option_and_then, inl, inr, ◌⊎◌, refl, sym, ap, ◌∙◌, arith, length-drop}
+use Rattle.std.proofs.Common.{add-zero}
 use Rattle.std.proofs.Common.{length-take-le}
 use Rattle.std.proofs.lemmas.Bool.{cases_Bool, eqb-true, ne_eqb, false≢true, eq-eqb}
 use Rattle.std.proofs.lemmas.List.{drop-drop, drop-take, get_or-drop, get_or-take, take-take}
@@ -16,7 +17,8 @@ use Rattle.fast_float.proofs.Integers.{digits_len_all}
 use Rattle.fast_float.specs.Text.{scan}
 use Rattle.json.proofs.Printed.Numbers.{number_alone}
 use Rattle.json.specs.Print.{IsNumber}
-use Rattle.json.specs.Word.{is_operator, is_space, head, ends_word, after_digits, after_minus, after_whole, after_fraction}
+use Rattle.json.specs.Word.{is_operator, is_space, head, ends_word, after_digits, after_minus, after_whole}
+use Rattle.json.specs.Word.{after_fraction}
 use Rattle.json.specs.Word.{after_exponent, after_number}
 use Rattle.jskw_value.specs.Decimal.{value}
 use Rattle.jskw_value.specs.Number.{Num}
@@ -131,7 +133,8 @@ module _ (d : List ℕ) (start : ℕ) (negative : Bool) (r : Option Decimal) whe
             ap (λ k. drop (a + 1) (take k xs)) parted ∙ drop-take (a + 1) m xs
             ∙ ap (take m) (drop-drop (a + 1) start d ∙ ap (λ k. drop k d) behind_point) in
             let all_behind : a + 1 + digits_len (drop (a + 1) t) ≡ length t =
-            omega (arith, ap digits_len behind, prefix_kept is_ascii_digit (drop (point + 1) d) m (omega arith), t_long) in
+            let kept = prefix_kept is_ascii_digit (drop (point + 1) d) m (omega arith) in
+            omega (arith, ap digits_len behind, kept, t_long) in
             let from_start : a - 0 ≡ point - start = omega arith in
             let before : slice_range t 0 a ≡ slice_range d start point =
             take-take (a - 0) n xs (omega arith) ∙ ap (λ k. take k xs) from_start in
@@ -150,7 +153,8 @@ module _ (d : List ℕ) (start : ℕ) (negative : Bool) (r : Option Decimal) whe
             size_is ∙ ap (λ k. (whole * 10 ^ k + digits_value 10 (slice_range d (point + 1) end)) % 2 ^ 64) places
             ∙ ap (λ u. (whole * 10 ^ (length t - (a + 1)) + digits_value 10 u) % 2 ^ 64) (sym last) in
             let scale : end - point - 1 ≡ length t - a - 1 = omega (arith, t_long) in
-            fraction_read t a front dot_at all_behind negative whole size r (omega (arith, t_long)) (omega (arith, t_long))
+            fraction_read t a front dot_at all_behind negative whole size r (omega (arith, t_long))
+            (omega (arith, t_long))
             whole_is size_of (made_is ∙ ap (made negative size) scale)
 
 -- ---- with the sign
@@ -179,7 +183,8 @@ plain_number d from end x other u =
       within = u.within;
       forward = u.forward;
       number = number_in d from end (omega (arith, u.forward)) u.ended
-          (ap (λ l. option_and_then after_exponent (option_and_then after_fraction (after_whole l))) unsigned ∙ u.passed);
+          (ap (λ l. option_and_then after_exponent (option_and_then after_fraction (after_whole l))) unsigned
+          ∙ u.passed);
       denotes = chosen (get_or s 0 0 == 45) (decimal_from true (scan (drop 1 s))) (decimal_from false (scan s)) no_sign
           ∙ u.denotes;
       ended = u.ended;

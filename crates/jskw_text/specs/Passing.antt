@@ -4,7 +4,8 @@ use Rattle.std.specs.Prelude.{Some, None, option_and_then, Result, Ok}
 use Rattle.std.specs.List.{slice_range}
 use Rattle.fast_float.specs.Text.{scan}
 use Rattle.json.specs.Json.{value, items, members, parse_map}
-use Rattle.json.specs.Lex.{Lexeme, token as token_lexeme, colon, begins_colon, between, lex, Place, fresh, after_value, may_begin, punctuate}
+use Rattle.json.specs.Lex.{Lexeme, token as token_lexeme, colon, begins_colon, between, lex, Place, fresh}
+use Rattle.json.specs.Lex.{after_value, may_begin, punctuate}
 use Rattle.json.specs.Print.{IsNumber}
 use Rattle.json.specs.Token as token
 use Rattle.json.specs.Word.{ends_word, after_whole, after_fraction, after_exponent}

@@ -1,4 +1,5 @@
-use Rattle.std.proofs.Common.{◌≡◌, ◌-◌, ◌≤◌, [], ◌∷◌, length, map, string_bytes, Some, Ok, refl, sym, ap, ◌∙◌, subst, arith}
+use Rattle.std.proofs.Common.{◌≡◌, ◌-◌, ◌≤◌, [], ◌∷◌, length, map, string_bytes, Some, Ok, refl, sym, ap, ◌∙◌}
+use Rattle.std.proofs.Common.{subst, arith}
 use Rattle.json.specs.Json.{items, members, value, parse_map}
 use Rattle.json.specs.Lex.{operator_lexeme, comma, token as token_lexeme, between, lex, fresh, after_value, after_comma}
 use Rattle.json.specs.Lex.{punctuate}
@@ -137,7 +138,8 @@ read_items-returns-clause-ok t c =
     closes refl in
     items_go_on depth n p l.found.items vs v l.cursor inner ls _ l.invariant.2 l.invariant.3 reads closes refl
     c.in_ok-push.ensures.items l.invariant.4
-    ∙ ap (parse_map (on_found (items_before vs))) (items_done depth (length vs) (n - 1) after_value rest refl turn.fewer)
+    ∙ ap (parse_map (on_found (items_before vs)))
+    (items_done depth (length vs) (n - 1) after_value rest refl turn.fewer)
     ∙ ap (λ ds. Some (Ok ds, punctuate after_value rest)) (items_before-no_items vs)
 
 pub read_members-returns-then-takes-clause-ok : goal.read_members-returns-then-takes-clause-ok

@@ -9,5 +9,6 @@ returns c h =
     let t = drop c.args.at c.args.bytes.now in
     let name = c.args.name.now in
     let is : starts_with nat_eq t name ≡ true =
-    ap (λ l. starts_with nat_eq l name) (sym (take_rest c.args.bytes.now c.args.at)) ∙ sym c.starts_with.ensures.value ∙ h in
+    ap (λ l. starts_with nat_eq l name) (sym (take_rest c.args.bytes.now c.args.at))
+    ∙ sym c.starts_with.ensures.value ∙ h in
     named t name is ∙ ap (λ l. name ++ l) (drop-drop (length name) c.args.at c.args.bytes.now)

@@ -27,7 +27,8 @@ returns c =
     let quote : get_or d at 32 ≡ 34 = sym (head_is d at) ∙ ap head c.self.view_is ∙ c.requires in
     let within : at < length d = lt_of_not-le (λ h. omega (arith, get_or_past d at 32 h)) in
     let is : stop ≡ at + 1 + prefix_len is_plain (drop (at + 1) d) =
-    c.plain_end-stop.ensures.value ∙ ap (λ t. at + 1 + prefix_len is_plain (drop (at + 1) t)) c.as_bytes.ensures.value in
+    c.plain_end-stop.ensures.value
+    ∙ ap (λ t. at + 1 + prefix_len is_plain (drop (at + 1) t)) c.as_bytes.ensures.value in
     let closing : get_or d stop 32 ≡ 34 =
     omega (arith, c.byte_at.ensures.value, ap (λ t. get_or t stop 32) c.as_bytes-2.ensures.value) in
     let inside : stop < length d = lt_of_not-le (λ h. omega (arith, get_or_past d stop 32 h)) in
