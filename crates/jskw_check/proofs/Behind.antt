@@ -5,7 +5,7 @@ use Rattle.std.specs.List.{cons_option}
 use Rattle.std.specs.Prelude.{filter_map, unwrap_or}
 use Rattle.jskw_check.specs.Arguments.{Argument, file}
 use Rattle.jskw_check.specs.Arguments as said
-use Rattle.jskw_check.specs.Commands.{Command, Said, command_behind, command_said, ended, file_in, overridden_in}
+use Rattle.jskw_check.specs.Commands.{Command, Said, command_behind, command_said, ended, file_said, overridden_said}
 use Rattle.jskw_check.specs.Commands.{said_behind}
 
 -- an argument that is a command by itself ends all
@@ -39,10 +39,11 @@ said_one : (s : Said) (x : Argument) (xs : List Argument)
     → said_behind s (x ∷ xs) ≡ said_behind (said_behind s (x ∷ [])) xs
 said_one s x xs =
     let all = said_behind s (x ∷ xs) in
-    let names = kept (overridden_in x) s.how.overridden (filter_map overridden_in xs) in
-    let files = kept (file_in x) s.files (filter_map file_in xs) in
+    let names = kept (overridden_said x) s.how.overridden (filter_map overridden_said xs) in
+    let files = kept (file_said x) s.files (filter_map file_said xs) in
     ap (λ z. with_lists all z all.files) names
-    ∙ ap (with_lists all ((s.how.overridden ++ cons_option (overridden_in x) []) ++ filter_map overridden_in xs)) files
+    ∙ ap
+    (with_lists all ((s.how.overridden ++ cons_option (overridden_said x) []) ++ filter_map overridden_said xs)) files
 
 pub behind_one : (s : Said) (x : Argument) (xs : List Argument) → ended (x ∷ []) ≡ None
     → command_behind s (x ∷ xs) ≡ command_behind (said_behind s (x ∷ [])) xs

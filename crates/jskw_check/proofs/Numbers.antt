@@ -1,5 +1,6 @@
 -- The limit on errors, as `parse` reads it.
-use Rattle.std.proofs.Common.{◌≡◌, ◌≢◌, ℕ, ◌<◌, ◌^◌, List, [], ◌∷◌, Bool, true, false, Result, Ok, Err, Option, Some, None}
+use Rattle.std.proofs.Common.{◌≡◌, ◌≢◌, ℕ, ◌<◌, ◌^◌, List, [], ◌∷◌, Bool, true, false, Result, Ok, Err, Option}
+use Rattle.std.proofs.Common.{Some, None}
 use Rattle.std.proofs.Common.{if◌then◌else◌, arith, get_or, length, refl, sym, ap, ◌∙◌, ◌&&◌, ◌==◌}
 use Rattle.std.proofs.Math.Bool.{and-true}
 use Rattle.std.proofs.lemmas.Bool.{lt-ltb, ltb-true}
@@ -33,7 +34,8 @@ limit_is : {E : Type 0} (bs : List ℕ) (v : ℕ) (a : Bool) (r : Result ℕ E)
     → (if a && nat_lt 0 v && nat_lt v (2 ^ 64) then Some v else None) ≡ above_zero r
 limit_is bs v true (Ok n) is none =
     ap (λ b. if nat_lt 0 v && b then Some v else None) (lt-ltb v (2 ^ 64) is.0.2)
-    ∙ ap (λ b. if b then Some v else None) (and-true (nat_lt 0 v)) ∙ ap (λ z. if nat_lt 0 z then Some z else None) (sym is.1)
+    ∙ ap (λ b. if b then Some v else None) (and-true (nat_lt 0 v))
+    ∙ ap (λ z. if nat_lt 0 z then Some z else None) (sym is.1)
 limit_is bs v false (Ok n) is none =
     let wrong : false ≡ true = is.0.0 in
     cc

@@ -126,10 +126,12 @@ limits =
     row ("--max-errors" ∷ "18446744073709551616" ∷ "--schema=s" ∷ [])
     (error "argument --max-errors: '18446744073709551616' is no number from 1 to 2^64-1") ∷
     row ("--max-errors" ∷ "0" ∷ "--schema=s" ∷ []) (error "argument --max-errors: '0' is no number from 1 to 2^64-1") ∷
-    row ("--max-errors" ∷ "+5" ∷ "--schema=s" ∷ []) (error "argument --max-errors: '+5' is no number from 1 to 2^64-1") ∷
+    row ("--max-errors" ∷ "+5" ∷ "--schema=s" ∷ [])
+    (error "argument --max-errors: '+5' is no number from 1 to 2^64-1") ∷
     row ("--max-errors=-1" ∷ "--schema=s" ∷ []) (error "argument --max-errors: '-1' is no number from 1 to 2^64-1") ∷
     row ("--max-errors=" ∷ "--schema=s" ∷ []) (error "argument --max-errors: '' is no number from 1 to 2^64-1") ∷
-    row ("--max-errors" ∷ "1x" ∷ "--schema=s" ∷ []) (error "argument --max-errors: '1x' is no number from 1 to 2^64-1") ∷
+    row ("--max-errors" ∷ "1x" ∷ "--schema=s" ∷ [])
+    (error "argument --max-errors: '1x' is no number from 1 to 2^64-1") ∷
     row ("--max-errors" ∷ "-1" ∷ "--schema=s" ∷ []) (error "argument --max-errors: expected one argument") ∷ []
 
 limits_right : Right limits

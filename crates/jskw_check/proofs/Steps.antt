@@ -1,11 +1,12 @@
 -- One argument of a command line, or all files.
-use Rattle.std.proofs.Common.{◌≡◌, ℕ, ◌<◌, ◌≤◌, List, [], ◌∷◌, ◌++◌, ◌∙◌, ap, map, refl, sym, arith, drop, length, true, false}
+use Rattle.std.proofs.Common.{◌≡◌, ℕ, ◌<◌, ◌≤◌, List, [], ◌∷◌, ◌++◌, ◌∙◌, ap, map, refl, sym, arith, drop, length}
+use Rattle.std.proofs.Common.{true, false}
 use Rattle.std.proofs.Common.{Option, Some, None, subst, get_or, Result, Ok, Err, IfOk}
 use Rattle.std.proofs.lemmas.List.{append-nil, drop_all}
 use Rattle.std.specs.Prelude.{MatchOption, String, option_map, string_bytes}
 use Rattle.std.specs.declared.alloc.Global.{Global}
 use Rattle.jskw_check.specs.Arguments.{Argument, alone, arguments, is_separator, next_value, valued, wrong}
-use Rattle.jskw_check.specs.CommandView.{IsStep, command_view, unfinished_view}
+use Rattle.jskw_check.specs.CommandView.{TakesWords, command_view, unfinished_view}
 use Rattle.jskw_check.specs.Commands.{Said, command_behind, command_said, ended, said_behind}
 use Rattle.jskw_check.specs.Commands as asked
 use Rattle.jskw_check.specs.declared.arguments.Step.{Step}
@@ -28,19 +29,21 @@ taken_wrong s x w why is text =
     let same : s ≡ said_behind s (wrong w ∷ []) =
     ap (λ z. record s { how = record s.how { overridden = z } }) (sym (append-nil s.how.overridden))
     ∙ ap (λ z. record s { how = record s.how { overridden = s.how.overridden ++ [] }; files = z })
-    (sym (append-nil s.files)) in
-    (ap (λ z. Some (asked.wrong z)) text ∙ sym (ap (λ z. ended (z ∷ [])) is), same ∙ sym (ap (λ z. said_behind s (z ∷ [])) is))
+    (sym (append-nil s.files)) in (
+      ap (λ z. Some (asked.wrong z)) text ∙ sym (ap (λ z. ended (z ∷ [])) is),
+      same ∙ sym (ap (λ z. said_behind s (z ∷ [])) is),
+    )
 
 -- an argument of so many words
 pub taken_one : (words : Words) (x : Argument) (count : ℕ) (old new : Unfinished) (taken : Option Command) (step : Step)
     → arguments (texts words) ≡ x ∷ arguments (texts (drop count words)) → 0 < count → count ≤ length words
     → (option_map command_view taken ≡ ended (x ∷ []))
     × (unfinished_view new ≡ said_behind (unfinished_view old) (x ∷ []))
-    → MatchOption taken (step ≡ Taken count) (λ c. step ≡ End c) → IsStep words old new step
+    → MatchOption taken (step ≡ Taken count) (λ c. step ≡ End c) → TakesWords words old new step
 taken_one words x count old new None step first some within takes is =
     let s = unfinished_view old in
     let rest = arguments (texts (drop count words)) in
-    subst (IsStep words old new) (sym is) (
+    subst (TakesWords words old new) (sym is) (
       some,
       within,
       ap (λ z. command_behind z rest) takes.1 ∙ sym (behind_one s x rest (sym takes.0))
@@ -49,7 +52,7 @@ taken_one words x count old new None step first some within takes is =
 taken_one words x count old new (Some c) step first some within takes is =
     let s = unfinished_view old in
     let rest = arguments (texts (drop count words)) in
-    subst (IsStep words old new) (sym is)
+    subst (TakesWords words old new) (sym is)
     (sym (behind_end s x rest (command_view c) (sym takes.0)) ∙ sym (ap (command_behind s) first))
 
 length_of_texts : (words : Words) → length (texts words) ≡ length words
@@ -67,7 +70,7 @@ pub taken_alone : (words : Words) (w : String Global) (t : List ℕ) (old new : 
     → next_value (texts words) ≡ None
     → (option_map command_view taken ≡ ended (alone t ∷ []))
     × (unfinished_view new ≡ said_behind (unfinished_view old) (alone t ∷ []))
-    → MatchOption taken (step ≡ Taken 1) (λ c. step ≡ End c) → IsStep words old new step
+    → MatchOption taken (step ≡ Taken 1) (λ c. step ≡ End c) → TakesWords words old new step
 taken_alone [] w t old new taken step some first text other none takes is = absurd (omega arith)
 taken_alone (u ∷ ws) w t old new taken step some first text other none takes is =
     let here : t ≡ string_bytes u = text ∙ ap string_bytes first in
@@ -82,7 +85,7 @@ pub taken_valued : (words : Words) (w : String Global) (t v : List ℕ) (old new
     → next_value (texts words) ≡ Some v
     → (option_map command_view taken ≡ ended (valued t v ∷ []))
     × (unfinished_view new ≡ said_behind (unfinished_view old) (valued t v ∷ []))
-    → MatchOption taken (step ≡ Taken 2) (λ c. step ≡ End c) → IsStep words old new step
+    → MatchOption taken (step ≡ Taken 2) (λ c. step ≡ End c) → TakesWords words old new step
 taken_valued [] w t v old new taken step some first text other value takes is = absurd (omega arith)
 taken_valued (u ∷ ws) w t v old new taken step some first text other value takes is =
     let here : t ≡ string_bytes u = text ∙ ap string_bytes first in
@@ -99,7 +102,7 @@ pub taken_files : (words : Words) (w : String Global) (t : List ℕ) (old new : 
     → 0 < length words → w ≡ get_or words 0 w → t ≡ string_bytes w → is_separator t ≡ true
     → unfinished_view new
     ≡ record (unfinished_view old) { files = (unfinished_view old).files ++ texts (drop 1 words) }
-    → IsStep words old new (Taken (length words))
+    → TakesWords words old new (Taken (length words))
 taken_files [] w t old new some first text is says = absurd (omega arith)
 taken_files (u ∷ ws) w t old new some first text is says =
     let s = unfinished_view old in

@@ -1,5 +1,6 @@
 -- The words of a command line, one argument at a time.
-use Rattle.std.proofs.Common.{◌≡◌, ℕ, ◌<◌, ◌+◌, List, [], ◌∷◌, ◌∙◌, ap, map, Bool, true, false, refl, Some, None, drop, Result, Err}
+use Rattle.std.proofs.Common.{◌≡◌, ℕ, ◌<◌, ◌+◌, List, [], ◌∷◌, ◌∙◌, ap, map, Bool, true, false, refl, Some, None}
+use Rattle.std.proofs.Common.{drop, Result, Err}
 use Rattle.std.proofs.Common.{◌&&◌, if◌then◌else◌, sym, cond, not, length, arith}
 use Rattle.std.proofs.lemmas.List.Splits.{slice_split_first}
 use Rattle.std.specs.List.{after_first, before_first, onto_first, position_or_len, slice_split}
@@ -7,7 +8,8 @@ use Rattle.jskw_report.specs.Setting.{with_vocabulary}
 use Rattle.jskw_report.specs.declared.settings.Vocabulary.{Vocabulary}
 use Rattle.jskw_report.specs.declared.settings.VocabularySet.{VocabularySet}
 use Rattle.jskw_service.specs.Request.{vocabulary_named}
-use Rattle.jskw_check.specs.Arguments.{alone, arguments, file, is_comma, is_separator, is_value, next_value, takes_next}
+use Rattle.jskw_check.specs.Arguments.{alone, arguments, file, is_comma, is_separator, is_value, next_value}
+use Rattle.jskw_check.specs.Arguments.{takes_next}
 use Rattle.jskw_check.specs.Arguments.{valued, vocabulary_or, with_names}
 
 guarded_none : (b : Bool) (v : List ℕ) → (if b then Some v else None) ≡ None → b ≡ false

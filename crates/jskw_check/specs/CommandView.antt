@@ -49,10 +49,10 @@ TakesArgument x old new r =
     × (unfinished_view new ≡ said_behind (unfinished_view old) (x ∷ [])))
 
 -- the first of these words are taken, or the words are this command
-abbrev pub IsStep : List (String Global) → Unfinished → Unfinished → Step → Type 0
-IsStep words old new (Taken n) =
+abbrev pub TakesWords : List (String Global) → Unfinished → Unfinished → Step → Type 0
+TakesWords words old new (Taken n) =
     (0 < n) × (n ≤ length words)
     × (command_behind (unfinished_view new) (arguments (map string_bytes (drop n words)))
     ≡ command_behind (unfinished_view old) (arguments (map string_bytes words)))
-IsStep words old new (End c) =
+TakesWords words old new (End c) =
     command_view c ≡ command_behind (unfinished_view old) (arguments (map string_bytes words))

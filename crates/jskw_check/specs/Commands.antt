@@ -33,51 +33,51 @@ abbrev pub last_or : {A : Type 0} → (Argument → Option A) → A → List Arg
 last_or value a [] = a
 last_or value a (x ∷ xs) = last_or value (unwrap_or (value x) a) xs
 
-abbrev pub schema_in : Argument → Option (Option (List ℕ))
-schema_in (said.schema name) = Some (Some name)
-schema_in x = None
+abbrev pub schema_said : Argument → Option (Option (List ℕ))
+schema_said (said.schema name) = Some (Some name)
+schema_said x = None
 
-abbrev pub draft_in : Argument → Option (Option Draft)
-draft_in (said.draft d) = Some (Some d)
-draft_in x = None
+abbrev pub draft_said : Argument → Option (Option Draft)
+draft_said (said.draft d) = Some (Some d)
+draft_said x = None
 
-abbrev pub vocabularies_in : Argument → Option VocabularySet
-vocabularies_in (said.vocabularies vs) = Some vs
-vocabularies_in x = None
+abbrev pub vocabularies_said : Argument → Option VocabularySet
+vocabularies_said (said.vocabularies vs) = Some vs
+vocabularies_said x = None
 
-abbrev pub output_in : Argument → Option Output
-output_in (said.output o) = Some o
-output_in x = None
+abbrev pub output_said : Argument → Option Output
+output_said (said.output o) = Some o
+output_said x = None
 
 abbrev limit_said : Argument → Option ℕ
 limit_said (said.max_errors n) = Some n
 limit_said x = None
 
-abbrev pub lines_in : Argument → Option Bool
-lines_in said.lines = Some true
-lines_in x = None
+abbrev pub lines_said : Argument → Option Bool
+lines_said said.lines = Some true
+lines_said x = None
 
-abbrev pub allow_unchecked_in : Argument → Option Bool
-allow_unchecked_in said.allow_unchecked = Some true
-allow_unchecked_in x = None
+abbrev pub allow_unchecked_said : Argument → Option Bool
+allow_unchecked_said said.allow_unchecked = Some true
+allow_unchecked_said x = None
 
-abbrev pub verbose_in : Argument → Option Bool
-verbose_in said.verbose = Some true
-verbose_in x = None
+abbrev pub verbose_said : Argument → Option Bool
+verbose_said said.verbose = Some true
+verbose_said x = None
 
-abbrev pub progress_in : Argument → Option Bool
-progress_in said.progress = Some true
-progress_in x = None
+abbrev pub progress_said : Argument → Option Bool
+progress_said said.progress = Some true
+progress_said x = None
 
 -- ---- all overridden names count, and all files
 
-abbrev pub overridden_in : Argument → Option (List ℕ)
-overridden_in (said.override name) = Some name
-overridden_in x = None
+abbrev pub overridden_said : Argument → Option (List ℕ)
+overridden_said (said.override name) = Some name
+overridden_said x = None
 
-abbrev pub file_in : Argument → Option (List ℕ)
-file_in (said.file name) = Some name
-file_in x = None
+abbrev pub file_said : Argument → Option (List ℕ)
+file_said (said.file name) = Some name
+file_said x = None
 
 -- ---- a command line
 
@@ -106,23 +106,23 @@ nothing_said =
 abbrev pub said_behind : Said → List Argument → Said
 said_behind s xs =
     record {
-      schema = last_or schema_in s.schema xs;
+      schema = last_or schema_said s.schema xs;
       how =
           record {
-            draft = last_or draft_in s.how.draft xs;
-            vocabularies = last_or vocabularies_in s.how.vocabularies xs;
-            overridden = s.how.overridden ++ filter_map overridden_in xs;
-            allow_unchecked = last_or allow_unchecked_in s.how.allow_unchecked xs;
+            draft = last_or draft_said s.how.draft xs;
+            vocabularies = last_or vocabularies_said s.how.vocabularies xs;
+            overridden = s.how.overridden ++ filter_map overridden_said xs;
+            allow_unchecked = last_or allow_unchecked_said s.how.allow_unchecked xs;
           };
       options =
           record {
-            output = last_or output_in s.options.output xs;
-            verbose = last_or verbose_in s.options.verbose xs;
+            output = last_or output_said s.options.output xs;
+            verbose = last_or verbose_said s.options.verbose xs;
             limit = last_or limit_said s.options.limit xs;
           };
-      lines = last_or lines_in s.lines xs;
-      progress = last_or progress_in s.progress xs;
-      files = s.files ++ filter_map file_in xs;
+      lines = last_or lines_said s.lines xs;
+      progress = last_or progress_said s.progress xs;
+      files = s.files ++ filter_map file_said xs;
     }
 
 -- behind the first argument that is wrong, or asks for help or for the version, nothing counts

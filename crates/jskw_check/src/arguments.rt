@@ -7,7 +7,7 @@ ghost use Rattle.jskw_check.specs.Arguments.{alone, draft, is_value, limit_in, m
 ghost use Rattle.jskw_check.specs.Arguments.{names_of, next_value, no_draft, no_limit, no_output, option_in, output};
 ghost use Rattle.jskw_check.specs.Arguments.{output_named, some_or, takes_next, takes_value, value_in, valued};
 ghost use Rattle.jskw_check.specs.Arguments.{vocabularies_or, with_names};
-ghost use Rattle.jskw_check.specs.CommandView.{IsStep, TakesArgument, command_view, unfinished_view};
+ghost use Rattle.jskw_check.specs.CommandView.{TakesWords, TakesArgument, command_view, unfinished_view};
 ghost use Rattle.jskw_check.specs.Commands.{command, command_said};
 
 use crate::given::{Command, Given, Unfinished};
@@ -72,7 +72,7 @@ fn command_from(alloc: Global, said: Unfinished) -> Result<Command, AllocError>
 // Takes the first argument of these words, which is one of them or two. Behind `--` each is a file.
 fn take_words(alloc: Global, said: &mut Unfinished, words: &[String]) -> Result<Step, AllocError>
     requires { 0 < length words.now }
-    ensures { IfOk result (λ step. IsStep words.now said.old said.new step) }
+    ensures { IfOk result (λ step. TakesWords words.now said.old said.new step) }
 {
     let word = words[0].as_str();
     if word == "--" {

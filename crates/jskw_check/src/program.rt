@@ -21,7 +21,7 @@ pub(crate) const NOT_CHECKED: u8 = 2;
 
 // What shows progress, if it is asked to.
 pub(crate) trait Show: Watcher {
-    // Is told that progress is wanted.
+    // Notes that progress is wanted.
     fn ask(&mut self);
 }
 

@@ -12,8 +12,8 @@ IsWritten Is failure errors i text =
     (rest : List ℕ) → HasEach Is (map failure (drop i errors)) rest → HasEach Is (map failure errors) (text ++ rest)
 
 -- the next error, which adds its part to the text
-pub next_written : {X : Type 0} (Is : Failure → List ℕ → Type 0) (failure : X → Failure) (errors : List X) (i : ℕ) (e : X)
-    (old new : List ℕ) → i < length errors → e ≡ get_or errors i e → IsWritten Is failure errors i old
+pub next_written : {X : Type 0} (Is : Failure → List ℕ → Type 0) (failure : X → Failure) (errors : List X) (i : ℕ)
+    (e : X) (old new : List ℕ) → i < length errors → e ≡ get_or errors i e → IsWritten Is failure errors i old
     → (part : List ℕ) × Is (failure e) part × (new ≡ old ++ part) → IsWritten Is failure errors (i + 1) new
 next_written Is failure errors i e old new within is so_far grown rest parts =
     let part = grown.0 in

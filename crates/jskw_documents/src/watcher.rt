@@ -33,7 +33,7 @@ impl Counts {
 
 /// What looks at the counts while documents are checked.
 pub trait Watcher {
-    /// Is told that a file is checked next, of so many bytes if that is known.
+    /// Notes that a file is checked next, which has so many bytes if that is known.
     fn begins(&mut self, _size: Option<u64>) {}
 
     /// Looks at the counts of the reader so far, after answers were written.

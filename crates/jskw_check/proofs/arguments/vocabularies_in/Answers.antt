@@ -7,7 +7,8 @@ pub returns-in_default-vocabulary_named : goal.returns-in_default-vocabulary_nam
 returns-in_default-vocabulary_named c =
     let rest = c.names.rest.now in
     let at = split_once_first 44 rest (Some (c.in-Some.name, c.in-Some.behind)) c.in-Some.ensures.cases (omega arith) in
-    named_none c.names.vocabularies c.in-Some.name.now _ _ _ (first_name rest c.in-Some.name.now c.in-Some.behind.now at)
+    named_none c.names.vocabularies c.in-Some.name.now _ _ _
+    (first_name rest c.in-Some.name.now c.in-Some.behind.now at)
     (sym c.vocabulary_named.ensures ∙ c.in_default-vocabulary_named.is) c.names.invariant.names
 
 pub names-preserved : goal.names-preserved

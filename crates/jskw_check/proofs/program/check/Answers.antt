@@ -49,7 +49,8 @@ returns-in-Ok-2-clause-runs g c =
     let before = g.O.Sink.contents c.args.out.now in
     let after = g.O.Sink.contents c.check_under.new.out in
     let read =
-    subst (λ r. IfOk r (λ text. HasBytes (bytes_of c.as_str.result.now) text.items)) c.in-Ok.is c.in_ok-text.ensures.reads in
+    subst (λ r. IfOk r (λ text. HasBytes (bytes_of c.as_str.result.now) text.items)) c.in-Ok.is
+    c.in_ok-text.ensures.reads in
     let has = subst (λ name. HasBytes (bytes_of name) bytes) c.as_str.ensures.value read in
     let compiled =
     subst (λ r. IsSchemaGiven r (schema_given asked.how c.deref.result.now)) c.in-Ok-2.is c.in_ok-schema.ensures in
@@ -75,7 +76,8 @@ returns-clause-runs g c =
     let bytes_of = g.F.Folder.bytes_of c.args.folder.now in
     let bytes = c.in-Ok.text.items in
     let read =
-    subst (λ r. IfOk r (λ text. HasBytes (bytes_of c.as_str.result.now) text.items)) c.in-Ok.is c.in_ok-text.ensures.reads in
+    subst (λ r. IfOk r (λ text. HasBytes (bytes_of c.as_str.result.now) text.items)) c.in-Ok.is
+    c.in_ok-text.ensures.reads in
     let has = subst (λ name. HasBytes (bytes_of name) bytes) c.as_str.ensures.value read in
     let refused =
     subst (λ r. IsSchemaGiven r (schema_given asked.how c.deref.result.now)) c.in-Err-2.is c.in_ok-schema.ensures in

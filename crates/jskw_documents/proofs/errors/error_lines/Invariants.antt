@@ -7,5 +7,5 @@ use Rattle.jskw_documents.proofs.errors.error_lines.Given as goal
 -- what is written, with what is left to write
 abbrev pub invariant-loop-error : goal.invariant-loop-error
 invariant-loop-error l =
-    IsWritten (IsErrorShown (place_words l.place.file.now l.place.line l.place.column)) (failure_of decimal_tree) l.errors
-    l.error-index l.text.items
+    IsWritten (IsErrorShown (place_words l.place.file.now l.place.line l.place.column)) (failure_of decimal_tree)
+    l.errors l.error-index l.text.items

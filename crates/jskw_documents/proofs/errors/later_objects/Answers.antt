@@ -10,7 +10,8 @@ loop-error-preserved c =
     let l = c.loop-error in
     next_written IsLaterObject
     (failure_of decimal_tree) c.args.errors.now l.error-index c.error-item.result l.text.items
-    c.push_later_object.new.text.items c.loop-error-test.true c.error-item.is l.invariant c.in_ok-push_later_object.ensures
+    c.push_later_object.new.text.items c.loop-error-test.true c.error-item.is l.invariant
+    c.in_ok-push_later_object.ensures
 
 pub returns : goal.returns
 returns c =
