@@ -142,20 +142,21 @@ impl Tally {
         self.tell_place();
         write!(self.told, ", {way}{}\n", self.layer);
         write!(self.told, "  asked: {}\n", cut(self.question.as_str()));
-        let mut others = found.lines();
-        for line in wanted.lines() {
-            let other = others.next();
-            if other != Some(line) {
-                return self.tell_lines(Some(line), other);
+        for (one, other) in wanted.lines().zip(found.lines()) {
+            if one != other {
+                return self.tell_lines(one, other);
             }
         }
-        self.tell_lines(None, others.next());
+        self.tell_lines(behind(wanted, found), behind(found, wanted));
     }
 
-    fn tell_lines(&mut self, wanted: Option<&str>, found: Option<&str>) {
-        let wanted = cut(wanted.unwrap_or("nothing more"));
-        let found = cut(found.unwrap_or("nothing more"));
-        write!(self.told, "  wanted: {wanted}\n  found: {found}\n");
+    fn tell_lines(&mut self, wanted: &str, found: &str) {
+        write!(
+            self.told,
+            "  wanted: {}\n  found: {}\n",
+            cut(wanted),
+            cut(found)
+        );
     }
 
     // Appends the names of the file, the group and the test.
@@ -171,4 +172,9 @@ impl Tally {
 // Returns the beginning of a long line, unless a character goes on behind it.
 fn cut(line: &str) -> &str {
     line.get(..COLUMNS).unwrap_or(line)
+}
+
+// Returns what is left of a text behind a beginning of it, if there is any.
+fn behind<'t>(text: &'t str, start: &str) -> &'t str {
+    text.get(start.len()..).unwrap_or("nothing more")
 }

@@ -100,15 +100,13 @@ impl Wanted {
 
 // Returns the only member of an error that is not one of the parts: its keyword, with the payload.
 fn keyword_of(error: &Value) -> Option<(&str, &Value)> {
-    let mut found = None;
-    for (name, payload) in error.as_object()?.iter() {
-        let name = name.as_str();
-        if !PARTS.contains(&name) {
-            if found.is_some() {
-                return None;
-            }
-            found = Some((name, payload));
-        }
+    let members = error.as_object()?;
+    let mut kinds = members
+        .iter()
+        .filter(|(name, _)| !PARTS.contains(&name.as_str()));
+    let (keyword, payload) = kinds.next()?;
+    match kinds.next() {
+        None => Some((keyword.as_str(), payload)),
+        Some(_) => None,
     }
-    found
 }

@@ -74,22 +74,27 @@ fn push_new(text: &mut Text, case: &Value) {
 fn push_decimal(lines: &mut Lines, case: &Value) {
     let number = decimal_of(lines.alloc, text(case, 0));
     let other = decimal_of(lines.alloc, text(case, 2));
-    let (Some(number), Some(other), Ok(whole)) = (number, other, text(case, 1).parse()) else {
+    let (Some(number), Some(other)) = (number, other) else {
         return lines.text.push("no decimals");
     };
     if !number.is_lawful() {
         return lines.text.push("a float");
     }
     let (is_integer, is_written) = (number.is_integer(), number.is_written_as_integer());
-    let (u64, i64, order) = (number.as_u64(), number.as_i64(), number.cmp_whole(whole));
-    let (is_equal, equals) = (number.equals(&other), other.equals(&number.decimal()));
+    let (u64, i64) = (number.as_u64(), number.as_i64());
+    let (whole, divisor) = (
+        value(case, 1).as_i64(),
+        value(case, 1).as_u64().unwrap_or(0),
+    );
+    let order = number.cmp_whole(whole.map_or(i128::from(divisor), i128::from));
     write!(
         lines.text,
         "{is_integer} {is_written} {u64:?} {i64:?}, {order:?}"
     );
-    if let Ok(divisor @ 1..) = u64::try_from(whole) {
+    if divisor > 0 {
         write!(lines.text, " {}", number.is_multiple_of(divisor));
     }
+    let (is_equal, equals) = (number.equals(&other), other.equals(&number.decimal()));
     write!(lines.text, ", {is_equal} {equals}");
 }
 
