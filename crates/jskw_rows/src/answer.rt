@@ -1,7 +1,17 @@
 //! What the observers of a schema say of an instance, as lines.
+ghost use Rattle.std.specs.Prelude.{IsTrue};
+ghost use Rattle.jskw_value.specs.Tree.{is_lawful};
+
 use crate::lines::Lines;
+use crate::row::Row;
 use crate::text::{Made, Text};
-use jskw_report::{CompilationResult, CompileFault, Fault, ValidationContext, ValidationError};
+use jskw_array::SchemaNode;
+use jskw_array::compiler::compile;
+use jskw_array::items::array_shape_fusion;
+use jskw_report::{
+    CompilationResult, CompileFault, Context, Fault, LazyLocation, ValidationContext,
+    ValidationError,
+};
 use jskw_value::{Json, Node};
 use serde_json::Value;
 
@@ -47,14 +57,6 @@ impl Said {
         }
     }
 
-    /// Appends what `collect_errors` returned and gave.
-    pub(crate) fn push_errors<F: Json>(&mut self, made: Made<()>, errors: &[ValidationError<F>]) {
-        self.errors.text.keep(made);
-        for error in errors {
-            self.errors.push_error(error);
-        }
-    }
-
     /// Notes a limit for which `collect_first_errors` did not give the first of all errors, of which
     /// there are `count`, up to the limit.
     pub(crate) fn push_limited<F: Json>(
@@ -65,10 +67,7 @@ impl Said {
         errors: &[ValidationError<F>],
     ) {
         let mut given = self.errors.others();
-        given.text.keep(made);
-        for error in errors {
-            given.push_error(error);
-        }
+        given.push_errors(made, errors);
         let is_start = self.errors.text.as_str().starts_with(given.text.as_str());
         if !is_start | (errors.len() != limit.min(count)) {
             write!(self.limits, "{limit}\n");
@@ -80,54 +79,43 @@ impl Said {
     /// another observer disagrees with the errors.
     pub(crate) fn push_lines(&self, text: &mut Text, root: &str, has_evaluation: bool) {
         let (errors, tree) = (self.errors.text.as_str(), self.tree.text.as_str());
+        let (first, limits) = (self.first.text.as_str(), self.limits.as_str());
+        let (messages, described) = (&self.errors.described, self.tree.described.as_str());
         let is_valid = errors.is_empty();
-        text.push(if is_valid { "valid\n" } else { errors });
+        text.push_if(is_valid, "valid\n");
+        text.push(errors);
         push_unless(text, self.holds == is_valid, "is_valid", "");
-        push_unless(text, self.is_first(), "validate", self.first.text.as_str());
-        let limits = self.limits.as_str();
+        let is_first = errors.starts_with(first) && first.is_empty() == is_valid;
+        let message = self.first.described.as_str();
+        let is_first = is_first && messages.as_str().starts_with(message);
+        push_unless(text, is_first, "validate", first);
         push_unless(text, limits.is_empty(), "collect_first_errors", limits);
-        let described = self.tree.described.as_str();
         let top = if root.is_empty() { tree } else { root };
-        let agrees = top.starts_with("valid") == self.holds;
-        let agrees = agrees && described == self.errors.described.as_str();
+        let agrees = top.starts_with("valid") == is_valid && described == messages.as_str();
         push_unless(text, agrees, "evaluate", described);
         text.push_if(has_evaluation, root);
         text.push_if(has_evaluation, tree);
     }
 
-    /// Appends a line for each count that is out of its range, so many times over.
-    pub(crate) fn push_counts(&self, text: &mut Text, times: u64, most: &Value) {
+    // Appends what the observers counted, if that is too much or too little, so many times over.
+    fn push_counts(&self, text: &mut Text, times: u64, most: &Value) {
         let (first, all) = (number_of(most, "untilFirst"), number_of(most, "ofAll"));
-        let collected = most.get("collected").and_then(Value::as_u64);
-        let ranges = [
-            ("is_valid", 1, first),
-            ("validate", 1, first),
-            ("collect_errors", collected.unwrap_or(1), all),
-            ("evaluate_instance", 1, all),
-        ];
-        for ((observer, least, most), ctx) in ranges.iter().zip(&self.contexts) {
-            let (least, most) = (least.saturating_mul(times), most.saturating_mul(times));
-            let count = ctx.applications();
-            if (count < least) | (count > most) {
+        let collected = most.get("collected").and_then(Value::as_u64).unwrap_or(1);
+        let ranges = [(1, first), (1, first), (collected, all), (1, all)];
+        for ((least, most), ctx) in ranges.iter().zip(&self.contexts) {
+            let (count, fewer) = (ctx.applications(), least.saturating_mul(times));
+            if (count < fewer) | (count > most.saturating_mul(times)) {
                 write!(
                     text,
-                    "{observer} applies {count} subschemas, asked {times} times\n"
+                    "applied in {times} calls: {count} of {least} to {most}\n"
                 );
             }
         }
     }
-
-    // Whether the first error is that of all errors, or there is none of both.
-    fn is_first(&self) -> bool {
-        let (first, errors) = (self.first.text.as_str(), self.errors.text.as_str());
-        let message = self.first.described.as_str();
-        errors.starts_with(first)
-            && self.errors.described.as_str().starts_with(message)
-            && first.is_empty() == errors.is_empty()
-    }
 }
 
-fn number_of(of: &Value, name: &'static str) -> u64 {
+/// The number of the member of a name; 0 if there is none.
+pub(crate) fn number_of(of: &Value, name: &'static str) -> u64 {
     of.get(name).and_then(Value::as_u64).unwrap_or(0)
 }
 
@@ -164,5 +152,98 @@ pub(crate) fn push_float<N: Node>(lines: &mut Lines, instance: &N) {
     match lines.text.made(instance.first_unlawful(lines.alloc)) {
         Some(Some(location)) => write!(lines.text, "float at {location}\n"),
         _ => lines.text.push("a float that is nowhere\n"),
+    }
+}
+
+/// Appends what the schema of a row says of itself and of the instance, or its refusal.
+pub(crate) fn push_whole<'r, F: Json>(lines: &mut Lines, row: &'r Row<'r>, instance: &'r F::Node) {
+    let root: Context<F> = Context::new(lines.alloc, row.settings);
+    let ctx = root.with_object_layer(row.object_layer);
+    let parent = row.schema.as_object();
+    let is_fused = parent.is_some_and(|parent| array_shape_fusion(&ctx, parent));
+    push_call(lines, "array_shape_fusion", row.is_fused, is_fused);
+    let compiled = compile(lines.alloc, &ctx, row.schema);
+    push_compiled(lines, Some(compiled), &(row, instance), push_node::<F>);
+}
+
+// Appends what a schema says of itself, behind whether it is fused, and of an instance.
+fn push_node<'r, F: Json>(
+    lines: &mut Lines,
+    node: &SchemaNode<F>,
+    &(row, instance): &(&'r Row<'r>, &'r F::Node),
+) {
+    let delegates = row.delegates && row.object_layer;
+    push_call(
+        lines,
+        "array_shape",
+        row.is_fused,
+        node.array_shape().is_some(),
+    );
+    push_call(
+        lines,
+        "hands_on_required",
+        delegates,
+        node.hands_on_required(),
+    );
+    if !instance.is_lawful() {
+        return push_float(lines, instance);
+    }
+    push_said(lines, node, row.test, instance);
+}
+
+// Appends what a call returns unless a row claims that.
+fn push_call(lines: &mut Lines, call: &str, claimed: bool, found: bool) {
+    if found != claimed {
+        write!(lines.text, "{call} returns {found}\n");
+    }
+}
+
+// Appends what a schema says of an instance, which is asked twice if the row claims the counts.
+fn push_said<F: Json>(lines: &mut Lines, node: &SchemaNode<F>, test: &Value, instance: &F::Node)
+    requires { IsTrue (is_lawful (F.Node.tree instance.now)) }
+{
+    let mut said = Said::new(lines);
+    observe(&mut said, node, instance);
+    said.push_lines(&mut lines.text, "", test.get("evaluation").is_some());
+    if let Some(most) = test.get("applications") {
+        said.push_counts(&mut lines.text, 1, most);
+        observe(&mut said, node, instance);
+        said.push_counts(&mut lines.text, 2, most);
+    }
+}
+
+// Asks each observer of a schema.
+fn observe<F: Json>(said: &mut Said, node: &SchemaNode<F>, instance: &F::Node)
+    requires { IsTrue (is_lawful (F.Node.tree instance.now)) }
+{
+    let alloc = said.tree.alloc;
+    let (mut location, mut errors) = (LazyLocation::new(alloc), Vec::new(alloc));
+    said.holds = node.is_valid(instance, &mut said.contexts[0]);
+    let first = node.validate(instance, &mut location, &mut said.contexts[1]);
+    said.push_first(&first);
+    let ctx = &mut said.contexts[2];
+    let made = node.collect_errors(instance, &mut location, ctx, &mut errors);
+    said.errors.push_errors(made, &errors);
+    observe_limits(said, node, instance, errors.len());
+    let tree = node.evaluate_instance(alloc, instance, &mut said.contexts[3]);
+    said.tree.push_tree(0, &tree);
+}
+
+// Asks for the first errors, with limits from none of them to more than there are.
+fn observe_limits<F: Json>(said: &mut Said, node: &SchemaNode<F>, instance: &F::Node, count: usize)
+    requires { IsTrue (is_lawful (F.Node.tree instance.now)) }
+{
+    let alloc = said.tree.alloc;
+    let (mut location, mut ctx) = (LazyLocation::new(alloc), ValidationContext::new());
+    for limit in &[0, count / 2, count, count.saturating_add(1)] {
+        let mut errors = Vec::new(alloc);
+        let made = node.collect_first_errors(
+            *limit,
+            instance,
+            &mut location,
+            &mut ctx,
+            &mut errors,
+        );
+        said.push_limited(*limit, count, made, &errors);
     }
 }

@@ -3,9 +3,10 @@
 ghost use Rattle.std.specs.Prelude.{string_bytes};
 ghost use Rattle.jskw_rows.specs.Asks.{asked_tree};
 
-use crate::answer::push_compiled;
-use crate::calls::{Arguments, Given};
+use crate::answer::{number_of, push_compiled};
 use crate::lines::Lines;
+use crate::row::Row;
+use crate::tally::Tally;
 use crate::text::Made;
 use jskw_array::SchemaNode;
 use jskw_array::compiler::compile;
@@ -160,28 +161,28 @@ impl Json for AskedJson {
     }
 }
 
-// How often each observer of a schema asks, if one asks more often than it may: `is_valid`,
-// `validate` and `collect_first_errors` with the limit 1 up to the first failure, the others in all;
-// asked once, and once more.
-pub(crate) fn counted(lines: &mut Lines, given: Given<'_>, all: Arguments<'_>) {
-    if let Some(tree) = lines.text.made(Asked::of(lines.alloc, all.value(3))) {
-        let (until_first, of_all) = (all.number(4), all.number(5));
-        let asked = (
-            tree,
-            [until_first, until_first, until_first, of_all, of_all],
-        );
-        let ctx: Context<AskedJson> = Context::new(lines.alloc, given.settings);
-        let compiled = compile(lines.alloc, &ctx, all.value(2));
-        push_compiled(lines, Some(compiled), &asked, push_counts);
+/// Compares how often each observer of a schema asks with how often it may: `is_valid`, `validate` and
+/// `collect_first_errors` with the limit 1 up to the first failure, the others in all; asked once, and
+/// once more.
+pub(crate) fn check(tally: &mut Tally, row: &Row<'_>, most: &Value, instance: &Value) {
+    let (first, all) = (number_of(most, "untilFirst"), number_of(most, "ofAll"));
+    let mut lines = Lines::new(tally.alloc, false, false);
+    if let Some(tree) = lines.text.made(Asked::of(tally.alloc, instance)) {
+        let asked = (tree, [first, first, first, all, all]);
+        let ctx: Context<AskedJson> = Context::new(tally.alloc, row.settings);
+        let compiled = compile(tally.alloc, &ctx, row.schema);
+        push_compiled(&mut lines, Some(compiled), &asked, push_counts);
     }
+    tally.compare("how often nodes are asked", "", lines.text.as_str());
 }
 
+// Appends the counts of the observers if one of them is too large, or 0.
 fn push_counts(lines: &mut Lines, node: &SchemaNode<AskedJson>, (tree, most): &(Asked, [u64; 5])) {
     for time in &["once", "once more"] {
         let counts = counts(lines, node, tree);
         let mut pairs = counts.iter().zip(most);
         if pairs.any(|(count, most)| *count == 0 || *count > *most) {
-            write!(lines.text, "{time}: {counts:?}; ");
+            write!(lines.text, "{time}: {counts:?}\n");
         }
     }
 }

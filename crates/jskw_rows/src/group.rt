@@ -1,131 +1,103 @@
 //! Groups of rows: a schema under a setting, and tests of it.
-use crate::made::array_of;
-use crate::members::{Members, is_true, items, known, one_of, settings_of, text, wanted};
-use crate::row::{self, Subject};
+use crate::instances::array_of;
+use crate::members::{Members, check_members, items, settings_of, text};
+use crate::row::{self, Row};
 use crate::tally::Tally;
-use crate::{calls, requests, unchecked};
 use jskw_leaf::is_leaf;
 use jskw_report::{Context, KeywordName, Settings};
 use jskw_value::SerdeJson;
 use serde_json::Value;
 use std::alloc::Global;
 
-const GROUP: &str =
-    "description drafts vocabularies overridden objectLayer schema fused handsOnRequired refused unchecked tests";
+// The members of a group, of a test, of a claim of counts, and of an array that is made.
+const GROUP: &str = "description drafts? vocabularies? overridden? objectLayer? schema fused? \
+    handsOnRequired? refused|unchecked|tests";
 
-const MAKER: &str = "count front choices back crowded again more inside";
+const TEST: &str = "description data|each|made decimals? text? valid|errors|float evaluation? \
+    applications? asked?";
 
-const TEST: &str =
-    "description data each made decimals text valid errors float evaluation applications";
+const COUNTS: &str = "untilFirst ofAll collected?";
+
+const MAKER: &str = "count front? choices? back? crowded? again? more? inside?";
 
 /// Asks the rows of a group.
 pub(crate) fn check(tally: &mut Tally, group: &Value) {
-    let description = group.get("description").and_then(Value::as_str);
-    tally.begin_group(description.unwrap_or("no description"));
-    wanted(tally, description, "description");
+    tally.begin_group(text(group, "description"));
+    let rows = tally.rows;
     if group.get("requests").is_some() {
-        return requests::check(tally, group);
+        return row::check_requests(tally, group);
     }
-    if group.get("call").is_some() {
-        return calls::check(tally, group);
+    check_members(tally, group, GROUP);
+    if group.get("drafts").is_none() {
+        check_draft(tally, group, "2020-12");
     }
-    if let Some(group) = known(tally, group, GROUP) {
-        one_of(tally, group, "refused unchecked tests");
-        check_drafts(tally, group);
-    }
-}
-
-fn check_drafts(tally: &mut Tally, group: &Members) {
-    if !group.contains_key("drafts") {
-        return check_draft(tally, group, "2020-12");
-    }
-    for draft in items(tally, group, "drafts") {
+    for draft in items(group, "drafts") {
         check_draft(tally, group, draft.as_str().unwrap_or("?"));
     }
+    tally.check_rows(rows);
 }
 
 // Asks the rows of a group in one draft.
-fn check_draft(tally: &mut Tally, group: &Members, draft: &str) {
+fn check_draft(tally: &mut Tally, group: &Value, draft: &str) {
     let settings = settings_of(tally.alloc, group, draft);
     match (&settings, group.get("schema")) {
         (Ok(Some(settings)), Some(schema)) => {
-            let subject = subject_of(tally, group, draft, settings, schema);
-            check_tests(tally, subject);
+            let row = Row {
+                group,
+                draft,
+                settings,
+                schema,
+                keywords: keywords_of(tally.alloc, settings, schema),
+                is_fused: group.get("fused").is_some(),
+                delegates: group.get("handsOnRequired").is_some(),
+                test: group,
+                layers: layers_of(tally, group),
+                object_layer: true,
+            };
+            check_tests(tally, row);
         }
         _ => tally.tell_wrong("schema, drafts, vocabularies or overridden", draft),
     }
 }
 
-fn subject_of<'g>(
-    tally: &mut Tally,
-    group: &'g Members,
-    draft: &'g str,
-    settings: &'g Settings,
-    schema: &'g Value,
-) -> Subject<'g> {
-    Subject {
-        group,
-        draft,
-        settings,
-        schema,
-        layers: layers_of(tally, group),
-        keywords: keywords_of(tally.alloc, settings, schema),
-        is_fused: is_true(tally, group, "fused"),
-        delegates: is_true(tally, group, "handsOnRequired"),
+fn check_tests(tally: &mut Tally, mut row: Row<'_>) {
+    if row.group.get("refused").is_some() {
+        tally.begin_test(row.draft, "refused");
+        row::check(tally, row, &Value::Null);
+    }
+    if row.group.get("unchecked").is_some() {
+        row::check_unchecked(tally, &row);
+    }
+    for test in items(row.group, "tests") {
+        row.test = test;
+        check_test(tally, row);
     }
 }
 
-fn check_tests(tally: &mut Tally, subject: Subject<'_>) {
-    if subject.group.contains_key("refused") {
-        tally.take_name(subject.draft, "refused");
-        row::check(tally, subject, subject.group, &Value::Null);
-    }
-    if let Some(list) = subject.group.get("unchecked") {
-        unchecked::check(tally, subject, list);
-    }
-    for test in items(tally, subject.group, "tests") {
-        let name = test.get("description").and_then(Value::as_str);
-        tally.begin_test(name.unwrap_or("no description"));
-        let mistakes = tally.mistakes;
-        if let Some(test) = known(tally, test, TEST) {
-            check_test(tally, subject, test, mistakes);
+// Asks a row for each instance of a test.
+fn check_test(tally: &mut Tally, row: Row<'_>) {
+    let (rows, test) = (tally.rows, row.test);
+    tally.begin_test(row.draft, text(test, "description"));
+    check_members(tally, test, TEST);
+    for counts in &["applications", "asked"] {
+        if let Some(most) = test.get(*counts) {
+            check_members(tally, most, COUNTS);
         }
     }
-}
-
-// Asks a row for each instance of a test, if no mistake was found since there were so many.
-fn check_test(tally: &mut Tally, subject: Subject<'_>, test: &Members, mistakes: u64) {
-    let name = text(tally, test, "description");
-    tally.take_name(subject.draft, name);
-    one_of(tally, test, "data each made");
-    one_of(tally, test, "valid errors float");
-    if let Some(most) = test.get("applications") {
-        known(tally, most, "untilFirst ofAll collected");
-    }
-    if tally.mistakes == mistakes {
-        check_instances(tally, subject, test);
-    }
-}
-
-fn check_instances(tally: &mut Tally, subject: Subject<'_>, test: &Members) {
     if let Some(instance) = test.get("data") {
-        row::check(tally, subject, test, instance);
+        row::check(tally, row, instance);
     }
-    for instance in items(tally, test, "each") {
-        row::check(tally, subject, test, instance);
+    for instance in items(test, "each") {
+        row::check(tally, row, instance);
     }
-    for maker in items(tally, test, "made") {
-        check_made(tally, subject, test, maker);
+    for maker in items(test, "made") {
+        check_members(tally, maker, MAKER);
+        match &array_of(tally.alloc, maker) {
+            Some(instance) => row::check(tally, row, instance),
+            None => tally.tell_wrong("no JSON", "made"),
+        }
     }
-}
-
-// Asks a row over an array that is made.
-fn check_made(tally: &mut Tally, subject: Subject<'_>, test: &Members, maker: &Value) {
-    known(tally, maker, MAKER);
-    match &array_of(tally.alloc, maker) {
-        Some(instance) => row::check(tally, subject, test, instance),
-        None => tally.tell_wrong("no JSON", "made"),
-    }
+    tally.check_rows(rows);
 }
 
 // Returns a schema that is an object in which no keyword that is read has subschemas.
@@ -139,11 +111,13 @@ fn keywords_of<'s>(alloc: Global, settings: &Settings, schema: &'s Value) -> Opt
 }
 
 // The object layers with which the answers of a group hold: `true` is with one.
-fn layers_of(tally: &mut Tally, group: &Members) -> &'static [bool] {
-    match items(tally, group, "objectLayer") {
-        [] => &[true, false],
-        [Value::Bool(true)] => &[true],
-        [Value::Bool(false)] => &[false],
+fn layers_of(tally: &mut Tally, group: &Value) -> &'static [bool] {
+    if group.get("objectLayer").is_none() {
+        return &[true, false];
+    }
+    match group.pointer("/objectLayer/0") {
+        Some(Value::Bool(true)) => &[true],
+        Some(Value::Bool(false)) => &[false],
         _ => {
             tally.tell_wrong("it has to be `[true]` or `[false]`", "objectLayer");
             &[]

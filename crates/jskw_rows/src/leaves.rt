@@ -30,7 +30,7 @@ pub(crate) fn push_answer<'r, F: Json>(
     parent: &'r Members,
     instance: &'r F::Node,
 ) {
-    let root: Context<F> = Context::new(lines.alloc, row.subject.settings);
+    let root: Context<F> = Context::new(lines.alloc, row.settings);
     let root = root.with_object_layer(row.object_layer);
     let ctx = root.new_at_location(lines.alloc, LocationSegment::Name("items"));
     if let Some(ctx) = &lines.text.made(ctx) {
@@ -106,7 +106,7 @@ fn push_leaves<'r, F: Json, V: Validate<F> + Drop>(
         push_leaf(lines.alloc, &mut said, leaf, instance);
     }
     let root = if said.holds { "valid\n" } else { "invalid\n" };
-    said.push_lines(&mut lines.text, root, row.test.contains_key("evaluation"));
+    said.push_lines(&mut lines.text, root, row.test.get("evaluation").is_some());
 }
 
 // Appends what a keyword says of the item of the index 7.
@@ -126,7 +126,7 @@ fn push_leaf<F: Json, V: Validate<F> + Drop>(
     said.push_first(&first);
     let mut errors = Vec::new(alloc);
     let made = asked.collect_errors(instance, &mut location, &mut ctx, &mut errors);
-    said.push_errors(made, &errors);
+    said.errors.push_errors(made, &errors);
     let node = evaluated(alloc, leaf, instance, &mut location);
     said.tree.push_tree(1, &node);
 }

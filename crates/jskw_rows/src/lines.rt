@@ -50,9 +50,9 @@ impl Lines {
         Lines::new(self.alloc, self.are_of_item, self.has_messages)
     }
 
-    /// The location of a schema or an instance without this beginning, if it is of an item, or a
-    /// question mark if it has another one.
-    pub(crate) fn behind<'t>(&self, start: &str, location: &'t Location) -> &'t str {
+    // The location of a schema or an instance without this beginning, if it is of an item, or a
+    // question mark if it has another one.
+    fn behind<'t>(&self, start: &str, location: &'t Location) -> &'t str {
         let start = if self.are_of_item { start } else { "" };
         location.as_str().strip_prefix(start).unwrap_or("?")
     }
@@ -66,8 +66,16 @@ impl Lines {
         }
     }
 
-    /// Appends the line of an error of an instance.
-    pub(crate) fn push_error<F: Json>(&mut self, error: &ValidationError<F>) {
+    /// Appends the lines of the errors that were collected.
+    pub(crate) fn push_errors<F: Json>(&mut self, made: Made<()>, errors: &[ValidationError<F>]) {
+        self.text.keep(made);
+        for error in errors {
+            self.push_error(error);
+        }
+    }
+
+    // Appends the line of an error of an instance.
+    fn push_error<F: Json>(&mut self, error: &ValidationError<F>) {
         let at = self.behind("/7", error.instance_path());
         self.push_start(at, error);
         self.text.push_json(error.instance());
@@ -86,9 +94,10 @@ impl Lines {
     // Appends what stands in front of the value at fault.
     fn push_start<F: Json>(&mut self, at: &str, error: &ValidationError<F>) {
         push_kind(self.alloc, &mut self.text, error.kind());
-        let is_same = error.evaluation_path() == error.schema_path();
         let by = self.behind("/items", error.schema_path());
-        push_places(&mut self.text, at, by, is_same);
+        write!(self.text, " at {at} by {by} of ");
+        let is_same = error.evaluation_path() == error.schema_path();
+        self.text.push_if(!is_same, "another path, ");
     }
 
     // Ends the line, with the message if it is to be written.
@@ -151,12 +160,6 @@ impl Lines {
     }
 }
 
-fn push_places(text: &mut Text, at: &str, by: &str, is_same: bool) {
-    write!(text, " at {at} by {by}");
-    text.push_if(!is_same, " of another path");
-    text.push(" of ");
-}
-
 // Appends the keyword of a kind and its payload as JSON, `true` for one without.
 fn push_kind(alloc: Global, text: &mut Text, kind: &ValidationErrorKind) {
     write!(text, "{} ", kind.keyword());
@@ -164,10 +167,12 @@ fn push_kind(alloc: Global, text: &mut Text, kind: &ValidationErrorKind) {
         ValidationErrorKind::AdditionalItems { limit } => write!(text, "{limit}"),
         ValidationErrorKind::CompileError { message } => write!(text, "\"{message}\""),
         ValidationErrorKind::Constant { expected_value } => text.push_json(*expected_value),
-        ValidationErrorKind::Enum { options } => match options {
-            EnumOptions::Listed(options) => text.push_json(*options),
-            EnumOptions::TypeNames => text.push("\"typeNames\""),
-        },
+        ValidationErrorKind::Enum {
+            options: EnumOptions::Listed(options),
+        } => text.push_json(*options),
+        ValidationErrorKind::Enum {
+            options: EnumOptions::TypeNames,
+        } => text.push("\"typeNames\""),
         ValidationErrorKind::MinItems { limit }
         | ValidationErrorKind::MaxItems { limit }
         | ValidationErrorKind::MinProperties { limit }

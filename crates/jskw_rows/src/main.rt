@@ -7,22 +7,15 @@ mod answer;
 mod asked;
 mod calls;
 mod group;
+mod instances;
 mod leaves;
 mod lines;
-mod made;
 mod members;
-mod memory;
-mod representations;
-mod requests;
 mod row;
 mod tally;
 mod text;
-mod unchecked;
 mod wanted;
-mod whole;
 
-use jskw_service::read_value;
-use jskw_text::read_bytes;
 use serde_json::Value;
 use std::fs::DirEntry;
 use std::process::ExitCode;
@@ -50,29 +43,25 @@ fn push_name(names: &mut Vec<String>, entry: io::Result<DirEntry>) -> io::Result
 
 // Asks the rows of a file's text, which is an array of groups.
 fn check_text(tally: &mut Tally, text: &str) {
-    match &read_value(tally.alloc, text.as_bytes()) {
-        Ok(Some(Value::Array(groups))) => {
+    match &Value::from_str(tally.alloc, text) {
+        Ok(Value::Array(groups)) => {
             for group in groups {
                 group::check(tally, group);
             }
         }
-        _ => tell_broken(tally, text.as_bytes()),
+        Ok(_) => tally.tell_wrong("the file has to be a JSON array", "another value"),
+        Err(error) => {
+            let mut found = Text::new(tally.alloc);
+            write!(found, "{error}");
+            tally.tell_wrong("the file has to be a JSON array", found.as_str());
+        }
     }
-}
-
-// Records where a text is no JSON, or that it is no array.
-fn tell_broken(tally: &mut Tally, text: &[u8]) {
-    let mut found = Text::new(tally.alloc);
-    match &read_bytes(tally.alloc, text) {
-        Ok(_) => found.push("another value"),
-        Err(fault) => calls::push_fault(&mut found, text, fault),
-    }
-    tally.tell_wrong("the file has to be a JSON array", found.as_str());
 }
 
 // Asks the rows of a file, and prints those that differ and how many there are.
 fn check_file(rt: &HostRuntime, tally: &mut Tally, folder: &str, name: &str) -> io::Result<()> {
-    let path = format!(in rt.alloc(); "{folder}/{name}")?;
+    let mut path = Text::new(rt.alloc());
+    write!(path, "{folder}/{name}");
     let text = fs::read_to_string(rt, path.as_str())?;
     tally.begin_file(name);
     let before = tally.rows;
@@ -98,7 +87,7 @@ fn check_folder(rt: &HostRuntime, folder: &str) -> io::Result<bool> {
 fn check_here(rt: &HostRuntime) -> io::Result<bool> {
     let mut is_right = check_folder(rt, ".")?;
     for line in rt.lines(rt.alloc()) {
-        is_right = memory::make(rt, line?.as_str()) && is_right;
+        is_right = calls::make(rt, line?.as_str()) && is_right;
     }
     Ok(is_right)
 }

@@ -1,11 +1,9 @@
 //! What was asked so far, and what differed.
-use crate::text::{Made, Text};
+use crate::text::Text;
 use std::alloc::Global;
 use std::collections::BTreeSet;
 
-// How many lines of an answer that differs are printed, and how many characters of each.
-const LINES: usize = 8;
-
+// How many bytes of a line are printed.
 const COLUMNS: usize = 400;
 
 /// The rows that were asked, and what is to be printed of them.
@@ -18,11 +16,10 @@ pub(crate) struct Tally {
     test: Text,
     // what the row asks
     question: Text,
-    // whether the row is asked with an object layer; `None` if the way has none
-    layer: Option<bool>,
-    // whether an answer of the row differed, and how many more have since then
-    has_differed: bool,
-    others: u64,
+    // with or without an object layer, behind the way; empty if the way has none
+    layer: &'static str,
+    // how many answers of the row were not the wanted ones
+    differing_of_row: u64,
     pub(crate) told: Text,
     pub(crate) rows: u64,
     /// How many answers were not the wanted ones.
@@ -41,9 +38,8 @@ impl Tally {
             group: Text::new(alloc),
             test: Text::new(alloc),
             question: Text::new(alloc),
-            layer: None,
-            has_differed: false,
-            others: 0,
+            layer: "",
+            differing_of_row: 0,
             told: Text::new(alloc),
             rows: 0,
             differing: 0,
@@ -61,59 +57,64 @@ impl Tally {
 
     /// Takes the name of a group whose rows are asked next.
     pub(crate) fn begin_group(&mut self, name: &str) {
-        self.begin_test("");
+        self.end_row();
         self.group.set(name);
+        self.test.set("");
     }
 
-    /// Takes the name of a test that is read and asked next.
-    pub(crate) fn begin_test(&mut self, name: &str) {
+    /// Takes the name of a test in a part of the group, which no other of the file may have.
+    pub(crate) fn begin_test(&mut self, part: &str, name: &str) {
         self.end_row();
         self.test.set(name);
+        let mut all = Text::new(self.alloc);
+        let (file, group) = (self.file.as_str(), self.group.as_str());
+        write!(all, "{file}: {group}: {part}: {name}");
+        self.take(all.as_str(), "two tests of one name");
+    }
+
+    /// Counts a row, and takes what it asks, which no other row of any file may ask.
+    pub(crate) fn begin_row(&mut self, question: &str) {
+        self.end_row();
+        self.rows = self.rows.saturating_add(1);
+        self.question.set(question);
+        self.take(question, "a row that stands elsewhere too");
+    }
+
+    /// Tells if no row was asked since there were so many.
+    pub(crate) fn check_rows(&mut self, before: u64) {
+        if self.rows == before {
+            self.tell_wrong("no row is asked of", "it");
+        }
     }
 
     // Appends how many answers of the row differ beside the one that is printed.
     fn end_row(&mut self) {
-        if self.others > 0 {
+        let others = self.differing_of_row.saturating_sub(1);
+        if others > 0 {
             write!(
                 self.told,
-                "  so do {} answers to other ways of asking it\n",
-                self.others
+                "  so do {others} answers to other ways of asking it\n"
             );
         }
-        self.others = 0;
-        self.has_differed = false;
+        self.differing_of_row = 0;
+        self.layer = "";
     }
 
-    /// Takes the name of a test in a part of the group, which no other of the file may have.
-    pub(crate) fn take_name(&mut self, part: &str, test: &str) {
-        self.begin_test(test);
-        let (file, group) = (self.file.as_str(), self.group.as_str());
-        let name = format!(in self.alloc; "{file}: {group}: {part}: {test}");
-        self.take(name, "two tests of one name", part);
-    }
-
-    /// Counts a row, and takes what it asks, which no other row of any file may ask.
-    pub(crate) fn take_row(&mut self, question: &str) {
-        self.rows = self.rows.saturating_add(1);
-        self.end_row();
-        self.question.set(question);
-        self.layer = None;
-        let taken = String::from_str(self.alloc, question);
-        self.take(taken, "a row that stands elsewhere too", question);
-    }
-
-    /// Takes the object layer with which the row is asked next, if the way has one to be named.
-    pub(crate) fn take_layer(&mut self, layer: Option<bool>) {
-        self.layer = layer;
-    }
-
-    fn take(&mut self, text: Made<String>, what: &str, with: &str) {
-        let is_new = match text {
-            Ok(text) => matches!(self.taken.insert(text), Ok(true)),
-            Err(_) => false,
+    /// Takes the object layer with which the row is asked next.
+    pub(crate) fn take_layer(&mut self, layer: bool) {
+        self.layer = if layer {
+            ", with an object layer"
+        } else {
+            ", without an object layer"
         };
-        if !is_new {
-            self.tell_wrong(what, with);
+    }
+
+    // Takes a text that may be taken once.
+    fn take(&mut self, text: &str, what: &str) {
+        if let Ok(copy) = String::from_str(self.alloc, text) {
+            if !matches!(self.taken.insert(copy), Ok(true)) {
+                self.tell_wrong(what, text);
+            }
         }
     }
 
@@ -122,69 +123,58 @@ impl Tally {
     pub(crate) fn tell_wrong(&mut self, what: &str, with: &str) {
         self.mistakes = self.mistakes.saturating_add(1);
         self.tell_place();
-        write!(self.told, "\n  wrong: {what}: ");
-        self.told.push_cut(with, COLUMNS);
-        self.told.push("\n");
+        write!(self.told, "\n  wrong: {what}: {}\n", cut(with));
     }
 
-    /// Records the row if its answer is not the wanted one. `way` is the call that gave it. The first
-    /// such answer of a row is printed, from the first line that differs on; the others are counted.
+    /// Records the row if its answer is not the wanted one. `way` is the call that gave it. Of the first
+    /// such answer of a row the first line that differs is printed; the others are counted.
     pub(crate) fn compare(&mut self, way: &str, wanted: &str, found: &str) {
-        if wanted == found {
-            return;
+        if wanted != found {
+            self.differing = self.differing.saturating_add(1);
+            self.differing_of_row = self.differing_of_row.saturating_add(1);
+            if self.differing_of_row == 1 {
+                self.tell_difference(way, wanted, found);
+            }
         }
-        self.differing = self.differing.saturating_add(1);
-        if self.has_differed {
-            self.others = self.others.saturating_add(1);
-            return;
-        }
-        self.has_differed = true;
+    }
+
+    fn tell_difference(&mut self, way: &str, wanted: &str, found: &str) {
         self.tell_place();
-        let layer = layer_named(self.layer);
-        write!(self.told, ", {way}{layer}\n  asked: ");
-        self.told.push_cut(self.question.as_str(), COLUMNS);
-        let equal = equal_lines(wanted, found);
-        self.tell_lines("wanted", wanted, equal);
-        self.tell_lines("found", found, equal);
-        self.told.push("\n");
+        write!(self.told, ", {way}{}\n", self.layer);
+        write!(self.told, "  asked: {}\n", cut(self.question.as_str()));
+        for (one, other) in wanted.lines().zip(found.lines()) {
+            if one != other {
+                return self.tell_lines(one, other);
+            }
+        }
+        self.tell_lines(behind(wanted, found), behind(found, wanted));
+    }
+
+    fn tell_lines(&mut self, wanted: &str, found: &str) {
+        write!(
+            self.told,
+            "  wanted: {}\n  found: {}\n",
+            cut(wanted),
+            cut(found)
+        );
     }
 
     // Appends the names of the file, the group and the test.
     fn tell_place(&mut self) {
-        let (file, group, test) = (self.file.as_str(), self.group.as_str(), self.test.as_str());
-        write!(self.told, "{file}");
-        for name in &[group, test] {
+        self.told.push(self.file.as_str());
+        for name in &[self.group.as_str(), self.test.as_str()] {
             self.told.push_if(!name.is_empty(), ": ");
             self.told.push(name);
         }
     }
-
-    // Appends some lines of an answer, behind those that are equal.
-    fn tell_lines(&mut self, what: &str, answer: &str, equal: usize) {
-        write!(self.told, "\n  {what}, line {}:", equal.saturating_add(1));
-        for line in answer.lines().skip(equal).take(LINES) {
-            self.told.push("\n    ");
-            self.told.push_cut(line, COLUMNS);
-        }
-    }
 }
 
-fn layer_named(layer: Option<bool>) -> &'static str {
-    match layer {
-        Some(true) => ", with an object layer",
-        Some(false) => ", without an object layer",
-        None => "",
-    }
+// Returns the beginning of a long line, unless a character goes on behind it.
+fn cut(line: &str) -> &str {
+    line.get(..COLUMNS).unwrap_or(line)
 }
 
-// Returns how many lines at the beginning of two texts are equal.
-fn equal_lines(left: &str, right: &str) -> usize {
-    let mut count = 0usize;
-    for (left, right) in left.lines().zip(right.lines()) {
-        if left != right {
-            return count;
-        }
-        count = count.saturating_add(1);
-    }
-    count
+// Returns what is left of a text behind a beginning of it, if there is any.
+fn behind<'t>(text: &'t str, start: &str) -> &'t str {
+    text.get(start.len()..).unwrap_or("nothing more")
 }

@@ -35,12 +35,11 @@ impl Text {
         self.keep(pushed);
     }
 
-    /// Appends the beginning of a text, of so many characters, and whether there are more.
-    pub(crate) fn push_cut(&mut self, part: &str, count: usize) {
-        for character in part.chars().take(count) {
-            write!(self, "{character}");
+    /// Appends a text if something is so.
+    pub(crate) fn push_if(&mut self, is_so: bool, part: &str) {
+        if is_so {
+            self.push(part);
         }
-        self.push_if(part.chars().nth(count).is_some(), " ..");
     }
 
     /// Puts another text in the place of this one.
@@ -48,13 +47,6 @@ impl Text {
         self.text.clear();
         self.is_cut = false;
         self.push(text);
-    }
-
-    /// Appends a text if something is so.
-    pub(crate) fn push_if(&mut self, is_so: bool, part: &str) {
-        if is_so {
-            self.push(part);
-        }
     }
 
     /// What `write!` calls.

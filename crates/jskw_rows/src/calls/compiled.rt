@@ -1,12 +1,11 @@
 //! Calls of keywords by themselves, and of validators that are made by hand.
 #![tactic(auto, using(jskw_value::proofs::DecimalTrees::lawful_tree))]
 
-use super::{Arguments, Given, UNKNOWN};
+use super::{text, tree, value};
 use crate::answer::push_compiled;
+use crate::instances::array_of;
 use crate::lines::Lines;
-use crate::made::push_array;
 use crate::members::Members;
-use crate::text::Text;
 use jskw_array::compiler::compile;
 use jskw_array::items::{
     ArrayShapeValidator, BooleanItems, IntegerItems, IntegerItemsDraft4, ItemType, NumberItems,
@@ -24,13 +23,13 @@ use jskw_number::helpers::map_get_u64;
 use jskw_number::minmax::{Above, AtLeast, AtMost, Below, Limit, LimitTest, Whole};
 use jskw_report::context::member_of;
 use jskw_report::{
-    Context, KeywordName, LazyLocation, Location, LocationSegment, Validate, ValidationContext,
+    Context, LazyLocation, Location, LocationSegment, Settings, Validate, ValidationContext,
 };
-use jskw_value::{DecimalJson, DecimalTree, Node, SerdeJson};
+use jskw_value::{DecimalJson, DecimalTree, Node};
 use serde_json::Value;
 
 // The value of a limit of each relation that is made of 7 and that value.
-pub(super) fn limits(lines: &mut Lines, value: &Value) {
+pub(super) fn push_limits(lines: &mut Lines, value: &Value) {
     push_limit::<i64, AtLeast>(lines, 7, value);
     push_limit::<i64, AtMost>(lines, 7, value);
     push_limit::<i64, Above>(lines, 7, value);
@@ -40,24 +39,16 @@ pub(super) fn limits(lines: &mut Lines, value: &Value) {
 fn push_limit<T: Whole, R: LimitTest>(lines: &mut Lines, limit: T, value: &Value) {
     if let Some(value) = lines.text.made(value.clone()) {
         let limit: Limit<T, R> = Limit::from((limit, value, Location::new(lines.alloc)));
-        let value = limit.limit_value().to_string(lines.alloc);
-        lines.text.push_made(value);
+        lines.text.push_json(limit.limit_value());
     }
 }
 
-// The bound of a name of an object.
-pub(super) fn bound(lines: &mut Lines, given: Given<'_>, name: &str) {
-    let ctx: Context<SerdeJson> = Context::new(lines.alloc, given.settings);
-    let bound = map_get_u64(lines.alloc, given.parent, &ctx, name);
-    let say = |lines: &mut Lines, bound: &u64, _: &Members| write!(lines.text, "{bound}");
-    push_compiled(lines, bound, given.parent, say)
-}
-
 // What a validator that is made for `/a` says of an item of the index 7.
-pub(super) fn made(lines: &mut Lines, all: Arguments<'_>) {
+pub(super) fn push_new(lines: &mut Lines, case: &Value) {
     let at = Location::new(lines.alloc).join(lines.alloc, LocationSegment::Name("a"));
+    let item = tree(lines.alloc, case, 1);
     if let Some(at) = lines.text.made(at) {
-        push_made(lines, all.text(0), at, all.instance());
+        push_made(lines, text(case, 0), at, &item);
     }
 }
 
@@ -66,47 +57,92 @@ fn push_made(lines: &mut Lines, name: &str, at: Location, item: &DecimalTree) {
         "false" => push_said(lines, &FalseValidator::new(at), item),
         "array" => push_said(lines, &ArrayTypeValidator::new(at), item),
         "boolean" => push_said(lines, &BooleanTypeValidator::new(at), item),
-        "boolean of items" => push_said(lines, &BooleanItems::compile_type(at), item),
         "integer" => push_said(lines, &IntegerTypeValidator::new(at), item),
-        "integer of items" => push_said(lines, &IntegerItems::compile_type(at), item),
         "integer of Draft 4" => push_said(lines, &IntegerTypeDraft4::new(at), item),
-        "integer of Draft 4 of items" => {
-            push_said(lines, &IntegerItemsDraft4::compile_type(at), item)
-        }
         "null" => push_said(lines, &NullTypeValidator::new(at), item),
         "number" => push_said(lines, &NumberTypeValidator::new(at), item),
-        "number of items" => push_said(lines, &NumberItems::compile_type(at), item),
         "object" => push_said(lines, &ObjectTypeValidator::new(at), item),
         "string" => push_said(lines, &StringTypeValidator::new(at), item),
-        "string of items" => push_said(lines, &StringItems::compile_type(at), item),
-        _ => lines.text.push(UNKNOWN),
+        "boolean of items" => push_item::<BooleanItems>(lines, at, item),
+        "integer of items" => push_item::<IntegerItems>(lines, at, item),
+        "integer of Draft 4 of items" => push_item::<IntegerItemsDraft4>(lines, at, item),
+        "number of items" => push_item::<NumberItems>(lines, at, item),
+        "string of items" => push_item::<StringItems>(lines, at, item),
+        _ => lines.text.push("an unknown validator"),
     }
+}
+
+fn push_item<T: ItemType>(lines: &mut Lines, at: Location, item: &DecimalTree) {
+    push_said(lines, &T::compile_type(at), item)
 }
 
 fn push_said<V: Validate<DecimalJson>>(lines: &mut Lines, validator: &V, item: &DecimalTree) {
     let (mut location, mut ctx) = (LazyLocation::new(lines.alloc), ValidationContext::new());
     lines.text.keep(location.push(7));
-    lines.push_first(&validator.validate(item, &mut location, &mut ctx));
-    let is_valid = lines.text.as_str().is_empty();
-    lines.text.push_if(is_valid, "valid");
+    let first = validator.validate(item, &mut location, &mut ctx);
+    lines.text.push_if(first.is_ok(), "valid");
+    lines.push_first(&first);
 }
 
 // What the validator of a value of `required` says of an item of the index 7, or why there is none.
-pub(super) fn required(lines: &mut Lines, all: Arguments<'_>) {
-    let at = Location::new(lines.alloc);
-    let compiled = compile_with_path::<DecimalJson>(lines.alloc, all.value(0), at);
-    push_compiled(lines, compiled, all.instance(), push_said)
+pub(super) fn push_required(lines: &mut Lines, case: &Value) {
+    let (at, item) = (Location::new(lines.alloc), tree(lines.alloc, case, 1));
+    let compiled = compile_with_path::<DecimalJson>(lines.alloc, value(case, 0), at);
+    push_compiled(lines, compiled, &item, push_said)
+}
+
+/// Makes a call of this kind. Behind the settings stand a schema, a name or an array of options, and the
+/// text of an instance; the object with the settings may be the schema.
+pub(super) fn push_case(lines: &mut Lines, settings: &Settings, kind: &str, case: &Value) {
+    let ctx: Context<DecimalJson> = Context::new(lines.alloc, settings);
+    let instance = tree(lines.alloc, case, 3);
+    let Value::Object(parent) = value(case, 1) else {
+        return;
+    };
+    match kind {
+        "map_get_u64" => {
+            let bound = map_get_u64(lines.alloc, parent, &ctx, text(case, 2));
+            let say = |lines: &mut Lines, bound: &u64, _: &DecimalTree| write!(
+                lines.text,
+                "{bound}"
+            );
+            push_compiled(lines, bound, &instance, say)
+        }
+        "additional_items" => {
+            let value = parent.get("additionalItems").unwrap_or(&Value::Null);
+            let compiled = additional_items::compile(lines.alloc, &ctx, parent, value);
+            push_compiled(lines, compiled, &instance, push_applied)
+        }
+        "ArrayShapeValidator" => push_shape(lines, &ctx, parent, &instance),
+        "enum" => push_options(lines, &ctx, value(case, 2), &instance),
+        _ => lines.text.push("an unknown call"),
+    }
+}
+
+// How many schemas the evaluation of a validator applies.
+fn push_applied<V: Validate<DecimalJson>>(
+    lines: &mut Lines,
+    validator: &V,
+    instance: &DecimalTree,
+) {
+    let (mut location, mut ctx) = (LazyLocation::new(lines.alloc), ValidationContext::new());
+    let _ = validator.evaluate(lines.alloc, instance, &mut location, &mut ctx);
+    write!(lines.text, "{}", ctx.applications());
 }
 
 // The nodes of `type`, `minItems` and `maxItems` of a fused shape; nothing of a schema without one.
-pub(super) fn shape(lines: &mut Lines, given: Given<'_>, all: Arguments<'_>) {
-    let ctx: Context<DecimalJson> = Context::new(lines.alloc, given.settings);
-    if !array_shape_fusion(&ctx, given.parent) {
-        return;
-    }
-    if let Some(items) = member_of(given.parent, KeywordName::Items.as_str()) {
-        let compiled = ArrayShapeValidator::compile(lines.alloc, &ctx, given.parent, items);
-        push_compiled(lines, Some(compiled), all.instance(), push_absorbed);
+fn push_shape(
+    lines: &mut Lines,
+    ctx: &Context<'_, DecimalJson>,
+    parent: &Members,
+    instance: &DecimalTree,
+) {
+    match member_of(parent, "items") {
+        Some(items) if array_shape_fusion(ctx, parent) => {
+            let compiled = ArrayShapeValidator::compile(lines.alloc, ctx, parent, items);
+            push_compiled(lines, Some(compiled), instance, push_absorbed);
+        }
+        _ => {}
     }
 }
 
@@ -131,40 +167,25 @@ fn push_absorbed(
 }
 
 // Whether an instance is one of the options of a made array.
-pub(super) fn options(lines: &mut Lines, given: Given<'_>, all: Arguments<'_>) {
-    let mut schema = Text::new(lines.alloc);
-    schema.push("{\"enum\":");
-    push_array(lines.alloc, &mut schema, all.value(2));
-    schema.push("}");
-    let ctx: Context<DecimalJson> = Context::new(lines.alloc, given.settings);
-    match &Value::from_str(lines.alloc, schema.as_str()) {
-        Ok(schema) => {
-            let compiled = compile(lines.alloc, &ctx, schema);
-            push_compiled(lines, Some(compiled), all.instance(), push_holds);
-        }
-        Err(_) => lines.text.push(UNKNOWN),
+fn push_options(
+    lines: &mut Lines,
+    ctx: &Context<'_, DecimalJson>,
+    options: &Value,
+    instance: &DecimalTree,
+) {
+    let mut schema = lines.others();
+    schema.text.push("{\"enum\":");
+    if let Some(options) = &array_of(lines.alloc, options) {
+        schema.text.push_json(options);
+    }
+    schema.text.push("}");
+    if let Ok(schema) = &Value::from_str(lines.alloc, schema.text.as_str()) {
+        let compiled = compile(lines.alloc, ctx, schema);
+        push_compiled(lines, Some(compiled), instance, push_holds);
     }
 }
 
 fn push_holds(lines: &mut Lines, node: &SchemaNode<DecimalJson>, instance: &DecimalTree) {
     let holds = node.is_valid(instance, &mut ValidationContext::new());
     write!(lines.text, "{holds}");
-}
-
-// How many schemas the evaluation of `additionalItems` by itself applies.
-pub(super) fn additional(lines: &mut Lines, given: Given<'_>, all: Arguments<'_>) {
-    let value = given.parent.get("additionalItems").unwrap_or(&Value::Null);
-    let ctx: Context<DecimalJson> = Context::new(lines.alloc, given.settings);
-    let compiled = additional_items::compile(lines.alloc, &ctx, given.parent, value);
-    push_compiled(lines, compiled, all.instance(), push_applied)
-}
-
-fn push_applied<V: Validate<DecimalJson>>(
-    lines: &mut Lines,
-    validator: &V,
-    instance: &DecimalTree,
-) {
-    let (mut location, mut ctx) = (LazyLocation::new(lines.alloc), ValidationContext::new());
-    let _ = validator.evaluate(lines.alloc, instance, &mut location, &mut ctx);
-    write!(lines.text, "{}", ctx.applications());
 }

@@ -1,12 +1,13 @@
 //! Calls of settings, contexts, locations, errors and evaluations.
-use super::Given;
+use super::{compiled, devices, items, text, value};
 use crate::lines::{Lines, TYPES};
+use crate::members::settings_of;
 use crate::text::{Made, Text};
 use jskw_report::Vocabulary::{Applicator, Core, Validation};
 use jskw_report::context::member_of;
 use jskw_report::{
     Annotations, CompileFault, Context, EnumOptions, ErrorDescription, EvaluationNode,
-    EvaluationResult, Fault, LazyLocation, Location, LocationSegment, ValidationContext,
+    EvaluationResult, Fault, LazyLocation, Location, LocationSegment, Settings, ValidationContext,
     ValidationError, ValidationErrorKind, VocabularySet,
 };
 use jskw_service::vocabularies_of;
@@ -16,25 +17,47 @@ use jskw_value::{
 use serde_json::Value;
 use std::alloc::{AllocError, Global};
 
+/// Makes a call of this kind, and appends what it returns.
+pub(super) fn push_case(lines: &mut Lines, kind: &str, case: &Value) {
+    match kind {
+        "Location" => push_locations(lines, items(case, 0), items(case, 1)),
+        "LazyLocation" => push_stack(lines, items(case, 0)),
+        "ValidationError" => push_messages(lines, value(case, 0)),
+        "AllocError" => push_constants(&mut lines.text),
+        "EvaluationResult" => push_unit(lines),
+        "StdSource" => devices::push_runs(lines, true),
+        "StdSink" => devices::push_runs(lines, false),
+        "required" => compiled::push_required(lines, case),
+        "Limit" => compiled::push_limits(lines, value(case, 0)),
+        "new" => compiled::push_new(lines, case),
+        _ => push_case_of_settings(lines, kind, case),
+    }
+}
+
+// The draft and the rest of the settings stand first.
+fn push_case_of_settings(lines: &mut Lines, kind: &str, case: &Value) {
+    match &settings_of(lines.alloc, value(case, 1), text(case, 0)) {
+        Ok(Some(settings)) if kind == "Settings" => push_settings(lines, settings, case),
+        Ok(Some(settings)) if kind == "Context" => push_contexts(lines, settings, case),
+        Ok(Some(settings)) => compiled::push_case(lines, settings, kind, case),
+        _ => lines.text.push("no settings"),
+    }
+}
+
 // The drafts of settings and of a context under them, whether all vocabularies are in their set, and of
 // each vocabulary whether both have it and whether it is in the set; whether both override a name.
-pub(super) fn settings(lines: &mut Lines, given: Given<'_>, name: &str) {
-    let (settings, text) = (given.settings, &mut lines.text);
+fn push_settings(lines: &mut Lines, settings: &Settings, case: &Value) {
     let ctx = Context::<SerdeJson>::new(lines.alloc, settings);
-    let set = vocabularies_of(given.parent.get("vocabularies")).unwrap_or(VocabularySet::empty());
+    let text = &mut lines.text;
+    let set = vocabularies_of(value(case, 1).get("vocabularies"));
+    let set = set.unwrap_or(VocabularySet::empty());
     let is_all = set == VocabularySet::all();
     write!(text, "{:?} {:?} {is_all}", settings.draft(), ctx.draft());
-    for vocabulary in &[Core, Applicator, Validation] {
-        let (has, also) = (
-            settings.has_vocabulary(*vocabulary),
-            ctx.has_vocabulary(*vocabulary),
-        );
-        write!(
-            text,
-            " {vocabulary:?} {has} {also} {}",
-            set.contains(*vocabulary)
-        );
+    for one in &[Core, Applicator, Validation] {
+        let (has, also) = (settings.has_vocabulary(*one), ctx.has_vocabulary(*one));
+        write!(text, " {one:?} {has} {also} {}", set.contains(*one));
     }
+    let name = super::text(case, 2);
     let (is_one, is_other) = (
         settings.is_keyword_overridden(name),
         ctx.is_keyword_overridden(name),
@@ -44,21 +67,19 @@ pub(super) fn settings(lines: &mut Lines, given: Given<'_>, name: &str) {
 
 // The location, the draft and the object layer of a context, of one without the layer, of two below
 // it, and of the last with the layer again; and whether an object has members of two names.
-pub(super) fn contexts(lines: &mut Lines, given: Given<'_>) {
-    let whole = Context::<SerdeJson>::new(lines.alloc, given.settings);
+fn push_contexts(lines: &mut Lines, settings: &Settings, case: &Value) {
+    let whole = Context::<SerdeJson>::new(lines.alloc, settings);
     push_context(&mut lines.text, &whole);
     let whole = whole.with_object_layer(false);
     push_context(&mut lines.text, &whole);
-    push_items(lines, &whole);
-    let (x, y) = (member_of(given.parent, "x"), member_of(given.parent, "y"));
-    write!(lines.text, "{} {}", x.is_some(), y.is_some());
-}
-
-fn push_items(lines: &mut Lines, whole: &Context<'_, SerdeJson>) {
     let items = whole.new_at_location(lines.alloc, LocationSegment::Name("items"));
     if let Some(items) = &lines.text.made(items) {
         push_context(&mut lines.text, items);
         push_second(lines, items);
+    }
+    if let Value::Object(parent) = value(case, 1) {
+        let (x, y) = (member_of(parent, "x"), member_of(parent, "y"));
+        write!(lines.text, "{} {}", x.is_some(), y.is_some());
     }
 }
 
@@ -76,17 +97,13 @@ fn push_context(text: &mut Text, ctx: &Context<'_, SerdeJson>) {
 }
 
 // The location of steps, and whether it is equal to that of others, as a copy of it is.
-pub(super) fn locations(lines: &mut Lines, left: &[Value], right: &[Value]) {
+fn push_locations(lines: &mut Lines, left: &[Value], right: &[Value]) {
     let (left, right) = (joined(lines.alloc, left), joined(lines.alloc, right));
     if let (Ok(left), Ok(right)) = (&left, &right) {
-        push_locations(lines, left, right);
+        let copy = lines.text.made(left.copy());
+        let (is_equal, is_copy) = (left == right, copy.as_ref() == Some(right));
+        write!(lines.text, "{} {is_equal} {is_copy}", left.as_str());
     }
-}
-
-fn push_locations(lines: &mut Lines, left: &Location, right: &Location) {
-    let copy = lines.text.made(left.copy());
-    let (is_equal, is_copy) = (left == right, copy.as_ref() == Some(right));
-    write!(lines.text, "{} {is_equal} {is_copy}", left.as_str());
 }
 
 // Returns the location of steps: numbers go to items, texts to members.
@@ -103,7 +120,7 @@ fn joined(alloc: Global, steps: &[Value]) -> Made<Location> {
 }
 
 // The location of numbers, which are pushed, and texts, each of which pops one.
-pub(super) fn stack(lines: &mut Lines, steps: &[Value]) {
+fn push_stack(lines: &mut Lines, steps: &[Value]) {
     let mut location = LazyLocation::new(lines.alloc);
     for step in steps {
         match step.as_u64() {
@@ -118,41 +135,39 @@ pub(super) fn stack(lines: &mut Lines, steps: &[Value]) {
 
 // The messages of errors about null that no schema makes: a limit of what is no number, options that
 // are no array, and sets of one type and of all.
-pub(super) fn messages(lines: &mut Lines, options: &Value) {
+fn push_messages(lines: &mut Lines, options: &Value) {
     let mut all = JsonTypeSet::empty();
     for (_, json_type) in &TYPES {
         all = all.insert(*json_type);
     }
     let options = EnumOptions::Listed(options);
-    let one = JsonTypeSet::from(JsonType::Array);
-    push_message(lines, ValidationErrorKind::Minimum { limit: 2 });
-    push_message(lines, ValidationErrorKind::Enum { options });
-    push_message(lines, ValidationErrorKind::of_types(one));
-    push_message(lines, ValidationErrorKind::of_types(all));
-}
-
-// Appends the message of an error about null.
-fn push_message(lines: &mut Lines, kind: ValidationErrorKind<'_>) {
-    let (at, by) = (Location::new(lines.alloc), Location::new(lines.alloc));
-    let error: ValidationError<SerdeJson> = ValidationError::new(kind, at, &by, &Value::Null);
-    lines.text.push_made(error.message(lines.alloc));
-    lines.text.push(";");
+    for kind in &[
+        ValidationErrorKind::Minimum { limit: 2 },
+        ValidationErrorKind::Enum { options },
+        ValidationErrorKind::of_types(JsonTypeSet::from(JsonType::Array)),
+        ValidationErrorKind::of_types(all),
+    ] {
+        let (at, by) = (Location::new(lines.alloc), Location::new(lines.alloc));
+        let error: ValidationError<SerdeJson> = ValidationError::new(*kind, at, &by, &Value::Null);
+        lines.text.push_made(error.message(lines.alloc));
+        lines.text.push(";");
+    }
 }
 
 // Whether a lack of memory is a fault of its own; and the constants of each representation and of each
 // nullability.
-pub(super) fn wanting(lines: &mut Lines) {
+fn push_constants(text: &mut Text) {
     let is_fault = matches!(Fault::<SerdeJson>::from(AllocError), Fault::Memory(_));
     let is_compile_fault = matches!(CompileFault::from(AllocError), CompileFault::Memory(_));
-    write!(lines.text, "{is_fault} {is_compile_fault}");
+    write!(text, "{is_fault} {is_compile_fault}");
     let (serde, decimals) = (SerdeJson::KEYS_PER_LOOKUP, DecimalJson::KEYS_PER_LOOKUP);
     let (with_null, without) = (Nullable::ACCEPTS_NULL, NotNullable::ACCEPTS_NULL);
-    write!(lines.text, ", {serde} {decimals}, {with_null} {without}");
+    write!(text, ", {serde} {decimals}, {with_null} {without}");
 }
 
 // The lines of a node that is made by hand and of the errors that it describes; and the counts of a
 // context after no application, one and two.
-pub(super) fn unit(lines: &mut Lines) {
+fn push_unit(lines: &mut Lines) {
     let mut tree = lines.others();
     tree.push_tree(0, &node_by_hand(lines.alloc));
     lines.text.push(tree.text.as_str());

@@ -3,8 +3,8 @@
 ghost use Rattle.std.specs.Prelude.{IsTrue};
 ghost use Rattle.jskw_value.specs.Tree.{is_lawful};
 
+use super::printed::Printer;
 use crate::leaves::{Leaf, compiled};
-use crate::memory::printed::Printer;
 use crate::text::Made;
 use jskw_array::SchemaNode;
 use jskw_array::compiler::compile;
@@ -18,7 +18,8 @@ use std::alloc::Global;
 
 // What is compiled, and what calls of a kind ask of it. Its type is a parameter, as in `push_compiled`.
 trait Observed<F: Json> {
-    fn ask(&self, to: &mut Printer<'_>, instance: &F::Node);
+    fn ask(&self, to: &mut Printer<'_>, instance: &F::Node)
+        requires { IsTrue (is_lawful (F.Node.tree instance.now)) };
 }
 
 /// Compiles a schema, and asks of an instance what the calls of a kind ask.
@@ -43,7 +44,7 @@ fn ask_whole<F: Json>(
     instance: &F::Node,
 ) {
     match schema {
-        Value::Object(parent) if to.kind.starts_with("leaves") => {
+        Value::Object(parent) if to.kind == "leaves" => {
             ask_compiled(to, compiled(to.alloc(), ctx, parent), instance);
         }
         _ => {}
@@ -59,11 +60,14 @@ fn ask_compiled<F: Json, C: Observed<F> + Drop>(
     instance: &F::Node,
 ) {
     match &made {
-        Ok(compiled) => compiled.ask(to, instance),
+        Ok(compiled) if instance.is_lawful() => compiled.ask(to, instance),
+        Ok(_) => to.check(false),
         Err(CompileFault::Memory(_)) => to.tell(true),
         Err(CompileFault::Bad(error)) => {
             to.tell(false);
-            to.print_refusal(error);
+            let mut lines = to.lines();
+            lines.push_refusal(error);
+            to.print_lines(lines.text.as_str());
         }
     }
     drop(made);
@@ -72,9 +76,6 @@ fn ask_compiled<F: Json, C: Observed<F> + Drop>(
 impl<F: Json> Observed<F> for SchemaNode<F> {
     fn ask(&self, to: &mut Printer<'_>, instance: &F::Node) {
         to.tell(false);
-        if !instance.is_lawful() {
-            return to.check(false);
-        }
         match to.kind {
             // One of the schemas is `false`, whose compile takes no memory: no line says what it gave.
             "below" => ask_below(to, self, instance),
@@ -87,9 +88,6 @@ impl<F: Json> Observed<F> for SchemaNode<F> {
 
 impl<F: Json, V: Validate<F> + Drop> Observed<F> for Vec<Leaf<V>> {
     fn ask(&self, to: &mut Printer<'_>, instance: &F::Node) {
-        if !instance.is_lawful() {
-            return to.check(false);
-        }
         for leaf in self {
             ask_leaf(to, leaf, instance);
         }

@@ -2,7 +2,7 @@
 use crate::lines::Lines;
 use crate::text::{Made, Text};
 use jskw_report::{EvaluationNode, Fault, LazyLocation, ValidationError};
-use jskw_value::{Json, Node, SerdeJson};
+use jskw_value::{Json, Node};
 use std::alloc::Global;
 use std::fmt::Display;
 
@@ -19,6 +19,11 @@ pub(super) struct Printer<'r> {
 impl Printer<'_> {
     pub(super) fn alloc(&self) -> Global {
         self.rt.alloc()
+    }
+
+    /// No lines, of errors with their messages.
+    pub(super) fn lines(&self) -> Lines {
+        Lines::new(self.alloc(), false, true)
     }
 
     /// What `write!` calls.
@@ -67,17 +72,8 @@ impl Printer<'_> {
 
     /// Prints errors, each in a line.
     pub(super) fn print_errors<F: Json>(&mut self, errors: &[ValidationError<F>]) {
-        let mut lines = Lines::new(self.alloc(), false, true);
-        for error in errors {
-            lines.push_error(error);
-        }
-        self.print_lines(lines.text.as_str());
-    }
-
-    /// Prints why a schema does not compile.
-    pub(super) fn print_refusal(&mut self, error: &ValidationError<SerdeJson>) {
-        let mut lines = Lines::new(self.alloc(), false, true);
-        lines.push_refusal(error);
+        let mut lines = self.lines();
+        lines.push_errors(Ok(()), errors);
         self.print_lines(lines.text.as_str());
     }
 
@@ -95,7 +91,7 @@ impl Printer<'_> {
 
     /// Prints the lines of an evaluation, and of the errors that it describes.
     pub(super) fn print_tree(&mut self, answer: &Made<EvaluationNode>) {
-        let mut tree = Lines::new(self.alloc(), false, true);
+        let mut tree = self.lines();
         if let Ok(root) = answer {
             tree.push_nodes(0, root);
         }
