@@ -7,9 +7,8 @@ ghost use Rattle.jskw_c.specs.Evaluated.{annotation_text};
 ghost use Rattle.jskw_c.specs.Evaluated.{evaluation_text, evaluations_text, numbers_text};
 ghost use Rattle.jskw_c.specs.Evaluated.{errors_text, place_text, strings_text, unit_text, verdict_text};
 
-use crate::json_parts::{push_boolean, push_comma, push_number, push_string};
+use crate::json_parts::{push_boolean, push_comma, push_number, push_string, push_text};
 use jskw_report::{Annotations, ErrorDescription, EvaluationNode};
-use jskw_service::push_bytes;
 use std::alloc::{AllocError, Global};
 
 // Returns the tree as a JSON object.
@@ -27,9 +26,9 @@ fn push_node(alloc: Global, text: &mut Vec<u8>, node: &EvaluationNode) -> Result
     ensures { OnOk result (text.new.items ≡ text.old.items ++ evaluation_text node.now) }
 {
     push_part(alloc, text, node)?;
-    push_bytes(text, b",\"details\":[")?;
+    push_text(text, b",\"details\":[")?;
     push_nodes(alloc, text, node.children())?;
-    push_bytes(text, b"]}")
+    push_text(text, b"]}")
 }
 
 // Appends the items of an array of nodes.
@@ -65,9 +64,9 @@ fn push_verdict(alloc: Global, text: &mut Vec<u8>, node: &EvaluationNode) -> Res
     ensures { OnOk result (text.new.items ≡ text.old.items
         ++ verdict_text (is_valid node.now) (keyword_location_at node.now)) }
 {
-    push_bytes(text, b"{\"valid\":")?;
+    push_text(text, b"{\"valid\":")?;
     push_boolean(text, node.valid())?;
-    push_bytes(text, b",\"keywordLocation\":")?;
+    push_text(text, b",\"keywordLocation\":")?;
     push_string(alloc, text, node.schema_location().as_str())
 }
 
@@ -77,9 +76,9 @@ fn push_place(alloc: Global, text: &mut Vec<u8>, node: &EvaluationNode) -> Resul
     ensures { OnOk result (text.new.items ≡ text.old.items
         ++ place_text (instance_location_at node.now) (annotation_at node.now)) }
 {
-    push_bytes(text, b",\"instanceLocation\":")?;
+    push_text(text, b",\"instanceLocation\":")?;
     push_string(alloc, text, node.instance_location().as_str())?;
-    push_bytes(text, b",\"annotation\":")?;
+    push_text(text, b",\"annotation\":")?;
     push_annotation(alloc, text, node)
 }
 
@@ -88,9 +87,9 @@ fn push_place(alloc: Global, text: &mut Vec<u8>, node: &EvaluationNode) -> Resul
 fn push_errors(alloc: Global, text: &mut Vec<u8>, node: &EvaluationNode) -> Result<(), AllocError>
     ensures { OnOk result (text.new.items ≡ text.old.items ++ errors_text (keywords_at node.now)) }
 {
-    push_bytes(text, b",\"errors\":[")?;
+    push_text(text, b",\"errors\":[")?;
     push_keywords(alloc, text, node.errors())?;
-    push_bytes(text, b"]")
+    push_text(text, b"]")
 }
 
 // Appends the annotation of a node, or `null`.
@@ -103,13 +102,13 @@ fn push_annotation(
         (text.new.items ≡ text.old.items ++ annotation_text (annotation_at node.now)) }
 {
     match node.annotations() {
-        None => push_bytes(text, b"null"),
+        None => push_text(text, b"null"),
         Some(Annotations::Bool(flag)) => push_boolean(text, *flag),
         Some(Annotations::Index(index)) => push_number(alloc, text, *index),
         Some(Annotations::Indices(indices)) => {
-            push_bytes(text, b"[")?;
+            push_text(text, b"[")?;
             push_numbers(alloc, text, indices.as_slice())?;
-            push_bytes(text, b"]")
+            push_text(text, b"]")
         }
     }
 }

@@ -15,8 +15,8 @@ push_node-returns t c =
     let unit =
     unit_text (is_valid n) (keyword_location_at n) (instance_location_at n) (annotation_at n) (keywords_at n) in
     four_parts _ _ _ _ _ _ unit (codes ",\"details\":[") (evaluations_text false (evaluations c.children.result.now))
-    (codes "]}") _ c.in_ok-push_part.ensures c.in_ok-push_bytes.ensures
-    c.in_ok-push_nodes.ensures c.push_bytes-2.ensures
+    (codes "]}") _ c.in_ok-push_part.ensures c.in_ok-push_text.ensures
+    c.in_ok-push_nodes.ensures c.push_text-2.ensures
     (text_of_node n ∙ ap (λ es. unit ++ (codes ",\"details\":[" ++ (evaluations_text false es ++ codes "]}")))
     (sym c.children.ensures.nodes))
 

@@ -9,6 +9,6 @@ pub returns : goal.returns
 unfolding errors_text
 returns c =
     three_parts _ _ _ _ _ (codes ",\"errors\":[") (strings_text false (keywords_of c.errors.result.now)) (codes "]") _
-    c.in_ok-push_bytes.ensures c.in_ok-push_keywords.ensures
-    c.push_bytes-2.ensures
+    c.in_ok-push_text.ensures c.in_ok-push_keywords.ensures
+    c.push_text-2.ensures
     (ap (λ ks. codes ",\"errors\":[" ++ (strings_text false ks ++ codes "]")) (sym c.errors.ensures))
