@@ -1,9 +1,7 @@
--- Texts of four to eight bytes are told apart by their first and their last four bytes.
-use Rattle.std.proofs.Common.{◌≡◌, ℕ, ◌-◌, ◌+◌, ◌≤◌, ◌==◌, List, ◌++◌, length, take, drop, sym, ap, ap₂, ◌∙◌, arith}
-use Rattle.std.proofs.lemmas.Bool.Decides.{Decides-eqb, same_from_decides}
+-- Texts of four to eight bytes are their first and their last four bytes.
+use Rattle.std.proofs.Common.{◌≡◌, ℕ, ◌-◌, ◌+◌, ◌≤◌, List, ◌++◌, length, take, drop, true, sym, ap, ap₂, ◌∙◌, arith}
 use Rattle.std.proofs.lemmas.List.{take-append-drop, take_rest, drop-drop}
 use Rattle.std.proofs.lemmas.Slice.Eq.{bytes_eq-Decides}
-use Rattle.std.specs.Int.{w32, from_le_bytes, to_le_bytes}
 use Rattle.std.specs.Str.{bytes_eq}
 
 -- what is behind the first four bytes of n stands among the last four
@@ -25,11 +23,6 @@ same_ends a b n l h first e =
     let rest = behind a n l h ∙ ap (drop (8 - n)) ends ∙ sym (behind b n l h) in
     sym (take-append-drop 4 a) ∙ ap₂ (λ x y. x ++ y) first rest ∙ take-append-drop 4 b
 
--- where the first four bytes are the same, the last four tell, as the numbers p and q
-pub last_tell : (a b : List ℕ) (n p q : ℕ) → 4 ≤ n → n ≤ 8 → take 4 a ≡ take 4 b → p ≡ from_le_bytes w32 (last n a)
-    → to_le_bytes w32 p ≡ last n a
-    → q ≡ from_le_bytes w32 (last n b) → to_le_bytes w32 q ≡ last n b → (p == q) ≡ bytes_eq a b
-last_tell a b n p q l h first p_is p_of q_is q_of = same_from_decides (p == q) (bytes_eq a b) (
-  λ e. same_ends a b n l h first (sym p_of ∙ ap (to_le_bytes w32) ((Decides-eqb p q).0 e) ∙ q_of),
-  λ e. (Decides-eqb p q).1 (p_is ∙ ap (λ s. from_le_bytes w32 (last n s)) e ∙ sym q_is),
-) (bytes_eq-Decides a b)
+pub equal_ends : (a b : List ℕ) (n : ℕ) → 4 ≤ n → n ≤ 8 → take 4 a ≡ take 4 b → last n a ≡ last n b
+    → bytes_eq a b ≡ true
+equal_ends a b n l h first e = (bytes_eq-Decides a b).1 (same_ends a b n l h first e)

@@ -12,8 +12,8 @@ pub(crate) fn is_same_name(name: &str, other: &str) -> bool
 }
 
 // Returns whether the texts, which have the same length, are equal. Those of four bytes and more are
-// compared by their first four bytes; of up to eight bytes, as most names are, the last four do the
-// rest.
+// compared by their first and their last four bytes, which are all that most names have: where these
+// differ, as in names that are numbered, no call is made.
 #[inline(always)]
 fn is_same(text: &str, other: &str) -> bool
     requires { length text.now ≡ length other.now }
@@ -24,13 +24,12 @@ fn is_same(text: &str, other: &str) -> bool
     if length < 4 {
         return is_equal(text, other);
     }
-    if word(&left[..4]) != word(&right[..4]) {
+    if word(&left[..4]) != word(&right[..4])
+        || word(&left[length - 4..]) != word(&right[length - 4..])
+    {
         return false;
     }
-    if length > 8 {
-        return is_equal(text, other);
-    }
-    word(&left[length - 4..]) == word(&right[length - 4..])
+    length <= 8 || is_equal(text, other)
 }
 
 // Returns four bytes as a number, the lowest byte first.
