@@ -48,6 +48,21 @@ rest_least s (t ∷ ts) all =
     let first = ap (λ b. needed s t + (if b then sum_to_failure (holds s) (needed s) ts else 0)) here.0 in
     omega (arith, rest, one, first)
 
+-- both parts of a fused shape
+pub shape_holds : {F Node Number Key : Type 0} (v : ArrayShapeValidator F Node Number Key) (t : Tree)
+    → all_hold (absorbed_keywords v.absorbed) t ≡ true → keyword_holds (validator_keyword v.items.validator) t ≡ true
+    → meaning_holds (shape_meaning v) t ≡ true
+shape_holds v t bounds types =
+    hold_appended t (absorbed_keywords v.absorbed) (items_keywords v) ∙ ap₂ (λ b c. b && (c && true)) bounds types
+
+-- what holds of all by one check holds by a weaker one
+pub all_too : {A : Type 0} (p q : A → Bool) → ((x : A) → p x ≡ true → q x ≡ true) → (xs : List A)
+    → list_all p xs ≡ true → list_all q xs ≡ true
+all_too p q weaker [] all = refl
+all_too p q weaker (x ∷ xs) all =
+    let one = and_parts (p x) (list_all p xs) all in
+    ap₂ (λ a b. a && b) (weaker x one.0) (all_too p q weaker xs one.1)
+
 five : (a b c d e : Bool) → (a && (b && (c && (d && e)))) ≡ true
     → (a ≡ true) × (b ≡ true) × (c ≡ true) × (d ≡ true) × (e ≡ true)
 five a b c d e h =

@@ -7,7 +7,7 @@ ghost use Rattle.jskw_array.specs.Words.{boolean_schema, schemas_delegate, fail,
 ghost use Rattle.jskw_array.specs.Words.{hands_on_required, keeps_list};
 ghost use Rattle.std.specs.Prelude.{if◌then◌else◌};
 ghost use Rattle.jskw_array.specs.Words.{drop, holds, is_fused_schema, is_lawful, is_some};
-ghost use Rattle.jskw_array.specs.Words.{items, length, limited, list_all, take};
+ghost use Rattle.jskw_array.specs.Words.{Tree, items, length, limited, list_all, meaning_holds, shape_meaning, take};
 ghost use Rattle.jskw_array.specs.Words.{item_location, keywords_in, keywords_of, marked, min};
 ghost use Rattle.jskw_array.specs.Words.{needed, pairs, path_of, schema_location, schema_object};
 ghost use Rattle.jskw_array.specs.Words.{ArraysAreValid, schemas_of, shape_keywords, sum_by, tree, true};
@@ -254,8 +254,20 @@ impl<F: Json> Subschema<F> {
         QuickArrays::of_parts(self.settled.outline, &parts[self.settled.count..])
     }
 
+    // Returns the fused shape, if the schema has no other keyword and tests the items for a type alone.
+    fn typed_shape(&self) -> Option<&ArrayShapeValidator<F>>
+        ensures { IfSome result (λ v. (t : Tree)
+            → holds self.now t ≡ meaning_holds (shape_meaning v.now) t) }
+    {
+        match self.parts()? {
+            [Part::Shape(shape)] if shape.items.validator.is_typed() => Some(shape),
+            _ => None,
+        }
+    }
+
     // Applies the schema to the items from `start` on, as far as they are arrays whose items are in
-    // quick sets. Returns the index of the first that is not, or `count`, the number of items.
+    // quick sets or of a type. Returns the index of the first that is not, or `count`, the number of
+    // items.
     fn skip_arrays(
         &self,
         start: usize,
@@ -274,6 +286,9 @@ impl<F: Json> Subschema<F> {
         ensures counted { CountsUpTo ctx.old ctx.new (sum_by (needed self.now)
             (take (result - start) (drop start (items (F.Node.tree instance.now))))) }
     {
+        if let Some(shape) = self.typed_shape() {
+            return shape.skip_typed(start, count, instance, ctx);
+        }
         match self.quick_arrays() {
             Some(arrays) => arrays.skip(start, count, instance, ctx),
             None => start,

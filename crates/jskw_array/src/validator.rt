@@ -1,6 +1,6 @@
 //! The validators of all keywords as one type.
 ghost use Rattle.std.specs.Prelude.{◌≡◌};
-ghost use Rattle.jskw_array.specs.Words.{Accepts, Tree, in_outline, keyword_delegates};
+ghost use Rattle.jskw_array.specs.Words.{Accepts, IsTrue, Tree, in_outline, is_lawful, keyword_delegates};
 ghost use Rattle.jskw_array.specs.Words.{keyword_holds, one_keyword, true, validator_keyword};
 
 use crate::additional_items::AdditionalItemsBooleanValidator;
@@ -118,6 +118,37 @@ impl<F: Json> Validator<F> {
             Validator::Rest(v) => Outline::between(0, v.start as u64),
             Validator::AdditionalItemsBoolean(v) => Outline::between(0, v.items_count as u64),
             _ => Outline::of(self.quick_set()),
+        }
+    }
+
+    // Returns whether the keyword tests the items for a type alone.
+    pub(crate) fn is_typed(&self) -> bool {
+        match self {
+            Validator::ItemsNumber(_) => true,
+            Validator::ItemsString(_) => true,
+            Validator::ItemsBoolean(_) => true,
+            Validator::ItemsInteger(_) => true,
+            Validator::ItemsIntegerDraft4(_) => true,
+            _ => false,
+        }
+    }
+
+    // Returns whether the keyword tests the items for a type alone and accepts the instance. Applies
+    // no schema.
+    #[inline(always)]
+    pub(crate) fn types_hold(&self, instance: &F::Node, ctx: &mut ValidationContext) -> bool
+        requires { IsTrue (is_lawful (F.Node.tree instance.now)) }
+        ensures valid { result ≡ true
+            → keyword_holds (validator_keyword self.now) (F.Node.tree instance.now) ≡ true }
+        ensures counted { ctx.new ≡ ctx.old }
+    {
+        match self {
+            Validator::ItemsNumber(v) => v.is_valid(instance, ctx),
+            Validator::ItemsString(v) => v.is_valid(instance, ctx),
+            Validator::ItemsBoolean(v) => v.is_valid(instance, ctx),
+            Validator::ItemsInteger(v) => v.is_valid(instance, ctx),
+            Validator::ItemsIntegerDraft4(v) => v.is_valid(instance, ctx),
+            _ => false,
         }
     }
 

@@ -1,7 +1,9 @@
 //! The fused shape of an array: `type` of `array`, `minItems`, `maxItems` and `items` of one schema
 //! (JSON Schema Validation 6.1.1, 6.4.1, 6.4.2, Core 10.3.1.2), with no other keyword of items
 //! beside them. The type and the length are tested once, and then the items.
-ghost use Rattle.std.specs.Prelude.{◌≡◌};
+ghost use Rattle.std.specs.Prelude.{◌≡◌, ◌+◌, ◌-◌, ◌≤◌};
+ghost use Rattle.jskw_array.specs.Words.{CountsUpTo, drop, is_lawful, items, length, list_all, meaning_holds};
+ghost use Rattle.jskw_array.specs.Words.{min, take, true};
 ghost use Rattle.jskw_array.specs.Words.{IsTrue, Keyword, CompilesTo, Refusal, Result, Some};
 ghost use Rattle.jskw_array.specs.Words.{absorbed_keywords, append_keywords, fused_keywords};
 ghost use Rattle.jskw_array.specs.Words.{get_member, is_fused, keyword, map_ok, members_view};
@@ -15,7 +17,7 @@ use jskw_report::{
     CompilationResult, Context, EvaluationResult, KeywordLocation, KeywordName, LazyLocation,
     Report, Stop, Validate, ValidationContext,
 };
-use jskw_value::Json;
+use jskw_value::{Array, Json};
 use serde_json::{Map, Value};
 use std::alloc::{AllocError, Global};
 
@@ -67,6 +69,64 @@ impl<F: Json> ArrayShapeValidator<F> {
         ensures { result.now ≡ self.now.absorbed }
     {
         &self.absorbed
+    }
+}
+
+impl<F: Json> ArrayShapeValidator<F> {
+    // Applies the schema to the items from `start` on, as far as they are arrays of the shape, where
+    // their items are tested for a type alone. Returns the index of the first that is not, or
+    // `count`, the number of items.
+    #[inline(never)]
+    pub(crate) fn skip_typed(
+        &self,
+        start: usize,
+        count: usize,
+        instance: &F::Node,
+        ctx: &mut ValidationContext,
+    ) -> usize
+        requires lawful { IsTrue (is_lawful (F.Node.tree instance.now)) }
+        requires count { count ≡ length (items (F.Node.tree instance.now)) }
+        requires start { start ≤ count }
+        ensures from { start ≤ result }
+        ensures within { result ≤ count }
+        ensures valid { list_all (meaning_holds (shape_meaning self.now)) (take (result - start)
+            (drop start (items (F.Node.tree instance.now)))) ≡ true }
+        ensures applied { min (ctx.old + (result - start)) u64.MAX ≤ ctx.new }
+        ensures counted { CountsUpTo ctx.old ctx.new (result - start) }
+    {
+        let end = self.typed_end(start, count, instance, ctx);
+        ctx.count_more(end - start);
+        end
+    }
+
+    // Returns what `skip_typed` does, and applies nothing.
+    #[inline(always)]
+    fn typed_end(
+        &self,
+        start: usize,
+        count: usize,
+        instance: &F::Node,
+        ctx: &mut ValidationContext,
+    ) -> usize
+        requires lawful { IsTrue (is_lawful (F.Node.tree instance.now)) }
+        requires count { count ≡ length (items (F.Node.tree instance.now)) }
+        requires start { start ≤ count }
+        ensures from { start ≤ result }
+        ensures within { result ≤ count }
+        ensures valid { list_all (meaning_holds (shape_meaning self.now)) (take (result - start)
+            (drop start (items (F.Node.tree instance.now)))) ≡ true }
+        ensures applied { ctx.new ≡ ctx.old }
+    {
+        for index in start..count {
+            let item = instance.item(index);
+            let Some(_) = self.absorbed.valid_count(item) else {
+                return index;
+            };
+            if !self.items.validator.types_hold(item, ctx) {
+                return index;
+            }
+        }
+        count
     }
 }
 
