@@ -1,12 +1,12 @@
 -- Arrays whose length and items decide that they are valid, and how many applications that counts.
 use Rattle.std.specs.Borrow.{Bor}
-use Rattle.std.proofs.Common.{◌≡◌, ◌∙◌, ℕ, suc, ◌+◌, ◌-◌, ◌<◌, ◌≤◌, min, List, [], ◌∷◌, ◌++◌, length, get_or, take}
-use Rattle.std.proofs.Common.{drop, sum_by, Bool, true, false, ◌&&◌, if◌then◌else◌, Option, None, Some, is_none, refl}
-use Rattle.std.proofs.Common.{sym, ap, ap₂, subst, arith}
+use Rattle.std.proofs.Common.{◌≡◌, ◌∙◌, ℕ, ◌+◌, ◌-◌, ◌<◌, ◌≤◌, min, List, [], ◌∷◌, ◌++◌, length, get_or, take}
+use Rattle.std.proofs.Common.{drop, sum_by, Bool, true, false, ◌&&◌, if◌then◌else◌, Option, None, Some, refl}
+use Rattle.std.proofs.Common.{sym, ap, ap₂, arith}
 use Rattle.std.proofs.lemmas.Bool.{and_parts}
-use Rattle.std.proofs.lemmas.List.{drop_all, get_or-drop, length-drop, take_more}
+use Rattle.std.proofs.lemmas.List.{get_or-drop, length-drop, take_more}
 use Rattle.std.proofs.lemmas.List.Folds.{list_all-append}
-use Rattle.std.proofs.lemmas.List.Sums.{sum_by-append, sum_by-cons, sum_by_push}
+use Rattle.std.proofs.lemmas.List.Sums.{sum_by-cons, sum_by_push}
 use Rattle.jskw_report.proofs.AppendedKeywords.{hold_appended, needed_appended}
 use Rattle.jskw_leaf.specs.declared.items.absorbed.AbsorbedKeywords.{AbsorbedKeywords}
 use Rattle.jskw_array.specs.Words.{AddsKeywords, AreTuples, ArraysAreValid, AreSettled, IfSome, Pointer, marked}
@@ -16,7 +16,7 @@ use Rattle.jskw_array.specs.Words.{absorbed_keywords, all_hold, all_needed, arra
 use Rattle.jskw_array.specs.Words.{each_needed, front_cost, holds, in_arrays, in_outline, is_array, items}
 use Rattle.jskw_array.specs.Words.{keyword_holds, keyword_needed, keywords_of, list_all, meaning_holds, meaning_needed}
 use Rattle.jskw_array.specs.Words.{needed, part_meaning, rest_cost, rest_holds, rest_keyword, schemas_of}
-use Rattle.jskw_array.specs.Words.{shape_keywords, shape_meaning, sum_to_failure, validator_keyword}
+use Rattle.jskw_array.specs.Words.{shape_meaning, sum_to_failure, validator_keyword}
 use Rattle.jskw_array.specs.declared.outline.Outline.{Outline}
 use Rattle.jskw_array.specs.declared.quick_arrays.QuickArrays.{QuickArrays}
 use Rattle.jskw_array.specs.declared.part.SettledParts.{SettledParts}
