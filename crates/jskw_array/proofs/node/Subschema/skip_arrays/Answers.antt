@@ -7,8 +7,8 @@ use Rattle.jskw_array.proofs.node.Subschema.skip_arrays.Goals as goal
 
 pub returns-in-Some-clause-valid : goal.returns-in-Some-clause-valid
 returns-in-Some-clause-valid g c =
-    all_too (meaning_holds (shape_meaning c.in-Some.shape.now)) (holds c.args.self.now) (λ t h. c.in-Some.ensures t ∙ h) _
-    c.skip_typed.ensures.valid
+    let typed = meaning_holds (shape_meaning c.in-Some.shape.now) in
+    all_too typed (holds c.args.self.now) (λ t h. c.in-Some.ensures t ∙ h) _ c.skip_typed.ensures.valid
 
 pub returns-in-Some-clause-counted : goal.returns-in-Some-clause-counted
 returns-in-Some-clause-counted g c =
@@ -40,5 +40,6 @@ returns-in-Some-quick_arrays-clause-applied g c =
 pub returns-in-Some-quick_arrays-clause-counted : goal.returns-in-Some-quick_arrays-clause-counted
 returns-in-Some-quick_arrays-clause-counted g c =
     let within =
-    arrays_within c.args.self.now c.in-Some-quick_arrays.arrays c.in-Some-quick_arrays.ensures _ c.skip.ensures.passed in
+    arrays_within c.args.self.now c.in-Some-quick_arrays.arrays c.in-Some-quick_arrays.ensures _
+    c.skip.ensures.passed in
     record { from = c.skip.ensures.counted.from; to = omega (arith, within, c.skip.ensures.counted.to) }
