@@ -40,5 +40,6 @@ returns-in-Some-quick_arrays-clause-applied g c =
 pub returns-in-Some-quick_arrays-clause-counted : goal.returns-in-Some-quick_arrays-clause-counted
 returns-in-Some-quick_arrays-clause-counted g c =
     let within =
-    arrays_within c.args.self.now c.in-Some-quick_arrays.arrays c.in-Some-quick_arrays.ensures _ c.skip.ensures.passed in
+    arrays_within c.args.self.now c.in-Some-quick_arrays.arrays c.in-Some-quick_arrays.ensures _
+    c.skip.ensures.passed in
     record { from = c.skip.ensures.counted.from; to = omega (arith, within, c.skip.ensures.counted.to) }
