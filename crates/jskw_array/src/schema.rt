@@ -111,7 +111,10 @@ impl<F: Json> SchemaNode<F> {
         ensures applied { min (ctx.old + 1) u64.MAX ≤ ctx.new }
         ensures counted { CountsUpTo ctx.old ctx.new (needed self.now (F.Node.tree instance.now)) }
     {
-        self.schema.validate(instance, location, ctx)
+        if self.schema.apply_if_accepted(instance, ctx) {
+            return Ok(());
+        }
+        self.schema.validate_keywords(instance, location, ctx)
     }
 
     /// Appends all errors of the instance, which must be lawful, to `errors`, in order. `location`
@@ -132,7 +135,11 @@ impl<F: Json> SchemaNode<F> {
         ensures applied { min (ctx.old + 1) u64.MAX ≤ ctx.new }
         ensures counted { CountsUpTo ctx.old ctx.new (pairs self.now (F.Node.tree instance.now)) }
     {
-        self.schema.collect_errors(instance, location, ctx, errors)
+        if self.schema.apply_if_accepted(instance, ctx) {
+            return Ok(());
+        }
+        self.schema
+            .collect_of_keywords(None, instance, location, ctx, errors)
     }
 
     /// Appends the first errors of the instance, which must be lawful, to `errors`, in order: the
@@ -156,8 +163,14 @@ impl<F: Json> SchemaNode<F> {
         ensures applied { 1 ≤ limit → min (ctx.old + 1) u64.MAX ≤ ctx.new }
         ensures counted { CountsUpTo ctx.old ctx.new (pairs self.now (F.Node.tree instance.now)) }
     {
+        if limit == 0 {
+            return Ok(());
+        }
+        if self.schema.apply_if_accepted(instance, ctx) {
+            return Ok(());
+        }
         self.schema
-            .collect_first_errors(limit, instance, location, ctx, errors)
+            .collect_of_keywords(Some(limit), instance, location, ctx, errors)
     }
 
     /// Returns the evaluation tree of a whole instance, which must be lawful (JSON Schema Core

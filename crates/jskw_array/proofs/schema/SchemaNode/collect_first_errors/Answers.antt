@@ -1,9 +1,9 @@
-use Rattle.std.proofs.Common.{◌∙◌, ◌++◌, ap, sym, append-nil, take}
+use Rattle.std.proofs.Common.{◌≡◌, ◌∙◌, ◌++◌, true, ap, subst, sym, append-nil, take}
 use Rattle.std.proofs.Math.Seq.{take-nil}
-use Rattle.jskw_array.specs.Words.{fail, failures_of, path_of}
+use Rattle.jskw_array.specs.Words.{fail, failures_of, holds, path_of}
 use Rattle.jskw_array.proofs.AcceptedValues.{counted_within, no_errors}
 use Rattle.jskw_array.proofs.WalksOverParts.{one_pair}
-use Rattle.jskw_array.proofs.node.Subschema.collect_first_errors.Goals as goal
+use Rattle.jskw_array.proofs.schema.SchemaNode.collect_first_errors.Goals as goal
 
 pub returns-then-limit-eq0-clause-appended : goal.returns-then-limit-eq0-clause-appended
 returns-then-limit-eq0-clause-appended g c =
@@ -14,9 +14,10 @@ returns-then-limit-eq0-clause-appended g c =
 pub returns-then-apply_if_accepted-clause-appended : goal.returns-then-apply_if_accepted-clause-appended
 returns-then-apply_if_accepted-clause-appended g c =
     let old = failures_of g.F.Node.Rooted.tree c.args.errors.now.items in
+    let t = g.F.Node.Rooted.tree c.args.instance.now in
     let none =
-    no_errors c.args.self.now (g.F.Node.Rooted.tree c.args.instance.now) (path_of c.args.location.now)
-    (c.apply_if_accepted.ensures.valid c.if-apply_if_accepted.true) in
+    no_errors c.args.self.now t (path_of c.args.location.now) (subst (λ s. holds s t ≡ true) c.self.view_is
+    (c.apply_if_accepted.ensures.valid c.if-apply_if_accepted.true)) in
     sym (ap (λ fs. old ++ take c.args.limit fs) none ∙ ap (λ fs. old ++ fs) (take-nil c.args.limit) ∙ append-nil old)
 
 pub returns-then-apply_if_accepted-clause-counted : goal.returns-then-apply_if_accepted-clause-counted
