@@ -7,6 +7,7 @@ import collections
 Workload = collections.namedtuple("Workload", "name loop schema instances")
 
 KINDS = "valid", "last fails", "a tenth fails"
+LENGTHS = 10, 100, 1_000, 10_000, 100_000
 LIMITS = {"minItems": 1, "maxItems": 10_000}
 
 
@@ -51,6 +52,12 @@ def of_integers():
         of_items(f"{name}, minimum", "naturals", array_of(NATURAL), integers, lambda i: -1),
         of_items(f"{name}, four keywords", "multiples", array_of(MULTIPLE), multiples, lambda i: 5 * i + 1),
     ]
+
+
+def lists():
+    """Lists of integers of some lengths: what an item costs if the list is in the processor's caches, and if not."""
+    values = {length: {"valid": list(range(length))} for length in LENGTHS}
+    return [Workload(f"list of {length:,}", "integers", array_of(INTEGER), values[length]) for length in LENGTHS]
 
 
 def of_rows():

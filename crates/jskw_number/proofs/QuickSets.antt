@@ -1,8 +1,8 @@
 -- Ranges of integers within limits and among multiples, and sets of values that keywords accept.
 use Rattle.std.proofs.Common.{◌≡◌, ℕ, zero, suc, List, [], ◌∷◌, ap, get_or, ◌^◌, ◌*◌, ◌%◌, ◌==◌, ◌&&◌, ◌||◌, ℤ, pos}
 use Rattle.std.proofs.Common.{negsuc, ◌*ℤ◌, ◌+ℤ◌, Bool, true, false, not, if◌then◌else◌, Some, None, refl, sym, ap₂}
-use Rattle.std.proofs.Common.{subst, ◌∙◌, arith, lit<, ◌≤◌, ◌<◌, ◌+◌, drop, length}
-use Rattle.std.proofs.lemmas.Bool.{and_parts, or_left, true≢false}
+use Rattle.std.proofs.Common.{subst, ◌∙◌, arith, lit<, ◌≤◌, ◌<◌, ◌+◌, ◌-◌, drop, length}
+use Rattle.std.proofs.lemmas.Bool.{and_parts, lt-ltb, or_left, true≢false}
 use Rattle.std.proofs.Math.Bool.{and-true}
 use Rattle.std.proofs.Math.Dec.{eqb-suc-zero}
 use Rattle.std.proofs.Math.IntN.{*ℤ-one, *ℤ_comm, one, suc_ℤ-*ℤ, zero-*ℤ}
@@ -361,6 +361,47 @@ number_is_in q (number m) n l e h = go q.is_limited l
     go true w = within (q.has_fractions && has_fraction q.integers m)
     go false w = absurd (true≢false (sym w))
 number_is_in q _ n l e h = cc
+
+-- an integer of 64 bits is kept as one
+as_word : (z : ℤ) → negsuc (2 ^ 63 - 1) ≤ℤ z → z <ℤ pos (2 ^ 63) → i64_of z ≡ Some z
+as_word (pos n) l h = ap (λ b. if b then Some (pos n) else None) (lt-ltb n (2 ^ 63) (omega (arith, ints, h)))
+as_word (negsuc n) l h = ap (λ b. if b then Some (negsuc n) else None) (lt-ltb n (2 ^ 63) (omega (arith, ints, l)))
+
+-- an integer that is enclosed by words is in the range if this has no divisor but 1
+enclosed_whole : (r : IntegerRange) (c : ℤ) → negsuc (2 ^ 63 - 1) ≤ℤ r.low → r.high <ℤ pos (2 ^ 63)
+    → non_zero_u64_get r.divisor ≡ 1 → encloses r (exact c zero) ≡ true → has_number r (exact c zero) ≡ true
+enclosed_whole r c l h one e =
+    let ends = and_parts (int_le (r.low *ℤ pos (10 ^ 0)) c) (int_le c (r.high *ℤ pos (10 ^ 0))) e in
+    let low : int_le r.low c ≡ true = ap (λ z. int_le z c) (sym (times_one r.low)) ∙ ends.0 in
+    let high : int_le c r.high ≡ true = ap (λ z. int_le c z) (sym (times_one r.high)) ∙ ends.1 in
+    ap (λ o. option_map_or (in_range r) o false)
+    (as_word c (omega (arith, ints, low, l)) (omega (arith, ints, high, h)))
+    ∙ all_between r c one ∙ rw (low, high) refl
+
+-- what is between the ends is in a set that has fractions, if these ends are words and there is no divisor but 1
+pub enclosed_is_in : (q : QuickSet) (t : Tree) (n : Num) → negsuc (2 ^ 63 - 1) ≤ℤ q.integers.low
+    → q.integers.high <ℤ pos (2 ^ 63) → q.is_limited ≡ true → q.has_fractions ≡ true
+    → non_zero_u64_get q.integers.divisor ≡ 1 → as_number t ≡ Some n → encloses q.integers n ≡ true → is_in q t ≡ true
+enclosed_is_in q (number m) n l h limited fractions one e enclosed = go q.is_limited limited
+  where
+    same : m ≡ n
+    same = cc
+
+    or_right : (a b : Bool) → b ≡ true → (a || b) ≡ true
+    or_right true b w = refl
+    or_right false b w = w
+
+    numbers : (x : Num) → encloses q.integers x ≡ true → is_in_limits q x ≡ true
+    numbers (exact c zero) w =
+        or_right (q.has_fractions && false) (has_number q.integers (exact c zero))
+        (enclosed_whole q.integers c l h one w)
+    numbers (exact c (suc k)) w = rw (fractions, w) refl
+    numbers float w = absurd (true≢false (sym w))
+
+    go : (b : Bool) → b ≡ true → (if b then is_in_limits q m else has_type q (number m)) ≡ true
+    go true w = numbers m (ap (encloses q.integers) same ∙ enclosed)
+    go false w = absurd (true≢false (sym w))
+enclosed_is_in q _ n l h limited fractions one e enclosed = cc
 
 -- one more item passes a test
 pub leading_next : {A : Type 0} (check : A → Bool) (xs : List A) (i : ℕ) (d : A) → i < length xs

@@ -1,9 +1,10 @@
 //! Sets of values that a keyword is known to accept, and that a few instructions test. A keyword
 //! may accept more: a value that is not in its set is tested by the keyword itself.
-ghost use Rattle.std.specs.Prelude.{◌%◌, ◌&&◌, ◌*ℤ◌, ◌+◌, ◌<◌, ◌==◌, ◌^◌, ◌≡◌, ◌≤ℤ◌, ◌≤◌, IsTrue};
-ghost use Rattle.std.specs.Prelude.{ℕ, ℤ, drop, false, get_or, int_le, length, pos, true};
-ghost use Rattle.jskw_value.specs.Number.{Num, exact, is_exact, is_multiple_of};
-ghost use Rattle.jskw_value.specs.Tree.{Items, Members, array, is_lawful, items, number, object};
+ghost use Rattle.std.specs.Prelude.{◌%◌, ◌&&◌, ◌*ℤ◌, ◌+◌, ◌-◌, ◌<◌, ◌<ℤ◌, ◌==◌, ◌^◌, ◌≡◌, ◌≤ℤ◌, ◌≤◌, IsTrue};
+ghost use Rattle.std.specs.Option.{option_map_or};
+ghost use Rattle.std.specs.Prelude.{ℕ, ℤ, drop, false, get_or, int_le, length, negsuc, not, pos, true};
+ghost use Rattle.jskw_value.specs.Number.{Num, exact, is_exact, is_multiple_of, is_written_as_integer};
+ghost use Rattle.jskw_value.specs.Tree.{Items, Members, array, as_number, is_lawful, items, number, object};
 ghost use Rattle.jskw_value.specs.declared.types.JsonType.{JsonType};
 ghost use Rattle.jskw_number.specs.QuickSet.{IsNarrower, divides, encloses, has_number, in_range};
 ghost use Rattle.jskw_number.specs.QuickSet.{is_in, is_in_limits, leading, type_index};
@@ -125,14 +126,16 @@ impl IntegerRange {
         self.encloses_decimal(number.decimal())
     }
 
-    // Returns `encloses` of a decimal.
+    // Returns `encloses` of a decimal. Both ends, which are words, are compared, whatever the first
+    // one tells: a branch between the two would depend on the number.
     #[inline(always)]
-    #[tactic(auto, using(crate::proofs::Limits::order_ge, crate::proofs::Limits::order_le))]
     fn encloses_decimal(&self, number: Decimal) -> bool
-        ensures { result ≡ encloses self.now (value number) }
+        ensures value { result ≡ encloses self.now (value number) }
+        ensures low { negsuc (2 ^ 63 - 1) ≤ℤ self.now.low }
+        ensures high { self.now.high <ℤ pos (2 ^ 63) }
     {
         number.cmp_whole(i128::from(self.low)).is_ge()
-            && number.cmp_whole(i128::from(self.high)).is_le()
+            & number.cmp_whole(i128::from(self.high)).is_le()
     }
 
     // Returns the same as `has`, by a multiplication by `reciprocal`, which should be 2^64 divided by
@@ -317,6 +320,40 @@ impl QuickSet {
         count
     }
 
+    // Returns whether a number is in the set exactly if it is between the ends, with a fraction or
+    // without.
+    #[inline(always)]
+    fn is_of_ends(&self) -> bool
+        ensures { result ≡ (self.now.is_limited && self.now.has_fractions
+            && (non_zero_u64_get self.now.integers.divisor == 1)) }
+    {
+        self.is_limited && self.has_fractions && self.integers.divisor.get() == 1
+    }
+
+    // Returns the index behind the first items from `start` on that are between the ends of the set. No
+    // test asks which of them have a fraction: where they are mixed, no processor foresees the answer.
+    #[inline(never)]
+    fn behind_enclosed<N: Node>(&self, start: usize, count: usize, instance: &N) -> usize
+        requires limited { self.now.is_limited ≡ true }
+        requires fractions { self.now.has_fractions ≡ true }
+        requires divisor { non_zero_u64_get self.now.integers.divisor ≡ 1 }
+        requires lawful { IsTrue (is_lawful (N.tree instance.now)) }
+        requires count { count ≡ length (items (N.tree instance.now)) }
+        requires start { start ≤ count }
+        ensures passed { result + leading (is_in self.now) (drop result (items (N.tree instance.now)))
+            ≡ start + leading (is_in self.now) (drop start (items (N.tree instance.now))) }
+        ensures within { result ≤ count }
+    {
+        let integers = self.integers;
+        for index in start..count {
+            match instance.item(index).as_number() {
+                Some(number) if integers.encloses_decimal(number.decimal()) => {}
+                _ => return index,
+            }
+        }
+        count
+    }
+
     /// Returns the index of the first item from `start` on that is not in the set, or `count` if
     /// there is none. `count` must be the number of items, which is 0 for a non-array, and `start` no
     /// more than that. The instance must be lawful. Allocates nothing.
@@ -329,7 +366,11 @@ impl QuickSet {
             (drop start (items (N.tree instance.now))) }
         ensures within { result ≤ count }
     {
-        for index in self.behind_integers(start, count, instance)..count {
+        let mut start = self.behind_integers(start, count, instance);
+        if start < count && is_fraction(instance.item(start)) && self.is_of_ends() {
+            start = self.behind_enclosed(start, count, instance);
+        }
+        for index in start..count {
             if !self.contains(instance.item(index)) {
                 return index;
             }
@@ -348,6 +389,19 @@ fn is_multiple(number: u64, divisor: u64, reciprocal: u64) -> bool
 {
     let quotient = (u128::from(number) * u128::from(reciprocal)) >> 64;
     quotient * u128::from(divisor) == u128::from(number) || number % divisor == 0
+}
+
+// Returns whether the instance, which must be lawful, is a number that is written with a fraction.
+#[inline(always)]
+fn is_fraction<N: Node>(instance: &N) -> bool
+    requires { IsTrue (is_lawful (N.tree instance.now)) }
+    ensures { result ≡ option_map_or (λ n. not (is_written_as_integer n))
+        (as_number (N.tree instance.now)) false }
+{
+    match instance.as_number() {
+        Some(number) => !number.is_written_as_integer(),
+        None => false,
+    }
 }
 
 // Returns the types that have a mark in both.

@@ -25,6 +25,7 @@ pub mod SerdeTrees
 pub mod Sketches
 pub mod SortedFingerprints
 pub mod Sums
+pub mod TextEnds
 pub mod TextHeads
 pub mod Texts
 pub mod UniqueItems

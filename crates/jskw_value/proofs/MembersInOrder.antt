@@ -1,10 +1,10 @@
 -- Members in the order of their names: where a search ends, and one member more.
 use Rattle.std.proofs.Common.{◌≡◌, ℕ, zero, suc, ◌+◌, ◌<◌, List, [], ◌∷◌, length, get_or, true, false, is_some, Some}
 use Rattle.std.proofs.Common.{None, Result, Ok, Err, IfOk, IfErr, string_bytes, refl, sym, ap, subst, ◌∙◌, inl, inr}
-use Rattle.std.proofs.Common.{arith}
+use Rattle.std.proofs.Common.{arith, drop}
 use Rattle.std.proofs.lemmas.Bool.{cases_lt, cond-true, cond-false}
 use Rattle.std.proofs.lemmas.Cmp.{nat_list_cmp_total, nat_list_eq_equiv}
-use Rattle.std.proofs.lemmas.List.{get_or_read, length-map}
+use Rattle.std.proofs.lemmas.List.{drop_more, get_or_read, length-map}
 use Rattle.std.proofs.lemmas.List.Sorted.{IsPermutation-map, searchable_from_sorted}
 use Rattle.std.proofs.lemmas.Map.Keys.{IsDistinct-from_apart, IsDistinct-IsPermutation, Less-from_sorted}
 use Rattle.std.proofs.lemmas.Map.Keys.{apart_from_distinct, sorted_from_all_adjacent, sorted_tail}
@@ -122,6 +122,23 @@ module _ {V : Type 0} where
       earlier =
           subst (λ n. slice_cmp nat_cmp (string_bytes m.name) n ≡ Less) is
           (less_at (m ∷ ms) 0 (suc i) d s (omega arith) at.within)
+
+  -- ---- a walk over the members
+
+  -- the member at a place in front of those behind it
+  from_place : (ms : List (Member V)) (i : ℕ) (m : Member V) → i < length ms → m ≡ get_or ms i m
+      → drop i ms ≡ m ∷ drop (i + 1) ms
+  from_place ms i m l is = drop_more ms i m l ∙ ap (λ x. x ∷ drop (i + 1) ms) (sym is)
+
+  -- its value is found where it has the name
+  pub found_here : (k : List ℕ) (ms : List (Member V)) (i : ℕ) (m : Member V) → i < length ms → m ≡ get_or ms i m
+      → bytes_eq k (string_bytes m.name) ≡ true → value_named k (drop i ms) ≡ Some m.value
+  found_here k ms i m l is e = ap (value_named k) (from_place ms i m l is) ∙ cond-true _ _ _ e
+
+  -- else what those behind it have
+  pub found_behind : (k : List ℕ) (ms : List (Member V)) (i : ℕ) (m : Member V) → i < length ms → m ≡ get_or ms i m
+      → bytes_eq k (string_bytes m.name) ≡ false → value_named k (drop (i + 1) ms) ≡ value_named k (drop i ms)
+  found_behind k ms i m l is e = sym (ap (value_named k) (from_place ms i m l is) ∙ cond-false _ _ _ e)
 
   -- ---- one member more
 

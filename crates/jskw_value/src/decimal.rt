@@ -93,15 +93,7 @@ impl Decimal {
     fn equals_scaled(&self, other: &Decimal) -> bool
         ensures { result ≡ num_equal (value self.now) (value other.now) }
     {
-        self.shifted(other.scale) == other.shifted(self.scale)
-    }
-
-    // Returns the coefficient times ten to the power `by`.
-    fn shifted(&self, by: u8) -> i128
-        requires { by ≤ 18 }
-        ensures { result ≡ coefficient self.now *ℤ pos (10 ^ by) }
-    {
-        self.coefficient() * ten_to(by) as i128
+        scaled(self.coefficient(), other.scale) == scaled(other.coefficient(), self.scale)
     }
 
     /// Compares the number with an integer (JSON Schema Validation 6.2.2 to 6.2.5). `whole` must be
@@ -111,8 +103,7 @@ impl Decimal {
         requires high { whole <ℤ pos (2 ^ 64) }
         ensures { result ≡ cmp_whole (coefficient self.now) self.now.scale whole }
     {
-        self.coefficient()
-            .cmp(&(whole * ten_to(self.scale) as i128))
+        self.coefficient().cmp(&scaled(whole, self.scale))
     }
 
     /// Returns whether division by `divisor` gives an integer (JSON Schema Validation 6.2.1).
@@ -151,11 +142,13 @@ impl JsonNumber for Decimal {
     }
 
     fn as_i64(&self) -> Option<i64> {
-        if self.scale == 0 {
-            i64::try_from(self.coefficient()).ok()
-        } else {
-            None
+        if self.scale != 0 {
+            return None;
         }
+        if self.is_negative {
+            return Some(-(self.size as i128) as i64);
+        }
+        i64::try_from(self.size).ok()
     }
 
     fn is_integer(&self) -> bool {
@@ -202,13 +195,49 @@ impl From<i64> for Decimal {
     }
 }
 
+// The powers of ten, each at the place of its exponent.
+const POWERS: [u64; 19] = [
+    1,
+    10,
+    100,
+    1_000,
+    10_000,
+    100_000,
+    1_000_000,
+    10_000_000,
+    100_000_000,
+    1_000_000_000,
+    10_000_000_000,
+    100_000_000_000,
+    1_000_000_000_000,
+    10_000_000_000_000,
+    100_000_000_000_000,
+    1_000_000_000_000_000,
+    10_000_000_000_000_000,
+    100_000_000_000_000_000,
+    1_000_000_000_000_000_000,
+];
+
 // Returns ten to the power of a scale.
-#[tactic(auto, using(crate::proofs::Powers::ten_pow_low, crate::proofs::Powers::ten_pow_high))]
+#[inline(always)]
+#[tactic(auto, using(crate::proofs::Powers::power_in_table, crate::proofs::Powers::ten_pow_low, crate::proofs::Powers::ten_pow_high))]
 pub(crate) fn ten_to(scale: u8) -> u64
     requires { scale ≤ 18 }
     ensures value { result ≡ 10 ^ scale }
     ensures low { 1 ≤ result }
     ensures high { result ≤ 10 ^ 18 }
 {
-    10u64.pow(scale as u32)
+    POWERS[scale as usize]
+}
+
+// Returns a number from -2^63 to 2^64-1 times ten to the power of a scale. The power is taken as a word
+// with a sign, so that its product with another such word is one instruction.
+#[inline(always)]
+fn scaled(whole: i128, scale: u8) -> i128
+    requires low { negsuc (2 ^ 63 - 1) ≤ℤ whole }
+    requires high { whole <ℤ pos (2 ^ 64) }
+    requires short { scale ≤ 18 }
+    ensures { result ≡ whole *ℤ pos (10 ^ scale) }
+{
+    whole * i128::from(ten_to(scale) as i64)
 }

@@ -23,6 +23,7 @@ mod json_text;
 pub mod laws;
 pub mod members;
 mod meter;
+mod name_equality;
 pub mod names;
 pub mod nullability;
 pub mod pointer;

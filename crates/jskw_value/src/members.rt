@@ -10,9 +10,14 @@ ghost use Rattle.jskw_value.specs.InsertFault.{HandsBack, is_repeated};
 ghost use Rattle.jskw_value.specs.Members.{entries, member_names, value_named, has_named, against, inserted, lasts};
 ghost use Rattle.jskw_value.specs.Members.{AreSorted, IsIndexOf, IsGap, IsSortedByName, RepeatsAt};
 
+use crate::name_equality::is_same_name;
 use std::alloc::{AllocError, Global};
 use std::cmp::Ordering;
 use std::marker::Model;
+
+// Up to this many members are compared with a name one after another: most are passed over by their
+// length, in three instructions each.
+const FEW_MEMBERS: usize = 16;
 
 /// A name and a value.
 #[derive(Debug, Drop)]
@@ -141,8 +146,25 @@ impl<V> MemberList<V> {
         self.list.is_empty()
     }
 
-    /// Returns the value of the member `name`, or `None` if there is no such member. Binary search.
+    /// Returns the value of the member `name`, or `None` if there is no such member. Few members are
+    /// compared one after another; of more, binary search.
     pub fn get(&self, name: &str) -> Option<&V>
+        ensures { option_map (λ x. x.now) result ≡ value_named name.now self.now }
+    {
+        if self.list.len() > FEW_MEMBERS {
+            return self.get_by_halves(name);
+        }
+        for member in &self.list {
+            if is_same_name(name, member.name.as_str()) {
+                return Some(&member.value);
+            }
+        }
+        None
+    }
+
+    // Returns the same by binary search. Out of line, since it has a frame.
+    #[inline(never)]
+    fn get_by_halves(&self, name: &str) -> Option<&V>
         ensures { option_map (λ x. x.now) result ≡ value_named name.now self.now }
     {
         match self.search(name) {

@@ -1,0 +1,53 @@
+//! Whether two names are equal, for names that are compared with many others.
+ghost use Rattle.std.specs.Prelude.{◌≡◌, length};
+ghost use Rattle.std.specs.Int.{w32, from_le_bytes, to_le_bytes};
+ghost use Rattle.std.specs.Str.{bytes_eq};
+
+// Returns whether the names are equal. Most differ in length.
+#[inline(always)]
+pub(crate) fn is_same_name(name: &str, other: &str) -> bool
+    ensures { result ≡ bytes_eq name.now other.now }
+{
+    name.len() == other.len() && is_same(name, other)
+}
+
+// Returns whether the texts, which have the same length, are equal. Those of four bytes and more are
+// compared by their first and their last four bytes, which are all that most names have: where these
+// differ, as in names that are numbered, no call is made.
+#[inline(always)]
+fn is_same(text: &str, other: &str) -> bool
+    requires { length text.now ≡ length other.now }
+    ensures { result ≡ bytes_eq text.now other.now }
+{
+    let (left, right) = (text.as_bytes(), other.as_bytes());
+    let length = left.len();
+    if length < 4 {
+        return is_equal(text, other);
+    }
+    if word(&left[..4]) != word(&right[..4])
+        || word(&left[length - 4..]) != word(&right[length - 4..])
+    {
+        return false;
+    }
+    length <= 8 || is_equal(text, other)
+}
+
+// Returns four bytes as a number, the lowest byte first.
+fn word(bytes: &[u8]) -> u32
+    requires { length bytes.now ≡ 4 }
+    ensures value { result ≡ from_le_bytes w32 bytes.now }
+    ensures bytes { to_le_bytes w32 result ≡ bytes.now }
+{
+    let mut four = [0u8; 4];
+    four.copy_from_slice(bytes);
+    u32::from_le_bytes(four)
+}
+
+// Returns whether the texts are equal. By a call, so that what the comparison prepares is not done
+// for every name.
+#[inline(never)]
+fn is_equal(text: &str, other: &str) -> bool
+    ensures { result ≡ bytes_eq text.now other.now }
+{
+    text == other
+}
