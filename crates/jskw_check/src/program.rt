@@ -1,5 +1,5 @@
 //! What the program does, over any files, outputs and watcher.
-ghost use Rattle.std.specs.Prelude.{◌≡◌, ℕ, List, false, map, string_bytes, IfOk};
+ghost use Rattle.std.specs.Prelude.{◌≡◌, ℕ, List, false, true, map, string_bytes, IfOk, OnErr};
 ghost use Rattle.std.specs.Io.KnownBytes.{Appends};
 ghost use Rattle.jskw_service.specs.Run.{status_of_verdict};
 ghost use Rattle.jskw_service.specs.declared.service.Verdict.{Verdict};
@@ -199,6 +199,7 @@ fn read_whole<R: Source>(
 ) -> Result<Result<Vec<u8>, &'static str>, Trouble>
     requires { R.has_failed reader.old ≡ false }
     ensures reads { IfOk result (λ read. IfOk read (λ text. HasBytes (R.remaining reader.old) text.items)) }
+    ensures unread { IfOk result (λ read. OnErr read (R.has_failed reader.new ≡ true)) }
     ensures no_output { is_output_trouble result ≡ false }
 {
     match read_all(alloc, reader) {

@@ -1,5 +1,5 @@
 //! A document that is read from a device.
-ghost use Rattle.std.specs.Prelude.{◌≡◌, false, true, IfOk, OnOk, IsErrOf};
+ghost use Rattle.std.specs.Prelude.{◌≡◌, false, true, IfOk, OnErr, OnOk, IsErrOf};
 ghost use Rattle.jskw_documents.specs.Devices.{AnswersDocument, is_write_fault};
 
 use crate::answer::answer_to;
@@ -31,6 +31,8 @@ pub fn check_document<R: Source, W: Sink, V: Watcher>(
     ensures failed { W.has_failed writer.new ≡ is_write_fault result }
     ensures read_failed { IsErrOf result CheckFault.Read → R.has_failed reader.new ≡ true }
     ensures unread { IsErrOf result CheckFault.Read → W.contents writer.new ≡ W.contents writer.old }
+    ensures unwritten { OnErr result (is_write_fault result ≡ false
+        → W.contents writer.new ≡ W.contents writer.old) }
 {
     let document = match read_all(alloc, reader) {
         Ok(document) => document,

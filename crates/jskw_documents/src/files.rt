@@ -1,5 +1,5 @@
 //! The files that are checked.
-ghost use Rattle.std.specs.Prelude.{◌≡◌, ℕ, List, false, map, string_bytes, IfOk, IsErrOf};
+ghost use Rattle.std.specs.Prelude.{◌≡◌, ℕ, List, false, true, map, string_bytes, IfOk, IsErrOf};
 ghost use Rattle.std.specs.Io.KnownBytes.{Appends};
 ghost use Rattle.jskw_documents.specs.Devices.{is_read_fault, is_write_fault};
 ghost use Rattle.jskw_documents.specs.Files.{AnswersFile, AnswersFiles, AnswersPart, AnswersWhole, IsUnread};
@@ -103,6 +103,9 @@ fn check_opened<R: Source, W: Sink, V: Watcher>(
     ensures answers { IfOk result (λ said. (text : List ℕ)
         × AnswersFile checker.now lines name.now (R.remaining reader.old) said text
         × Appends (W.contents writer.old) (W.contents writer.new) text) }
+    ensures whole { R.has_failed reader.new ≡ false → IfOk result (λ said. (text : List ℕ)
+        × AnswersWhole checker.now lines name.now (R.remaining reader.old) said text
+        × Appends (W.contents writer.old) (W.contents writer.new) text) }
     ensures failed { W.has_failed writer.new ≡ is_write_fault result }
     ensures no_read { is_read_fault result ≡ false }
 {
@@ -131,6 +134,7 @@ fn check_reader<R: Source, W: Sink, V: Watcher>(
     ensures part { IsErrOf result CheckFault.Read → (text : List ℕ)
         × AnswersPart checker.now lines name.now (R.remaining reader.old) text
         × Appends (W.contents writer.old) (W.contents writer.new) text }
+    ensures read_failed { IsErrOf result CheckFault.Read → R.has_failed reader.new ≡ true }
     ensures failed { W.has_failed writer.new ≡ is_write_fault result }
 {
     if lines {
