@@ -3,6 +3,7 @@ use Rattle.std.specs.Prelude.{◌≡◌, ◌≤◌, ℕ, List, [], Bool, true, f
 use Rattle.jskw_value.specs.Pointer.{Pointer}
 use Rattle.jskw_value.specs.Tree.{Tree}
 use Rattle.jskw_text.specs.Position.{line_at, column_at}
+use Rattle.jskw_text.specs.ReadFault.{IsBrokenAt}
 use Rattle.jskw_text.specs.Reading.{reading}
 use Rattle.jskw_report.specs.Fail.{fail}
 use Rattle.jskw_report.specs.Holds.{holds}
@@ -28,6 +29,16 @@ verdict_of_read s (Some (Ok t)) = verdict_if (holds s t)
 abbrev pub verdict_on : Schema → List ℕ → Verdict
 verdict_on s bytes = verdict_of_read s (reading bytes)
 
+-- ---- how many errors are counted: those that are written of the tree that is read; none, if none is
+
+abbrev pub errors_of_read : ℕ → Schema → Option (Result Tree Pointer) → ℕ
+errors_of_read limit s None = 0
+errors_of_read limit s (Some (Err p)) = 0
+errors_of_read limit s (Some (Ok t)) = length (first_of limit (fail s t []))
+
+abbrev pub errors_in : ℕ → Schema → List ℕ → ℕ
+errors_in limit s bytes = errors_of_read limit s (reading bytes)
+
 -- ---- the text
 
 -- the line of the document in its stream, or that of the offset in a file that is one document
@@ -35,16 +46,19 @@ abbrev pub line_shown : Option ℕ → ℕ → List ℕ → ℕ
 line_shown None offset bytes = line_at offset bytes
 line_shown (Some n) offset bytes = n
 
--- a refusal for some reason, which names a place in the document
-abbrev pub IsRefusalAt : Output → List ℕ → Option ℕ → List ℕ → Option (List ℕ) → List ℕ → Type 0
-IsRefusalAt output file line bytes location text =
-    (offset : ℕ) × (why : List ℕ) × (offset ≤ length bytes) × (text
+-- a refusal for some reason, which names the place of this offset
+abbrev pub IsRefusalAt : ℕ → Output → List ℕ → Option ℕ → List ℕ → Option (List ℕ) → List ℕ → Type 0
+IsRefusalAt offset output file line bytes location text =
+    (why : List ℕ) × (text
     ≡ refusal_text output file (Some (line_shown line offset bytes)) (Some (column_at offset bytes)) location why)
 
--- of what was read: nothing where the bytes are not JSON, or the location of a number that is not exact, or a tree
+-- of what was read: nothing where the bytes are not JSON, and the place is where they stop being it; or the location of
+-- a number that is not exact, and a place in the document; or a tree
 abbrev pub IsAnswerOf : Options → Schema → List ℕ → Option ℕ → List ℕ → Option (Result Tree Pointer) → List ℕ → Type 0
-IsAnswerOf o s file line bytes None text = IsRefusalAt o.output file line bytes None text
-IsAnswerOf o s file line bytes (Some (Err p)) text = IsRefusalAt o.output file line bytes (Some p) text
+IsAnswerOf o s file line bytes None text =
+    (offset : ℕ) × IsBrokenAt bytes offset × IsRefusalAt offset o.output file line bytes None text
+IsAnswerOf o s file line bytes (Some (Err p)) text =
+    (offset : ℕ) × (offset ≤ length bytes) × IsRefusalAt offset o.output file line bytes (Some p) text
 IsAnswerOf o s file line bytes (Some (Ok t)) text =
     IsReportAs o.output o.verbose file line (first_of o.limit (fail s t [])) text
 

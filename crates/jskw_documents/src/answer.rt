@@ -1,13 +1,14 @@
 //! The answer to one document.
 #![tactic(auto, using(jskw_value::proofs::DecimalTrees::lawful_tree))]
 
-ghost use Rattle.std.specs.Prelude.{◌≡◌, ◌≤◌, ℕ, List, [], IfOk, length, option_map};
+ghost use Rattle.std.specs.Prelude.{◌≡◌, ℕ, List, [], IfOk, length, option_map};
 ghost use Rattle.jskw_text.specs.Position.{line_at};
 ghost use Rattle.jskw_value.specs.DecimalTree.{decimal_tree};
 ghost use Rattle.jskw_report.specs.Errors.{failures_of};
 ghost use Rattle.jskw_report.specs.Fail.{fail, is_empty};
 ghost use Rattle.jskw_report.specs.Holds.{holds};
-ghost use Rattle.jskw_documents.specs.Documents.{IsAnswer, IsRefusalAt, line_shown, verdict_if, verdict_on};
+ghost use Rattle.jskw_documents.specs.Documents.{IsAnswer, IsRefusalAt, errors_in, line_shown};
+ghost use Rattle.jskw_documents.specs.Documents.{verdict_if, verdict_on};
 ghost use Rattle.jskw_documents.specs.Reports.{IsReportAs, first_of};
 ghost use Rattle.jskw_documents.specs.Streams.{worse_of};
 
@@ -48,6 +49,8 @@ pub fn answer_to(
         (λ answer. answer.verdict ≡ verdict_on checker.now.schema document.now) }
     ensures text { IfOk result (λ answer. IsAnswer checker.now.options checker.now.schema file.now line
         document.now answer.text.items) }
+    ensures errors { IfOk result
+        (λ answer. answer.errors ≡ errors_in checker.now.options.limit checker.now.schema document.now) }
 {
     match reader.read(document) {
         Ok(tree) => {
@@ -71,8 +74,7 @@ pub fn answer_to(
     }
 }
 
-// Returns the answer to a document that was not checked, for what stands at this offset, which must
-// be at most the length.
+// Returns the answer to a document that was not checked, for what stands at this offset.
 #[cold]
 fn refuse(
     alloc: Global,
@@ -84,10 +86,10 @@ fn refuse(
     location: Option<&str>,
     why: &str,
 ) -> Result<Answer, AllocError>
-    requires { offset ≤ length document.now }
     ensures verdict { IfOk result (λ answer. answer.verdict ≡ Verdict.Refused) }
-    ensures text { IfOk result (λ answer. IsRefusalAt output file.now line document.now
+    ensures text { IfOk result (λ answer. IsRefusalAt offset output file.now line document.now
         (option_map (λ l. l.now) location.entry) answer.text.items) }
+    ensures errors { IfOk result (λ answer. answer.errors ≡ 0) }
 {
     let position = position_of(document, offset);
     let place = Place {
@@ -126,6 +128,8 @@ fn answer_to_tree(
     ensures text { IfOk result (λ answer. IsReportAs checker.now.options.output
         checker.now.options.verbose file.now line (first_of checker.now.options.limit
         (fail checker.now.schema (decimal_tree tree.now) [])) answer.text.items) }
+    ensures errors { IfOk result (λ answer. answer.errors ≡ length (first_of checker.now.options.limit
+        (fail checker.now.schema (decimal_tree tree.now) []))) }
 {
     let errors = first_errors(alloc, checker.options.limit, &checker.schema, tree)?;
     let place = Place {

@@ -28,6 +28,7 @@ pub fn check_document<R: Source, W: Sink, V: Watcher>(
     requires writer_works { W.has_failed writer.old ≡ false }
     ensures answers { IfOk result (λ said. AnswersDocument checker.now file.now said
         (R.remaining reader.old) (R.remaining reader.new) (W.contents writer.old) (W.contents writer.new)) }
+    ensures works { OnOk result (R.has_failed reader.new ≡ false) }
     ensures failed { W.has_failed writer.new ≡ is_write_fault result }
     ensures read_failed { IsErrOf result CheckFault.Read → R.has_failed reader.new ≡ true }
     ensures unread { IsErrOf result CheckFault.Read → W.contents writer.new ≡ W.contents writer.old }

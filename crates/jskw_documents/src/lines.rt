@@ -60,6 +60,7 @@ pub fn check_lines<R: Source, W: Sink, V: Watcher>(
     requires writer_works { W.has_failed writer.old ≡ false }
     ensures answers { IfOk result (λ said. AnswersLines checker.now file.now said
         (R.remaining reader.old) (R.remaining reader.new) (W.contents writer.old) (W.contents writer.new)) }
+    ensures works { OnOk result (R.has_failed reader.new ≡ false) }
     ensures failed { W.has_failed writer.new ≡ is_write_fault result }
     ensures read_failed { IsErrOf result CheckFault.Read → R.has_failed reader.new ≡ true }
     ensures begun { IsErrOf result CheckFault.Read → AnswersBegun checker.now file.now

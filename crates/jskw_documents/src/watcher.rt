@@ -1,4 +1,5 @@
 //! What is known of a run while it goes on.
+ghost use Rattle.std.specs.Prelude.{◌≡◌, ◌+◌, min};
 
 /// Counts of the documents of a reader so far.
 #[derive(Clone, Copy, Debug)]
@@ -13,7 +14,9 @@ pub struct Counts {
 
 impl Counts {
     /// Returns the counts before the first document.
-    pub fn new() -> Counts {
+    pub fn new() -> Counts
+        ensures { result ≡ record { documents = 0; bytes = 0; errors = 0 } }
+    {
         Counts {
             documents: 0,
             bytes: 0,
@@ -21,8 +24,14 @@ impl Counts {
         }
     }
 
-    /// Returns these counts and others, added up.
-    pub fn plus(self, other: Counts) -> Counts {
+    /// Returns these counts and others, added up. A sum stops at 2^64-1.
+    pub fn plus(self, other: Counts) -> Counts
+        ensures { result ≡ record {
+          documents = min (self.documents + other.documents) usize.MAX;
+          bytes = min (self.bytes + other.bytes) usize.MAX;
+          errors = min (self.errors + other.errors) usize.MAX;
+        } }
+    {
         Counts {
             documents: self.documents.saturating_add(other.documents),
             bytes: self.bytes.saturating_add(other.bytes),
