@@ -28,7 +28,7 @@ pub enum LocationSegment<'s> {
 /// A location in a JSON value, as a JSON pointer (RFC 6901). The empty text is the location of the
 /// whole value. Two locations are equal if their texts are.
 ///
-/// A text of up to 22 bytes takes no memory of its own; copies share a longer one.
+/// A text of up to 19 bytes takes no memory of its own; copies share a longer one.
 #[derive(Debug, Drop)]
 pub struct Location {
     text: LocationText,
@@ -83,6 +83,7 @@ impl Location {
     }
 
     /// Returns a copy of the location, which shares its text if that is long.
+    #[inline(always)]
     pub fn copy(&self) -> Result<Location, AllocError>
         ensures { IfOk result (λ l. l ≡ self.now) }
     {
@@ -179,6 +180,7 @@ impl LazyLocation {
 }
 
 // Returns the location whose text is that of the two.
+#[inline(never)]
 fn joined(alloc: Global, above: &str, rest: &str) -> Result<Location, AllocError>
     ensures { IfOk result (λ l. l ≡ above.now ++ rest.now) }
 {

@@ -66,6 +66,7 @@ impl EvaluationNode {
 
     /// Creates the node of a unit for the keyword location of a validator. If memory runs out, the
     /// unit is dropped.
+    #[inline(always)]
     pub fn at_keyword(
         alloc: Global,
         unit: EvaluationResult,
@@ -84,6 +85,7 @@ impl EvaluationNode {
     }
 
     // Creates the node of a unit.
+    #[inline(always)]
     fn of_unit(
         alloc: Global,
         unit: EvaluationResult,
@@ -93,25 +95,32 @@ impl EvaluationNode {
         ensures { IfOk result (λ n. n
             ≡ node_at evaluation_path instance_location.now (result_of unit)) }
     {
-        let (valid, annotations, errors, children) = match unit {
+        let instance_location = instance_location.copy()?;
+        match unit {
             EvaluationResult::Valid {
                 annotations,
                 children,
-            } => (true, annotations, Vec::new(alloc), children),
+            } => Ok(EvaluationNode {
+                evaluation_path,
+                instance_location,
+                valid: true,
+                annotations,
+                errors: Vec::new(alloc),
+                children,
+            }),
             EvaluationResult::Invalid {
                 errors,
                 children,
                 annotations,
-            } => (false, annotations, errors, children),
-        };
-        Ok(EvaluationNode {
-            evaluation_path,
-            instance_location: instance_location.copy()?,
-            valid,
-            annotations,
-            errors,
-            children,
-        })
+            } => Ok(EvaluationNode {
+                evaluation_path,
+                instance_location,
+                valid: false,
+                annotations,
+                errors,
+                children,
+            }),
+        }
     }
 
     /// Returns whether the keyword or schema accepts the instance.

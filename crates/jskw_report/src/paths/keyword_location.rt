@@ -70,6 +70,7 @@ impl KeywordLocation {
     }
 
     /// Returns the location as a text.
+    #[inline(always)]
     pub fn to_location(&self, alloc: Global) -> Result<Location, AllocError>
         ensures { IfOk result (λ l. l ≡ self.now) }
     {

@@ -4,12 +4,15 @@ ghost use Rattle.std.specs.Prelude.{◌≡◌, ◌++◌, [], IfSome, true, false
 use std::marker::Model;
 use std::str;
 
-// A text of at most 22 bytes, in place: enough for the step of an index or of a keyword, and for most
+// A text of at most 19 bytes, in place: enough for the step of an index or of a keyword, and for most
 // locations.
 #[derive(Debug, Drop)]
 pub(crate) struct ShortText {
-    bytes: [u8; 22],
+    bytes: [u8; 19],
     len: u8,
+    // of no size: behind a tag the text begins at a multiple of four bytes, so that moves of both are
+    // moves of whole words
+    words: [u32; 0],
 }
 
 impl Model for ShortText {
@@ -19,7 +22,7 @@ impl Model for ShortText {
 
     ghost view = { λ t. take t.len t.bytes };
 
-    ghost invariant = { λ t. (t.len ≤ 22) × (length t.bytes ≡ 22) × ∥ IsUtf8 (take t.len t.bytes) ∥₁ };
+    ghost invariant = { λ t. (t.len ≤ 19) × (length t.bytes ≡ 19) × ∥ IsUtf8 (take t.len t.bytes) ∥₁ };
 }
 
 impl ShortText {
@@ -28,12 +31,13 @@ impl ShortText {
         ensures { result ≡ [] }
     {
         ShortText {
-            bytes: [0; 22],
+            bytes: [0; 19],
             len: 0,
+            words: [],
         }
     }
 
-    // Returns the text, if it has at most 22 bytes.
+    // Returns the text, if it has at most 19 bytes.
     pub(crate) fn from(text: &str) -> Option<ShortText>
         ensures { IfSome result (λ short. short ≡ text.now) }
     {
@@ -61,6 +65,7 @@ impl ShortText {
         ShortText {
             bytes: self.bytes,
             len: self.len,
+            words: [],
         }
     }
 
@@ -71,7 +76,7 @@ impl ShortText {
         ensures unchanged { result ≡ false → self.new ≡ self.old }
     {
         let start = self.len as usize;
-        if part.len() > 22 - start {
+        if part.len() > 19 - start {
             return false;
         }
         let end = start + part.len();

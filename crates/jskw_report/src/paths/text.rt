@@ -11,7 +11,7 @@ use std::sync::ArcStr;
 // The text of a location.
 #[derive(Debug, Drop)]
 pub(super) enum LocationText {
-    // At most 22 bytes, in place.
+    // At most 19 bytes, in place.
     Short(ShortText),
     // A text that copies share.
     Shared(ArcStr),
