@@ -33,7 +33,8 @@ asked_status (Some s) bytes = status_of_read s (reading bytes)
 
 -- ---- the text
 
--- where a tree is read the text is as `Says` says; else it is the line of the place, or of the location
+-- where a tree is read the text is as `Says` says; else it is the line of the place where the bytes stop being JSON, or
+-- of the location
 abbrev pub IsDetailOf : (Schema → Tree → List ℕ → Type 0) → Schema → List ℕ → Option (Result Tree Pointer) → List ℕ
     → Type 0
 IsDetailOf Says s bytes None text = IsPositionLine bytes text

@@ -1,7 +1,8 @@
 -- Lines of words, with a tab between two words and a line feed at the end.
-use Rattle.std.specs.Prelude.{◌≡◌, ◌≤◌, ℕ, List, [], ◌∷◌, ◌++◌, codes, decimal, eqb, flat_map, length, map}
+use Rattle.std.specs.Prelude.{◌≡◌, ℕ, List, [], ◌∷◌, ◌++◌, codes, decimal, eqb, flat_map, map}
 use Rattle.std.specs.Prelude.{if◌then◌else◌}
 use Rattle.jskw_text.specs.Position.{line_at, column_at}
+use Rattle.jskw_text.specs.ReadFault.{IsBrokenAt}
 use Rattle.jskw_report.specs.Fail.{Failure}
 use Rattle.jskw_report.specs.KeywordValue.{Refusal}
 use Rattle.jskw_report.specs.Kind.{keyword_of}
@@ -29,9 +30,9 @@ abbrev pub position_line : ℕ → List ℕ → List ℕ
 position_line offset bytes =
     line (decimal offset ∷ decimal (line_at offset bytes) ∷ decimal (column_at offset bytes) ∷ [])
 
--- the text is the line of a place in the bytes, or at their end
+-- the text is the line of the place where the bytes stop being JSON
 abbrev pub IsPositionLine : List ℕ → List ℕ → Type 0
-IsPositionLine bytes text = (offset : ℕ) × (offset ≤ length bytes) × (text ≡ position_line offset bytes)
+IsPositionLine bytes text = (offset : ℕ) × IsBrokenAt bytes offset × (text ≡ position_line offset bytes)
 
 -- the text is the line of an error: its keyword, instance location, keyword location, some message, and what was
 -- expected

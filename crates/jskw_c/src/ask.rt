@@ -1,8 +1,9 @@
 //! What exports do with bytes: compiles schemas and checks instances.
 #![tactic(auto, using(jskw_value::proofs::DecimalTrees::lawful_tree))]
 
-ghost use Rattle.std.specs.Prelude.{◌≡◌, ◌≤◌, [], IfOk, Some, length};
+ghost use Rattle.std.specs.Prelude.{◌≡◌, [], IfOk, Some};
 ghost use Rattle.jskw_value.specs.DecimalTree.{decimal_tree};
+ghost use Rattle.jskw_text.specs.ReadFault.{IsBrokenAt};
 ghost use Rattle.jskw_text.specs.Reading.{reading};
 ghost use Rattle.jskw_report.specs.Errors.{failures_of};
 ghost use Rattle.jskw_report.specs.Fail.{fail, is_empty};
@@ -78,7 +79,7 @@ pub(crate) fn no_json(alloc: Global, schema: &[u8]) -> Result<Outcome, AllocErro
 
 // Returns the outcome for bytes that stop being JSON at this offset.
 fn no_json_at(alloc: Global, bytes: &[u8], offset: usize) -> Result<Outcome, AllocError>
-    requires { offset ≤ length bytes.now }
+    requires { IsBrokenAt bytes.now offset }
     ensures { IfOk result (IsOutcome status.NOT_JSON (IsPositionLine bytes.now)) }
 {
     Ok(Outcome {

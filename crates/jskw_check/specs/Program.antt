@@ -7,11 +7,15 @@ use Rattle.jskw_service.specs.declared.service.Verdict.{Verdict}
 use Rattle.jskw_documents.specs.Files.{AnswersFiles, HasBytes}
 use Rattle.jskw_documents.specs.Schemas.{schema_given}
 use Rattle.jskw_check.specs.Commands.{Asked, Command, check, help, version, wrong}
-use Rattle.jskw_check.specs.declared.usage.TheConstants.{HELP, USAGE, VERSION}
+use Rattle.jskw_check.specs.declared.usage.TheConstants.{HELP, USAGE}
 use Rattle.jskw_check.specs.declared.trouble.Trouble.{Trouble}
 use Rattle.jskw_check.specs.declared.trouble.Trouble.TheVariants.{Output}
 
 -- ---- texts
+
+-- those of this release
+abbrev pub version_line : List ℕ
+version_line = codes "jskw 0.2.0 (rattle logic dac8208d650f15bf)\n"
 
 abbrev pub usage_error : List ℕ → List ℕ
 usage_error why = USAGE.now ++ (codes "jskw check: error: " ++ (why ++ codes "\n"))
@@ -52,7 +56,7 @@ pub record ChecksFiles (bytes_of : List ℕ → Option (List ℕ)) (a : Asked) (
 
 abbrev pub Does : (List ℕ → Option (List ℕ)) → Command → ℕ → List ℕ → List ℕ → Type 0
 Does bytes_of help status out told = (status ≡ 0) × (out ≡ HELP.now) × (told ≡ [])
-Does bytes_of version status out told = (status ≡ 0) × (out ≡ VERSION.now) × (told ≡ [])
+Does bytes_of version status out told = (status ≡ 0) × (out ≡ version_line) × (told ≡ [])
 Does bytes_of (wrong why) status out told = (status ≡ 2) × (out ≡ []) × (told ≡ usage_error why)
 Does bytes_of (check a) status out told =
     SchemaUnread a status out told ⊎ SchemaRefused bytes_of a status out ⊎ ChecksFiles bytes_of a status out told

@@ -23,22 +23,22 @@ use trouble::Trouble;
 fn main(rt: HostRuntime) -> ExitCode {
     let status = match run_on(&rt) {
         Ok(status) => status,
-        Err(trouble) => {
-            let _ = rt.eprintln(trouble.words());
-            NOT_CHECKED
-        }
+        Err(trouble) => tell(&rt, trouble.words()),
     };
     ExitCode::from(status)
 }
 
+// Writes why nothing is checked any more, and returns the status that something could not be checked.
+fn tell(rt: &HostRuntime, why: &str) -> u8 {
+    let _ = rt.eprintln(why);
+    NOT_CHECKED
+}
+
 // Does what the arguments say, on the system's files and outputs, and returns the exit status.
 fn run_on(rt: &HostRuntime) -> Result<u8, Trouble> {
-    let arguments = match env::args(rt) {
-        Ok(arguments) => arguments,
-        Err(error) if error.kind() == ErrorKind::OutOfMemory => return Err(Trouble::Memory),
-        Err(_) => return Err(Trouble::Arguments),
+    let Some(words) = words_of(rt)? else {
+        return Ok(tell(rt, "jskw: an argument is not UTF-8"));
     };
-    let words = behind_first(rt.alloc(), arguments)?;
     let folder = HostFolder { rt };
     let mut out = StdSink::new(io::writer(rt));
     let mut errors = StdSink::new(rt.stderr());
@@ -55,7 +55,16 @@ fn run_on(rt: &HostRuntime) -> Result<u8, Trouble> {
     Ok(status)
 }
 
-// Returns the arguments without the first, which names the program.
+// Returns the arguments without the first, which names the program, or `None` if one is not UTF-8.
+fn words_of(rt: &HostRuntime) -> Result<Option<Vec<String>>, Trouble> {
+    match env::args(rt) {
+        Ok(arguments) => Ok(Some(behind_first(rt.alloc(), arguments)?)),
+        Err(error) if error.kind() == ErrorKind::OutOfMemory => Err(Trouble::Memory),
+        Err(_) => Ok(None),
+    }
+}
+
+// Returns the arguments without the first.
 fn behind_first(alloc: Global, arguments: Args) -> Result<Vec<String>, AllocError> {
     let mut words = Vec::new(alloc);
     let mut is_behind = false;

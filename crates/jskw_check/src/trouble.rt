@@ -14,8 +14,6 @@ pub(crate) enum Trouble {
     Memory,
     // A file has 2^64 lines or blocks.
     TooLong,
-    // An argument is not UTF-8.
-    Arguments,
 }
 
 impl From<AllocError> for Trouble {
@@ -33,7 +31,6 @@ impl Trouble {
             Trouble::Output => "jskw: the output cannot be written",
             Trouble::Memory => "jskw: memory ran out",
             Trouble::TooLong => "jskw: a file has 2^64 lines or blocks",
-            Trouble::Arguments => "jskw: an argument is not UTF-8",
         }
     }
 }
