@@ -149,7 +149,12 @@ impl<F: Json> Names<F> for FewNames<F> {
         &self.names
     }
 
+    #[inline(always)]
     fn contains(&self, text: &str) -> bool {
+        // Three names without a loop, which would take longer than to compare the lengths.
+        if let [one, two, three] = self.names.as_slice() {
+            return one.is(text) || two.is(text) || three.is(text);
+        }
         for name in &self.names {
             if name.is(text) {
                 return true;

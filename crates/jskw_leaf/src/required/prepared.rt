@@ -1,6 +1,6 @@
 //! A required name, prepared for comparisons and lookups.
 ghost use Rattle.std.specs.Prelude.{◌≡◌, IfOk, IsTrue, length};
-ghost use Rattle.std.specs.Int.{w32, from_le_bytes, to_le_bytes};
+ghost use Rattle.std.specs.Int.{w16, w32, from_le_bytes, to_le_bytes};
 ghost use Rattle.std.specs.Str.{bytes_eq};
 ghost use Rattle.jskw_value.specs.Tree.{has_name, is_object};
 
@@ -62,7 +62,8 @@ impl<F: Json> PreparedName<F> {
 }
 
 // Returns whether the texts, which have the same length, are equal. Those of four to eight bytes, as
-// most names are, are compared as two words: the first and the last four bytes.
+// most names are, are compared as two words: the first and the last four bytes. Those of two and three
+// bytes, as `id`, are compared as two half words.
 #[inline(always)]
 fn is_same(text: &str, other: &str) -> bool
     requires { length text.now ≡ length other.now }
@@ -70,8 +71,12 @@ fn is_same(text: &str, other: &str) -> bool
 {
     let (left, right) = (text.as_bytes(), other.as_bytes());
     let length = left.len();
-    if length < 4 || 8 < length {
+    if length < 2 || 8 < length {
         return is_equal(text, other);
+    }
+    if length < 4 {
+        return half(&left[..2]) == half(&right[..2])
+            && half(&left[length - 2..]) == half(&right[length - 2..]);
     }
     word(&left[..4]) == word(&right[..4]) && word(&left[length - 4..]) == word(&right[length - 4..])
 }
@@ -85,6 +90,17 @@ fn word(bytes: &[u8]) -> u32
     let mut four = [0u8; 4];
     four.copy_from_slice(bytes);
     u32::from_le_bytes(four)
+}
+
+// Returns two bytes as a number, the lowest byte first.
+fn half(bytes: &[u8]) -> u16
+    requires { length bytes.now ≡ 2 }
+    ensures value { result ≡ from_le_bytes w16 bytes.now }
+    ensures bytes { to_le_bytes w16 result ≡ bytes.now }
+{
+    let mut two = [0u8; 2];
+    two.copy_from_slice(bytes);
+    u16::from_le_bytes(two)
 }
 
 // Returns whether the texts are equal. By a call, so that what the comparison prepares is not done
