@@ -12,7 +12,7 @@ use std::alloc::AllocError;
 /// Returns what `is_valid`, `validate` and `collect_errors` return for one instance, which must be
 /// lawful. The law: `validate` returns `Ok` exactly if `is_valid` returns true, and its error is
 /// the first that `collect_errors` appends. If memory runs out in one of them, its result says
-/// nothing about the instance.
+/// nothing about the instance. `location` is unchanged at every return.
 pub fn observers_agree<'i, F: Json>(
     node: &'i SchemaNode<F>,
     instance: &'i F::Node,
@@ -28,6 +28,7 @@ pub fn observers_agree<'i, F: Json>(
         (fail node.now (F.Node.tree instance.now) (path_of location.old)) result.1 }
     ensures appended { Appends F.Node.tree errors.old.items errors.new.items
         (fail node.now (F.Node.tree instance.now) (path_of location.old)) result.2 }
+    ensures location { location.new ≡ location.old }
 {
     let is_valid = node.is_valid(instance, ctx);
     let first = node.validate(instance, location, ctx);

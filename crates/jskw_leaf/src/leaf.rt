@@ -1,7 +1,8 @@
 //! The validators of the keywords without subschemas as one type.
+ghost use Rattle.std.specs.Prelude.{◌≡◌};
 ghost use Rattle.jskw_report.specs.Meaning.{one_keyword};
 ghost use Rattle.jskw_number.specs.QuickSet.{Accepts};
-ghost use Rattle.jskw_leaf.specs.Meaning.{leaf_keyword};
+ghost use Rattle.jskw_leaf.specs.Meaning.{leaf_assertion, leaf_keyword};
 
 use crate::boolean::FalseValidator;
 use crate::const_::ConstValueValidator;
@@ -100,7 +101,9 @@ impl<F: Json> LeafValidator<F> {
 
 impl<F: Json> LeafValidator<F> {
     /// Returns the keyword location of the validator's errors.
-    pub fn location(&self) -> &KeywordLocation {
+    pub fn location(&self) -> &KeywordLocation
+        ensures { result.now ≡ (leaf_assertion self.now).location }
+    {
         dispatch!(self, validator => validator.location())
     }
 }

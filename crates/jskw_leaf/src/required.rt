@@ -48,7 +48,9 @@ impl<F: Json, L> RequiredNames<F, L> {
     }
 
     // Returns the keyword location of the errors.
-    pub(crate) fn location(&self) -> &KeywordLocation {
+    pub(crate) fn location(&self) -> &KeywordLocation
+        ensures { result.now ≡ self.now.location }
+    {
         &self.location
     }
 }

@@ -84,8 +84,8 @@ impl<'i, F: Json> Report<'i, F> {
         }
     }
 
-    /// Puts the errors into the list from which [`behind`](Report::appending_to) took them, and returns the
-    /// result of `collect_errors` for that of `report_errors`. The report must be a list.
+    /// Puts the errors into the list from which [`appending_to`](Report::appending_to) took them, and
+    /// returns the result of `collect_errors` for that of `report_errors`. The report must be a list.
     pub fn into_list(
         self,
         reported: Result<(), Stop>,

@@ -1,6 +1,6 @@
 -- The numbers by which items are sorted: equal items have one.
-use Rattle.std.proofs.Common.{◌≡◌, ℕ, zero, suc, ◌==◌, ◌<◌, ◌&&◌, ◌||◌, not, List, length, Bool, true, false, Option}
-use Rattle.std.proofs.Common.{None, Some, if◌then◌else◌, refl, ap, arith}
+use Rattle.std.proofs.Common.{◌≡◌, ℕ, zero, suc, ◌==◌, ◌<◌, ◌&&◌, ◌||◌, not, List, length, Bool, true, false, None}
+use Rattle.std.proofs.Common.{Some, if◌then◌else◌, refl, ap, arith}
 use Rattle.std.proofs.lemmas.Bool.{and_from, and_parts}
 use Rattle.std.proofs.lemmas.Option.{same_Some}
 use Rattle.jskw_value.specs.Doubt.{beginning, is_distinct_for, is_in_doubt, key, undoubted}
