@@ -1,29 +1,19 @@
 //! Calls that no schema makes, and calls that `memory/run` refuses memory: those of a line of standard
 //! input, with what each gives and what its arguments hold afterwards. `README.md` beside `src/` lists
-//! their kinds.
-//!
-//! The name is printed first. A call that may be refused memory prints its own name and `asked`, or
-//! `ready` if it takes no memory; once it has returned, `answered` or `memory`, and the location if it
-//! has one. The lines behind a tab say what it gave and what it left: errors, a tree and the errors
-//! that it describes, members. Memory may be refused from `asked` or `ready` up to the next word. Of
-//! the other calls, a line behind a tab has the arguments, a colon and what was returned.
-mod compiled;
+//! their kinds, and says what is printed.
 mod devices;
 mod members;
 mod observers;
 mod printed;
 mod reports;
+mod settings;
+mod validators;
 mod values;
 
-use crate::lines::Lines;
-use crate::members::settings_of;
-use crate::row::push_unchecked;
-use crate::text::Text;
-use jskw_report::{Context, Settings};
+use crate::Lines;
+use crate::members::{items, text};
 use jskw_text::read_bytes;
-use jskw_unchecked::unchecked;
-use jskw_value::{DecimalJson, DecimalTree, SerdeJson};
-use observers::compile_and_ask;
+use jskw_value::DecimalTree;
 use printed::Printer;
 use serde_json::Value;
 use std::alloc::Global;
@@ -46,13 +36,15 @@ fn make_line(rt: &HostRuntime, items: &[Value]) -> bool {
         kind: of_decimals.unwrap_or(kind),
         is_of_decimals: of_decimals.is_some(),
         is_right: true,
+        lines: Lines::new(rt.alloc(), false, true),
     };
     write!(to, "{line}\n");
     make_calls(&mut to, arguments);
+    to.print_lines();
     to.is_right
 }
 
-fn make_calls(to: &mut Printer<'_>, arguments: &[Value]) {
+fn make_calls(to: &mut Printer, arguments: &[Value]) {
     match to.kind {
         "value" => values::ask(to, arguments),
         "insert" => members::insert(to, arguments),
@@ -61,73 +53,49 @@ fn make_calls(to: &mut Printer<'_>, arguments: &[Value]) {
         "read_bytes" => devices::read(to, arguments, true),
         "read_nothing" => devices::read(to, arguments, false),
         "reply_to" => devices::reply(to, arguments),
-        "compile" | "schema" | "below" | "leaves" | "unchecked" => ask_settings(to, arguments),
-        _ => make_cases(to, arguments),
+        "compile" | "schema" | "below" | "leaves" | "unchecked" => settings::ask(to, arguments),
+        _ => {
+            for case in arguments {
+                make_case(to, case);
+            }
+        }
     }
 }
 
-// Makes the calls of a kind that takes a draft, an object with the rest of the settings, a schema and
-// an instance.
-fn ask_settings(to: &mut Printer<'_>, arguments: &[Value]) {
-    let [Value::String(draft), group, schema, instance] = arguments else {
-        return to.check(false);
-    };
-    match &settings_of(to.alloc(), group, draft) {
-        Ok(Some(settings)) if to.kind == "unchecked" => ask_unchecked(to, settings, schema),
-        Ok(Some(settings)) => ask_schema(to, settings, schema, instance),
-        _ => to.check(false),
-    }
+// Makes the call of an array of arguments, and prints these and what the call returns.
+fn make_case(to: &mut Printer, case: &Value) {
+    to.lines.text.push_made(case.to_string(to.lines.alloc));
+    to.lines.text.push(": ");
+    push_case(&mut to.lines, to.kind, case);
+    to.print_lines();
 }
 
-fn ask_schema(to: &mut Printer<'_>, settings: &Settings, schema: &Value, instance: &Value) {
-    if !to.is_of_decimals {
-        return compile_and_ask::<SerdeJson>(to, settings, schema, instance);
-    }
-    match &DecimalTree::from_value(to.alloc(), instance) {
-        Ok(Some(tree)) => compile_and_ask::<DecimalJson>(to, settings, schema, tree),
-        _ => to.check(false),
-    }
-}
-
-fn ask_unchecked(to: &mut Printer<'_>, settings: &Settings, schema: &Value) {
-    let ctx: Context<SerdeJson> = Context::new(to.alloc(), settings);
-    to.announce("unchecked", true);
-    let list = unchecked(to.alloc(), &ctx, schema);
-    to.tell(list.is_err());
-    if list.is_ok() {
-        let mut text = Text::new(to.alloc());
-        push_unchecked(&mut text, &list);
-        to.print_lines(text.as_str());
-    }
-}
-
-// Makes a call for each array of arguments, and prints these and what the call returns.
-fn make_cases(to: &mut Printer<'_>, cases: &[Value]) {
-    for case in cases {
-        let mut lines = to.lines();
-        lines.text.push_made(case.to_string(to.alloc()));
-        lines.text.push(": ");
-        values::push_case(&mut lines, to.kind, case);
-        to.print_lines(lines.text.as_str());
+// Makes a call of this kind, and appends what it returns.
+fn push_case(lines: &mut Lines, kind: &str, case: &Value) {
+    match kind {
+        "Decimal::new" => values::push_new(lines, case),
+        "Decimal" => values::push_decimal(lines, case),
+        "equals_value" => values::push_equality(lines, case),
+        "Object" => values::push_object(lines, case),
+        "PropertyName" => values::push_names(lines, items(case, 0)),
+        "fingerprint" => values::push_prints(lines, case),
+        "Location" => reports::push_locations(lines, case),
+        "LazyLocation" => reports::push_stack(lines, items(case, 0)),
+        "ValidationError" => reports::push_messages(lines, value(case, 0)),
+        "AllocError" => reports::push_constants(lines),
+        "EvaluationResult" => reports::push_unit(lines),
+        "StdSource" => devices::push_runs(lines, true),
+        "StdSink" => devices::push_runs(lines, false),
+        "required" => validators::push_required(lines, case),
+        "Limit" => validators::push_limits(lines, value(case, 0)),
+        "new" => validators::push_new(lines, case),
+        _ => settings::push_case(lines, kind, case),
     }
 }
 
 // An argument of a call; all of them if there is none at the place.
 fn value(case: &Value, index: usize) -> &Value {
     case.get(index).unwrap_or(case)
-}
-
-// An argument that is a text.
-fn text(case: &Value, index: usize) -> &str {
-    value(case, index).as_str().unwrap_or("")
-}
-
-// An argument that is an array.
-fn items(case: &Value, index: usize) -> &[Value] {
-    match value(case, index) {
-        Value::Array(items) => items.as_slice(),
-        _ => &[],
-    }
 }
 
 // An argument that is the text of a tree; null if it is none.

@@ -1,9 +1,7 @@
 //! The words around a call, and what it gave.
-use crate::lines::Lines;
-use crate::text::{Made, Text};
-use jskw_report::{EvaluationNode, Fault, LazyLocation, ValidationError};
+use crate::{Lines, Made, Recorder};
+use jskw_report::{CompileFault, EvaluationNode, Fault, LazyLocation};
 use jskw_value::{Json, Node};
-use std::alloc::Global;
 use std::fmt::Display;
 
 /// Standard output, and whether all could be printed and the line said what to do.
@@ -14,18 +12,11 @@ pub(super) struct Printer<'r> {
     pub(super) kind: &'r str,
     pub(super) is_of_decimals: bool,
     pub(super) is_right: bool,
+    /// What a call gave and left, which is printed before the next is announced.
+    pub(super) lines: Lines,
 }
 
 impl Printer<'_> {
-    pub(super) fn alloc(&self) -> Global {
-        self.rt.alloc()
-    }
-
-    /// No lines, of errors with their messages.
-    pub(super) fn lines(&self) -> Lines {
-        Lines::new(self.alloc(), false, true)
-    }
-
     /// What `write!` calls.
     pub(super) fn write_fmt<D: Display + Drop>(&mut self, part: D) {
         let printed = print!(self.rt; "{part}");
@@ -34,11 +25,28 @@ impl Printer<'_> {
 
     /// Notes whether a line says what to do, or can be made and printed.
     pub(super) fn check(&mut self, is_right: bool) {
-        self.is_right = self.is_right && is_right;
+        self.is_right &= is_right;
+    }
+
+    /// Prints what the last call gave, each line behind a tab.
+    pub(super) fn print_lines(&mut self) {
+        for line in self.lines.text.as_str().lines() {
+            let printed = print!(self.rt; "\t{line}\n");
+            self.is_right &= printed.is_ok();
+        }
+        self.lines.text.set("");
+        self.lines.described.set("");
+    }
+
+    /// Appends the text of a node to what the call gave.
+    pub(super) fn push_node<N: Node>(&mut self, node: &N) {
+        self.lines.text.push_json(node);
+        self.lines.text.push("\n");
     }
 
     /// Says that the call of this name comes next, and whether it takes memory.
     pub(super) fn announce(&mut self, call: &str, takes_memory: bool) {
+        self.print_lines();
         let word = if takes_memory { "asked" } else { "ready" };
         write!(self, "{call} {word}");
     }
@@ -57,46 +65,32 @@ impl Printer<'_> {
         }
     }
 
-    /// Prints each line of a text behind a tab.
-    pub(super) fn print_lines(&mut self, text: &str) {
-        for line in text.lines() {
-            write!(self, "\t{line}\n");
-        }
-    }
-
-    pub(super) fn print_node<N: Node>(&mut self, node: &N) {
-        let mut text = Text::new(self.alloc());
-        text.push_json(node);
-        self.print_lines(text.as_str());
-    }
-
-    /// Prints errors, each in a line.
-    pub(super) fn print_errors<F: Json>(&mut self, errors: &[ValidationError<F>]) {
-        let mut lines = self.lines();
-        lines.push_errors(Ok(()), errors);
-        self.print_lines(lines.text.as_str());
-    }
-
-    /// Says what `validate` returned, and where the location is then.
-    pub(super) fn print_first<F: Json>(
+    /// Says what `validate` returned, and what the location is then.
+    pub(super) fn tell_first<F: Json>(
         &mut self,
         answer: &Result<(), Fault<'_, F>>,
         at: &LazyLocation,
     ) {
         self.tell_at(matches!(answer, Err(Fault::Memory(_))), at);
         if let Err(Fault::Invalid(error)) = answer {
-            self.print_errors(std::slice::from_ref(error));
+            self.lines.push_error(error);
         }
     }
 
-    /// Prints the lines of an evaluation, and of the errors that it describes.
-    pub(super) fn print_tree(&mut self, answer: &Made<EvaluationNode>) {
-        let mut tree = self.lines();
+    /// Appends the lines of an evaluation, and of the errors that it describes, to what the call gave.
+    pub(super) fn push_tree(&mut self, answer: &Made<EvaluationNode>) {
         if let Ok(root) = answer {
-            tree.push_nodes(0, root);
+            self.lines.push_described(root);
         }
-        self.print_lines(tree.text.as_str());
-        self.print_lines(tree.described.as_str());
+    }
+}
+
+impl Recorder for Printer<'_> {
+    fn push_refused(&mut self, fault: Option<&CompileFault<'_>>) {
+        self.tell(matches!(fault, Some(CompileFault::Memory(_))));
+        if let Some(CompileFault::Bad(error)) = fault {
+            self.lines.push_refusal(error);
+        }
     }
 }
 
