@@ -2,12 +2,117 @@
 ghost use Rattle.std.specs.Prelude.{IsTrue};
 ghost use Rattle.jskw_value.specs.Tree.{is_lawful};
 
-use crate::{Lines, Row, Said, compiled};
+use crate::members::number;
+use crate::{Lines, Recorder, Row, Text, compiled};
 use jskw_array::SchemaNode;
 use jskw_array::compiler::compile;
 use jskw_array::items::array_shape_fusion;
-use jskw_report::{Context, LazyLocation, ValidationContext};
+use jskw_report::{CompileFault, Context, Fault, LazyLocation, ValidationContext};
 use jskw_value::{Json, Node};
+use serde_json::Value;
+
+/// What the observers of a schema, or of its keywords one after the other, say of an instance.
+#[derive(Drop)]
+pub(crate) struct Said {
+    /// `is_valid`.
+    pub(crate) holds: bool,
+    // `validate`: the line of its error, or nothing
+    first: Lines,
+    /// `collect_errors`.
+    pub(crate) errors: Lines,
+    // the limits for which `collect_first_errors` gives others than the first of these
+    limits: Text,
+    /// `evaluate`.
+    pub(crate) tree: Lines,
+    /// Why the first keyword of which that is so does not compile.
+    pub(crate) refused: Lines,
+    /// What `is_valid`, `validate`, `collect_errors` and `evaluate` counted: the subschemas they applied.
+    pub(crate) contexts: [ValidationContext; 4],
+}
+
+impl Recorder for Said {
+    fn push_refused(&mut self, fault: Option<&CompileFault<'_>>) {
+        if fault.is_some() && self.refused.text.as_str().is_empty() {
+            self.refused.push_refused(fault);
+        }
+    }
+}
+
+impl Said {
+    /// What is said where nothing asserts anything. It is written as these lines are.
+    pub(crate) fn new(lines: &Lines) -> Said {
+        Said {
+            holds: true,
+            first: lines.others(),
+            errors: lines.others(),
+            limits: Text::new(lines.alloc),
+            tree: lines.others(),
+            refused: lines.others(),
+            contexts: [
+                ValidationContext::new(),
+                ValidationContext::new(),
+                ValidationContext::new(),
+                ValidationContext::new(),
+            ],
+        }
+    }
+
+    /// Appends what `validate` says, unless an error was said before.
+    pub(crate) fn push_first<F: Json>(&mut self, answer: &Result<(), Fault<F>>) {
+        if self.first.text.as_str().is_empty() {
+            self.first.push_first(answer);
+        }
+    }
+
+    /// Notes a limit for which `collect_first_errors` did not give the first of all errors up to it.
+    pub(crate) fn push_limited(&mut self, limit: usize, is_full: bool, given: &str) {
+        let is_start = self.errors.text.as_str().starts_with(given);
+        if !is_start | !is_full {
+            write!(self.limits, "{limit}\n");
+        }
+    }
+
+    /// Appends the lines that a row wants: the errors or `valid`, and the evaluation if that is claimed,
+    /// below the line of the schema's own node if the tree has none; and which observers disagree.
+    pub(crate) fn push_lines(&self, text: &mut Text, root: &str, has_evaluation: bool) {
+        let (errors, tree) = (self.errors.text.as_str(), self.tree.text.as_str());
+        let (first, limits) = (self.first.text.as_str(), self.limits.as_str());
+        let (messages, described) = (&self.errors.described, self.tree.described.as_str());
+        let is_valid = errors.is_empty();
+        text.push_if(is_valid, "valid\n");
+        text.push(errors);
+        push_unless(text, self.holds == is_valid, "is_valid", "");
+        let is_first = errors.starts_with(first) & (first.is_empty() == is_valid);
+        let has_message = messages.as_str().starts_with(self.first.described.as_str());
+        push_unless(text, is_first & has_message, "validate", first);
+        push_unless(text, limits.is_empty(), "collect_first_errors", limits);
+        let top = if root.is_empty() { tree } else { root };
+        let agrees = (top.starts_with("valid") == is_valid) & (described == messages.as_str());
+        push_unless(text, agrees, "evaluate", described);
+        text.push_if(has_evaluation, root);
+        text.push_if(has_evaluation, tree);
+    }
+
+    /// Appends how many subschemas an observer applied in so many calls, if that is too much or too little.
+    pub(crate) fn push_counts(&self, text: &mut Text, calls: u64, most: &Value) {
+        let (first, all) = (number(most, "untilFirst"), number(most, "ofAll"));
+        let collected = most.get("collected").and_then(Value::as_u64).unwrap_or(1);
+        let ranges = [(1, first), (1, first), (collected, all), (1, all)];
+        for ((least, most), ctx) in ranges.iter().zip(&self.contexts) {
+            let (least, most) = (least.saturating_mul(calls), most.saturating_mul(calls));
+            let count = ctx.applications();
+            if (count < least) | (count > most) {
+                write!(text, "{calls} calls apply {count} of {least} to {most}\n");
+            }
+        }
+    }
+}
+
+fn push_unless(text: &mut Text, agrees: bool, observer: &str, found: &str) {
+    if !agrees {
+        write!(text, "{observer} disagrees:\n{found}");
+    }
+}
 
 /// Appends the line of the first float of an instance.
 pub(crate) fn push_float<N: Node>(lines: &mut Lines, instance: &N) {
@@ -16,6 +121,9 @@ pub(crate) fn push_float<N: Node>(lines: &mut Lines, instance: &N) {
         _ => lines.text.push("a float that is nowhere\n"),
     }
 }
+
+// A row and its instance.
+type Of<'r, N> = (&'r Row<'r>, &'r N);
 
 /// Appends what the schema of a row says of itself and of the instance, or its refusal.
 pub(crate) fn push_whole<'r, F: Json>(lines: &mut Lines, row: &'r Row<'r>, instance: &'r F::Node) {
@@ -30,24 +138,20 @@ pub(crate) fn push_whole<'r, F: Json>(lines: &mut Lines, row: &'r Row<'r>, insta
 
 // Appends what a schema says of itself, behind whether it is fused, and of an instance, which is asked
 // twice if the row claims the counts.
-fn push_node<'r, F: Json>(
-    lines: &mut Lines,
-    node: &SchemaNode<F>,
-    &(row, instance): &(&'r Row<'r>, &'r F::Node),
-) {
+fn push_node<'r, F: Json>(lines: &mut Lines, node: &SchemaNode<F>, &(row, of): &Of<'r, F::Node>) {
     let (has_shape, delegates) = (node.array_shape().is_some(), node.hands_on_required());
     push_call(lines, "array_shape", row.claims("fused"), has_shape);
     let is_claimed = row.claims("handsOnRequired") && row.object_layer;
     push_call(lines, "hands_on_required", is_claimed, delegates);
-    if !instance.is_lawful() {
-        return push_float(lines, instance);
+    if !of.is_lawful() {
+        return push_float(lines, of);
     }
     let (mut said, has_evaluation) = (Said::new(lines), row.test.get("evaluation").is_some());
-    observe(&mut said, node, instance);
+    observe(&mut said, node, of);
     said.push_lines(&mut lines.text, "", has_evaluation);
     if let Some(most) = row.test.get("applications") {
         said.push_counts(&mut lines.text, 1, most);
-        observe(&mut said, node, instance);
+        observe(&mut said, node, of);
         said.push_counts(&mut lines.text, 2, most);
     }
 }

@@ -16,9 +16,7 @@ use std::cell::Cell;
 /// Null or an array, with how often it was asked whether it is null.
 #[derive(Drop)]
 pub(crate) enum Asked {
-    /// null
     Null(Cell<u64>),
-    /// an array
     Array(Cell<u64>, Vec<Asked>),
 }
 
@@ -159,8 +157,7 @@ impl Json for AskedJson {
 }
 
 /// Compares how often each observer of a schema asks with how often it may: `is_valid`, `validate` and
-/// `collect_first_errors` with the limit 1 up to the first failure, the others in all; asked once, and
-/// once more.
+/// `collect_first_errors` with the limit 1 up to the first failure, the others in all; asked once, and once more.
 pub(crate) fn check(tally: &mut Tally, row: &Row, most: &Value, instance: &Value) {
     let (first, all) = (number(most, "untilFirst"), number(most, "ofAll"));
     let mut lines = Lines::new(tally.alloc, false, false);

@@ -4,19 +4,120 @@
 mod devices;
 mod members;
 mod observers;
-mod printed;
 mod reports;
 mod settings;
 mod validators;
 mod values;
 
-use crate::Lines;
 use crate::members::{items, text};
+use crate::{Lines, Made, Recorder};
+use jskw_report::{CompileFault, EvaluationNode, Fault, LazyLocation};
 use jskw_text::read_bytes;
-use jskw_value::DecimalTree;
-use printed::Printer;
+use jskw_value::{DecimalTree, Json, Node};
 use serde_json::Value;
 use std::alloc::Global;
+use std::fmt::Display;
+
+/// Standard output, and whether all could be printed and the line said what to do.
+#[derive(Drop)]
+struct Printer<'r> {
+    rt: &'r HostRuntime,
+    /// The kind of calls that the line asks for, and whether they are over decimals.
+    kind: &'r str,
+    is_of_decimals: bool,
+    is_right: bool,
+    /// What a call gave and left, which is printed before the next is announced.
+    lines: Lines,
+    /// Where the instance of a call is.
+    location: LazyLocation,
+}
+
+impl Printer<'_> {
+    /// What `write!` calls.
+    fn write_fmt<D: Display + Drop>(&mut self, part: D) {
+        let printed = print!(self.rt; "{part}");
+        self.check(printed.is_ok());
+    }
+
+    /// Notes whether a line says what to do, or can be made and printed.
+    fn check(&mut self, is_right: bool) {
+        self.is_right &= is_right;
+    }
+
+    /// Prints what the last call gave, each line behind a tab.
+    fn print_lines(&mut self) {
+        for line in self.lines.text.as_str().lines() {
+            let printed = print!(self.rt; "\t{line}\n");
+            self.is_right &= printed.is_ok();
+        }
+        self.lines.text.set("");
+        self.lines.described.set("");
+    }
+
+    /// Appends the text of a node to what the call gave.
+    fn push_node<N: Node>(&mut self, node: &N) {
+        self.lines.text.push_json(node);
+        self.lines.text.push("\n");
+    }
+
+    /// Says that the call of this name comes next, and whether it takes memory.
+    fn announce(&mut self, call: &str, takes_memory: bool) {
+        self.print_lines();
+        let word = if takes_memory { "asked" } else { "ready" };
+        write!(self, "{call} {word}");
+    }
+
+    /// Says that the call has returned and whether it ran out of memory.
+    fn tell(&mut self, is_memory: bool) {
+        write!(self, ", {}\n", answered(is_memory));
+    }
+
+    /// Says that the call has returned and whether it ran out of memory, and what the location is then.
+    fn tell_at(&mut self, is_memory: bool) {
+        write!(self, ", {} at ", answered(is_memory));
+        match &self.location.render() {
+            Ok(at) => write!(self, "{}\n", at.as_str()),
+            Err(_) => self.check(false),
+        }
+    }
+
+    /// Says what `validate` returned, and what the location is then.
+    fn tell_first<F: Json>(&mut self, answer: &Result<(), Fault<F>>) {
+        self.tell_at(matches!(answer, Err(Fault::Memory(_))));
+        if let Err(Fault::Invalid(error)) = answer {
+            self.lines.push_error(error);
+        }
+    }
+
+    /// Appends the lines of an evaluation, and of the errors that it describes, to what the call gave.
+    fn push_tree(&mut self, answer: &Made<EvaluationNode>) {
+        if let Ok(root) = answer {
+            self.lines.push_described(root);
+        }
+    }
+}
+
+impl Recorder for Printer<'_> {
+    fn push_refused(&mut self, fault: Option<&CompileFault<'_>>) {
+        self.tell(matches!(fault, Some(CompileFault::Memory(_))));
+        if let Some(CompileFault::Bad(error)) = fault {
+            self.lines.push_refusal(error);
+        }
+    }
+}
+
+/// Returns the location of item 2 of item 7 of an item far behind: its text is so long that it takes memory.
+fn far_below(alloc: Global) -> LazyLocation {
+    let mut location = LazyLocation::new(alloc);
+    for index in &[1_000_000_000_000_000_000, 7, 2] {
+        let _ = location.push(*index);
+    }
+    location
+}
+
+fn answered(is_memory: bool) -> &'static str {
+    if is_memory { "memory" } else { "answered" }
+}
 
 /// Prints the name of a line and makes its calls. Returns whether it says what to do.
 pub(crate) fn make(rt: &HostRuntime, line: &str) -> bool {
@@ -37,6 +138,7 @@ fn make_line(rt: &HostRuntime, items: &[Value]) -> bool {
         is_of_decimals: of_decimals.is_some(),
         is_right: true,
         lines: Lines::new(rt.alloc(), false, true),
+        location: far_below(rt.alloc()),
     };
     write!(to, "{line}\n");
     make_calls(&mut to, arguments);

@@ -1,14 +1,14 @@
 //! Groups of rows: a schema under a setting, and tests of it; or requests.
 use crate::instances::array_of;
 use crate::members::{check_members, items, push_lines, settings_of, text};
-use crate::{Members, Row, Tally, Text, row, unchecked};
+use crate::{Members, Row, Tally, Text, row};
 use jskw_leaf::is_leaf;
 use jskw_report::{Context, KeywordName, Settings};
 use jskw_value::SerdeJson;
 use serde_json::Value;
 use std::alloc::Global;
 
-// The members of a group, of a test, of a claim of counts, and of an array that is made.
+// The members of a group, of a test, of a claim of counts, of an array that is made, and of requests.
 const GROUP: &str = "description drafts? vocabularies? overridden? objectLayer? schema fused? \
     handsOnRequired? refused|unchecked|tests";
 
@@ -19,22 +19,22 @@ const COUNTS: &str = "untilFirst ofAll collected?";
 
 const MAKER: &str = "count front? choices? back? crowded? again? more? inside?";
 
+const REQUESTS: &str = "description requests";
+
 /// Asks the rows of a group, or its requests.
 pub(crate) fn check(tally: &mut Tally, group: &Value) {
     let rows = tally.rows;
     tally.begin_group(text(group, "description"));
     let is_of_requests = group.get("requests").is_some();
-    check_members(
-        tally,
-        group,
-        if is_of_requests {
-            "description requests"
-        } else {
-            GROUP
-        },
-    );
+    check_members(tally, group, if is_of_requests { REQUESTS } else { GROUP });
     for request in items(group, "requests") {
-        check_request(tally, request);
+        tally.begin_test("requests", text(request, "description"));
+        check_members(tally, request, "description request output");
+        tally.begin_row(text(request, "request"));
+        let mut wanted = Text::new(tally.alloc);
+        push_lines(&mut wanted, request, "output");
+        row::check_run(tally, text(request, "request"), wanted.as_str());
+        tally.end_row();
     }
     if group.get("drafts").is_none() && !is_of_requests {
         check_draft(tally, group, "2020-12");
@@ -44,16 +44,6 @@ pub(crate) fn check(tally: &mut Tally, group: &Value) {
     }
     tally.end_tests();
     tally.check_rows(rows);
-}
-
-fn check_request(tally: &mut Tally, request: &Value) {
-    tally.begin_test("requests", text(request, "description"));
-    check_members(tally, request, "description request output");
-    tally.begin_row(text(request, "request"));
-    let mut wanted = Text::new(tally.alloc);
-    push_lines(&mut wanted, request, "output");
-    row::check_run(tally, text(request, "request"), wanted.as_str());
-    tally.end_row();
 }
 
 // Asks the rows of a group in one draft.
@@ -83,7 +73,7 @@ fn check_tests(tally: &mut Tally, mut row: Row) {
     }
     if row.claims("unchecked") {
         tally.begin_test(row.draft, "unchecked");
-        unchecked::check(tally, &row);
+        row::check_unchecked(tally, &row);
     }
     for test in items(row.group, "tests") {
         row.test = test;

@@ -23,8 +23,7 @@ impl<const N: usize> Json for Keys<N> {
     }
 }
 
-/// Returns the tree of a value in which each decimal is written as a text, or `None` if the value
-/// has a float.
+/// Returns the tree of a value in which each decimal is written as a text, or `None` if the value has a float.
 pub(crate) fn decimals_of(alloc: Global, value: &Value) -> Made<Option<DecimalTree>> {
     if !value.is_lawful() {
         return Ok(None);

@@ -156,23 +156,12 @@ impl Lines {
 
     // Appends the line of a node, behind two spaces for each node that it stands below.
     fn push_node(&mut self, depth: usize, node: &EvaluationNode) {
-        for _ in 0..depth {
-            self.text.push("  ");
-        }
-        self.push_place(node);
-        push_annotation(&mut self.text, node.annotations());
-        for error in node.errors() {
-            write!(self.text, " error {}", error.keyword());
-            write!(self.described, "{}: {}\n", error.keyword(), error.message());
-        }
-        self.text.push("\n");
-    }
-
-    // Appends whether a node is valid, and its locations.
-    fn push_place(&mut self, node: &EvaluationNode) {
         let by = self.behind("/items", node.evaluation_path());
         let at = self.behind("/7", node.instance_location());
         let is_same = node.schema_location() == node.evaluation_path();
+        for _ in 0..depth {
+            self.text.push("  ");
+        }
         self.text.push_if(!node.valid(), "in");
         self.text.push("valid");
         self.text.push_if(!by.is_empty(), " ");
@@ -180,6 +169,12 @@ impl Lines {
         self.text.push_if(!is_same, " elsewhere");
         self.text.push_if(!at.is_empty(), " at ");
         self.text.push(at);
+        push_annotation(&mut self.text, node.annotations());
+        for error in node.errors() {
+            write!(self.text, " error {}", error.keyword());
+            write!(self.described, "{}: {}\n", error.keyword(), error.message());
+        }
+        self.text.push("\n");
     }
 }
 
@@ -196,11 +191,12 @@ fn push_types(text: &mut Text, kind: TypeKind) {
         TypeKind::Multiple(types) => (types, "[", "]"),
     };
     text.push(open);
-    let mut comma = "";
+    let mut is_first = true;
     for (name, json_type) in &TYPES {
         if types.contains(*json_type) {
-            write!(text, "{comma}\"{name}\"");
-            comma = ",";
+            text.push_if(!is_first, ",");
+            write!(text, "\"{name}\"");
+            is_first = false;
         }
     }
     text.push(close);

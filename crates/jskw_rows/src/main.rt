@@ -12,17 +12,15 @@ mod leaves;
 mod lines;
 mod members;
 mod row;
-mod said;
 mod tally;
 mod text;
-mod unchecked;
 mod wanted;
 
+use answer::Said;
 use compiled::Recorder;
 use lines::Lines;
 use members::Members;
 use row::Row;
-use said::Said;
 use serde_json::Value;
 use std::process::ExitCode;
 use std::{env, fs, io};
@@ -83,19 +81,13 @@ fn check_folder(rt: &HostRuntime, folder: &str) -> io::Result<bool> {
     Ok(differing == 0 && mistakes == 0)
 }
 
-// Asks the rows of the current folder, and makes the calls of each line of standard input.
-fn check_here(rt: &HostRuntime) -> io::Result<bool> {
-    let mut is_right = check_folder(rt, ".")?;
-    for line in rt.lines(rt.alloc()) {
-        is_right &= calls::make(rt, line?.as_str());
-    }
-    Ok(is_right)
-}
-
 fn main(rt: HostRuntime) -> io::Result<ExitCode> {
-    let is_right = match env::args(&rt)?.nth(1) {
-        Some(folder) => check_folder(&rt, folder.as_str())?,
-        None => check_here(&rt)?,
-    };
+    let folder = env::args(&rt)?.nth(1);
+    let mut is_right = check_folder(&rt, folder.as_ref().map_or(".", String::as_str))?;
+    if folder.is_none() {
+        for line in rt.lines(rt.alloc()) {
+            is_right &= calls::make(&rt, line?.as_str());
+        }
+    }
     Ok(ExitCode::from(u8::from(!is_right)))
 }

@@ -1,11 +1,12 @@
 //! A row, and how it is asked.
 use crate::answer::{push_float, push_whole};
 use crate::instances::{AllKeys, Keys, decimals_of};
-use crate::members::text;
-use crate::{Lines, Members, Tally, Text, Wanted, asked, leaves};
-use jskw_report::Settings;
+use crate::members::{items, text};
+use crate::{Lines, Made, Members, Tally, Text, Wanted, asked, leaves};
+use jskw_report::{Context, Settings};
 use jskw_service::{StdSink, StdSource, run, status};
 use jskw_text::read_bytes;
+use jskw_unchecked::{UncheckedMember, unchecked};
 use jskw_value::{DecimalJson, DecimalTree, Json, SerdeJson};
 use serde_json::Value;
 use std::alloc::Global;
@@ -64,7 +65,9 @@ pub(crate) fn check(tally: &mut Tally, mut row: Row, instance: &Value) {
     let mut question = Text::new(tally.alloc);
     let (layers, decimals, text) = (row.layers, row.has_decimals(), text(row.test, "text"));
     write!(question, "{}, object layer: {layers:?}", request.as_str());
-    write!(question, ", decimals: {decimals}, {text}");
+    write!(question, ", decimals: {decimals}");
+    question.push_if(!text.is_empty(), ", ");
+    question.push(text);
     tally.begin_row(question.as_str());
     let wanted = Wanted::of(tally.alloc, row.test, instance);
     if row.layers.contains(&false) && !decimals {
@@ -145,4 +148,41 @@ pub(crate) fn check_run(tally: &mut Tally, request: &str, wanted: &str) {
     found.push(std::str::from_utf8(written.as_slice()).unwrap_or("no text\n"));
     write!(found, "status {status}\n");
     tally.compare("by run", wanted, found.as_str());
+}
+
+/// Compares the members of a schema that are unchecked, with their reasons, with the pairs that a group
+/// lists, with each object layer.
+pub(crate) fn check_unchecked(tally: &mut Tally, row: &Row) {
+    let (request, layers) = (row.request(tally.alloc, &Value::Null), row.layers);
+    let (mut question, mut wanted) = (Text::new(tally.alloc), Text::new(tally.alloc));
+    write!(question, "{}, unchecked: {layers:?}", request.as_str());
+    tally.begin_row(question.as_str());
+    for pair in items(row.group, "unchecked") {
+        for (place, end) in &[("/0", " "), ("/1", "\n")] {
+            let part = pair.pointer(place).and_then(Value::as_str);
+            write!(wanted, "{}{end}", part.unwrap_or("?"));
+        }
+    }
+    for layer in layers {
+        let root: Context<SerdeJson> = Context::new(tally.alloc, row.settings);
+        let ctx = root.with_object_layer(*layer);
+        let mut found = Text::new(tally.alloc);
+        push_unchecked(&mut found, &unchecked(tally.alloc, &ctx, row.schema));
+        tally.take_layer(*layer);
+        tally.compare("unchecked", wanted.as_str(), found.as_str());
+    }
+    tally.end_row();
+}
+
+/// Appends a line for each member: its location, and why it is not checked.
+pub(crate) fn push_unchecked(to: &mut Text, list: &Made<Vec<UncheckedMember>>) {
+    match list {
+        Ok(list) => {
+            for member in list {
+                let (at, reason) = (member.location().as_str(), member.reason().as_str());
+                write!(to, "{at} {reason}\n");
+            }
+        }
+        Err(_) => to.cut(),
+    }
 }

@@ -70,7 +70,7 @@ impl Tally {
         self.take(all.as_str(), "two tests of one name");
     }
 
-    /// What is told next is of the group.
+    /// Ends the tests of a group: a mistake that is recorded next is in the group.
     pub(crate) fn end_tests(&mut self) {
         self.place.set(self.group.as_str());
     }
@@ -86,10 +86,8 @@ impl Tally {
     pub(crate) fn end_row(&mut self) {
         let others = self.differing_of_row.saturating_sub(1);
         if others > 0 {
-            write!(
-                self.told,
-                "  so do {others} answers to other ways of asking it\n"
-            );
+            write!(self.told, "  so do {others} answers");
+            self.told.push(" to other ways of asking it\n");
         }
         self.differing_of_row = 0;
         self.layer = "";

@@ -1,5 +1,5 @@
 //! Calls that read bytes, and runs over readers and writers that fail.
-use super::printed::Printer;
+use super::Printer;
 use crate::Lines;
 use jskw_service::{StdSink, StdSource, reply_to, run, status};
 use jskw_text::{ReadFault, position_of, read_bytes};

@@ -1,5 +1,5 @@
 //! Calls of the members of an object: those that insert one, or make all of them from pairs.
-use super::printed::Printer;
+use super::Printer;
 use crate::{Made, Text};
 use jskw_value::{Decimal, DecimalTree, InsertFault, Member, Members, RepeatedName};
 use serde_json::Value;

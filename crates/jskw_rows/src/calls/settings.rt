@@ -1,8 +1,9 @@
 //! Calls under settings: of these themselves, of contexts, and of keywords that are compiled.
-use super::printed::Printer;
-use super::{observers, tree, validators, value};
+use super::observers::ask_over;
+use super::validators::Ctx;
+use super::{Printer, tree, validators, value};
 use crate::members::{settings_of, text};
-use crate::unchecked::push_list;
+use crate::row::push_unchecked;
 use crate::{Lines, Members, Text};
 use jskw_report::Vocabulary::{Applicator, Core, Validation};
 use jskw_report::context::member_of;
@@ -17,19 +18,12 @@ pub(super) fn ask(to: &mut Printer, arguments: &[Value]) {
     let [Value::String(draft), group, schema, instance] = arguments else {
         return to.check(false);
     };
-    match &settings_of(to.lines.alloc, group, draft) {
-        Ok(Some(settings)) if to.kind == "unchecked" => ask_unchecked(to, settings, schema),
-        Ok(Some(settings)) => ask_schema(to, settings, schema, instance),
+    let tree = DecimalTree::from_value(to.lines.alloc, instance);
+    match (&settings_of(to.lines.alloc, group, draft), &tree) {
+        (Ok(Some(by)), _) if to.kind == "unchecked" => ask_unchecked(to, by, schema),
+        (Ok(Some(by)), _) if !to.is_of_decimals => ask_over::<SerdeJson>(to, by, schema, instance),
+        (Ok(Some(by)), Ok(Some(tree))) => ask_over::<DecimalJson>(to, by, schema, tree),
         _ => to.check(false),
-    }
-}
-
-fn ask_schema(to: &mut Printer, settings: &Settings, schema: &Value, instance: &Value) {
-    match &DecimalTree::from_value(to.lines.alloc, instance) {
-        Ok(Some(of)) if to.is_of_decimals => observers::ask::<DecimalJson>(
-            to, settings, schema, of,
-        ),
-        _ => observers::ask::<SerdeJson>(to, settings, schema, instance),
     }
 }
 
@@ -39,7 +33,7 @@ fn ask_unchecked(to: &mut Printer, settings: &Settings, schema: &Value) {
     let list = unchecked(to.lines.alloc, &ctx, schema);
     to.tell(list.is_err());
     if list.is_ok() {
-        push_list(&mut to.lines.text, &list);
+        push_unchecked(&mut to.lines.text, &list);
     }
 }
 
@@ -49,11 +43,11 @@ pub(super) fn push_case(lines: &mut Lines, kind: &str, case: &Value) {
     let (Ok(Some(settings)), Value::Object(parent)) = (&settings, value(case, 1)) else {
         return lines.text.push("no settings");
     };
-    let ctx: Context<DecimalJson> = Context::new(lines.alloc, settings);
+    let ctx: Ctx = Context::new(lines.alloc, settings);
     let instance = tree(lines.alloc, case, 3);
     match kind {
-        "Settings" => push_settings(lines, settings, case),
-        "Context" => push_contexts(lines, settings, parent),
+        "Settings" => push_settings(lines, settings, &ctx, case),
+        "Context" => push_contexts(lines, ctx, parent),
         "map_get_u64" => validators::push_bound(lines, &ctx, parent, text(case, 2)),
         "additional_items" => validators::push_rest(lines, &ctx, parent, &instance),
         "ArrayShapeValidator" => validators::push_shape(lines, &ctx, parent, &instance),
@@ -63,17 +57,12 @@ pub(super) fn push_case(lines: &mut Lines, kind: &str, case: &Value) {
 }
 
 // What settings and a context under them say of the draft, the vocabularies and a name.
-fn push_settings(lines: &mut Lines, settings: &Settings, case: &Value) {
-    let ctx = Context::<SerdeJson>::new(lines.alloc, settings);
+fn push_settings(lines: &mut Lines, settings: &Settings, ctx: &Ctx, case: &Value) {
     let set = vocabularies_of(value(case, 1).get("vocabularies"));
     let set = set.unwrap_or(VocabularySet::empty());
     let is_all = set == VocabularySet::all();
-    write!(
-        lines.text,
-        "{:?} {:?} {is_all}",
-        settings.draft(),
-        ctx.draft()
-    );
+    let (own, of_context) = (settings.draft(), ctx.draft());
+    write!(lines.text, "{own:?} {of_context:?} {is_all}");
     for one in &[Core, Applicator, Validation] {
         let (has, also) = (settings.has_vocabulary(*one), ctx.has_vocabulary(*one));
         write!(lines.text, " {one:?} {has} {also} {}", set.contains(*one));
@@ -84,8 +73,7 @@ fn push_settings(lines: &mut Lines, settings: &Settings, case: &Value) {
 }
 
 // What contexts say of themselves: with the layer, without it, two below, and with the layer again.
-fn push_contexts(lines: &mut Lines, settings: &Settings, parent: &Members) {
-    let whole = Context::<SerdeJson>::new(lines.alloc, settings);
+fn push_contexts(lines: &mut Lines, whole: Ctx, parent: &Members) {
     push_context(&mut lines.text, &whole);
     let whole = whole.with_object_layer(false);
     push_context(&mut lines.text, &whole);
@@ -98,7 +86,7 @@ fn push_contexts(lines: &mut Lines, settings: &Settings, parent: &Members) {
     write!(lines.text, "{} {}", x.is_some(), y.is_some());
 }
 
-fn push_second(lines: &mut Lines, items: &Context<SerdeJson>) {
+fn push_second(lines: &mut Lines, items: &Ctx) {
     let second = items.new_at_location(lines.alloc, LocationSegment::Index(1));
     if let Some(second) = lines.text.made(second) {
         push_context(&mut lines.text, &second);
@@ -106,7 +94,7 @@ fn push_second(lines: &mut Lines, items: &Context<SerdeJson>) {
     }
 }
 
-fn push_context(text: &mut Text, ctx: &Context<SerdeJson>) {
+fn push_context(text: &mut Text, ctx: &Ctx) {
     let (location, layer) = (ctx.location().as_str(), ctx.object_layer());
     write!(text, "{location} {:?} {layer};", ctx.draft());
 }

@@ -25,8 +25,8 @@ use jskw_report::{Context, LazyLocation, Location, LocationSegment, Validate, Va
 use jskw_value::{DecimalJson, DecimalTree, Node};
 use serde_json::Value;
 
-// The context of a schema whose instances are trees of decimals.
-type Ctx<'s> = Context<'s, DecimalJson>;
+/// The context of a schema whose instances are trees of decimals.
+pub(super) type Ctx<'s> = Context<'s, DecimalJson>;
 
 // The value of a limit of each relation that is made of 7 and that value.
 pub(super) fn push_limits(lines: &mut Lines, value: &Value) {
@@ -76,12 +76,8 @@ fn push_item<T: ItemType>(lines: &mut Lines, at: Location, item: &DecimalTree) {
     push_owned(lines, T::compile_type(at), item);
 }
 
-fn push_owned<V: Validate<DecimalJson> + Drop>(
-    lines: &mut Lines,
-    validator: V,
-    item: &DecimalTree,
-) {
-    push_said(lines, &validator, item);
+fn push_owned<V: Validate<DecimalJson> + Drop>(lines: &mut Lines, made: V, item: &DecimalTree) {
+    push_said(lines, &made, item);
 }
 
 fn push_said<V: Validate<DecimalJson>>(lines: &mut Lines, validator: &V, item: &DecimalTree) {

@@ -1,6 +1,5 @@
 //! Calls of values: their trees and texts, decimals, nodes, objects and names.
-use super::printed::Printer;
-use super::{tree, value};
+use super::{Printer, tree, value};
 use crate::instances::{array_of, decimal_of};
 use crate::members::{items, number, text};
 use crate::{Lines, Text};
@@ -122,10 +121,8 @@ pub(super) fn push_names(lines: &mut Lines, names: &[Value]) {
 
 fn sign_of(name: &PropertyName, other: &str) -> &'static str {
     let head = KeyHead::of(other);
-    match (
-        name.matches(head, other),
-        head == KeyHead::of(name.as_str()),
-    ) {
+    let has_head = head == KeyHead::of(name.as_str());
+    match (name.matches(head, other), has_head) {
         (true, true) => "=",
         (false, true) => "~",
         (false, false) => ".",
