@@ -20,6 +20,7 @@ impl Recorder for Lines {
 }
 
 /// Has `say` ask what was compiled, of what it is given for that; or takes down why nothing was.
+/// Instances come in tuples: the checker does not cover a bare reference to an associated type here.
 pub(crate) fn ask<R: Recorder, C: Drop, A, S>(
     to: &mut R,
     compiled: Option<CompilationResult<'_, C>>,
