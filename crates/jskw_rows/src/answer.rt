@@ -1,17 +1,13 @@
-//! What the observers of a schema say of an instance, as lines.
+//! What a schema says of itself, and what its observers say of an instance, as lines.
 ghost use Rattle.std.specs.Prelude.{IsTrue};
 ghost use Rattle.jskw_value.specs.Tree.{is_lawful};
 
-use crate::lines::Lines;
-use crate::row::Row;
-use crate::text::{Made, Text};
+use crate::members::number;
+use crate::{Lines, Recorder, Row, Text, compiled};
 use jskw_array::SchemaNode;
 use jskw_array::compiler::compile;
 use jskw_array::items::array_shape_fusion;
-use jskw_report::{
-    CompilationResult, CompileFault, Context, Fault, LazyLocation, ValidationContext,
-    ValidationError,
-};
+use jskw_report::{CompileFault, Context, Fault, LazyLocation, ValidationContext};
 use jskw_value::{Json, Node};
 use serde_json::Value;
 
@@ -20,16 +16,26 @@ use serde_json::Value;
 pub(crate) struct Said {
     /// `is_valid`.
     pub(crate) holds: bool,
-    // `validate`: the line of its error, or nothing.
+    // `validate`: the line of its error, or nothing
     first: Lines,
     /// `collect_errors`.
     pub(crate) errors: Lines,
-    // The limits for which `collect_first_errors` gives others than the first of these.
+    // the limits for which `collect_first_errors` gives others than the first of these
     limits: Text,
     /// `evaluate`.
     pub(crate) tree: Lines,
-    /// What each observer counted, in this order: the subschemas that it applied.
+    /// Why the first keyword of which that is so does not compile.
+    pub(crate) refused: Lines,
+    /// What `is_valid`, `validate`, `collect_errors` and `evaluate` counted: the subschemas they applied.
     pub(crate) contexts: [ValidationContext; 4],
+}
+
+impl Recorder for Said {
+    fn push_refused(&mut self, fault: Option<&CompileFault<'_>>) {
+        if fault.is_some() && self.refused.text.as_str().is_empty() {
+            self.refused.push_refused(fault);
+        }
+    }
 }
 
 impl Said {
@@ -41,6 +47,7 @@ impl Said {
             errors: lines.others(),
             limits: Text::new(lines.alloc),
             tree: lines.others(),
+            refused: lines.others(),
             contexts: [
                 ValidationContext::new(),
                 ValidationContext::new(),
@@ -57,26 +64,16 @@ impl Said {
         }
     }
 
-    /// Notes a limit for which `collect_first_errors` did not give the first of all errors, of which
-    /// there are `count`, up to the limit.
-    pub(crate) fn push_limited<F: Json>(
-        &mut self,
-        limit: usize,
-        count: usize,
-        made: Made<()>,
-        errors: &[ValidationError<F>],
-    ) {
-        let mut given = self.errors.others();
-        given.push_errors(made, errors);
-        let is_start = self.errors.text.as_str().starts_with(given.text.as_str());
-        if !is_start | (errors.len() != limit.min(count)) {
+    /// Notes a limit for which `collect_first_errors` did not give the first of all errors up to it.
+    pub(crate) fn push_limited(&mut self, limit: usize, is_full: bool, given: &str) {
+        let is_start = self.errors.text.as_str().starts_with(given);
+        if !is_start | !is_full {
             write!(self.limits, "{limit}\n");
         }
     }
 
-    /// Appends the lines that a row wants: the errors or `valid`, and the evaluation if that is
-    /// claimed, below the line of the schema's own node if the tree has none. A line says so where
-    /// another observer disagrees with the errors.
+    /// Appends the lines that a row wants: the errors or `valid`, and the evaluation if that is claimed,
+    /// below the line of the schema's own node if the tree has none; and which observers disagree.
     pub(crate) fn push_lines(&self, text: &mut Text, root: &str, has_evaluation: bool) {
         let (errors, tree) = (self.errors.text.as_str(), self.tree.text.as_str());
         let (first, limits) = (self.first.text.as_str(), self.limits.as_str());
@@ -85,66 +82,36 @@ impl Said {
         text.push_if(is_valid, "valid\n");
         text.push(errors);
         push_unless(text, self.holds == is_valid, "is_valid", "");
-        let is_first = errors.starts_with(first) && first.is_empty() == is_valid;
-        let message = self.first.described.as_str();
-        let is_first = is_first && messages.as_str().starts_with(message);
-        push_unless(text, is_first, "validate", first);
+        let is_first = errors.starts_with(first) & (first.is_empty() == is_valid);
+        let has_message = messages.as_str().starts_with(self.first.described.as_str());
+        push_unless(text, is_first & has_message, "validate", first);
         push_unless(text, limits.is_empty(), "collect_first_errors", limits);
         let top = if root.is_empty() { tree } else { root };
-        let agrees = top.starts_with("valid") == is_valid && described == messages.as_str();
+        let agrees = (top.starts_with("valid") == is_valid) & (described == messages.as_str());
         push_unless(text, agrees, "evaluate", described);
         text.push_if(has_evaluation, root);
         text.push_if(has_evaluation, tree);
     }
 
-    // Appends what the observers counted, if that is too much or too little, so many times over.
-    fn push_counts(&self, text: &mut Text, times: u64, most: &Value) {
-        let (first, all) = (number_of(most, "untilFirst"), number_of(most, "ofAll"));
+    /// Appends how many subschemas an observer applied in so many calls, if that is too much or too little.
+    pub(crate) fn push_counts(&self, text: &mut Text, calls: u64, most: &Value) {
+        let (first, all) = (number(most, "untilFirst"), number(most, "ofAll"));
         let collected = most.get("collected").and_then(Value::as_u64).unwrap_or(1);
         let ranges = [(1, first), (1, first), (collected, all), (1, all)];
         for ((least, most), ctx) in ranges.iter().zip(&self.contexts) {
-            let (count, fewer) = (ctx.applications(), least.saturating_mul(times));
-            if (count < fewer) | (count > most.saturating_mul(times)) {
-                write!(
-                    text,
-                    "applied in {times} calls: {count} of {least} to {most}\n"
-                );
+            let (least, most) = (least.saturating_mul(calls), most.saturating_mul(calls));
+            let count = ctx.applications();
+            if (count < least) | (count > most) {
+                write!(text, "{calls} calls apply {count} of {least} to {most}\n");
             }
         }
     }
-}
-
-/// The number of the member of a name; 0 if there is none.
-pub(crate) fn number_of(of: &Value, name: &'static str) -> u64 {
-    of.get(name).and_then(Value::as_u64).unwrap_or(0)
 }
 
 fn push_unless(text: &mut Text, agrees: bool, observer: &str, found: &str) {
     if !agrees {
         write!(text, "{observer} disagrees:\n{found}");
     }
-}
-
-/// Appends what `say` says of what was compiled and of what it is asked; the line of the refusal, or
-/// `nothing`. The type of what was compiled is a parameter: wherever a validator of a known type may
-/// be dropped, the checker goes through all that it may be.
-pub(crate) fn push_compiled<C: Drop, A, S>(
-    lines: &mut Lines,
-    compiled: Option<CompilationResult<'_, C>>,
-    asked: &A,
-    say: S,
-)
-where
-    S: FnOnce(&mut Lines, &C, &A),
-    requires { S.IsAlwaysCallable say }
-{
-    match &compiled {
-        None => lines.text.push("nothing"),
-        Some(Ok(compiled)) => say(lines, compiled, asked),
-        Some(Err(CompileFault::Bad(error))) => lines.push_refusal(error),
-        Some(Err(CompileFault::Memory(_))) => lines.text.cut(),
-    }
-    drop(compiled);
 }
 
 /// Appends the line of the first float of an instance.
@@ -155,60 +122,44 @@ pub(crate) fn push_float<N: Node>(lines: &mut Lines, instance: &N) {
     }
 }
 
+// A row and its instance.
+type Of<'r, N> = (&'r Row<'r>, &'r N);
+
 /// Appends what the schema of a row says of itself and of the instance, or its refusal.
 pub(crate) fn push_whole<'r, F: Json>(lines: &mut Lines, row: &'r Row<'r>, instance: &'r F::Node) {
     let root: Context<F> = Context::new(lines.alloc, row.settings);
     let ctx = root.with_object_layer(row.object_layer);
     let parent = row.schema.as_object();
     let is_fused = parent.is_some_and(|parent| array_shape_fusion(&ctx, parent));
-    push_call(lines, "array_shape_fusion", row.is_fused, is_fused);
-    let compiled = compile(lines.alloc, &ctx, row.schema);
-    push_compiled(lines, Some(compiled), &(row, instance), push_node::<F>);
+    push_call(lines, "array_shape_fusion", row.claims("fused"), is_fused);
+    let schema = compile(lines.alloc, &ctx, row.schema);
+    compiled::ask(lines, Some(schema), &(row, instance), push_node::<F>);
 }
 
-// Appends what a schema says of itself, behind whether it is fused, and of an instance.
-fn push_node<'r, F: Json>(
-    lines: &mut Lines,
-    node: &SchemaNode<F>,
-    &(row, instance): &(&'r Row<'r>, &'r F::Node),
-) {
-    let delegates = row.delegates && row.object_layer;
-    push_call(
-        lines,
-        "array_shape",
-        row.is_fused,
-        node.array_shape().is_some(),
-    );
-    push_call(
-        lines,
-        "hands_on_required",
-        delegates,
-        node.hands_on_required(),
-    );
-    if !instance.is_lawful() {
-        return push_float(lines, instance);
+// Appends what a schema says of itself, behind whether it is fused, and of an instance, which is asked
+// twice if the row claims the counts.
+fn push_node<'r, F: Json>(lines: &mut Lines, node: &SchemaNode<F>, &(row, of): &Of<'r, F::Node>) {
+    let (has_shape, delegates) = (node.array_shape().is_some(), node.hands_on_required());
+    push_call(lines, "array_shape", row.claims("fused"), has_shape);
+    let is_claimed = row.claims("handsOnRequired") && row.object_layer;
+    push_call(lines, "hands_on_required", is_claimed, delegates);
+    if !of.is_lawful() {
+        return push_float(lines, of);
     }
-    push_said(lines, node, row.test, instance);
+    let (mut said, has_evaluation) = (Said::new(lines), row.test.get("evaluation").is_some());
+    observe(&mut said, node, of);
+    said.push_lines(&mut lines.text, "", has_evaluation);
+    if let Some(most) = row.test.get("applications") {
+        said.push_counts(&mut lines.text, 1, most);
+        observe(&mut said, node, of);
+        said.push_counts(&mut lines.text, 2, most);
+    }
 }
 
 // Appends what a call returns unless a row claims that.
 fn push_call(lines: &mut Lines, call: &str, claimed: bool, found: bool) {
     if found != claimed {
         write!(lines.text, "{call} returns {found}\n");
-    }
-}
-
-// Appends what a schema says of an instance, which is asked twice if the row claims the counts.
-fn push_said<F: Json>(lines: &mut Lines, node: &SchemaNode<F>, test: &Value, instance: &F::Node)
-    requires { IsTrue (is_lawful (F.Node.tree instance.now)) }
-{
-    let mut said = Said::new(lines);
-    observe(&mut said, node, instance);
-    said.push_lines(&mut lines.text, "", test.get("evaluation").is_some());
-    if let Some(most) = test.get("applications") {
-        said.push_counts(&mut lines.text, 1, most);
-        observe(&mut said, node, instance);
-        said.push_counts(&mut lines.text, 2, most);
     }
 }
 
@@ -221,8 +172,7 @@ fn observe<F: Json>(said: &mut Said, node: &SchemaNode<F>, instance: &F::Node)
     said.holds = node.is_valid(instance, &mut said.contexts[0]);
     let first = node.validate(instance, &mut location, &mut said.contexts[1]);
     said.push_first(&first);
-    let ctx = &mut said.contexts[2];
-    let made = node.collect_errors(instance, &mut location, ctx, &mut errors);
+    let made = node.collect_errors(instance, &mut location, &mut said.contexts[2], &mut errors);
     said.errors.push_errors(made, &errors);
     observe_limits(said, node, instance, errors.len());
     let tree = node.evaluate_instance(alloc, instance, &mut said.contexts[3]);
@@ -234,16 +184,12 @@ fn observe_limits<F: Json>(said: &mut Said, node: &SchemaNode<F>, instance: &F::
     requires { IsTrue (is_lawful (F.Node.tree instance.now)) }
 {
     let alloc = said.tree.alloc;
-    let (mut location, mut ctx) = (LazyLocation::new(alloc), ValidationContext::new());
+    let (mut at, mut ctx) = (LazyLocation::new(alloc), ValidationContext::new());
     for limit in &[0, count / 2, count, count.saturating_add(1)] {
-        let mut errors = Vec::new(alloc);
-        let made = node.collect_first_errors(
-            *limit,
-            instance,
-            &mut location,
-            &mut ctx,
-            &mut errors,
-        );
-        said.push_limited(*limit, count, made, &errors);
+        let (limit, mut errors) = (*limit, Vec::new(alloc));
+        let made = node.collect_first_errors(limit, instance, &mut at, &mut ctx, &mut errors);
+        let mut given = said.errors.others();
+        given.push_errors(made, &errors);
+        said.push_limited(limit, errors.len() == limit.min(count), given.text.as_str());
     }
 }

@@ -3,11 +3,8 @@
 ghost use Rattle.std.specs.Prelude.{string_bytes};
 ghost use Rattle.jskw_rows.specs.Asks.{asked_tree};
 
-use crate::answer::{number_of, push_compiled};
-use crate::lines::Lines;
-use crate::row::Row;
-use crate::tally::Tally;
-use crate::text::Made;
+use crate::members::number;
+use crate::{Lines, Made, Row, Tally, compiled};
 use jskw_array::SchemaNode;
 use jskw_array::compiler::compile;
 use jskw_report::{Context, Fault, LazyLocation, ValidationContext};
@@ -19,9 +16,7 @@ use std::cell::Cell;
 /// Null or an array, with how often it was asked whether it is null.
 #[derive(Drop)]
 pub(crate) enum Asked {
-    /// null
     Null(Cell<u64>),
-    /// an array
     Array(Cell<u64>, Vec<Asked>),
 }
 
@@ -162,16 +157,15 @@ impl Json for AskedJson {
 }
 
 /// Compares how often each observer of a schema asks with how often it may: `is_valid`, `validate` and
-/// `collect_first_errors` with the limit 1 up to the first failure, the others in all; asked once, and
-/// once more.
-pub(crate) fn check(tally: &mut Tally, row: &Row<'_>, most: &Value, instance: &Value) {
-    let (first, all) = (number_of(most, "untilFirst"), number_of(most, "ofAll"));
+/// `collect_first_errors` with the limit 1 up to the first failure, the others in all; asked once, and once more.
+pub(crate) fn check(tally: &mut Tally, row: &Row, most: &Value, instance: &Value) {
+    let (first, all) = (number(most, "untilFirst"), number(most, "ofAll"));
     let mut lines = Lines::new(tally.alloc, false, false);
     if let Some(tree) = lines.text.made(Asked::of(tally.alloc, instance)) {
         let asked = (tree, [first, first, first, all, all]);
         let ctx: Context<AskedJson> = Context::new(tally.alloc, row.settings);
-        let compiled = compile(tally.alloc, &ctx, row.schema);
-        push_compiled(&mut lines, Some(compiled), &asked, push_counts);
+        let node = compile(tally.alloc, &ctx, row.schema);
+        compiled::ask(&mut lines, Some(node), &asked, push_counts);
     }
     tally.compare("how often nodes are asked", "", lines.text.as_str());
 }
@@ -192,23 +186,20 @@ fn push_counts(lines: &mut Lines, node: &SchemaNode<AskedJson>, (tree, most): &(
 fn counts(lines: &mut Lines, node: &SchemaNode<AskedJson>, tree: &Asked) -> [u64; 5] {
     let alloc = lines.alloc;
     let (mut location, mut ctx) = (LazyLocation::new(alloc), ValidationContext::new());
+    let mut errors = Vec::new(alloc);
     let _ = node.is_valid(tree, &mut ctx);
     let is_valid = tree.take_count();
     let first = node.validate(tree, &mut location, &mut ctx);
     let validate = tree.take_count();
-    let one = node.collect_first_errors(1, tree, &mut location, &mut ctx, &mut Vec::new(alloc));
+    let one = node.collect_first_errors(1, tree, &mut location, &mut ctx, &mut errors);
     let collect_one = tree.take_count();
-    let all = node.collect_errors(tree, &mut location, &mut ctx, &mut Vec::new(alloc));
+    let all = node.collect_errors(tree, &mut location, &mut ctx, &mut errors);
     let collect_all = tree.take_count();
     let evaluation = node.evaluate_instance(alloc, tree, &mut ctx);
-    if matches!(first, Err(Fault::Memory(_))) | one.is_err() | all.is_err() | evaluation.is_err() {
+    let is_memory = matches!(first, Err(Fault::Memory(_))) | one.is_err() | all.is_err();
+    if is_memory | evaluation.is_err() {
         lines.text.cut();
     }
-    [
-        is_valid,
-        validate,
-        collect_one,
-        collect_all,
-        tree.take_count(),
-    ]
+    let evaluate = tree.take_count();
+    [is_valid, validate, collect_one, collect_all, evaluate]
 }

@@ -1,32 +1,123 @@
 //! Calls that no schema makes, and calls that `memory/run` refuses memory: those of a line of standard
 //! input, with what each gives and what its arguments hold afterwards. `README.md` beside `src/` lists
-//! their kinds.
-//!
-//! The name is printed first. A call that may be refused memory prints its own name and `asked`, or
-//! `ready` if it takes no memory; once it has returned, `answered` or `memory`, and the location if it
-//! has one. The lines behind a tab say what it gave and what it left: errors, a tree and the errors
-//! that it describes, members. Memory may be refused from `asked` or `ready` up to the next word. Of
-//! the other calls, a line behind a tab has the arguments, a colon and what was returned.
-mod compiled;
+//! their kinds, and says what is printed.
 mod devices;
 mod members;
 mod observers;
-mod printed;
 mod reports;
+mod settings;
+mod validators;
 mod values;
 
-use crate::lines::Lines;
-use crate::members::settings_of;
-use crate::row::push_unchecked;
-use crate::text::Text;
-use jskw_report::{Context, Settings};
+use crate::members::{items, text};
+use crate::{Lines, Made, Recorder};
+use jskw_report::{CompileFault, EvaluationNode, Fault, LazyLocation};
 use jskw_text::read_bytes;
-use jskw_unchecked::unchecked;
-use jskw_value::{DecimalJson, DecimalTree, SerdeJson};
-use observers::compile_and_ask;
-use printed::Printer;
+use jskw_value::{DecimalTree, Json, Node};
 use serde_json::Value;
 use std::alloc::Global;
+use std::fmt::Display;
+
+/// Standard output, and whether all could be printed and the line said what to do.
+#[derive(Drop)]
+struct Printer<'r> {
+    rt: &'r HostRuntime,
+    /// The kind of calls that the line asks for, and whether they are over decimals.
+    kind: &'r str,
+    is_of_decimals: bool,
+    is_right: bool,
+    /// What a call gave and left, which is printed before the next is announced.
+    lines: Lines,
+    /// Where the instance of a call is.
+    location: LazyLocation,
+}
+
+impl Printer<'_> {
+    /// What `write!` calls.
+    fn write_fmt<D: Display + Drop>(&mut self, part: D) {
+        let printed = print!(self.rt; "{part}");
+        self.check(printed.is_ok());
+    }
+
+    /// Notes whether a line says what to do, or can be made and printed.
+    fn check(&mut self, is_right: bool) {
+        self.is_right &= is_right;
+    }
+
+    /// Prints what the last call gave, each line behind a tab.
+    fn print_lines(&mut self) {
+        for line in self.lines.text.as_str().lines() {
+            let printed = print!(self.rt; "\t{line}\n");
+            self.is_right &= printed.is_ok();
+        }
+        self.lines.text.set("");
+        self.lines.described.set("");
+    }
+
+    /// Appends the text of a node to what the call gave.
+    fn push_node<N: Node>(&mut self, node: &N) {
+        self.lines.text.push_json(node);
+        self.lines.text.push("\n");
+    }
+
+    /// Says that the call of this name comes next, and whether it takes memory.
+    fn announce(&mut self, call: &str, takes_memory: bool) {
+        self.print_lines();
+        let word = if takes_memory { "asked" } else { "ready" };
+        write!(self, "{call} {word}");
+    }
+
+    /// Says that the call has returned and whether it ran out of memory.
+    fn tell(&mut self, is_memory: bool) {
+        write!(self, ", {}\n", answered(is_memory));
+    }
+
+    /// Says that the call has returned and whether it ran out of memory, and what the location is then.
+    fn tell_at(&mut self, is_memory: bool) {
+        write!(self, ", {} at ", answered(is_memory));
+        match &self.location.render() {
+            Ok(at) => write!(self, "{}\n", at.as_str()),
+            Err(_) => self.check(false),
+        }
+    }
+
+    /// Says what `validate` returned, and what the location is then.
+    fn tell_first<F: Json>(&mut self, answer: &Result<(), Fault<F>>) {
+        self.tell_at(matches!(answer, Err(Fault::Memory(_))));
+        if let Err(Fault::Invalid(error)) = answer {
+            self.lines.push_error(error);
+        }
+    }
+
+    /// Appends the lines of an evaluation, and of the errors that it describes, to what the call gave.
+    fn push_tree(&mut self, answer: &Made<EvaluationNode>) {
+        if let Ok(root) = answer {
+            self.lines.push_described(root);
+        }
+    }
+}
+
+impl Recorder for Printer<'_> {
+    fn push_refused(&mut self, fault: Option<&CompileFault<'_>>) {
+        self.tell(matches!(fault, Some(CompileFault::Memory(_))));
+        if let Some(CompileFault::Bad(error)) = fault {
+            self.lines.push_refusal(error);
+        }
+    }
+}
+
+/// Returns the location of item 2 of item 7 of an item far behind: its text is so long that it takes memory.
+fn far_below(alloc: Global) -> LazyLocation {
+    let mut location = LazyLocation::new(alloc);
+    for index in &[1_000_000_000_000_000_000, 7, 2] {
+        let _ = location.push(*index);
+    }
+    location
+}
+
+fn answered(is_memory: bool) -> &'static str {
+    if is_memory { "memory" } else { "answered" }
+}
 
 /// Prints the name of a line and makes its calls. Returns whether it says what to do.
 pub(crate) fn make(rt: &HostRuntime, line: &str) -> bool {
@@ -46,13 +137,16 @@ fn make_line(rt: &HostRuntime, items: &[Value]) -> bool {
         kind: of_decimals.unwrap_or(kind),
         is_of_decimals: of_decimals.is_some(),
         is_right: true,
+        lines: Lines::new(rt.alloc(), false, true),
+        location: far_below(rt.alloc()),
     };
     write!(to, "{line}\n");
     make_calls(&mut to, arguments);
+    to.print_lines();
     to.is_right
 }
 
-fn make_calls(to: &mut Printer<'_>, arguments: &[Value]) {
+fn make_calls(to: &mut Printer, arguments: &[Value]) {
     match to.kind {
         "value" => values::ask(to, arguments),
         "insert" => members::insert(to, arguments),
@@ -61,73 +155,49 @@ fn make_calls(to: &mut Printer<'_>, arguments: &[Value]) {
         "read_bytes" => devices::read(to, arguments, true),
         "read_nothing" => devices::read(to, arguments, false),
         "reply_to" => devices::reply(to, arguments),
-        "compile" | "schema" | "below" | "leaves" | "unchecked" => ask_settings(to, arguments),
-        _ => make_cases(to, arguments),
+        "compile" | "schema" | "below" | "leaves" | "unchecked" => settings::ask(to, arguments),
+        _ => {
+            for case in arguments {
+                make_case(to, case);
+            }
+        }
     }
 }
 
-// Makes the calls of a kind that takes a draft, an object with the rest of the settings, a schema and
-// an instance.
-fn ask_settings(to: &mut Printer<'_>, arguments: &[Value]) {
-    let [Value::String(draft), group, schema, instance] = arguments else {
-        return to.check(false);
-    };
-    match &settings_of(to.alloc(), group, draft) {
-        Ok(Some(settings)) if to.kind == "unchecked" => ask_unchecked(to, settings, schema),
-        Ok(Some(settings)) => ask_schema(to, settings, schema, instance),
-        _ => to.check(false),
-    }
+// Makes the call of an array of arguments, and prints these and what the call returns.
+fn make_case(to: &mut Printer, case: &Value) {
+    to.lines.text.push_made(case.to_string(to.lines.alloc));
+    to.lines.text.push(": ");
+    push_case(&mut to.lines, to.kind, case);
+    to.print_lines();
 }
 
-fn ask_schema(to: &mut Printer<'_>, settings: &Settings, schema: &Value, instance: &Value) {
-    if !to.is_of_decimals {
-        return compile_and_ask::<SerdeJson>(to, settings, schema, instance);
-    }
-    match &DecimalTree::from_value(to.alloc(), instance) {
-        Ok(Some(tree)) => compile_and_ask::<DecimalJson>(to, settings, schema, tree),
-        _ => to.check(false),
-    }
-}
-
-fn ask_unchecked(to: &mut Printer<'_>, settings: &Settings, schema: &Value) {
-    let ctx: Context<SerdeJson> = Context::new(to.alloc(), settings);
-    to.announce("unchecked", true);
-    let list = unchecked(to.alloc(), &ctx, schema);
-    to.tell(list.is_err());
-    if list.is_ok() {
-        let mut text = Text::new(to.alloc());
-        push_unchecked(&mut text, &list);
-        to.print_lines(text.as_str());
-    }
-}
-
-// Makes a call for each array of arguments, and prints these and what the call returns.
-fn make_cases(to: &mut Printer<'_>, cases: &[Value]) {
-    for case in cases {
-        let mut lines = to.lines();
-        lines.text.push_made(case.to_string(to.alloc()));
-        lines.text.push(": ");
-        values::push_case(&mut lines, to.kind, case);
-        to.print_lines(lines.text.as_str());
+// Makes a call of this kind, and appends what it returns.
+fn push_case(lines: &mut Lines, kind: &str, case: &Value) {
+    match kind {
+        "Decimal::new" => values::push_new(lines, case),
+        "Decimal" => values::push_decimal(lines, case),
+        "equals_value" => values::push_equality(lines, case),
+        "Object" => values::push_object(lines, case),
+        "PropertyName" => values::push_names(lines, items(case, 0)),
+        "fingerprint" => values::push_prints(lines, case),
+        "Location" => reports::push_locations(lines, case),
+        "LazyLocation" => reports::push_stack(lines, items(case, 0)),
+        "ValidationError" => reports::push_messages(lines, value(case, 0)),
+        "AllocError" => reports::push_constants(lines),
+        "EvaluationResult" => reports::push_unit(lines),
+        "StdSource" => devices::push_runs(lines, true),
+        "StdSink" => devices::push_runs(lines, false),
+        "required" => validators::push_required(lines, case),
+        "Limit" => validators::push_limits(lines, value(case, 0)),
+        "new" => validators::push_new(lines, case),
+        _ => settings::push_case(lines, kind, case),
     }
 }
 
 // An argument of a call; all of them if there is none at the place.
 fn value(case: &Value, index: usize) -> &Value {
     case.get(index).unwrap_or(case)
-}
-
-// An argument that is a text.
-fn text(case: &Value, index: usize) -> &str {
-    value(case, index).as_str().unwrap_or("")
-}
-
-// An argument that is an array.
-fn items(case: &Value, index: usize) -> &[Value] {
-    match value(case, index) {
-        Value::Array(items) => items.as_slice(),
-        _ => &[],
-    }
 }
 
 // An argument that is the text of a tree; null if it is none.

@@ -1,15 +1,14 @@
-//! Groups of rows: a schema under a setting, and tests of it.
+//! Groups of rows: a schema under a setting, and tests of it; or requests.
 use crate::instances::array_of;
-use crate::members::{Members, check_members, items, settings_of, text};
-use crate::row::{self, Row};
-use crate::tally::Tally;
+use crate::members::{check_members, items, push_lines, settings_of, text};
+use crate::{Members, Row, Tally, Text, row};
 use jskw_leaf::is_leaf;
 use jskw_report::{Context, KeywordName, Settings};
 use jskw_value::SerdeJson;
 use serde_json::Value;
 use std::alloc::Global;
 
-// The members of a group, of a test, of a claim of counts, and of an array that is made.
+// The members of a group, of a test, of a claim of counts, of an array that is made, and of requests.
 const GROUP: &str = "description drafts? vocabularies? overridden? objectLayer? schema fused? \
     handsOnRequired? refused|unchecked|tests";
 
@@ -20,52 +19,60 @@ const COUNTS: &str = "untilFirst ofAll collected?";
 
 const MAKER: &str = "count front? choices? back? crowded? again? more? inside?";
 
-/// Asks the rows of a group.
+const REQUESTS: &str = "description requests";
+
+/// Asks the rows of a group, or its requests.
 pub(crate) fn check(tally: &mut Tally, group: &Value) {
-    tally.begin_group(text(group, "description"));
     let rows = tally.rows;
-    if group.get("requests").is_some() {
-        return row::check_requests(tally, group);
+    tally.begin_group(text(group, "description"));
+    let is_of_requests = group.get("requests").is_some();
+    check_members(tally, group, if is_of_requests { REQUESTS } else { GROUP });
+    for request in items(group, "requests") {
+        tally.begin_test("requests", text(request, "description"));
+        check_members(tally, request, "description request output");
+        tally.begin_row(text(request, "request"));
+        let mut wanted = Text::new(tally.alloc);
+        push_lines(&mut wanted, request, "output");
+        row::check_run(tally, text(request, "request"), wanted.as_str());
+        tally.end_row();
     }
-    check_members(tally, group, GROUP);
-    if group.get("drafts").is_none() {
+    if group.get("drafts").is_none() && !is_of_requests {
         check_draft(tally, group, "2020-12");
     }
     for draft in items(group, "drafts") {
         check_draft(tally, group, draft.as_str().unwrap_or("?"));
     }
+    tally.end_tests();
     tally.check_rows(rows);
 }
 
 // Asks the rows of a group in one draft.
 fn check_draft(tally: &mut Tally, group: &Value, draft: &str) {
+    tally.end_tests();
     let settings = settings_of(tally.alloc, group, draft);
-    match (&settings, group.get("schema")) {
-        (Ok(Some(settings)), Some(schema)) => {
-            let row = Row {
-                group,
-                draft,
-                settings,
-                schema,
-                keywords: keywords_of(tally.alloc, settings, schema),
-                is_fused: group.get("fused").is_some(),
-                delegates: group.get("handsOnRequired").is_some(),
-                test: group,
-                layers: layers_of(tally, group),
-                object_layer: true,
-            };
-            check_tests(tally, row);
-        }
-        _ => tally.tell_wrong("schema, drafts, vocabularies or overridden", draft),
-    }
+    let (Ok(Some(settings)), Some(schema)) = (&settings, group.get("schema")) else {
+        return tally.tell_wrong("schema, drafts, vocabularies or overridden", draft);
+    };
+    let row = Row {
+        group,
+        draft,
+        settings,
+        schema,
+        keywords: keywords_of(tally.alloc, settings, schema),
+        test: group,
+        layers: layers_of(tally, group),
+        object_layer: true,
+    };
+    check_tests(tally, row);
 }
 
-fn check_tests(tally: &mut Tally, mut row: Row<'_>) {
-    if row.group.get("refused").is_some() {
+fn check_tests(tally: &mut Tally, mut row: Row) {
+    if row.claims("refused") {
         tally.begin_test(row.draft, "refused");
         row::check(tally, row, &Value::Null);
     }
-    if row.group.get("unchecked").is_some() {
+    if row.claims("unchecked") {
+        tally.begin_test(row.draft, "unchecked");
         row::check_unchecked(tally, &row);
     }
     for test in items(row.group, "tests") {
@@ -75,7 +82,7 @@ fn check_tests(tally: &mut Tally, mut row: Row<'_>) {
 }
 
 // Asks a row for each instance of a test.
-fn check_test(tally: &mut Tally, row: Row<'_>) {
+fn check_test(tally: &mut Tally, row: Row) {
     let (rows, test) = (tally.rows, row.test);
     tally.begin_test(row.draft, text(test, "description"));
     check_members(tally, test, TEST);
@@ -104,20 +111,21 @@ fn check_test(tally: &mut Tally, row: Row<'_>) {
 fn keywords_of<'s>(alloc: Global, settings: &Settings, schema: &'s Value) -> Option<&'s Members> {
     let parent = schema.as_object()?;
     let ctx: Context<SerdeJson> = Context::new(alloc, settings);
-    let is_alone = KeywordName::ALL.iter().all(|k| is_leaf(*k)
-        || !parent.contains_key(k.as_str())
-        || !k.is_active(&ctx));
-    if is_alone { Some(parent) } else { None }
+    for keyword in KeywordName::ALL {
+        let is_read = parent.contains_key(keyword.as_str()) && keyword.is_active(&ctx);
+        if is_read && !is_leaf(keyword) {
+            return None;
+        }
+    }
+    Some(parent)
 }
 
 // The object layers with which the answers of a group hold: `true` is with one.
 fn layers_of(tally: &mut Tally, group: &Value) -> &'static [bool] {
-    if group.get("objectLayer").is_none() {
-        return &[true, false];
-    }
-    match group.pointer("/objectLayer/0") {
-        Some(Value::Bool(true)) => &[true],
-        Some(Value::Bool(false)) => &[false],
+    match (group.get("objectLayer"), group.pointer("/objectLayer/0")) {
+        (None, _) => &[true, false],
+        (_, Some(Value::Bool(true))) => &[true],
+        (_, Some(Value::Bool(false))) => &[false],
         _ => {
             tally.tell_wrong("it has to be `[true]` or `[false]`", "objectLayer");
             &[]

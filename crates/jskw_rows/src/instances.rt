@@ -1,13 +1,17 @@
 //! Instances: trees of decimals, and arrays that are too long for a row to write out.
-use crate::answer::number_of;
-use crate::text::{Made, Text};
+use crate::members::{items, number, text};
+use crate::{Made, Text};
 use jskw_value::fingerprint::of_whole;
-use jskw_value::{Decimal, DecimalJson, DecimalTree, Json, Members, Node};
+use jskw_value::{Decimal, DecimalJson, DecimalTree, Json, Member, Members, Node};
 use serde_json::Value;
-use std::alloc::{AllocError, Global};
+use std::alloc::Global;
+
 /// Trees of decimals of which `N` members are visited in the time of a lookup: with 0 every
-/// required name is looked up, with `usize::MAX` all are walked for.
+/// required name is looked up.
 pub(crate) struct Keys<const N: usize>;
+
+/// The same, where all names are walked for.
+pub(crate) type AllKeys = Keys<0xffff_ffff_ffff_ffff>;
 
 impl<const N: usize> Json for Keys<N> {
     type Node = DecimalTree;
@@ -19,8 +23,7 @@ impl<const N: usize> Json for Keys<N> {
     }
 }
 
-/// Returns the tree of a value in which each decimal is written as a text, or `None` if the value
-/// has a float.
+/// Returns the tree of a value in which each decimal is written as a text, or `None` if the value has a float.
 pub(crate) fn decimals_of(alloc: Global, value: &Value) -> Made<Option<DecimalTree>> {
     if !value.is_lawful() {
         return Ok(None);
@@ -42,16 +45,12 @@ fn tree_of(alloc: Global, value: &Value) -> Made<DecimalTree> {
             Ok(DecimalTree::Array(trees))
         }
         Value::Object(members) => {
-            let mut object = Members::new(alloc);
+            let mut pairs = Vec::new(alloc);
             for (name, value) in members.iter() {
-                if object
-                    .insert(name.clone()?, tree_of(alloc, value)?)
-                    .is_err()
-                {
-                    return Err(AllocError);
-                }
+                let (name, value) = (name.clone()?, tree_of(alloc, value)?);
+                pairs.push(Member { name, value })?;
             }
-            Ok(DecimalTree::Object(object))
+            Ok(DecimalTree::Object(Members::from_last_pairs(pairs)?))
         }
         _ => Ok(DecimalTree::from_value(alloc, value)?.unwrap_or(DecimalTree::Null)),
     }
@@ -72,65 +71,51 @@ pub(crate) fn decimal_of(alloc: Global, text: &str) -> Option<Decimal> {
 /// those of `more`. `README.md` beside `src/` says what the members are. `None` if its text is no JSON.
 pub(crate) fn array_of(alloc: Global, maker: &Value) -> Option<Value> {
     let is_inside = maker.get("inside").is_some();
-    let mut text = Text::new(alloc);
-    text.push_if(is_inside, "[");
-    push_array(alloc, &mut text, maker);
-    text.push_if(is_inside, "]");
-    Value::from_str(alloc, text.as_str()).ok()
-}
-
-// Appends the text of that array.
-fn push_array(alloc: Global, text: &mut Text, maker: &Value) {
-    text.push("[");
-    for item in 0..number_of(maker, "count") {
-        push_item(text, maker, item);
+    let mut array = Text::new(alloc);
+    array.push_if(is_inside, "[");
+    array.push("[");
+    for item in 0..number(maker, "count") {
+        push_item(&mut array, maker, item);
     }
-    if let Some(Value::Array(more)) = maker.get("more") {
-        for item in more {
-            text.push(",");
-            text.push_made(item.to_string(alloc));
-        }
+    for item in items(maker, "more") {
+        array.push(",");
+        array.push_made(item.to_string(alloc));
     }
-    text.push("]");
+    array.push("]");
+    array.push_if(is_inside, "]");
+    Value::from_str(alloc, array.as_str()).ok()
 }
 
 // Appends the item of a number, if it has one, behind a comma if it is not the first.
-fn push_item(text: &mut Text, maker: &Value, item: u64) {
+fn push_item(array: &mut Text, maker: &Value, item: u64) {
     if maker.get("crowded").is_some() && !is_crowded(item) {
         return;
     }
-    let is_first = text.as_str().ends_with('[');
-    text.push_if(!is_first, ",");
-    text.push(text_of(maker, "front"));
-    match maker.get("choices").and_then(Value::as_array) {
-        None => write!(text, "{}", standing_for(maker, item)),
-        Some(choices) => push_choices(text, choices, standing_for(maker, item)),
+    let is_first = array.as_str().ends_with('[');
+    array.push_if(!is_first, ",");
+    array.push(text(maker, "front"));
+    let number = standing_for(maker, item);
+    match maker.get("choices") {
+        None => write!(array, "{number}"),
+        Some(_) => push_choices(array, items(maker, "choices"), number),
     }
-    text.push(text_of(maker, "back"));
-}
-
-fn text_of<'v>(maker: &'v Value, name: &'static str) -> &'v str {
-    maker.get(name).and_then(Value::as_str).unwrap_or("")
+    array.push(text(maker, "back"));
 }
 
 // Returns the number whose item stands in the place of that of a number.
 fn standing_for(maker: &Value, item: u64) -> u64 {
-    if maker.pointer("/again/1").and_then(Value::as_u64) == Some(item) {
-        maker
-            .pointer("/again/0")
-            .and_then(Value::as_u64)
-            .unwrap_or(item)
-    } else {
-        item
+    match items(maker, "again") {
+        [first, other] if other.as_u64() == Some(item) => first.as_u64().unwrap_or(item),
+        _ => item,
     }
 }
 
 // Appends a text of each two, by the binary digits of a number, the last one first.
-fn push_choices(text: &mut Text, choices: &[Value], number: u64) {
+fn push_choices(array: &mut Text, choices: &[Value], number: u64) {
     let mut rest = number;
     for choice in choices {
         let either = choice.get(if rest % 2 == 0 { 0 } else { 1 });
-        text.push(either.and_then(Value::as_str).unwrap_or("?"));
+        array.push(either.and_then(Value::as_str).unwrap_or("?"));
         rest /= 2;
     }
 }

@@ -1,148 +1,73 @@
 //! The keywords of a schema one by one, where none that is read has subschemas: each is compiled and
 //! asked by itself, as a keyword of the schema of `items` and of the item of the index 7.
-ghost use Rattle.std.specs.Prelude.{IsTrue};
-ghost use Rattle.jskw_value.specs.Tree.{is_lawful};
-
-use crate::answer::{Said, push_compiled, push_float};
-use crate::lines::Lines;
-use crate::members::Members;
-use crate::row::Row;
-use crate::text::Made;
-use jskw_leaf::{LeafValidator, is_leaf};
+use crate::answer::push_float;
+use crate::{Lines, Made, Members, Row, Said, compiled};
+use jskw_leaf::is_leaf;
 use jskw_report::{
-    CompilationResult, Context, EvaluationNode, KeywordName, LazyLocation, Location,
-    LocationSegment, Validate, ValidationContext,
+    Context, EvaluationNode, KeywordName, LazyLocation, Location, LocationSegment, Validate,
 };
 use jskw_value::{Json, Node};
-use std::alloc::Global;
+use std::alloc::AllocError;
 
-/// A compiled keyword, and its keyword location. Its type is a parameter, as in `push_compiled`.
-#[derive(Drop)]
-pub(crate) struct Leaf<V> {
-    pub(crate) location: Location,
-    pub(crate) validator: V,
-}
+/// A keyword location, and an instance.
+pub(crate) type At<'r, N> = (Made<Location>, &'r N);
 
 /// Appends what the keywords of a row say, or why one does not compile.
-pub(crate) fn push_answer<'r, F: Json>(
-    lines: &mut Lines,
-    row: &'r Row<'r>,
-    parent: &'r Members,
-    instance: &'r F::Node,
-) {
+pub(crate) fn push_answer<F: Json>(lines: &mut Lines, row: &Row, parent: &Members, of: &F::Node) {
     let root: Context<F> = Context::new(lines.alloc, row.settings);
     let root = root.with_object_layer(row.object_layer);
     let ctx = root.new_at_location(lines.alloc, LocationSegment::Name("items"));
+    let mut said = Said::new(lines);
     if let Some(ctx) = &lines.text.made(ctx) {
-        let leaves = compiled(lines.alloc, ctx, parent);
-        let say = push_leaves::<F, LeafValidator<F>>;
-        push_compiled(lines, Some(leaves), &(row, instance), say);
+        push_keywords(&mut said, ctx, parent, of);
+    }
+    let root = if said.holds { "valid\n" } else { "invalid\n" };
+    if !said.refused.text.as_str().is_empty() {
+        lines.text.push(said.refused.text.as_str());
+    } else if !of.is_lawful() {
+        push_float(lines, of);
+    } else {
+        said.push_lines(&mut lines.text, root, row.test.get("evaluation").is_some());
     }
 }
 
-/// The compiled keywords of an object that are read and assert something.
-pub(crate) fn compiled<'a, F: Json>(
-    alloc: Global,
-    ctx: &Context<'_, F>,
-    parent: &'a Members,
-) -> CompilationResult<'a, Vec<Leaf<LeafValidator<F>>>> {
-    let mut leaves = Vec::new(alloc);
-    let made = compile_leaves(alloc, ctx, parent, &mut leaves);
-    all_or_fault(made, leaves)
-}
-
-// Returns a value, unless it could not be made.
-fn all_or_fault<'a, T: Drop>(made: CompilationResult<'a, ()>, all: T) -> CompilationResult<'a, T> {
-    made?;
-    Ok(all)
-}
-
-fn compile_leaves<'a, F: Json>(
-    alloc: Global,
-    ctx: &Context<'_, F>,
-    parent: &'a Members,
-    leaves: &mut Vec<Leaf<LeafValidator<F>>>,
-) -> CompilationResult<'a, ()> {
+// Compiles each keyword that is read, and appends what it says.
+fn push_keywords<'r, F: Json>(to: &mut Said, ctx: &Context<F>, parent: &Members, of: &'r F::Node) {
+    let alloc = to.tree.alloc;
     for keyword in KeywordName::ALL {
         match parent.get(keyword.as_str()) {
             Some(schema) if is_leaf(keyword) && keyword.is_active(ctx) => {
                 let name = LocationSegment::Name(keyword.as_str());
-                let location = ctx.location().join(alloc, name);
-                let compiled = jskw_leaf::compile(alloc, ctx, parent, keyword, schema);
-                push_compiled_leaf(location, compiled, leaves)?;
+                let by = ctx.location().join(alloc, name);
+                let validator = jskw_leaf::compile(alloc, ctx, parent, keyword, schema);
+                compiled::ask(to, validator, &(by, of), push_keyword);
             }
             _ => {}
         }
     }
-    Ok(())
-}
-
-// Appends a compiled keyword, if it asserts something.
-fn push_compiled_leaf<'a, V: Drop>(
-    location: Made<Location>,
-    compiled: Option<CompilationResult<'a, V>>,
-    leaves: &mut Vec<Leaf<V>>,
-) -> CompilationResult<'a, ()> {
-    let Some(compiled) = compiled else {
-        return Ok(());
-    };
-    leaves.push(Leaf {
-        validator: compiled?,
-        location: location?,
-    })?;
-    Ok(())
-}
-
-fn push_leaves<'r, F: Json, V: Validate<F> + Drop>(
-    lines: &mut Lines,
-    leaves: &Vec<Leaf<V>>,
-    &(row, instance): &(&'r Row<'r>, &'r F::Node),
-) {
-    if !instance.is_lawful() {
-        return push_float(lines, instance);
-    }
-    let mut said = Said::new(lines);
-    for leaf in leaves {
-        push_leaf(lines.alloc, &mut said, leaf, instance);
-    }
-    let root = if said.holds { "valid\n" } else { "invalid\n" };
-    said.push_lines(&mut lines.text, root, row.test.get("evaluation").is_some());
 }
 
 // Appends what a keyword says of the item of the index 7.
-fn push_leaf<F: Json, V: Validate<F> + Drop>(
-    alloc: Global,
-    said: &mut Said,
-    leaf: &Leaf<V>,
-    instance: &F::Node,
-)
-    requires { IsTrue (is_lawful (F.Node.tree instance.now)) }
-{
-    let (mut location, mut ctx) = (LazyLocation::new(alloc), ValidationContext::new());
-    said.errors.text.keep(location.push(7));
-    let asked = &leaf.validator;
-    said.holds = asked.is_valid(instance, &mut ctx) && said.holds;
-    let first = asked.validate(instance, &mut location, &mut ctx);
-    said.push_first(&first);
-    let mut errors = Vec::new(alloc);
-    let made = asked.collect_errors(instance, &mut location, &mut ctx, &mut errors);
-    said.errors.push_errors(made, &errors);
-    let node = evaluated(alloc, leaf, instance, &mut location);
-    said.tree.push_tree(1, &node);
-}
-
-// Returns the node of a keyword's evaluation.
-fn evaluated<F: Json, V: Validate<F> + Drop>(
-    alloc: Global,
-    leaf: &Leaf<V>,
-    instance: &F::Node,
-    location: &mut LazyLocation,
-) -> Made<EvaluationNode>
-    requires { IsTrue (is_lawful (F.Node.tree instance.now)) }
-{
-    let (at, mut ctx) = (location.render()?, ValidationContext::new());
-    let unit = leaf
-        .validator
-        .evaluate(alloc, instance, location, &mut ctx)?;
-    EvaluationNode::new(alloc, unit, &leaf.location, &at)
+fn push_keyword<'r, F: Json, V: Validate<F>>(
+    to: &mut Said,
+    keyword: &V,
+    (by, of): &At<'r, F::Node>,
+) {
+    if !of.is_lawful() {
+        return;
+    }
+    let alloc = to.tree.alloc;
+    let (mut location, mut errors) = (LazyLocation::new(alloc), Vec::new(alloc));
+    to.errors.text.keep(location.push(7));
+    to.holds &= keyword.is_valid(of, &mut to.contexts[0]);
+    let first = keyword.validate(of, &mut location, &mut to.contexts[1]);
+    to.push_first(&first);
+    let made = keyword.collect_errors(of, &mut location, &mut to.contexts[2], &mut errors);
+    to.errors.push_errors(made, &errors);
+    let unit = keyword.evaluate(alloc, of, &mut location, &mut to.contexts[3]);
+    let node = match (unit, by, location.render()) {
+        (Ok(unit), Ok(by), Ok(at)) => EvaluationNode::new(alloc, unit, by, &at),
+        _ => Err(AllocError),
+    };
+    to.tree.push_tree(1, &node);
 }

@@ -1,6 +1,5 @@
-//! Errors and evaluations as lines: the kind as a row has it, both locations and the value at fault;
-//! a line for each node.
-use crate::text::{Made, Text};
+//! Errors as lines, each with its payload, both locations and the value at fault, and evaluations.
+use crate::{Made, Text};
 use jskw_report::{
     Annotations, EnumOptions, EvaluationNode, Fault, Location, TypeKind, ValidationError,
     ValidationErrorKind,
@@ -13,8 +12,7 @@ use std::alloc::Global;
 #[derive(Drop)]
 pub(crate) struct Lines {
     pub(crate) alloc: Global,
-    /// Whether they are of a schema of `items` and of the item of the index 7. The beginning that all
-    /// their locations have is left out.
+    /// Whether they are of a schema of `items` and of the item of the index 7, which is left out.
     pub(crate) are_of_item: bool,
     pub(crate) has_messages: bool,
     pub(crate) text: Text,
@@ -50,8 +48,7 @@ impl Lines {
         Lines::new(self.alloc, self.are_of_item, self.has_messages)
     }
 
-    // The location of a schema or an instance without this beginning, if it is of an item, or a
-    // question mark if it has another one.
+    // The location behind this beginning, which it has to have if it is of an item.
     fn behind<'t>(&self, start: &str, location: &'t Location) -> &'t str {
         let start = if self.are_of_item { start } else { "" };
         location.as_str().strip_prefix(start).unwrap_or("?")
@@ -74,48 +71,74 @@ impl Lines {
         }
     }
 
-    // Appends the line of an error of an instance.
-    fn push_error<F: Json>(&mut self, error: &ValidationError<F>) {
+    /// Appends the line of an error of an instance.
+    pub(crate) fn push_error<F: Json>(&mut self, error: &ValidationError<F>) {
+        let mut value = Text::new(self.alloc);
+        value.push_json(error.instance());
         let at = self.behind("/7", error.instance_path());
-        self.push_start(at, error);
-        self.text.push_json(error.instance());
-        self.push_end(error);
+        self.push_line(at, value.as_str(), error);
     }
 
-    /// Appends the line of why a schema does not compile. The value at fault is written with its
-    /// floats.
+    /// Appends the line of why a schema does not compile. The value at fault has its floats.
     pub(crate) fn push_refusal(&mut self, error: &ValidationError<SerdeJson>) {
+        let mut value = Text::new(self.alloc);
+        value.push_made(error.instance().to_string(self.alloc));
         self.text.push("refused: ");
-        self.push_start(error.instance_path().as_str(), error);
-        self.text.push_made(error.instance().to_string(self.alloc));
-        self.push_end(error);
+        self.push_line(error.instance_path().as_str(), value.as_str(), error);
     }
 
-    // Appends what stands in front of the value at fault.
-    fn push_start<F: Json>(&mut self, at: &str, error: &ValidationError<F>) {
-        push_kind(self.alloc, &mut self.text, error.kind());
-        let by = self.behind("/items", error.schema_path());
-        write!(self.text, " at {at} by {by} of ");
-        let is_same = error.evaluation_path() == error.schema_path();
-        self.text.push_if(!is_same, "another path, ");
-    }
-
-    // Ends the line, with the message if it is to be written.
-    fn push_end<F: Json>(&mut self, error: &ValidationError<F>) {
+    // Appends the line of an error about a value of this text, with the message if it is to be written.
+    fn push_line<F: Json>(&mut self, at: &str, value: &str, error: &ValidationError<F>) {
         let mut message = Text::new(self.alloc);
         message.push_made(error.message(self.alloc));
+        self.push_kind(error.kind());
+        let by = self.behind("/items", error.schema_path());
+        let is_same = error.evaluation_path() == error.schema_path();
+        write!(self.text, " at {at} by {by} of {value}");
+        self.text.push_if(!is_same, ", by another path");
         self.text.push_if(self.has_messages, ", ");
         self.text.push_if(self.has_messages, message.as_str());
         self.text.push("\n");
-        self.push_description(error.kind().keyword(), message.as_str());
-    }
-
-    // Appends the keyword and the message of an error, as an evaluation describes it.
-    fn push_description(&mut self, keyword: &str, message: &str) {
+        let (keyword, message) = (error.kind().keyword(), message.as_str());
         write!(self.described, "{keyword}: {message}\n");
     }
 
-    /// Appends the lines of an evaluation, which is made or not.
+    // Appends the keyword of a kind and its payload as JSON, `true` for one without.
+    fn push_kind(&mut self, kind: &ValidationErrorKind) {
+        let text = &mut self.text;
+        write!(text, "{} ", kind.keyword());
+        match kind {
+            ValidationErrorKind::AdditionalItems { limit } => write!(text, "{limit}"),
+            ValidationErrorKind::CompileError { message } => write!(text, "\"{message}\""),
+            ValidationErrorKind::Constant { expected_value } => text.push_json(*expected_value),
+            ValidationErrorKind::Enum {
+                options: EnumOptions::Listed(options),
+            } => text.push_json(*options),
+            ValidationErrorKind::Enum {
+                options: EnumOptions::TypeNames,
+            } => text.push("\"typeNames\""),
+            ValidationErrorKind::MinItems { limit }
+            | ValidationErrorKind::MaxItems { limit }
+            | ValidationErrorKind::MinProperties { limit }
+            | ValidationErrorKind::MaxProperties { limit } => write!(text, "{limit}"),
+            ValidationErrorKind::Minimum { limit }
+            | ValidationErrorKind::Maximum { limit }
+            | ValidationErrorKind::ExclusiveMinimum { limit }
+            | ValidationErrorKind::ExclusiveMaximum { limit } => write!(text, "{limit}"),
+            ValidationErrorKind::MultipleOf { multiple_of } => write!(text, "{multiple_of}"),
+            ValidationErrorKind::Required { property } => push_name(self.alloc, text, property),
+            ValidationErrorKind::WrongType { kind } => push_types(text, *kind),
+            _ => text.push("true"),
+        }
+    }
+
+    /// Appends the lines of an evaluation, and of the errors that it describes.
+    pub(crate) fn push_described(&mut self, tree: &EvaluationNode) {
+        self.push_nodes(0, tree);
+        self.text.push(self.described.as_str());
+    }
+
+    /// Appends the lines of an evaluation. `depth` is how many nodes are above it.
     pub(crate) fn push_tree(&mut self, depth: usize, node: &Made<EvaluationNode>) {
         match node {
             Ok(node) => self.push_nodes(depth, node),
@@ -123,7 +146,7 @@ impl Lines {
         }
     }
 
-    /// Appends the lines of a node and of those below it. `depth` is how many nodes are above it.
+    /// Appends the lines of a node and of those below it.
     pub(crate) fn push_nodes(&mut self, depth: usize, node: &EvaluationNode) {
         self.push_node(depth, node);
         for child in node.children() {
@@ -133,23 +156,12 @@ impl Lines {
 
     // Appends the line of a node, behind two spaces for each node that it stands below.
     fn push_node(&mut self, depth: usize, node: &EvaluationNode) {
-        for _ in 0..depth {
-            self.text.push("  ");
-        }
-        self.push_place(node);
-        push_annotation(&mut self.text, node.annotations());
-        for error in node.errors() {
-            write!(self.text, " error {}", error.keyword());
-            self.push_description(error.keyword(), error.message());
-        }
-        self.text.push("\n");
-    }
-
-    // Appends whether a node is valid, and its locations.
-    fn push_place(&mut self, node: &EvaluationNode) {
         let by = self.behind("/items", node.evaluation_path());
         let at = self.behind("/7", node.instance_location());
         let is_same = node.schema_location() == node.evaluation_path();
+        for _ in 0..depth {
+            self.text.push("  ");
+        }
         self.text.push_if(!node.valid(), "in");
         self.text.push("valid");
         self.text.push_if(!by.is_empty(), " ");
@@ -157,34 +169,12 @@ impl Lines {
         self.text.push_if(!is_same, " elsewhere");
         self.text.push_if(!at.is_empty(), " at ");
         self.text.push(at);
-    }
-}
-
-// Appends the keyword of a kind and its payload as JSON, `true` for one without.
-fn push_kind(alloc: Global, text: &mut Text, kind: &ValidationErrorKind) {
-    write!(text, "{} ", kind.keyword());
-    match kind {
-        ValidationErrorKind::AdditionalItems { limit } => write!(text, "{limit}"),
-        ValidationErrorKind::CompileError { message } => write!(text, "\"{message}\""),
-        ValidationErrorKind::Constant { expected_value } => text.push_json(*expected_value),
-        ValidationErrorKind::Enum {
-            options: EnumOptions::Listed(options),
-        } => text.push_json(*options),
-        ValidationErrorKind::Enum {
-            options: EnumOptions::TypeNames,
-        } => text.push("\"typeNames\""),
-        ValidationErrorKind::MinItems { limit }
-        | ValidationErrorKind::MaxItems { limit }
-        | ValidationErrorKind::MinProperties { limit }
-        | ValidationErrorKind::MaxProperties { limit } => write!(text, "{limit}"),
-        ValidationErrorKind::Minimum { limit }
-        | ValidationErrorKind::Maximum { limit }
-        | ValidationErrorKind::ExclusiveMinimum { limit }
-        | ValidationErrorKind::ExclusiveMaximum { limit } => write!(text, "{limit}"),
-        ValidationErrorKind::MultipleOf { multiple_of } => write!(text, "{multiple_of}"),
-        ValidationErrorKind::Required { property } => push_name(alloc, text, property),
-        ValidationErrorKind::WrongType { kind } => push_types(text, *kind),
-        _ => text.push("true"),
+        push_annotation(&mut self.text, node.annotations());
+        for error in node.errors() {
+            write!(self.text, " error {}", error.keyword());
+            write!(self.described, "{}: {}\n", error.keyword(), error.message());
+        }
+        self.text.push("\n");
     }
 }
 
@@ -204,7 +194,8 @@ fn push_types(text: &mut Text, kind: TypeKind) {
     let mut is_first = true;
     for (name, json_type) in &TYPES {
         if types.contains(*json_type) {
-            write!(text, "{}\"{name}\"", if is_first { "" } else { "," });
+            text.push_if(!is_first, ",");
+            write!(text, "\"{name}\"");
             is_first = false;
         }
     }

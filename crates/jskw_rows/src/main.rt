@@ -1,11 +1,11 @@
-//! Asks each row of the files of a folder in every way that there is to ask it, and prints the rows
-//! whose answers differ from the wanted ones. `README.md` beside `src/` says what a row is, and what
-//! standard input has.
+//! Asks each row of the files of a folder in every way, and prints those whose answers differ from the
+//! wanted ones. `README.md` beside `src/` says what a row is, and what standard input has.
 #![tactic(auto)]
 
 mod answer;
 mod asked;
 mod calls;
+mod compiled;
 mod group;
 mod instances;
 mod leaves;
@@ -16,29 +16,29 @@ mod tally;
 mod text;
 mod wanted;
 
+use answer::Said;
+use compiled::Recorder;
+use lines::Lines;
+use members::Members;
+use row::Row;
 use serde_json::Value;
-use std::fs::DirEntry;
 use std::process::ExitCode;
 use std::{env, fs, io};
 use tally::Tally;
-use text::Text;
+use text::{Made, Text};
+use wanted::Wanted;
 
 // The names of the files of rows in a folder, sorted.
 fn file_names(rt: &HostRuntime, folder: &str) -> io::Result<Vec<String>> {
     let mut names = Vec::new(rt.alloc());
     for entry in fs::read_dir(rt, folder)? {
-        push_name(&mut names, entry)?;
+        let entry = entry?;
+        if entry.file_name().ends_with(".json") {
+            names.push(String::from_str(rt.alloc(), entry.file_name())?)?;
+        }
     }
     names.sort()?;
     Ok(names)
-}
-
-fn push_name(names: &mut Vec<String>, entry: io::Result<DirEntry>) -> io::Result<()> {
-    let entry = entry?;
-    if entry.file_name().ends_with(".json") {
-        names.push(String::from_str(*names.allocator(), entry.file_name())?)?;
-    }
-    Ok(())
 }
 
 // Asks the rows of a file's text, which is an array of groups.
@@ -63,10 +63,9 @@ fn check_file(rt: &HostRuntime, tally: &mut Tally, folder: &str, name: &str) -> 
     let mut path = Text::new(rt.alloc());
     write!(path, "{folder}/{name}");
     let text = fs::read_to_string(rt, path.as_str())?;
-    tally.begin_file(name);
     let before = tally.rows;
+    tally.begin_file(name);
     check_text(tally, text.as_str());
-    tally.begin_group("");
     let rows = tally.rows.saturating_sub(before);
     println!(rt; "{}{name}: {rows} rows", tally.told.as_str())
 }
@@ -82,20 +81,13 @@ fn check_folder(rt: &HostRuntime, folder: &str) -> io::Result<bool> {
     Ok(differing == 0 && mistakes == 0)
 }
 
-// Asks the rows of the current folder, and makes the calls of each line of standard input. Returns
-// whether that went well.
-fn check_here(rt: &HostRuntime) -> io::Result<bool> {
-    let mut is_right = check_folder(rt, ".")?;
-    for line in rt.lines(rt.alloc()) {
-        is_right = calls::make(rt, line?.as_str()) && is_right;
-    }
-    Ok(is_right)
-}
-
 fn main(rt: HostRuntime) -> io::Result<ExitCode> {
-    let is_right = match env::args(&rt)?.nth(1) {
-        Some(folder) => check_folder(&rt, folder.as_str())?,
-        None => check_here(&rt)?,
-    };
+    let folder = env::args(&rt)?.nth(1);
+    let mut is_right = check_folder(&rt, folder.as_ref().map_or(".", String::as_str))?;
+    if folder.is_none() {
+        for line in rt.lines(rt.alloc()) {
+            is_right &= calls::make(&rt, line?.as_str());
+        }
+    }
     Ok(ExitCode::from(u8::from(!is_right)))
 }

@@ -1,10 +1,9 @@
 //! The members of the objects that rows are made of, and the settings that they say. What is of another
 //! kind is read as if it were empty, so that the answers differ.
-use crate::tally::Tally;
-use crate::text::{Made, Text};
+use crate::{Made, Tally, Text};
 use jskw_report::Settings;
 use jskw_service::{draft_named, overridden_of, vocabularies_of};
-use serde_json::{Map, Value};
+use serde_json::{Index, Map, Value};
 use std::alloc::Global;
 
 pub(crate) type Members = Map<String, Value>;
@@ -20,10 +19,8 @@ pub(crate) fn check_members(tally: &mut Tally, value: &Value, words: &str) {
         }
         known = known.saturating_add(found);
     }
-    if value
-        .as_object()
-        .is_none_or(|members| members.len() != known)
-    {
+    let members = value.as_object();
+    if members.is_none_or(|members| members.len() != known) {
         tally.tell_wrong("an object with no members but those of", words);
     }
 }
@@ -39,14 +36,19 @@ fn count_of(value: &Value, names: &str) -> usize {
     count
 }
 
-/// The text of the member of a name; empty if there is none.
-pub(crate) fn text<'v>(of: &'v Value, name: &'static str) -> &'v str {
-    of.get(name).and_then(Value::as_str).unwrap_or("")
+/// The text of a member by its name, or of an item by its index; empty if there is none.
+pub(crate) fn text<I: Index + Drop>(of: &Value, at: I) -> &str {
+    of.get(at).and_then(Value::as_str).unwrap_or("")
 }
 
-/// The items of the member of a name; none if that is no array.
-pub(crate) fn items<'v>(of: &'v Value, name: &'static str) -> &'v [Value] {
-    match of.get(name) {
+/// The number of one; 0 if there is none.
+pub(crate) fn number<I: Index + Drop>(of: &Value, at: I) -> u64 {
+    of.get(at).and_then(Value::as_u64).unwrap_or(0)
+}
+
+/// The items of one; none if it is no array.
+pub(crate) fn items<I: Index + Drop>(of: &Value, at: I) -> &[Value] {
+    match of.get(at) {
         Some(Value::Array(items)) => items.as_slice(),
         _ => &[],
     }

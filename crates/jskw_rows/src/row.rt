@@ -1,12 +1,8 @@
 //! A row, and how it is asked.
 use crate::answer::{push_float, push_whole};
-use crate::instances::{Keys, decimals_of};
-use crate::lines::Lines;
-use crate::members::{Members, check_members, items, push_lines, text};
-use crate::tally::Tally;
-use crate::text::{Made, Text};
-use crate::wanted::Wanted;
-use crate::{asked, leaves};
+use crate::instances::{AllKeys, Keys, decimals_of};
+use crate::members::{items, text};
+use crate::{Lines, Made, Members, Tally, Text, Wanted, asked, leaves};
 use jskw_report::{Context, Settings};
 use jskw_service::{StdSink, StdSource, run, status};
 use jskw_text::read_bytes;
@@ -24,10 +20,6 @@ pub(crate) struct Row<'r> {
     pub(crate) schema: &'r Value,
     /// The schema, if it is an object in which no keyword that is read has subschemas.
     pub(crate) keywords: Option<&'r Members>,
-    /// Whether its keywords of arrays are fused.
-    pub(crate) is_fused: bool,
-    /// Whether a `required` of it is delegated with an object layer. Without one none is.
-    pub(crate) delegates: bool,
     /// The test; the group, if that says that the schema does not compile.
     pub(crate) test: &'r Value,
     /// With an object layer if `true`. `run`, which has none, is asked too if `false` is among them.
@@ -36,14 +28,49 @@ pub(crate) struct Row<'r> {
     pub(crate) object_layer: bool,
 }
 
-/// Asks a row of an instance, of which some texts may stand for decimals. `run`, which reads no decimals,
-/// is not asked of these.
-pub(crate) fn check(tally: &mut Tally, mut row: Row<'_>, instance: &Value) {
-    let has_decimals = row.test.get("decimals").is_some();
-    let request = request_of(tally.alloc, &row, instance);
-    begin_row(tally, &row, request.as_str(), has_decimals);
+impl Row<'_> {
+    /// Whether the group has a member of this name.
+    pub(crate) fn claims(&self, name: &'static str) -> bool {
+        self.group.get(name).is_some()
+    }
+
+    // Whether some texts of the instance stand for decimals.
+    fn has_decimals(&self) -> bool {
+        self.test.get("decimals").is_some()
+    }
+
+    /// The request that asks for the row.
+    pub(crate) fn request(&self, alloc: Global, instance: &Value) -> Text {
+        let mut request = Text::new(alloc);
+        write!(request, "{{\"draft\":\"{}\"", self.draft);
+        for (name, value) in &[
+            ("vocabularies", self.group.get("vocabularies")),
+            ("overridden", self.group.get("overridden")),
+            ("schema", Some(self.schema)),
+            ("instance", Some(instance)),
+        ] {
+            if let Some(value) = value {
+                write!(request, ",\"{name}\":");
+                request.push_made(value.to_string(alloc));
+            }
+        }
+        request.push("}");
+        request
+    }
+}
+
+/// Asks a row of an instance. `run`, which reads no decimals, is not asked of one with such.
+pub(crate) fn check(tally: &mut Tally, mut row: Row, instance: &Value) {
+    let request = row.request(tally.alloc, instance);
+    let mut question = Text::new(tally.alloc);
+    let (layers, decimals, text) = (row.layers, row.has_decimals(), text(row.test, "text"));
+    write!(question, "{}, object layer: {layers:?}", request.as_str());
+    write!(question, ", decimals: {decimals}");
+    question.push_if(!text.is_empty(), ", ");
+    question.push(text);
+    tally.begin_row(question.as_str());
     let wanted = Wanted::of(tally.alloc, row.test, instance);
-    if row.layers.contains(&false) && !has_decimals {
+    if row.layers.contains(&false) && !decimals {
         check_run(tally, request.as_str(), wanted.output.as_str());
     }
     if let Some(most) = row.test.get("asked") {
@@ -52,58 +79,36 @@ pub(crate) fn check(tally: &mut Tally, mut row: Row<'_>, instance: &Value) {
     for layer in row.layers {
         row.object_layer = *layer;
         tally.take_layer(*layer);
-        check_all(tally, &row, &wanted, instance, has_decimals);
+        check_all(tally, &row, &wanted, instance);
     }
-}
-
-// Takes what a row asks, which no other may ask.
-fn begin_row(tally: &mut Tally, row: &Row<'_>, request: &str, has_decimals: bool) {
-    let mut question = Text::new(tally.alloc);
-    let layers = row.layers;
-    write!(
-        question,
-        "{request}, object layer: {layers:?}, decimals: {has_decimals}"
-    );
-    if let Some(Value::String(text)) = row.test.get("text") {
-        write!(question, ", {text}");
-    }
-    tally.begin_row(question.as_str());
+    tally.end_row();
 }
 
 // Asks a row over each representation.
-fn check_all(tally: &mut Tally, row: &Row<'_>, wanted: &Wanted, of: &Value, has_decimals: bool) {
-    if has_decimals {
-        return check_tree(tally, row, wanted, of, &decimals_of(tally.alloc, of));
-    }
-    check_over::<SerdeJson>(tally, row, wanted, of, "over serde_json");
-    let tree = DecimalTree::from_value(tally.alloc, of);
-    check_tree(tally, row, wanted, of, &tree);
-}
-
-// Asks a row over each representation whose nodes are trees of decimals, if the instance has a tree.
-fn check_tree(
-    tally: &mut Tally,
-    row: &Row<'_>,
-    wanted: &Wanted,
-    of: &Value,
-    tree: &Made<Option<DecimalTree>>,
-) {
-    let Ok(Some(tree)) = tree else {
+fn check_all(tally: &mut Tally, row: &Row, wanted: &Wanted, of: &Value) {
+    let tree = if row.has_decimals() {
+        decimals_of(tally.alloc, of)
+    } else {
+        check_over::<SerdeJson>(tally, row, wanted, of, "over serde_json");
+        DecimalTree::from_value(tally.alloc, of)
+    };
+    if let Ok(Some(of)) = &tree {
+        check_over::<DecimalJson>(tally, row, wanted, of, "over decimals");
+        check_over::<Keys<0>>(tally, row, wanted, of, "over decimals, by lookups");
+        check_over::<AllKeys>(tally, row, wanted, of, "over decimals, by walks");
+        check_text(tally, row, wanted, of);
+    } else {
         let mut found = Lines::new(tally.alloc, false, false);
         push_float(&mut found, of);
-        return tally.compare("as decimals", wanted.answer.as_str(), found.text.as_str());
-    };
-    check_over::<DecimalJson>(tally, row, wanted, tree, "over decimals");
-    check_over::<Keys<0>>(tally, row, wanted, tree, "over decimals, by lookups");
-    check_over::<Keys<0xffff_ffff_ffff_ffff>>(tally, row, wanted, tree, "over decimals, by walks");
-    check_text(tally, row, wanted, tree);
+        tally.compare("as decimals", wanted.answer.as_str(), found.text.as_str());
+    }
 }
 
 // Asks a row over the tree that is read from a text: that of the test if it has one, which has to be
 // read as the instance, or else the text that the instance is written as.
-fn check_text(tally: &mut Tally, row: &Row<'_>, wanted: &Wanted, tree: &DecimalTree) {
+fn check_text(tally: &mut Tally, row: &Row, wanted: &Wanted, of: &DecimalTree) {
     let mut own = Text::new(tally.alloc);
-    own.push_json(tree);
+    own.push_json(of);
     let given = match row.test.get("text") {
         Some(Value::String(text)) => text.as_str(),
         _ => own.as_str(),
@@ -120,27 +125,21 @@ fn check_text(tally: &mut Tally, row: &Row<'_>, wanted: &Wanted, tree: &DecimalT
 }
 
 // Asks a row over one representation: the whole schema, and its keywords one by one.
-fn check_over<F: Json>(
-    tally: &mut Tally,
-    row: &Row<'_>,
-    wanted: &Wanted,
-    instance: &F::Node,
-    way: &str,
-) {
+fn check_over<F: Json>(tally: &mut Tally, row: &Row, wanted: &Wanted, of: &F::Node, way: &str) {
     let mut found = Lines::new(tally.alloc, false, wanted.has_messages);
-    push_whole::<F>(&mut found, row, instance);
+    push_whole::<F>(&mut found, row, of);
     tally.compare(way, wanted.answer.as_str(), found.text.as_str());
     if let Some(parent) = row.keywords {
         let mut found = Lines::new(tally.alloc, true, wanted.has_messages);
-        leaves::push_answer::<F>(&mut found, row, parent, instance);
+        leaves::push_answer::<F>(&mut found, row, parent, of);
         let mut by = Text::new(tally.alloc);
         write!(by, "{way}, each keyword by itself");
         tally.compare(by.as_str(), wanted.answer.as_str(), found.text.as_str());
     }
 }
 
-// Compares what `run` writes for a request, and its status in a line behind it.
-fn check_run(tally: &mut Tally, request: &str, wanted: &str) {
+/// Compares what `run` writes for a request, and its status in a line behind it.
+pub(crate) fn check_run(tally: &mut Tally, request: &str, wanted: &str) {
     let mut reader = StdSource::new(request.as_bytes());
     let mut writer = StdSink::new(Vec::new(tally.alloc));
     let status = status(&run(tally.alloc, &mut reader, &mut writer));
@@ -151,51 +150,13 @@ fn check_run(tally: &mut Tally, request: &str, wanted: &str) {
     tally.compare("by run", wanted, found.as_str());
 }
 
-// The request of a row.
-fn request_of(alloc: Global, row: &Row<'_>, instance: &Value) -> Text {
-    let mut request = Text::new(alloc);
-    write!(request, "{{\"draft\":\"{}\"", row.draft);
-    for (name, value) in &[
-        ("vocabularies", row.group.get("vocabularies")),
-        ("overridden", row.group.get("overridden")),
-        ("schema", Some(row.schema)),
-        ("instance", Some(instance)),
-    ] {
-        if let Some(value) = value {
-            write!(request, ",\"{name}\":");
-            request.push_made(value.to_string(alloc));
-        }
-    }
-    request.push("}");
-    request
-}
-
-/// Asks the requests of a group of them.
-pub(crate) fn check_requests(tally: &mut Tally, group: &Value) {
-    check_members(tally, group, "description requests");
-    for request in items(group, "requests") {
-        check_members(tally, request, "description request output");
-        tally.begin_test("requests", text(request, "description"));
-        tally.begin_row(text(request, "request"));
-        let mut wanted = Text::new(tally.alloc);
-        push_lines(&mut wanted, request, "output");
-        check_run(tally, text(request, "request"), wanted.as_str());
-    }
-}
-
 /// Compares the members of a schema that are unchecked, with their reasons, with the pairs that a group
 /// lists, with each object layer.
-pub(crate) fn check_unchecked(tally: &mut Tally, row: &Row<'_>) {
-    tally.begin_test(row.draft, "unchecked");
-    let (request, layers) = (request_of(tally.alloc, row, &Value::Null), row.layers);
-    let mut question = Text::new(tally.alloc);
-    write!(
-        question,
-        "{}, object layer: {layers:?}, unchecked",
-        request.as_str()
-    );
+pub(crate) fn check_unchecked(tally: &mut Tally, row: &Row) {
+    let (request, layers) = (row.request(tally.alloc, &Value::Null), row.layers);
+    let (mut question, mut wanted) = (Text::new(tally.alloc), Text::new(tally.alloc));
+    write!(question, "{}, unchecked: {layers:?}", request.as_str());
     tally.begin_row(question.as_str());
-    let mut wanted = Text::new(tally.alloc);
     for pair in items(row.group, "unchecked") {
         for (place, end) in &[("/0", " "), ("/1", "\n")] {
             let part = pair.pointer(place).and_then(Value::as_str);
@@ -210,6 +171,7 @@ pub(crate) fn check_unchecked(tally: &mut Tally, row: &Row<'_>) {
         tally.take_layer(*layer);
         tally.compare("unchecked", wanted.as_str(), found.as_str());
     }
+    tally.end_row();
 }
 
 /// Appends a line for each member: its location, and why it is not checked.

@@ -1,5 +1,5 @@
 //! What was asked so far, and what differed.
-use crate::text::Text;
+use crate::Text;
 use std::alloc::Global;
 use std::collections::BTreeSet;
 
@@ -11,9 +11,10 @@ const COLUMNS: usize = 400;
 pub(crate) struct Tally {
     pub(crate) alloc: Global,
     file: Text,
+    // the file and the group
     group: Text,
-    // the test that is read or asked; empty before the first one of a group
-    test: Text,
+    // the file, the group and the test that are read or asked, as far as one has begun
+    place: Text,
     // what the row asks
     question: Text,
     // with or without an object layer, behind the way; empty if the way has none
@@ -36,7 +37,7 @@ impl Tally {
             alloc,
             file: Text::new(alloc),
             group: Text::new(alloc),
-            test: Text::new(alloc),
+            place: Text::new(alloc),
             question: Text::new(alloc),
             layer: "",
             differing_of_row: 0,
@@ -48,36 +49,48 @@ impl Tally {
         }
     }
 
-    /// Takes the name of a file whose rows are asked next.
     pub(crate) fn begin_file(&mut self, name: &str) {
         self.file.set(name);
-        self.begin_group("");
+        self.place.set(name);
         self.told.set("");
     }
 
-    /// Takes the name of a group whose rows are asked next.
     pub(crate) fn begin_group(&mut self, name: &str) {
-        self.end_row();
-        self.group.set(name);
-        self.test.set("");
+        self.group.set(self.file.as_str());
+        write!(self.group, ": {name}");
+        self.end_tests();
     }
 
-    /// Takes the name of a test in a part of the group, which no other of the file may have.
+    /// Begins a test in a part of the group. No other of the file may have its name there.
     pub(crate) fn begin_test(&mut self, part: &str, name: &str) {
-        self.end_row();
-        self.test.set(name);
         let mut all = Text::new(self.alloc);
-        let (file, group) = (self.file.as_str(), self.group.as_str());
-        write!(all, "{file}: {group}: {part}: {name}");
+        write!(all, "{}: {part}: {name}", self.group.as_str());
+        self.end_tests();
+        write!(self.place, ": {name}");
         self.take(all.as_str(), "two tests of one name");
+    }
+
+    /// Ends the tests of a group: a mistake that is recorded next is in the group.
+    pub(crate) fn end_tests(&mut self) {
+        self.place.set(self.group.as_str());
     }
 
     /// Counts a row, and takes what it asks, which no other row of any file may ask.
     pub(crate) fn begin_row(&mut self, question: &str) {
-        self.end_row();
         self.rows = self.rows.saturating_add(1);
         self.question.set(question);
         self.take(question, "a row that stands elsewhere too");
+    }
+
+    /// Tells how many answers of the row differ beside the one that is printed.
+    pub(crate) fn end_row(&mut self) {
+        let others = self.differing_of_row.saturating_sub(1);
+        if others > 0 {
+            write!(self.told, "  so do {others} answers");
+            self.told.push(" to other ways of asking it\n");
+        }
+        self.differing_of_row = 0;
+        self.layer = "";
     }
 
     /// Tells if no row was asked since there were so many.
@@ -87,25 +100,11 @@ impl Tally {
         }
     }
 
-    // Appends how many answers of the row differ beside the one that is printed.
-    fn end_row(&mut self) {
-        let others = self.differing_of_row.saturating_sub(1);
-        if others > 0 {
-            write!(
-                self.told,
-                "  so do {others} answers to other ways of asking it\n"
-            );
-        }
-        self.differing_of_row = 0;
-        self.layer = "";
-    }
-
     /// Takes the object layer with which the row is asked next.
     pub(crate) fn take_layer(&mut self, layer: bool) {
-        self.layer = if layer {
-            ", with an object layer"
-        } else {
-            ", without an object layer"
+        self.layer = match layer {
+            true => ", with an object layer",
+            false => ", without an object layer",
         };
     }
 
@@ -118,11 +117,10 @@ impl Tally {
         }
     }
 
-    /// Records a mistake in the test, or in the group if none is begun, and the member or text that
-    /// has it.
+    /// Records a mistake in what is read or asked, and the member or text that has it.
     pub(crate) fn tell_wrong(&mut self, what: &str, with: &str) {
         self.mistakes = self.mistakes.saturating_add(1);
-        self.tell_place();
+        self.told.push(self.place.as_str());
         write!(self.told, "\n  wrong: {what}: {}\n", cut(with));
     }
 
@@ -133,48 +131,27 @@ impl Tally {
             self.differing = self.differing.saturating_add(1);
             self.differing_of_row = self.differing_of_row.saturating_add(1);
             if self.differing_of_row == 1 {
-                self.tell_difference(way, wanted, found);
+                self.told.push(self.place.as_str());
+                write!(self.told, ", {way}{}\n", self.layer);
+                write!(self.told, "  asked: {}\n", cut(self.question.as_str()));
+                write!(self.told, "  wanted: {}\n", cut(difference(wanted, found)));
+                write!(self.told, "  found: {}\n", cut(difference(found, wanted)));
             }
         }
     }
+}
 
-    fn tell_difference(&mut self, way: &str, wanted: &str, found: &str) {
-        self.tell_place();
-        write!(self.told, ", {way}{}\n", self.layer);
-        write!(self.told, "  asked: {}\n", cut(self.question.as_str()));
-        for (one, other) in wanted.lines().zip(found.lines()) {
-            if one != other {
-                return self.tell_lines(one, other);
-            }
-        }
-        self.tell_lines(behind(wanted, found), behind(found, wanted));
-    }
-
-    fn tell_lines(&mut self, wanted: &str, found: &str) {
-        write!(
-            self.told,
-            "  wanted: {}\n  found: {}\n",
-            cut(wanted),
-            cut(found)
-        );
-    }
-
-    // Appends the names of the file, the group and the test.
-    fn tell_place(&mut self) {
-        self.told.push(self.file.as_str());
-        for name in &[self.group.as_str(), self.test.as_str()] {
-            self.told.push_if(!name.is_empty(), ": ");
-            self.told.push(name);
+// Returns the first line of a text that is another in the other text, or what is left behind that.
+fn difference<'t>(text: &'t str, other: &str) -> &'t str {
+    for (line, other) in text.lines().zip(other.lines()) {
+        if line != other {
+            return line;
         }
     }
+    text.get(other.len()..).unwrap_or("nothing more")
 }
 
 // Returns the beginning of a long line, unless a character goes on behind it.
 fn cut(line: &str) -> &str {
     line.get(..COLUMNS).unwrap_or(line)
-}
-
-// Returns what is left of a text behind a beginning of it, if there is any.
-fn behind<'t>(text: &'t str, start: &str) -> &'t str {
-    text.get(start.len()..).unwrap_or("nothing more")
 }

@@ -63,7 +63,7 @@ impl Text {
 
     /// Appends a text that was made.
     pub(crate) fn push_made(&mut self, part: Made<String>) {
-        match part {
+        match &part {
             Ok(part) => self.push(part.as_str()),
             Err(_) => self.cut(),
         }
@@ -76,12 +76,12 @@ impl Text {
 
     /// Notes whether memory ran out in what belongs to this text.
     pub(crate) fn keep(&mut self, made: Made<()>) {
-        self.is_cut = self.is_cut || made.is_err();
+        self.is_cut |= made.is_err();
     }
 
     /// Returns what was made. If memory ran out, notes that and returns `None`.
     pub(crate) fn made<T>(&mut self, made: Made<T>) -> Option<T> {
-        self.is_cut = self.is_cut || made.is_err();
+        self.is_cut |= made.is_err();
         made.ok()
     }
 }

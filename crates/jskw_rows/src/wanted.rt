@@ -1,7 +1,7 @@
 //! What a row wants: the lines of the answers, and what `run` writes.
+use crate::Text;
 use crate::instances::decimals_of;
 use crate::members::{items, push_lines, text};
-use crate::text::Text;
 use serde_json::Value;
 use std::alloc::Global;
 
@@ -68,7 +68,7 @@ impl Wanted {
                 value.push_made(found.to_string(self.alloc));
             }
             Some(found) => {
-                if let Some(Some(tree)) = &value.made(decimals_of(self.alloc, found)) {
+                if let Ok(Some(tree)) = &decimals_of(self.alloc, found) {
                     value.push_json(tree);
                 }
             }
@@ -100,13 +100,14 @@ impl Wanted {
 
 // Returns the only member of an error that is not one of the parts: its keyword, with the payload.
 fn keyword_of(error: &Value) -> Option<(&str, &Value)> {
-    let members = error.as_object()?;
-    let mut kinds = members
-        .iter()
-        .filter(|(name, _)| !PARTS.contains(&name.as_str()));
-    let (keyword, payload) = kinds.next()?;
-    match kinds.next() {
-        None => Some((keyword.as_str(), payload)),
-        Some(_) => None,
+    let mut found = None;
+    for (name, payload) in error.as_object()?.iter() {
+        if !PARTS.contains(&name.as_str()) {
+            if found.is_some() {
+                return None;
+            }
+            found = Some((name.as_str(), payload));
+        }
     }
+    found
 }

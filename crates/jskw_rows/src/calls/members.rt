@@ -1,69 +1,70 @@
 //! Calls of the members of an object: those that insert one, or make all of them from pairs.
-use super::printed::Printer;
-use crate::text::{Made, Text};
+use super::Printer;
+use crate::{Made, Text};
 use jskw_value::{Decimal, DecimalTree, InsertFault, Member, Members, RepeatedName};
 use serde_json::Value;
 use std::alloc::Global;
 
-/// Inserts one more member, with the last name, behind those of the other names, each with its place
-/// in the line, and prints the pair and the members before and afterwards. A name that is there already
-/// takes no memory.
-pub(super) fn insert(to: &mut Printer<'_>, names: &[Value]) {
+/// Inserts a member with the last name behind those of the others, each with its place as its value, and
+/// prints the pair and the members before and afterwards. A name that is there takes no memory.
+pub(super) fn insert(to: &mut Printer, names: &[Value]) {
     let [names @ .., Value::String(name)] = names else {
         return to.check(false);
     };
     let number = DecimalTree::Number(Decimal::from(names.len() as u64));
     write!(to, "before\n");
-    print_pair(to, name, &number);
-    let name = String::from_str(to.alloc(), name);
-    match (members_of(to.alloc(), names), name) {
-        (Ok(members), Ok(name)) => insert_into(to, members, name, number),
-        _ => to.check(false),
-    }
-}
-
-fn insert_into(to: &mut Printer<'_>, members: Members, name: String, number: DecimalTree) {
+    push_pair(&mut to.lines.text, name, &number);
+    to.lines.text.push("\n");
+    let name = String::from_str(to.lines.alloc, name);
+    let (Ok(members), Ok(name)) = (members_of(to.lines.alloc, names), name) else {
+        return to.check(false);
+    };
     let mut object = DecimalTree::Object(members);
-    to.print_node(&object);
+    to.push_node(&object);
     if let DecimalTree::Object(members) = &mut object {
         to.announce("insert", members.get(&name).is_none());
         let inserted = members.insert(name, number);
-        print_inserted(to, &inserted);
+        push_inserted(to, &inserted);
     }
-    to.print_node(&object);
+    to.push_node(&object);
 }
 
-// Says whether a member was inserted, and prints the pair if it was not.
-fn print_inserted(to: &mut Printer<'_>, inserted: &Result<(), InsertFault<DecimalTree>>) {
+// Says whether a member was inserted, and appends the pair if it was not.
+fn push_inserted(to: &mut Printer, inserted: &Result<(), InsertFault<DecimalTree>>) {
     to.tell(matches!(inserted, Err(InsertFault::Memory(_, _))));
     if let Err(InsertFault::Repeated(name, value) | InsertFault::Memory(name, value)) = inserted {
-        print_pair(to, name, value);
+        push_pair(&mut to.lines.text, name, value);
+        to.lines.text.push("\n");
     }
 }
 
-/// Makes members of pairs of a name and its text, and prints them, or all pairs and the place of the
-/// first name that two of them have.
-pub(super) fn from_pairs(to: &mut Printer<'_>, names: &[Value]) {
-    if let Ok(pairs) = pairs_of(to.alloc(), names) {
+/// Makes members of pairs of a name and its text, and prints them, or the pairs and the place of the first
+/// name that two of them have.
+pub(super) fn from_pairs(to: &mut Printer, names: &[Value]) {
+    if let Ok(pairs) = pairs_of(to.lines.alloc, names) {
         to.announce("from_pairs", false);
         let made = Members::from_pairs(pairs);
         to.tell(false);
         match made {
-            Ok(members) => to.print_node(&DecimalTree::Object(members)),
-            Err(RepeatedName { pairs, place }) => print_pairs(to, &pairs, place),
+            Ok(members) => to.push_node(&DecimalTree::Object(members)),
+            Err(RepeatedName { pairs, place }) => {
+                for pair in &pairs {
+                    push_pair(&mut to.lines.text, pair.name.as_str(), &pair.value);
+                }
+                write!(to.lines.text, "repeated at {place}");
+            }
         }
     }
 }
 
-/// Makes members of such pairs, of those of one name the last, and prints them. Few pairs are sorted
-/// without memory.
-pub(super) fn from_last_pairs(to: &mut Printer<'_>, names: &[Value]) {
-    if let Ok(pairs) = pairs_of(to.alloc(), names) {
+/// Makes members of such pairs, of one name the last. Few pairs are sorted without memory.
+pub(super) fn from_last_pairs(to: &mut Printer, names: &[Value]) {
+    if let Ok(pairs) = pairs_of(to.lines.alloc, names) {
         to.announce("from_last_pairs", names.len() > 20);
         let made = Members::from_last_pairs(pairs);
         to.tell(made.is_err());
         if let Ok(members) = made {
-            to.print_node(&DecimalTree::Object(members));
+            to.push_node(&DecimalTree::Object(members));
         }
     }
 }
@@ -89,21 +90,6 @@ fn members_of(alloc: Global, names: &[Value]) -> Made<Members> {
         let _ = members.insert(name, DecimalTree::Number(Decimal::from(place as u64)));
     }
     Ok(members)
-}
-
-fn print_pairs(to: &mut Printer<'_>, pairs: &[Member<DecimalTree>], place: usize) {
-    let mut text = Text::new(to.alloc());
-    for pair in pairs {
-        push_pair(&mut text, pair.name.as_str(), &pair.value);
-    }
-    write!(text, "repeated at {place}");
-    to.print_lines(text.as_str());
-}
-
-fn print_pair(to: &mut Printer<'_>, name: &str, value: &DecimalTree) {
-    let mut text = Text::new(to.alloc());
-    push_pair(&mut text, name, value);
-    to.print_lines(text.as_str());
 }
 
 fn push_pair(text: &mut Text, name: &str, tree: &DecimalTree) {
