@@ -8,7 +8,7 @@ use Rattle.jskw_report.specs.declared.evaluation.EvaluationResult.TheVariants.{V
 -- the descriptions of an evaluation: a valid one has none
 abbrev pub descriptions_of : EvaluationResult → List Description
 descriptions_of (Valid a es) = []
-descriptions_of (Invalid ds es a) = ds.items
+descriptions_of (Invalid a es ds) = ds.items
 
 -- the unit of an evaluation, which tells keywords and no texts
 abbrev pub result_of : EvaluationResult → Result
@@ -18,7 +18,7 @@ result_of (Valid a es) = record {
   descriptions = [];
   children = es.items;
 }
-result_of (Invalid ds es a) = record {
+result_of (Invalid a es ds) = record {
   valid = false;
   annotation = option_map annotation_of a;
   descriptions = keywords_of ds.items;

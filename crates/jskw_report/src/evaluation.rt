@@ -97,13 +97,13 @@ pub enum EvaluationResult {
     },
     /// The keyword does not accept the instance.
     Invalid {
+        /// The annotation, if the keyword has one.
+        annotations: Option<Annotations>,
+        /// The nodes below, in order (JSON Schema Core 12.3.5).
+        children: Vec<EvaluationNode>,
         /// The descriptions of the errors that the keyword itself reports, in order (JSON Schema
         /// Core 12.3.4).
         errors: Vec<ErrorDescription>,
-        /// The nodes below, in order (JSON Schema Core 12.3.5).
-        children: Vec<EvaluationNode>,
-        /// The annotation, if the keyword has one.
-        annotations: Option<Annotations>,
     },
 }
 
@@ -124,9 +124,9 @@ impl EvaluationResult {
         ensures descriptions { descriptions_of result ≡ errors.items }
     {
         EvaluationResult::Invalid {
-            errors,
-            children: Vec::new(alloc),
             annotations: None,
+            children: Vec::new(alloc),
+            errors,
         }
     }
 
@@ -142,9 +142,9 @@ impl EvaluationResult {
             }
         } else {
             EvaluationResult::Invalid {
-                errors: Vec::new(alloc),
-                children,
                 annotations: None,
+                children,
+                errors: Vec::new(alloc),
             }
         }
     }

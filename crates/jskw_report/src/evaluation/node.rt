@@ -109,9 +109,9 @@ impl EvaluationNode {
                 children,
             }),
             EvaluationResult::Invalid {
-                errors,
-                children,
                 annotations,
+                children,
+                errors,
             } => Ok(EvaluationNode {
                 evaluation_path,
                 instance_location,
