@@ -15,6 +15,7 @@ pub struct Decimal {
     size: u64,
     is_negative: bool,
     scale: u8,
+    ghost sign: { is_negative ≡ true → 0 < size },
     ghost low: { is_negative ≡ true → size ≤ 2 ^ 63 },
     ghost short: { scale ≤ 18 },
 }
@@ -48,7 +49,7 @@ impl Decimal {
         } else {
             Some(Decimal {
                 size,
-                is_negative,
+                is_negative: is_negative && size > 0,
                 scale,
             })
         }
@@ -134,11 +135,11 @@ impl JsonNumber for Decimal {
     }
 
     fn as_u64(&self) -> Option<u64> {
-        if self.scale == 0 {
-            u64::try_from(self.coefficient()).ok()
-        } else {
-            None
+        let number = *self;
+        if number.scale != 0 || number.is_negative {
+            return None;
         }
+        Some(number.size)
     }
 
     fn as_i64(&self) -> Option<i64> {
