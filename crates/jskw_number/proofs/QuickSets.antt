@@ -345,22 +345,12 @@ other_within q n e =
 
 pub ruleset numbers_within = (integer_within, other_within)
 
--- and so a number of the range is in the set
-pub number_is_in : (q : QuickSet) (t : Tree) (n : Num) → q.is_limited ≡ true → as_number t ≡ Some n
-    → has_number q.integers n ≡ true → is_in q t ≡ true
-number_is_in q (number m) n l e h = go q.is_limited l
-  where
-    same : m ≡ n
-    same = cc
-
-    within : (f : Bool) → (f || has_number q.integers m) ≡ true
-    within true = refl
-    within false = ap (has_number q.integers) same ∙ h
-
-    go : (b : Bool) → b ≡ true → (if b then is_in_limits q m else has_type q (number m)) ≡ true
-    go true w = within (q.has_fractions && has_fraction q.integers m)
-    go false w = absurd (true≢false (sym w))
-number_is_in q _ n l e h = cc
+-- a number that passes a test is in the set if all that it accepts are
+pub passed_is_in : (q : QuickSet) (t : Tree) (n : Num) (accepts : Num → Bool)
+    → ((m : Num) → accepts m ≡ true → is_in q (number m) ≡ true) → as_number t ≡ Some n → accepts n ≡ true
+    → is_in q t ≡ true
+passed_is_in q (number m) n accepts part e h = let same : m ≡ n = cc in part m (ap accepts same ∙ h)
+passed_is_in q _ n accepts part e h = cc
 
 -- an integer of 64 bits is kept as one
 as_word : (z : ℤ) → negsuc (2 ^ 63 - 1) ≤ℤ z → z <ℤ pos (2 ^ 63) → i64_of z ≡ Some z

@@ -2,9 +2,10 @@
 use Rattle.std.specs.Int.NonZero.{non_zero_u64_get}
 use Rattle.std.specs.Option.{option_and_then, option_map_or}
 use Rattle.std.specs.Prelude.{◌≡◌, ℕ, zero, suc, List, [], ◌∷◌, get_or, if◌then◌else◌, ℤ, int_le, unsigned_abs, ◌%◌}
-use Rattle.std.specs.Prelude.{◌==◌, ◌&&◌, ◌||◌, Bool, true, false, pos, ◌^◌, ◌*ℤ◌, ◌≤ℤ◌}
+use Rattle.std.specs.Prelude.{◌==◌, ◌&&◌, ◌||◌, Bool, true, false, pos, ◌^◌, ◌*ℤ◌, ◌≤ℤ◌, ◌+◌, ◌-◌, ◌≤◌, drop}
+use Rattle.std.specs.Prelude.{length, nat_lt}
 use Rattle.std.specs.declared.num.NonZeroU64.{NonZeroU64}
-use Rattle.jskw_value.specs.Number.{Num, exact, float, i64_of, written_integer}
+use Rattle.jskw_value.specs.Number.{Num, exact, float, i64_of, u64_of, written_integer}
 use Rattle.jskw_value.specs.Tree.{Tree, as_number}
 use Rattle.jskw_value.specs.Types.{json_type}
 use Rattle.jskw_value.specs.declared.types.JsonType.{JsonType}
@@ -12,6 +13,7 @@ use Rattle.jskw_value.specs.declared.types.JsonType.TheVariants.{Array, Boolean,
 use Rattle.jskw_report.specs.Holds.{keyword_holds}
 use Rattle.jskw_report.specs.Keyword.{Keyword}
 use Rattle.jskw_number.specs.declared.quick_set.IntegerRange.{IntegerRange}
+use Rattle.jskw_number.specs.declared.quick_set.Naturals.{Naturals}
 use Rattle.jskw_number.specs.declared.quick_set.QuickSet.{QuickSet}
 
 -- z divided by the divisor is an integer
@@ -25,6 +27,14 @@ in_range r z = int_le r.low z && int_le z r.high && divides r.divisor z
 -- the number is an integer of the range that is written without a fraction
 abbrev pub has_number : IntegerRange → Num → Bool
 has_number r n = option_map_or (in_range r) (option_and_then i64_of (written_integer n)) false
+
+-- k is one of these integers: its difference to the first, as a word of 64 bits, is less than their number
+abbrev pub in_naturals : Naturals → ℕ → Bool
+in_naturals m k = nat_lt ((k + (2 ^ 64 - m.first)) % 2 ^ 64) m.count
+
+-- the number is written without a fraction, is from 0 to 2^64 - 1, and passes the check
+abbrev pub has_natural : (ℕ → Bool) → Num → Bool
+has_natural check n = option_map_or check (option_and_then u64_of (written_integer n)) false
 
 -- the number is between the ends of the range
 abbrev pub encloses : IntegerRange → Num → Bool
@@ -67,6 +77,11 @@ is_in q t = if q.is_limited then option_map_or (is_in_limits q) (as_number t) (h
 abbrev pub leading : {A : Type 0} → (A → Bool) → List A → ℕ
 leading check [] = 0
 leading check (x ∷ xs) = if check x then suc (leading check xs) else 0
+
+-- the trees from one index up to another are in the set
+abbrev pub IsBehind : QuickSet → List Tree → ℕ → ℕ → Type 0
+IsBehind q ts from to =
+    (to + leading (is_in q) (drop to ts) ≡ from + leading (is_in q) (drop from ts)) × (to ≤ length ts)
 
 -- the keyword holds of every tree of the set
 abbrev pub Accepts : QuickSet → Keyword → Type 0

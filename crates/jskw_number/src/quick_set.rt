@@ -2,12 +2,12 @@
 //! may accept more: a value that is not in its set is tested by the keyword itself.
 ghost use Rattle.std.specs.Prelude.{◌%◌, ◌&&◌, ◌*ℤ◌, ◌+◌, ◌-◌, ◌<◌, ◌<ℤ◌, ◌==◌, ◌^◌, ◌≡◌, ◌≤ℤ◌, ◌≤◌, IsTrue};
 ghost use Rattle.std.specs.Option.{option_map_or};
-ghost use Rattle.std.specs.Prelude.{ℕ, ℤ, drop, false, get_or, int_le, length, negsuc, not, pos, true};
+ghost use Rattle.std.specs.Prelude.{Bool, ℕ, ℤ, drop, false, get_or, int_le, length, negsuc, not, pos, true};
 ghost use Rattle.jskw_value.specs.Number.{Num, exact, is_exact, is_multiple_of, is_written_as_integer};
 ghost use Rattle.jskw_value.specs.Tree.{Items, Members, array, as_number, is_lawful, items, number, object};
 ghost use Rattle.jskw_value.specs.declared.types.JsonType.{JsonType};
-ghost use Rattle.jskw_number.specs.QuickSet.{IsNarrower, divides, encloses, has_number, in_range};
-ghost use Rattle.jskw_number.specs.QuickSet.{is_in, is_in_limits, leading, type_index};
+ghost use Rattle.jskw_number.specs.QuickSet.{IsBehind, IsNarrower, divides, encloses, has_natural, has_number};
+ghost use Rattle.jskw_number.specs.QuickSet.{in_range, in_naturals, is_in, is_in_limits, leading, type_index};
 ghost use Rattle.std.specs.Int.NonZero.{non_zero_u64_get};
 ghost use Rattle.jskw_value.specs.Decimal.{value};
 
@@ -130,26 +130,35 @@ impl IntegerRange {
     // one tells: a branch between the two would depend on the number.
     #[inline(always)]
     fn encloses_decimal(&self, number: Decimal) -> bool
-        ensures value { result ≡ encloses self.now (value number) }
-        ensures low { negsuc (2 ^ 63 - 1) ≤ℤ self.now.low }
-        ensures high { self.now.high <ℤ pos (2 ^ 63) }
+        ensures { result ≡ encloses self.now (value number) }
     {
         number.cmp_whole(i128::from(self.low)).is_ge()
             & number.cmp_whole(i128::from(self.high)).is_le()
     }
 
-    // Returns the same as `has`, by a multiplication by `reciprocal`, which should be 2^64 divided by
-    // the divisor, rounded up.
-    #[inline(always)]
-    fn has_by_reciprocal<A: JsonNumber>(&self, reciprocal: u64, number: &A) -> bool
-        requires { IsTrue (is_exact (A.number number.now)) }
-        ensures { result ≡ has_number self.now (A.number number.now) }
+    // Returns the numbers between the ends, which are words.
+    fn ends(self) -> Ends
+        ensures range { result.range ≡ self }
+        ensures low { negsuc (2 ^ 63 - 1) ≤ℤ self.low }
+        ensures high { self.high <ℤ pos (2 ^ 63) }
     {
-        match number.as_i64() {
-            Some(number) if self.low <= number && number <= self.high => {
-                is_multiple(number.unsigned_abs(), self.divisor.get(), reciprocal)
-            }
-            _ => false,
+        Ends { range: self }
+    }
+
+    // Returns the integers from 0 on that are between the ends.
+    fn naturals(&self) -> Naturals
+        ensures { (k : ℕ) → k < 2 ^ 64 → in_naturals result k ≡ true
+            → (k < 2 ^ 63) × ((int_le self.now.low (pos k) && int_le (pos k) self.now.high) ≡ true) }
+    {
+        let first = if self.low < 0 { 0 } else { self.low };
+        let count = if self.high < first {
+            0
+        } else {
+            (self.high - first) as u64 + 1
+        };
+        Naturals {
+            first: first as u64,
+            count,
         }
     }
 
@@ -207,6 +216,119 @@ impl IntegerRange {
     {
         let range = self.divided_by(other.divisor);
         range.from(other).to(other)
+    }
+}
+
+// A test of numbers.
+trait NumberTest {
+    // The numbers of which some pass the test, and no others.
+    ghost accepts: { Self → Num → Bool };
+
+    // Returns whether the number, which must be lawful, passes the test.
+    fn passes<A: JsonNumber>(&self, number: &A) -> bool
+        requires { IsTrue (is_exact (A.number number.now)) }
+        ensures { result ≡ true → accepts self.now (A.number number.now) ≡ true };
+}
+
+impl NumberTest for IntegerRange {
+    ghost accepts = { has_number };
+
+    #[inline(always)]
+    fn passes<A: JsonNumber>(&self, number: &A) -> bool {
+        self.has(number)
+    }
+}
+
+// So many integers from `first` on, which one comparison tests.
+#[derive(Clone, Copy, Debug)]
+struct Naturals {
+    first: u64,
+    count: u64,
+}
+
+impl Naturals {
+    // Returns whether the number is one of them.
+    #[inline(always)]
+    fn has(&self, number: u64) -> bool
+        ensures { result ≡ in_naturals self.now number }
+    {
+        number.wrapping_sub(self.first) < self.count
+    }
+}
+
+impl NumberTest for Naturals {
+    ghost accepts = { λ m. has_natural (in_naturals m) };
+
+    #[inline(always)]
+    fn passes<A: JsonNumber>(&self, number: &A) -> bool {
+        match number.as_u64() {
+            Some(number) => self.has(number),
+            None => false,
+        }
+    }
+}
+
+// The multiples of a divisor among some integers from 0 on, found by a multiplication by
+// `reciprocal`, which should be 2^64 divided by the divisor, rounded up.
+#[derive(Clone, Copy, Debug)]
+struct NaturalMultiples {
+    naturals: Naturals,
+    divisor: NonZeroU64,
+    reciprocal: u64,
+}
+
+impl NumberTest for NaturalMultiples {
+    ghost accepts = { λ m. has_natural (λ k. in_naturals m.naturals k && divides m.divisor (pos k)) };
+
+    #[inline(always)]
+    fn passes<A: JsonNumber>(&self, number: &A) -> bool {
+        match number.as_u64() {
+            Some(number) => {
+                self.naturals.has(number)
+                    && is_multiple(number, self.divisor.get(), self.reciprocal)
+            }
+            None => false,
+        }
+    }
+}
+
+// The integers of a range, found by a multiplication as those of `NaturalMultiples` are.
+#[derive(Clone, Copy, Debug)]
+struct Multiples {
+    range: IntegerRange,
+    reciprocal: u64,
+}
+
+impl NumberTest for Multiples {
+    ghost accepts = { λ m. has_number m.range };
+
+    #[inline(always)]
+    fn passes<A: JsonNumber>(&self, number: &A) -> bool {
+        match number.as_i64() {
+            Some(number) if self.range.low <= number && number <= self.range.high => {
+                is_multiple(
+                    number.unsigned_abs(),
+                    self.range.divisor.get(),
+                    self.reciprocal,
+                )
+            }
+            _ => false,
+        }
+    }
+}
+
+// The numbers between the ends of a range, with a fraction or without.
+#[derive(Clone, Copy, Debug)]
+struct Ends {
+    range: IntegerRange,
+}
+
+impl NumberTest for Ends {
+    ghost accepts = { λ e. encloses e.range };
+
+    #[inline(always)]
+    fn passes<A: JsonNumber>(&self, number: &A) -> bool {
+        self.range.encloses_decimal(number.decimal())
     }
 }
 
@@ -270,88 +392,101 @@ impl QuickSet {
         }
     }
 
-    // Returns the index behind the first items from `start` on that are integers of the set. A loop of
-    // its own, in which the bounds are the only test, and stay in registers.
+    // Returns the index behind the first items from `start` on that are integers of the set from 0 on.
     #[inline(always)]
-    fn behind_integers<N: Node>(&self, start: usize, count: usize, instance: &N) -> usize
-        requires lawful { IsTrue (is_lawful (N.tree instance.now)) }
-        requires count { count ≡ length (items (N.tree instance.now)) }
-        requires start { start ≤ count }
-        ensures passed { result + leading (is_in self.now) (drop result (items (N.tree instance.now)))
-            ≡ start + leading (is_in self.now) (drop start (items (N.tree instance.now))) }
-        ensures within { result ≤ count }
-    {
-        if !self.is_limited {
-            return start;
-        }
-        let integers = self.integers;
-        if integers.divisor.get() != 1 {
-            return self.behind_multiples(start, count, instance);
-        }
-        for index in start..count {
-            match instance.item(index).as_number() {
-                Some(number) if integers.has(number) => {}
-                _ => return index,
-            }
-        }
-        count
-    }
-
-    // Returns the same as `behind_integers` of a limited set, whatever its divisor: a multiplication
-    // for each item, which takes a fifth of the time of a division.
-    #[inline(never)]
-    fn behind_multiples<N: Node>(&self, start: usize, count: usize, instance: &N) -> usize
+    fn behind_naturals<N: Node>(&self, start: usize, count: usize, instance: &N) -> usize
         requires limited { self.now.is_limited ≡ true }
         requires lawful { IsTrue (is_lawful (N.tree instance.now)) }
         requires count { count ≡ length (items (N.tree instance.now)) }
         requires start { start ≤ count }
-        ensures passed { result + leading (is_in self.now) (drop result (items (N.tree instance.now)))
-            ≡ start + leading (is_in self.now) (drop start (items (N.tree instance.now))) }
-        ensures within { result ≤ count }
+        ensures { IsBehind self.now (items (N.tree instance.now)) start result }
     {
-        let integers = self.integers;
-        let reciprocal = (u64::MAX / integers.divisor.get()).wrapping_add(1);
-        for index in start..count {
-            match instance.item(index).as_number() {
-                Some(number) if integers.has_by_reciprocal(reciprocal, number) => {}
-                _ => return index,
-            }
+        let (naturals, divisor) = (self.integers.naturals(), self.integers.divisor);
+        if divisor.get() == 1 {
+            return self.behind(&naturals, start, count, instance);
         }
-        count
+        let reciprocal = reciprocal_of(divisor);
+        let multiples = NaturalMultiples {
+            naturals,
+            divisor,
+            reciprocal,
+        };
+        self.behind(&multiples, start, count, instance)
     }
 
-    // Returns whether a number is in the set exactly if it is between the ends, with a fraction or
-    // without.
-    #[inline(always)]
-    fn is_of_ends(&self) -> bool
-        ensures { result ≡ (self.now.is_limited && self.now.has_fractions
-            && (non_zero_u64_get self.now.integers.divisor == 1)) }
-    {
-        self.is_limited && self.has_fractions && self.integers.divisor.get() == 1
-    }
-
-    // Returns the index behind the first items from `start` on that are between the ends of the set. No
-    // test asks which of them have a fraction: where they are mixed, no processor foresees the answer.
+    // Returns the index behind the first items from `start` on that are numbers of the set.
     #[inline(never)]
-    fn behind_enclosed<N: Node>(&self, start: usize, count: usize, instance: &N) -> usize
+    fn behind_numbers<N: Node>(&self, start: usize, count: usize, instance: &N) -> usize
         requires limited { self.now.is_limited ≡ true }
-        requires fractions { self.now.has_fractions ≡ true }
-        requires divisor { non_zero_u64_get self.now.integers.divisor ≡ 1 }
         requires lawful { IsTrue (is_lawful (N.tree instance.now)) }
         requires count { count ≡ length (items (N.tree instance.now)) }
         requires start { start ≤ count }
-        ensures passed { result + leading (is_in self.now) (drop result (items (N.tree instance.now)))
-            ≡ start + leading (is_in self.now) (drop start (items (N.tree instance.now))) }
-        ensures within { result ≤ count }
+        ensures { IsBehind self.now (items (N.tree instance.now)) start result }
     {
-        let integers = self.integers;
-        for index in start..count {
-            match instance.item(index).as_number() {
-                Some(number) if integers.encloses_decimal(number.decimal()) => {}
-                _ => return index,
+        let range = self.integers;
+        if range.divisor.get() != 1 {
+            let reciprocal = reciprocal_of(range.divisor);
+            return self.behind(&Multiples { range, reciprocal }, start, count, instance);
+        }
+        let start = self.behind(&range, start, count, instance);
+        if start < count && is_fraction(instance.item(start)) && self.has_fractions {
+            return self.behind(&range.ends(), start, count, instance);
+        }
+        start
+    }
+
+    // Returns the index behind the first items from `start` on that are numbers and pass the test.
+    #[inline(always)]
+    fn behind<N: Node, T: NumberTest>(
+        &self,
+        test: &T,
+        start: usize,
+        count: usize,
+        instance: &N,
+    ) -> usize
+        requires part { (n : Num) → T.accepts test.now n ≡ true → is_in self.now (number n) ≡ true }
+        requires lawful { IsTrue (is_lawful (N.tree instance.now)) }
+        requires count { count ≡ length (items (N.tree instance.now)) }
+        requires start { start ≤ count }
+        ensures { IsBehind self.now (items (N.tree instance.now)) start result }
+    {
+        let mut index = start;
+        // Four items a turn, with a return at each: a turn of one item is as long as its test.
+        while count - index >= 4 {
+            if !self.is_passed(test, instance.item(index)) {
+                return index;
+            }
+            if !self.is_passed(test, instance.item(index + 1)) {
+                return index + 1;
+            }
+            if !self.is_passed(test, instance.item(index + 2)) {
+                return index + 2;
+            }
+            if !self.is_passed(test, instance.item(index + 3)) {
+                return index + 3;
+            }
+            index += 4;
+        }
+        for rest in index..count {
+            if !self.is_passed(test, instance.item(rest)) {
+                return rest;
             }
         }
         count
+    }
+
+    // Returns whether the instance, which must be lawful, is a number that passes the test.
+    #[inline(always)]
+    #[tactic(auto, using(crate::proofs::QuickSets::passed_is_in))]
+    fn is_passed<N: Node, T: NumberTest>(&self, test: &T, instance: &N) -> bool
+        requires part { (n : Num) → T.accepts test.now n ≡ true → is_in self.now (number n) ≡ true }
+        requires lawful { IsTrue (is_lawful (N.tree instance.now)) }
+        ensures { result ≡ true → is_in self.now (N.tree instance.now) ≡ true }
+    {
+        match instance.as_number() {
+            Some(number) => test.passes(number),
+            None => false,
+        }
     }
 
     /// Returns the index of the first item from `start` on that is not in the set, or `count` if
@@ -366,9 +501,12 @@ impl QuickSet {
             (drop start (items (N.tree instance.now))) }
         ensures within { result ≤ count }
     {
-        let mut start = self.behind_integers(start, count, instance);
-        if start < count && is_fraction(instance.item(start)) && self.is_of_ends() {
-            start = self.behind_enclosed(start, count, instance);
+        let mut start = start;
+        if self.is_limited {
+            start = self.behind_naturals(start, count, instance);
+            if start < count {
+                start = self.behind_numbers(start, count, instance);
+            }
         }
         for index in start..count {
             if !self.contains(instance.item(index)) {
@@ -379,16 +517,22 @@ impl QuickSet {
     }
 }
 
-// Returns whether the number is a multiple of the divisor, whatever `reciprocal` is. If that is 2^64
-// divided by the divisor, rounded up, the quotient of a multiple is right, and nothing is divided.
+// Returns 2^64 divided by the divisor, rounded up, of divisors above 1.
+fn reciprocal_of(divisor: NonZeroU64) -> u64 {
+    (u64::MAX / divisor.get()).wrapping_add(1)
+}
+
+// Returns whether the quotient that a multiplication by `reciprocal` gives, times the divisor, is the
+// number. Then it is a multiple, whatever `reciprocal` is. If that is 2^64 divided by the divisor,
+// rounded up, all multiples are found.
 #[inline(always)]
 #[tactic(auto, using(crate::proofs::QuickSets::by_quotient))]
 fn is_multiple(number: u64, divisor: u64, reciprocal: u64) -> bool
     requires { 0 < divisor }
-    ensures { result ≡ (number % divisor == 0) }
+    ensures { result ≡ true → (number % divisor == 0) ≡ true }
 {
     let quotient = (u128::from(number) * u128::from(reciprocal)) >> 64;
-    quotient * u128::from(divisor) == u128::from(number) || number % divisor == 0
+    quotient * u128::from(divisor) == u128::from(number)
 }
 
 // Returns whether the instance, which must be lawful, is a number that is written with a fraction.

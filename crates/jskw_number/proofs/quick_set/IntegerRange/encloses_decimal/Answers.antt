@@ -5,8 +5,8 @@ use Rattle.jskw_value.specs.Number.{cmp_whole}
 use Rattle.jskw_number.proofs.Limits.{order_ge, order_le}
 use Rattle.jskw_number.proofs.quick_set.IntegerRange.encloses_decimal.Goals as goal
 
-pub returns-clause-value : goal.returns-clause-value
-returns-clause-value c =
+pub returns : goal.returns
+returns c =
     let number = c.args.number in
     let range = c.args.self.now in
     let above : c.is_ge.result ≡ is_ge (cmp_whole (coefficient number) number.scale range.low) = search rules in
