@@ -1,5 +1,5 @@
 //! The evaluation node of an assertion that is checked together with others.
-ghost use Rattle.std.specs.Prelude.{◌≡◌, IfOk};
+ghost use Rattle.std.specs.Prelude.{◌≡◌, IfOk, false};
 ghost use Rattle.jskw_report.specs.Errors.{kind_of};
 ghost use Rattle.jskw_report.specs.Evaluation.{node_at, of_errors, unit};
 ghost use Rattle.jskw_report.specs.EvaluationView.{result_of};
@@ -36,7 +36,8 @@ pub(super) fn evaluate_assertion<F: Json, A: Assertion>(
 }
 
 // Returns the evaluation of an assertion: valid if `holds`, else with the error made of the other
-// arguments.
+// arguments. In line, so that an assertion that holds takes no call.
+#[inline(always)]
 #[tactic(auto, unfolding(jskw_report::specs::Evaluation::of_errors))]
 fn evaluate_unless<'i, F: Json>(
     alloc: Global,
@@ -52,6 +53,21 @@ fn evaluate_unless<'i, F: Json>(
     if holds {
         return Ok(EvaluationResult::valid_empty(alloc));
     }
+    evaluate_error::<F>(alloc, kind, schema_path, instance, path)
+}
+
+// Returns the evaluation of an assertion that fails, with the error made of the arguments.
+#[inline(never)]
+fn evaluate_error<'i, F: Json>(
+    alloc: Global,
+    kind: ValidationErrorKind<'i>,
+    schema_path: &'i KeywordLocation,
+    instance: &'i F::Node,
+    path: &Location,
+) -> Result<EvaluationResult, AllocError>
+    ensures { IfOk result (λ r. result_of r ≡ of_errors (failures_unless false (kind_of kind.entry)
+        schema_path.now (F.Node.tree instance.now) path.now)) }
+{
     let error = ValidationError::at_keyword(alloc, kind, path.copy()?, schema_path, instance)?;
     evaluate_first::<F>(alloc, Err(Fault::Invalid(error)))
 }
