@@ -13,6 +13,5 @@ pub mod OptionFingerprints
 pub mod Options
 pub mod PassedFaults
 pub mod SortedTables
-pub mod TextEnds
 pub mod TypeSets
 pub mod TypeWalks

@@ -219,9 +219,9 @@ impl IntegerRange {
     }
 }
 
-// A test of numbers.
+// A test of numbers for a loop over items, which a comparison or two decide.
 trait NumberTest {
-    // The numbers of which some pass the test, and no others.
+    // All that pass the test are accepted; some that are accepted may not pass.
     ghost accepts: { Self → Num → Bool };
 
     // Returns whether the number, which must be lawful, passes the test.
@@ -230,12 +230,18 @@ trait NumberTest {
         ensures { result ≡ true → accepts self.now (A.number number.now) ≡ true };
 }
 
-impl NumberTest for IntegerRange {
-    ghost accepts = { has_number };
+// The integers of a range.
+#[derive(Clone, Copy, Debug)]
+struct Integers {
+    range: IntegerRange,
+}
+
+impl NumberTest for Integers {
+    ghost accepts = { λ i. has_number i.range };
 
     #[inline(always)]
     fn passes<A: JsonNumber>(&self, number: &A) -> bool {
-        self.has(number)
+        self.range.has(number)
     }
 }
 
@@ -268,24 +274,25 @@ impl NumberTest for Naturals {
     }
 }
 
-// The multiples of a divisor among some integers from 0 on, found by a multiplication by
+// The multiples of a range's divisor among some integers from 0 on, found by a multiplication by
 // `reciprocal`, which should be 2^64 divided by the divisor, rounded up.
 #[derive(Clone, Copy, Debug)]
 struct NaturalMultiples {
     naturals: Naturals,
-    divisor: NonZeroU64,
+    range: IntegerRange,
     reciprocal: u64,
 }
 
 impl NumberTest for NaturalMultiples {
-    ghost accepts = { λ m. has_natural (λ k. in_naturals m.naturals k && divides m.divisor (pos k)) };
+    ghost accepts = { λ m. has_natural (λ k. in_naturals m.naturals k
+        && divides m.range.divisor (pos k)) };
 
     #[inline(always)]
     fn passes<A: JsonNumber>(&self, number: &A) -> bool {
         match number.as_u64() {
             Some(number) => {
                 self.naturals.has(number)
-                    && is_multiple(number, self.divisor.get(), self.reciprocal)
+                    && is_multiple(number, self.range.divisor.get(), self.reciprocal)
             }
             None => false,
         }
@@ -401,14 +408,15 @@ impl QuickSet {
         requires start { start ≤ count }
         ensures { IsBehind self.now (items (N.tree instance.now)) start result }
     {
-        let (naturals, divisor) = (self.integers.naturals(), self.integers.divisor);
-        if divisor.get() == 1 {
+        let range = self.integers;
+        let naturals = range.naturals();
+        if range.divisor.get() == 1 {
             return self.behind(&naturals, start, count, instance);
         }
-        let reciprocal = reciprocal_of(divisor);
+        let reciprocal = reciprocal_of(range.divisor);
         let multiples = NaturalMultiples {
             naturals,
-            divisor,
+            range,
             reciprocal,
         };
         self.behind(&multiples, start, count, instance)
@@ -428,7 +436,7 @@ impl QuickSet {
             let reciprocal = reciprocal_of(range.divisor);
             return self.behind(&Multiples { range, reciprocal }, start, count, instance);
         }
-        let start = self.behind(&range, start, count, instance);
+        let start = self.behind(&Integers { range }, start, count, instance);
         if start < count && is_fraction(instance.item(start)) && self.has_fractions {
             return self.behind(&range.ends(), start, count, instance);
         }

@@ -11,6 +11,7 @@ ghost use Rattle.jskw_value.specs.Walk.{left};
 
 use crate::json::{Array, JsonNumber, Node, Object};
 use crate::meter::{Meter, visits_of};
+use crate::name_equality::is_same_name;
 use crate::walk::Walk;
 
 // How many items are compared in the time of two members, which two walks find.
@@ -126,7 +127,7 @@ fn equal_leaves<N: Node, M: Node, C: Meter>(left: &N, right: &M, meter: &mut C) 
     if let Some(a) = left.as_string() {
         meter.count(visits_of(a));
         return match right.as_string() {
-            Some(b) => a == b,
+            Some(b) => is_same_name(a, b),
             None => false,
         };
     }

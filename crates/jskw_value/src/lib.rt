@@ -41,6 +41,7 @@ pub use decimal::Decimal;
 pub use decimal_tree::{DecimalJson, DecimalTree, Members};
 pub use json::{Array, Json, JsonNumber, Node, Object, Rooted};
 pub use members::{InsertFault, Member, RepeatedName};
+pub use name_equality::is_same_name;
 pub use nullability::{NotNullable, Nullability, Nullable};
 pub use property_name::{KeyHead, PropertyName};
 pub use serde_tree::SerdeJson;

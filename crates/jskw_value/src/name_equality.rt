@@ -1,11 +1,12 @@
 //! Whether two names are equal, for names that are compared with many others.
 ghost use Rattle.std.specs.Prelude.{◌≡◌, length};
-ghost use Rattle.std.specs.Int.{w32, from_le_bytes, to_le_bytes};
+ghost use Rattle.std.specs.Int.{w16, w32, from_le_bytes, to_le_bytes};
 ghost use Rattle.std.specs.Str.{bytes_eq};
 
-// Returns whether the names are equal. Most differ in length.
+/// Returns whether the names are equal, for names that are compared with many others, of which most
+/// differ in length. Allocates nothing.
 #[inline(always)]
-pub(crate) fn is_same_name(name: &str, other: &str) -> bool
+pub fn is_same_name(name: &str, other: &str) -> bool
     ensures { result ≡ bytes_eq name.now other.now }
 {
     name.len() == other.len() && is_same(name, other)
@@ -13,7 +14,8 @@ pub(crate) fn is_same_name(name: &str, other: &str) -> bool
 
 // Returns whether the texts, which have the same length, are equal. Those of four bytes and more are
 // compared by their first and their last four bytes, which are all that most names have: where these
-// differ, as in names that are numbered, no call is made.
+// differ, as in names that are numbered, no call is made. Those of two and three bytes, as `id`, are
+// compared as two half words.
 #[inline(always)]
 fn is_same(text: &str, other: &str) -> bool
     requires { length text.now ≡ length other.now }
@@ -21,8 +23,12 @@ fn is_same(text: &str, other: &str) -> bool
 {
     let (left, right) = (text.as_bytes(), other.as_bytes());
     let length = left.len();
-    if length < 4 {
+    if length < 2 {
         return is_equal(text, other);
+    }
+    if length < 4 {
+        return half(&left[..2]) == half(&right[..2])
+            && half(&left[length - 2..]) == half(&right[length - 2..]);
     }
     if word(&left[..4]) != word(&right[..4])
         || word(&left[length - 4..]) != word(&right[length - 4..])
@@ -41,6 +47,17 @@ fn word(bytes: &[u8]) -> u32
     let mut four = [0u8; 4];
     four.copy_from_slice(bytes);
     u32::from_le_bytes(four)
+}
+
+// Returns two bytes as a number, the lowest byte first.
+fn half(bytes: &[u8]) -> u16
+    requires { length bytes.now ≡ 2 }
+    ensures value { result ≡ from_le_bytes w16 bytes.now }
+    ensures bytes { to_le_bytes w16 result ≡ bytes.now }
+{
+    let mut two = [0u8; 2];
+    two.copy_from_slice(bytes);
+    u16::from_le_bytes(two)
 }
 
 // Returns whether the texts are equal. By a call, so that what the comparison prepares is not done

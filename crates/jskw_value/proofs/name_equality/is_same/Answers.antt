@@ -1,7 +1,7 @@
 use Rattle.std.proofs.Common.{rules, ◌≡◌, ◌≤◌, length, nat_le, sym, ap, ap₂, true, ◌∙◌, arith}
-use Rattle.std.specs.Int.{w32, to_le_bytes}
+use Rattle.std.specs.Int.{w16, w32, to_le_bytes}
 use Rattle.std.specs.Str.{bytes_eq}
-use Rattle.jskw_value.proofs.TextEnds.{equal_ends}
+use Rattle.jskw_value.proofs.TextEnds.{equal_ends, last_tell}
 use Rattle.jskw_value.proofs.name_equality.is_same.Goals as goal
 
 pub returns-then-length-le8 : goal.returns-then-length-le8
@@ -12,5 +12,16 @@ returns-then-length-le8 c =
     let last =
     sym c.word-else-word.ensures.bytes ∙ ap (to_le_bytes w32) c.if-word-2.false ∙ c.word-else-word-2.ensures.bytes in
     let short : nat_le (length left) 8 ≡ true = search rules in
-    short ∙ sym (equal_ends left _ (length left) low c.if-length-le8.true first last)
+    short ∙ sym (equal_ends 4 left _ (length left) low c.if-length-le8.true first last)
+    ∙ ap₂ bytes_eq c.as_bytes-left.ensures.value c.as_bytes-right.ensures.value
+
+pub returns-then-half : goal.returns-then-half
+returns-then-half c =
+    let left = c.as_bytes-left.result.now in
+    let low : 2 ≤ length left = omega (arith, c.if-length-lt2.false) in
+    let high : length left ≤ 4 = omega (arith, c.if-length-lt4.true) in
+    let first = sym c.half.ensures.bytes ∙ ap (to_le_bytes w16) c.if-half.true ∙ c.half-then-length-lt4.ensures.bytes in
+    let last = c.half-then-half.ensures in
+    let other = c.half-then-half-2.ensures in
+    last_tell w16 2 left _ (length left) _ _ low high first last.value last.bytes other.value other.bytes
     ∙ ap₂ bytes_eq c.as_bytes-left.ensures.value c.as_bytes-right.ensures.value
