@@ -459,19 +459,14 @@ impl QuickSet {
         ensures { IsBehind self.now (items (N.tree instance.now)) start result }
     {
         let mut index = start;
-        // Four items a turn, with a return at each: a turn of one item is as long as its test.
+        // Four items a turn: a turn of one item is as long as its test.
         while count - index >= 4 {
-            if !self.is_passed(test, instance.item(index)) {
-                return index;
-            }
-            if !self.is_passed(test, instance.item(index + 1)) {
-                return index + 1;
-            }
-            if !self.is_passed(test, instance.item(index + 2)) {
-                return index + 2;
-            }
-            if !self.is_passed(test, instance.item(index + 3)) {
-                return index + 3;
+            if !self.is_passed(test, instance.item(index))
+                || !self.is_passed(test, instance.item(index + 1))
+                || !self.is_passed(test, instance.item(index + 2))
+                || !self.is_passed(test, instance.item(index + 3))
+            {
+                break;
             }
             index += 4;
         }

@@ -3,7 +3,7 @@ use Rattle.std.proofs.Common.{◌≡◌, ℕ, zero, suc, ◌==◌, ◌<◌, ◌&
 use Rattle.std.proofs.Common.{Some, if◌then◌else◌, refl, ap, arith}
 use Rattle.std.proofs.lemmas.Bool.{and_from, and_parts}
 use Rattle.std.proofs.lemmas.Option.{same_Some}
-use Rattle.jskw_value.specs.Doubt.{beginning, is_distinct_for, is_in_doubt, key, undoubted}
+use Rattle.jskw_value.specs.Doubt.{beginning, is_distinct_for, key, undoubted}
 use Rattle.jskw_value.specs.Equality.{equal}
 use Rattle.jskw_value.specs.Fingerprint.{fingerprint, is_distinct_within, unlimited}
 use Rattle.jskw_value.specs.Sketch.{is_marked}

@@ -16,6 +16,7 @@ pub struct Decimal {
     is_negative: bool,
     scale: u8,
     ghost sign: { is_negative ≡ true → 0 < size },
+    ghost word: { size < 2 ^ 64 },
     ghost low: { is_negative ≡ true → size ≤ 2 ^ 63 },
     ghost short: { scale ≤ 18 },
 }
@@ -135,11 +136,11 @@ impl JsonNumber for Decimal {
     }
 
     fn as_u64(&self) -> Option<u64> {
-        let number = *self;
-        if number.scale != 0 || number.is_negative {
-            return None;
+        if self.scale != 0 || self.is_negative {
+            None
+        } else {
+            Some(self.size)
         }
-        Some(number.size)
     }
 
     fn as_i64(&self) -> Option<i64> {
