@@ -67,6 +67,10 @@ one_needed (schema_object q marks ks) t = omega arith
 pub no_errors : (s : Schema) (t : Tree) (p : Pointer) → holds s t ≡ true → fail s t p ≡ []
 no_errors s t p h = no_element (fail s t p) (sym (holds_empty s t p) ∙ h)
 
+-- nor has the same schema under another name
+pub accepted_errors : (s r : Schema) (t : Tree) (p : Pointer) → s ≡ r → holds s t ≡ true → fail r t p ≡ []
+accepted_errors s r t p is h = no_errors r t p (ap (λ x. holds x t) (sym is) ∙ h)
+
 -- one application that is counted is no more than n
 pub counted_within : (old new n : ℕ) (b : Bool) → b ≡ true → 1 ≤ n → CountsUpTo old new (if b then 1 else 0)
     → CountsUpTo old new n

@@ -6,12 +6,13 @@ use Rattle.jskw_array.specs.Words.{Asserts, CompilePoint, CompilesKeyword, Data,
 use Rattle.jskw_array.specs.Words.{CompilesTo, Members, ValueReadings, Pointer, Refusal, Setting, Part, active_member}
 use Rattle.jskw_array.specs.Words.{after, append_keywords, before, depth, get_member, keyword, keyword_location}
 use Rattle.jskw_array.specs.Words.{keywords_of, members_depth, name_of, no_keywords, readings_named, read_keyword}
-use Rattle.jskw_array.specs.Words.{read_keywords, keyword_reading, is_active}
+use Rattle.jskw_array.specs.Words.{read_keywords, keyword_reading, is_active, validator_keyword}
 use Rattle.jskw_report.proofs.AppendedKeywords.{append_append, append_none}
 use Rattle.jskw_report.proofs.SchemaMembers.{read_absent, read_not_standing, read_standing}
 use Rattle.jskw_report.specs.declared.error.CompileFault.{CompileFault}
 use Rattle.jskw_array.proofs.Depths.{member_depth}
-use Rattle.jskw_leaf.proofs.PassedFaults.{refused_whole}
+use Rattle.jskw_leaf.proofs.PassedFaults.{compiles_as, refused_whole}
+use Rattle.jskw_array.specs.declared.validator.Validator.{Validator}
 
 -- ---- keywords that are put together
 
@@ -30,6 +31,14 @@ after_made : (done : Keywords) (q : Pointer) (k : Keyword) (r : Result Keywords 
     → after done (before q (Some (Ok k)) r) ≡ after (append_keywords done (keyword q k no_keywords)) r
 after_made done q k (Ok ks) = ap Ok (append_append done (keyword q k no_keywords) ks)
 after_made done q k (Err e) = refl
+
+-- what is read of a keyword by its name is read of it by an equal one
+pub keyword_same : {F Node Number Key : Type 0} (r : Option (Result (Validator F Node Number Key) CompileFault))
+    {w v : KeywordName} (point : CompilePoint) (ms : Members) (d : Data) → w ≡ v
+    → CompilesKeyword validator_keyword r (keyword_reading v point ms d)
+    → CompilesKeyword validator_keyword r (keyword_reading w point ms d)
+keyword_same r point ms d is made =
+    compiles_as validator_keyword r _ _ (ap (λ x. keyword_reading x point ms d) is) made
 
 -- ---- one keyword behind others, by what was made of it
 

@@ -3,9 +3,7 @@ use Rattle.std.proofs.Common.{◌≡◌, ℕ, zero, suc, ◌+◌, ◌-◌, ◌<�
 use Rattle.std.proofs.Common.{sum_by, Bool, true, false, ◌&&◌, if◌then◌else◌, refl, sym, subst, ap, ap₂, ◌∙◌, arith}
 use Rattle.std.proofs.lemmas.Bool.{and_parts}
 use Rattle.std.proofs.lemmas.List.{drop-drop}
-use Rattle.std.proofs.Math.Seq.{take-add}
-use Rattle.std.proofs.lemmas.List.Folds.{list_all-append}
-use Rattle.std.proofs.lemmas.List.Sums.{sum_by-append, sum_by-cons}
+use Rattle.std.proofs.lemmas.List.Sums.{sum_by-cons}
 use Rattle.jskw_report.proofs.Pairs.{needed-le}
 use Rattle.jskw_array.specs.Words.{Pointer, Schema, Tree, each_fails, each_holds, each_item, each_needed, each_pairs}
 use Rattle.jskw_array.specs.Words.{fail, holds, item_location, list_all, needed, pairs, schemas_of, sum_to_failure}
@@ -83,18 +81,6 @@ module _ (s : Schema) where
       let taken = sum_by-cons (needed s) t (take n ts) in
       let one = one_needed s t in
       omega (arith, rest, taken, one)
-
--- items that are taken, and then those behind them
-module _ {A : Type 0} (n m : ℕ) (xs : List A) where
-  pub both_valid : (valid : A → Bool) → list_all valid (take n xs) ≡ true → list_all valid (take m (drop n xs)) ≡ true
-      → list_all valid (take (n + m) xs) ≡ true
-  both_valid valid first second =
-      ap (list_all valid) (take-add n m xs) ∙ list_all-append valid (take n xs) (take m (drop n xs))
-      ∙ ap₂ (λ a b. a && b) first second
-
-  pub both_cost : (cost : A → ℕ)
-      → sum_by cost (take (n + m) xs) ≡ sum_by cost (take n xs) + sum_by cost (take m (drop n xs))
-  both_cost cost = ap (sum_by cost) (take-add n m xs) ∙ sum_by-append cost (take n xs) (take m (drop n xs))
 
 -- ---- a schema for each item
 

@@ -12,6 +12,7 @@ pub mod LengthMarks
 pub mod MatchedItems
 pub mod ObserversAgree
 pub mod ReportingWalks
+pub mod PassedItems
 pub mod PartsLeft
 pub mod QuickArrays
 pub mod ValidatorMeanings

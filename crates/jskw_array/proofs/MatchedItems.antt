@@ -2,10 +2,11 @@
 use Rattle.std.proofs.Common.{◌≡◌, ◌≤◌, ◌+◌, ◌∙◌, ℕ, suc, List, [], ◌∷◌, length, map, sum_by, count_by, nat_le, Bool}
 use Rattle.std.proofs.Common.{true, false, cond, Some, None, refl, sym, ap, arith, zero-add, if◌then◌else◌}
 use Rattle.std.proofs.lemmas.List.Sums.{sum_by-cons, sum_by-le-sum_by}
-use Rattle.jskw_array.specs.Words.{Bounds, Evaluation, Failure, Pointer, Schema, Tree, contains, evaluate_matching}
-use Rattle.jskw_array.specs.Words.{failing_bound, failing_locations, holds, indices, is_array, is_empty, items}
-use Rattle.jskw_array.specs.Words.{keyword_fail, keyword_holds, matching_indices, matching_keyword, matching_result}
-use Rattle.jskw_array.specs.Words.{meaning_applications, needed, of_errors, one_keyword, pairs, passes, tree, unit}
+use Rattle.jskw_array.specs.Words.{Bounds, CountsUpTo, Evaluation, Failure, Pointer, Schema, Tree, contains}
+use Rattle.jskw_array.specs.Words.{evaluate_matching, failing_bound, failing_locations, holds, indices, is_array}
+use Rattle.jskw_array.specs.Words.{is_empty, items, keyword_fail, keyword_holds, matching_indices, matching_keyword}
+use Rattle.jskw_array.specs.Words.{matching_result, meaning_applications, needed, of_errors, one_keyword, pairs, passes}
+use Rattle.jskw_array.specs.Words.{tree, unit}
 use Rattle.jskw_report.proofs.Pairs.{needed-le}
 use Rattle.jskw_report.proofs.HoldsIsNoFailure.{keyword_empty}
 use Rattle.jskw_report.specs.Kind as kind
@@ -30,10 +31,16 @@ pub sum_needed : (s : Schema) (ts : List Tree) → sum_by (needed s) ts ≤ sum_
 sum_needed s ts = sum_by-le-sum_by (needed s) (pairs s) ts (λ u. needed-le s u)
 
 -- whether all its errors are wanted or the first
-pub matching_applied : {F Node Number Key : Type 0} (wanted : Bool) (v : Matching F Node Number Key) (t : Tree)
+matching_applied : {F Node Number Key : Type 0} (wanted : Bool) (v : Matching F Node Number Key) (t : Tree)
     → sum_by (needed v.node) (items t) ≤ meaning_applications wanted (one_keyword (matching_keyword v)) t
 matching_applied true v t = sum_needed v.node (items t)
 matching_applied false v t = omega arith
+
+pub matching_within : {F Node Number Key : Type 0} (wanted : Bool) (v : Matching F Node Number Key) (t : Tree)
+    {old new : ℕ} → CountsUpTo old new (sum_by (needed v.node) (items t))
+    → CountsUpTo old new (meaning_applications wanted (one_keyword (matching_keyword v)) t)
+matching_within wanted v t counted =
+    record { from = counted.from; to = omega (arith, matching_applied wanted v t, counted.to) }
 
 -- ---- the unit
 

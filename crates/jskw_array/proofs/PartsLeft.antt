@@ -1,13 +1,18 @@
 -- Units that are known to hold, and those that are left behind them.
 use Rattle.std.proofs.Common.{◌≡◌, ℕ, zero, suc, ◌+◌, ◌<◌, ◌≤◌, List, [], ◌∷◌, ◌++◌, length, get_or, take, drop, Bool}
-use Rattle.std.proofs.Common.{true, false, ◌&&◌, if◌then◌else◌, refl, sym, subst, ap, ap₂, ◌∙◌, arith}
+use Rattle.std.proofs.Common.{true, false, ◌&&◌, if◌then◌else◌, refl, sym, subst, ap, ap₂, ◌∙◌, arith, Global, Vec}
 use Rattle.std.proofs.lemmas.Bool.{and_parts, true≢false}
 use Rattle.jskw_value.specs.Tree.{Items, Members, array, object}
 use Rattle.jskw_number.specs.declared.quick_set.QuickSet.{QuickSet}
-use Rattle.jskw_array.specs.Words.{IsLeft, Pointer, Schema, Part, Tree, all_applications, all_fail, all_height}
+use Rattle.jskw_array.specs.Words.{AreSettled, CountsUpTo, IsLeft, Pointer, Schema, Part, Tree, all_applications}
+use Rattle.jskw_array.specs.Words.{all_fail, all_height}
 use Rattle.jskw_array.specs.Words.{all_hold, all_needed, all_pairs, applications, fail, height, holds, in_outline}
 use Rattle.jskw_array.specs.Words.{is_in, keywords_of, marked, meaning_holds, meaning_needed, schema_object}
-use Rattle.jskw_array.specs.Words.{part_meaning}
+use Rattle.jskw_array.specs.Words.{part_meaning, schema_of}
+use Rattle.jskw_array.specs.Node.{SchemaSettles}
+use Rattle.jskw_array.specs.declared.node.Assertions.{Assertions}
+use Rattle.jskw_array.specs.declared.node.Assertions.TheVariants.{Keywords}
+use Rattle.jskw_array.specs.declared.part.SettledParts.{SettledParts}
 use Rattle.jskw_array.specs.declared.outline.Outline.{Outline}
 use Rattle.jskw_report.proofs.HoldsIsNoFailure.{no_element}
 use Rattle.jskw_array.proofs.WalksOverParts.{first_fails, first_height, first_holds, first_meets, first_needs}
@@ -141,6 +146,29 @@ module _ {F Node Number Key : Type 0} where
         omega (arith, whole, rest);
     lower = let whole = ap height is in let rest = left_height k us in omega (arith, whole, rest);
   }
+
+  -- one application, and those of the units that are left
+  pub left_within : {s : Schema} {t : Tree} {us : List (Part F Node Number Key)} → IsLeft s t us → (wanted : Bool)
+      → {before ctx next n : ℕ} → CountsUpTo before ctx 1 → CountsUpTo ctx next n
+      → n ≤ all_applications wanted (keywords_of us) t → CountsUpTo before next (applications wanted s t)
+  left_within left wanted one counted within = record {
+    from = omega (arith, one.from, counted.from);
+    to = omega (arith, left.applied wanted, within, one.to, counted.to);
+  }
+
+  -- ---- a schema by its units
+
+  module _ {a : Assertions F Node Number Key} {us : Vec (Part F Node Number Key) Global}
+      {xs : List (Part F Node Number Key)} (is : a ≡ Keywords us) (value : xs ≡ us.items) where
+    pub schema_by_units : {s : Schema} {q : Pointer} {delegates : Bool} → schema_of q delegates a ≡ s
+        → s ≡ schema_object q (marked delegates xs) (keywords_of xs)
+    schema_by_units {s} {q} {delegates} view =
+        sym view ∙ ap (schema_of q delegates) is
+        ∙ ap (λ ys. schema_object q (marked delegates ys) (keywords_of ys)) (sym value)
+
+    pub settled_units : (b : SettledParts) → SchemaSettles b a → AreSettled b xs
+    settled_units b settles =
+        subst (λ ys. AreSettled b ys) (sym value) (subst (SchemaSettles b) is settles)
 
   -- ---- one unit
 

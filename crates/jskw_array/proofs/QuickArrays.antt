@@ -1,22 +1,19 @@
 -- Arrays whose length and items decide that they are valid, and how many applications that counts.
 use Rattle.std.specs.Borrow.{Bor}
-use Rattle.std.proofs.Common.{◌≡◌, ◌∙◌, ℕ, ◌+◌, ◌-◌, ◌<◌, ◌≤◌, min, List, [], ◌∷◌, ◌++◌, length, get_or, take}
-use Rattle.std.proofs.Common.{drop, sum_by, Bool, true, false, ◌&&◌, if◌then◌else◌, Option, None, Some, refl}
-use Rattle.std.proofs.Common.{sym, ap, ap₂, arith}
+use Rattle.std.proofs.Common.{◌≡◌, ◌∙◌, ℕ, ◌+◌, ◌-◌, ◌<◌, ◌≤◌, min, List, [], ◌∷◌, length, get_or, drop, sum_by, Bool}
+use Rattle.std.proofs.Common.{true, false, ◌&&◌, if◌then◌else◌, Option, None, Some, is_none, refl, sym, ap, ap₂, arith}
 use Rattle.std.proofs.lemmas.Bool.{and_parts}
-use Rattle.std.proofs.lemmas.List.{get_or-drop, length-drop, take_more}
-use Rattle.std.proofs.lemmas.List.Folds.{list_all-append}
-use Rattle.std.proofs.lemmas.List.Sums.{sum_by-cons, sum_by_push}
-use Rattle.jskw_report.proofs.AppendedKeywords.{hold_appended, needed_appended}
+use Rattle.std.proofs.lemmas.List.{length-drop}
+use Rattle.std.proofs.lemmas.List.Sums.{sum_by-cons}
+use Rattle.jskw_report.proofs.AppendedKeywords.{hold_appended}
 use Rattle.jskw_leaf.specs.declared.items.absorbed.AbsorbedKeywords.{AbsorbedKeywords}
-use Rattle.jskw_array.specs.Words.{AddsKeywords, AreTuples, ArraysAreValid, AreSettled, IfSome, Pointer, marked}
-use Rattle.jskw_array.specs.Words.{schema_object}
-use Rattle.jskw_array.specs.Words.{absorbed_hold, front_holds, ArrayShapeValidator, Each, Part, Rest, Schema, Tree}
-use Rattle.jskw_array.specs.Words.{absorbed_keywords, all_hold, all_needed, arrays_cost, each_holds, each_keyword}
+use Rattle.jskw_array.specs.Words.{AddsKeywords, ArraysAreValid, AreSettled, IfSome, Pointer, marked, schema_object}
+use Rattle.jskw_array.specs.Words.{absorbed_hold, front_holds, ArrayShapeValidator, Each, Keyword, Part, Rest, Schema}
+use Rattle.jskw_array.specs.Words.{Tree, absorbed_keywords, all_hold, all_needed, arrays_cost, each_holds, each_keyword}
 use Rattle.jskw_array.specs.Words.{each_needed, front_cost, holds, in_arrays, in_outline, is_array, items}
 use Rattle.jskw_array.specs.Words.{keyword_holds, keyword_needed, keywords_of, list_all, meaning_holds, meaning_needed}
-use Rattle.jskw_array.specs.Words.{needed, part_meaning, rest_cost, rest_holds, rest_keyword, schemas_of}
-use Rattle.jskw_array.specs.Words.{shape_meaning, sum_to_failure, validator_keyword}
+use Rattle.jskw_array.specs.Words.{needed, part_meaning, rest_cost, rest_holds, rest_keyword, schemas_of, shape_meaning}
+use Rattle.jskw_array.specs.Words.{sum_to_failure, validator_keyword}
 use Rattle.jskw_array.specs.declared.outline.Outline.{Outline}
 use Rattle.jskw_array.specs.declared.quick_arrays.QuickArrays.{QuickArrays}
 use Rattle.jskw_array.specs.declared.part.SettledParts.{SettledParts}
@@ -55,13 +52,10 @@ pub shape_holds : {F Node Number Key : Type 0} (v : ArrayShapeValidator F Node N
 shape_holds v t bounds types =
     hold_appended t (absorbed_keywords v.absorbed) (items_keywords v) ∙ ap₂ (λ b c. b && (c && true)) bounds types
 
--- what holds of all by one check holds by a weaker one
-pub all_too : {A : Type 0} (p q : A → Bool) → ((x : A) → p x ≡ true → q x ≡ true) → (xs : List A)
-    → list_all p xs ≡ true → list_all q xs ≡ true
-all_too p q weaker [] all = refl
-all_too p q weaker (x ∷ xs) all =
-    let one = and_parts (p x) (list_all p xs) all in
-    ap₂ (λ a b. a && b) (weaker x one.0) (all_too p q weaker xs one.1)
+-- what is not there
+pub is_absent_of : {A : Type 0} (o : Option A) → is_none o ≡ true → o ≡ None
+is_absent_of None e = refl
+is_absent_of (Some x) e = cc
 
 five : (a b c d e : Bool) → (a && (b && (c && (d && e)))) ≡ true
     → (a ≡ true) × (b ≡ true) × (c ≡ true) × (d ≡ true) × (e ≡ true)
@@ -89,72 +83,38 @@ module _ {F Node Number Key : Type 0} where
 
   module _ (o : Outline) (a : Option (Bor AbsorbedKeywords)) where
     pub adds_front : (old : Option (Bor (Each F Node Number Key))) (x : Bor (Each F Node Number Key))
-        (r : Option (Bor (Rest F Node Number Key))) → old ≡ None
+        (r : Option (Bor (Rest F Node Number Key))) (k : Keyword) → is_none old ≡ true → k ≡ each_keyword x.now
         → AddsKeywords (record { lengths = o; absorbed = a; front = old; rest = r })
-        (record { lengths = o; absorbed = a; front = Some x; rest = r }) (keyword_holds (each_keyword x.now))
-        (keyword_needed (each_keyword x.now))
-    adds_front old x r none t h =
+        (record { lengths = o; absorbed = a; front = Some x; rest = r }) (keyword_holds k) (keyword_needed k)
+    adds_front old x r k none is t h =
         let all =
         five (is_array t) (in_outline o t) (absorbed_hold a t) (keyword_holds (each_keyword x.now) t)
         (rest_holds r t) h in
-        let before = ap (λ f. front_cost f t) none in
-        let more = front_within x.now t all.3 in (
-          rw none (rw all.0 (rw all.1 (rw all.2 all.4))),
-          all.3,
-          omega (arith, before, more),
+        let absent = is_absent_of old none in
+        let before = ap (λ f. front_cost f t) absent in
+        let more = front_within x.now t all.3 in
+        let cost = ap (λ w. keyword_needed w t) is in (
+          rw absent (rw all.0 (rw all.1 (rw all.2 all.4))),
+          ap (λ w. keyword_holds w t) is ∙ all.3,
+          omega (arith, before, more, cost),
         )
 
     pub adds_rest : (f : Option (Bor (Each F Node Number Key))) (old : Option (Bor (Rest F Node Number Key)))
-        (x : Bor (Rest F Node Number Key)) → old ≡ None
+        (x : Bor (Rest F Node Number Key)) (k : Keyword) → is_none old ≡ true → k ≡ rest_keyword x.now
         → AddsKeywords (record { lengths = o; absorbed = a; front = f; rest = old })
-        (record { lengths = o; absorbed = a; front = f; rest = Some x }) (keyword_holds (rest_keyword x.now))
-        (keyword_needed (rest_keyword x.now))
-    adds_rest f old x none t h =
+        (record { lengths = o; absorbed = a; front = f; rest = Some x }) (keyword_holds k) (keyword_needed k)
+    adds_rest f old x k none is t h =
         let all =
         five (is_array t) (in_outline o t) (absorbed_hold a t) (front_holds f t)
         (keyword_holds (rest_keyword x.now) t) h in
-        let before = ap (λ r. rest_cost r t) none in
-        let more = rest_within x.now t all.4 in (
-          rw none (rw all.0 (rw all.1 (rw all.2 (rw all.3 refl)))),
-          all.4,
-          omega (arith, before, more),
+        let absent = is_absent_of old none in
+        let before = ap (λ r. rest_cost r t) absent in
+        let more = rest_within x.now t all.4 in
+        let cost = ap (λ w. keyword_needed w t) is in (
+          rw absent (rw all.0 (rw all.1 (rw all.2 (rw all.3 refl)))),
+          ap (λ w. keyword_holds w t) is ∙ all.4,
+          omega (arith, before, more, cost),
         )
-
-  -- lengths that are in another outline too
-  pub adds_lengths : (o own both : Outline) (a : Option (Bor AbsorbedKeywords))
-      (f : Option (Bor (Each F Node Number Key))) (r : Option (Bor (Rest F Node Number Key)))
-      → ((t : Tree) → in_outline both t ≡ true → (in_outline o t && in_outline own t) ≡ true)
-      → AddsKeywords (record { lengths = o; absorbed = a; front = f; rest = r })
-      (record { lengths = both; absorbed = a; front = f; rest = r }) (in_outline own) (λ _. 0)
-  adds_lengths o own both a f r parts t h =
-      let all = five (is_array t) (in_outline both t) (absorbed_hold a t) (front_holds f t) (rest_holds r t) h in
-      let lengths = and_parts (in_outline o t) (in_outline own t) (parts t all.1) in
-      (rw all.0 (rw lengths.0 (rw all.2 (rw all.3 all.4))), lengths.1, omega arith)
-
-  -- the fused shape: its bounds, and `items` by a set of them
-  pub adds_shape : (o : Outline) (old : Option (Bor AbsorbedKeywords)) (x : Bor AbsorbedKeywords)
-      (f : Option (Bor (Each F Node Number Key))) (r : Option (Bor (Rest F Node Number Key)))
-      (new : QuickArrays F Node Number Key) (v : ArrayShapeValidator F Node Number Key) → old ≡ None
-      → x.now ≡ v.absorbed
-      → AddsKeywords (record { lengths = o; absorbed = Some x; front = f; rest = r }) new
-      (keyword_holds (validator_keyword v.items.validator)) (keyword_needed (validator_keyword v.items.validator))
-      → AddsKeywords (record { lengths = o; absorbed = old; front = f; rest = r }) new (meaning_holds (shape_meaning v))
-      (meaning_needed (shape_meaning v))
-  adds_shape o old x f r new v none is adds t h =
-      let more = adds t h in
-      let all =
-      five (is_array t) (in_outline o t) (all_hold (absorbed_keywords x.now) t) (front_holds f t)
-      (rest_holds r t) more.0 in
-      let bounds = ap (λ w. all_hold (absorbed_keywords w) t) (sym is) ∙ all.2 in
-      let whole = hold_appended t (absorbed_keywords v.absorbed) (items_keywords v) in
-      let cost = needed_appended t (absorbed_keywords v.absorbed) (items_keywords v) in
-      let counted =
-      ap (λ b. all_needed (absorbed_keywords v.absorbed) t + (if b then all_needed (items_keywords v) t else 0))
-      bounds in (
-        rw none (rw all.0 (rw all.1 (rw all.3 all.4))),
-        whole ∙ ap₂ (λ b c. b && (c && true)) bounds more.1,
-        omega (arith, cost, counted, more.2),
-      )
 
   -- ---- the parts
 
@@ -192,13 +152,6 @@ module _ {F Node Number Key : Type 0} where
   -- ---- lists of arrays
 
   module _ (s : Schema) (q : QuickArrays F Node Number Key) where
-    pub arrays_valid : ArraysAreValid s q → (ts : List Tree) → list_all (in_arrays q) ts ≡ true
-        → list_all (holds s) ts ≡ true
-    arrays_valid valid [] all = refl
-    arrays_valid valid (t ∷ ts) all =
-        let here = and_parts (in_arrays q t) (list_all (in_arrays q) ts) all in
-        ap₂ (λ a b. a && b) (valid t here.0).0 (arrays_valid valid ts here.1)
-
     pub arrays_within : ArraysAreValid s q → (ts : List Tree) → list_all (in_arrays q) ts ≡ true
         → sum_by (arrays_cost q) ts ≤ sum_by (needed s) ts
     arrays_within valid [] all = omega arith
@@ -213,19 +166,13 @@ module _ {F Node Number Key : Type 0} where
 
   -- ---- tuples: the first items alone have schemas
 
-  module _ (q : QuickArrays F Node Number Key) (v : Each F Node Number Key) (alone : AreTuples q v) where
-    pub tuples_cost : (ts : List Tree)
-        → sum_by (arrays_cost q) ts ≡ sum_by (front_cost q.front) ts + length ts
-    tuples_cost [] = refl
-    tuples_cost (t ∷ ts) =
-        let none = ap (λ r. rest_cost r t) alone.3 in
-        omega (
-          arith,
-          none,
-          tuples_cost ts,
-          sum_by-cons (arrays_cost q) t ts,
-          sum_by-cons (front_cost q.front) t ts,
-        )
+  pub tuples_cost : (q : QuickArrays F Node Number Key) → q.rest ≡ None → (ts : List Tree)
+      → sum_by (arrays_cost q) ts ≡ sum_by (front_cost q.front) ts + length ts
+  tuples_cost q alone [] = refl
+  tuples_cost q alone (t ∷ ts) =
+      let none = ap (λ r. rest_cost r t) alone in
+      let rest = tuples_cost q alone ts in
+      omega (arith, none, rest, sum_by-cons (arrays_cost q) t ts, sum_by-cons (front_cost q.front) t ts)
 
   -- the arrays of which the settled parts of a schema hold by their lengths, and the others by a set of them
   pub arrays_known : (s : Schema) (q : Pointer) (delegates : Bool) (us : List (Part F Node Number Key))
@@ -251,26 +198,3 @@ module _ {F Node Number Key : Type 0} where
   arrays_known_of s q delegates us b None is settled parts = tt
   arrays_known_of s q delegates us b (Some arrays) is settled parts =
       arrays_known s q delegates us b arrays is settled parts
-
--- ---- one array more
-
-module _ (start i : ℕ) (ts : List Tree) (t : Tree) (from : start ≤ i) (within : i < length ts)
-    (is : t ≡ get_or ts i t) where
-  one_more : take (i + 1 - start) (drop start ts) ≡ take (i - start) (drop start ts) ++ t ∷ []
-  one_more =
-      let inside : i - start < length (drop start ts) = omega (arith, from, within, length-drop start ts) in
-      let there : get_or (drop start ts) (i - start) t ≡ t =
-      get_or-drop start ts (i - start) t
-      ∙ ap (λ n. get_or ts n t) {x = start + (i - start)} {y = i} (omega (arith, from)) ∙ sym is in
-      ap (λ n. take n (drop start ts)) {x = i + 1 - start} {y = i - start + 1} (omega (arith, from))
-      ∙ take_more (drop start ts) (i - start) t inside ∙ ap (λ u. take (i - start) (drop start ts) ++ u ∷ []) there
-
-  pub more_valid : (valid : Tree → Bool) → list_all valid (take (i - start) (drop start ts)) ≡ true → valid t ≡ true
-      → list_all valid (take (i + 1 - start) (drop start ts)) ≡ true
-  more_valid valid before here =
-      ap (list_all valid) one_more ∙ list_all-append valid (take (i - start) (drop start ts)) (t ∷ [])
-      ∙ ap₂ (λ a b. a && (b && true)) before here
-
-  pub more_cost : (cost : Tree → ℕ)
-      → sum_by cost (take (i + 1 - start) (drop start ts)) ≡ sum_by cost (take (i - start) (drop start ts)) + cost t
-  more_cost cost = ap (sum_by cost) one_more ∙ sum_by_push cost (take (i - start) (drop start ts)) t

@@ -3,18 +3,21 @@ use Rattle.std.proofs.Common.{◌≡◌, ℕ, ◌+◌, ◌≤◌, List, [], ◌+
 use Rattle.std.proofs.Common.{Result, Ok, Err, IsErrAnd, if◌then◌else◌, refl, sym, subst, ap, ◌∙◌, arith, ◌<◌}
 use Rattle.std.proofs.lemmas.Bool.{true≢false}
 use Rattle.jskw_array.specs.Words.{CountsUpTo, Each, Failure, Pointer, Reports, Rest, Schema, Schemas, Part, Tree}
-use Rattle.jskw_array.specs.Words.{all_applications, applications, each_holds, each_keyword, each_needed, each_pairs}
-use Rattle.jskw_array.specs.Words.{fail, holds, is_empty, items, keeps_list, keywords_of, list_all}
-use Rattle.jskw_array.specs.Words.{meaning_applications, meaning_fail, meaning_holds, needed, one_keyword, pairs}
+use Rattle.jskw_array.specs.Words.{all_applications, all_fail, all_needed, all_pairs, applications, each_fails}
+use Rattle.jskw_array.specs.Words.{each_holds, each_item, each_keyword, each_needed, each_pairs, fail, holds}
+use Rattle.jskw_array.specs.Words.{is_empty, item_location, items, keeps_list, keywords_of, list_all}
+use Rattle.jskw_array.specs.Words.{meaning_applications, meaning_fail, meaning_holds, meaning_needed, meaning_pairs}
+use Rattle.jskw_array.specs.Words.{needed, one_keyword, pairs}
 use Rattle.jskw_array.specs.Words.{rest_keyword, schemas_of, sum_to_failure, part_meaning}
 use Rattle.jskw_report.specs.declared.error.Stop.{Stop}
 use Rattle.jskw_report.specs.declared.report.Report.{Report}
 use Rattle.jskw_report.proofs.HoldsIsNoFailure.{holds_empty}
-use Rattle.jskw_report.proofs.ReportedFailures.{Reported, none_found, reported_more, reported_stopped}
+use Rattle.jskw_report.proofs.ReportedFailures.{Reported, none_found, reported_more, reported_nothing, reported_stopped}
 use Rattle.jskw_array.proofs.AcceptedValues.{one_needed}
-use Rattle.jskw_array.proofs.WalksOverParts.{needed_at, one_pair, pairs_at, part_empty}
+use Rattle.jskw_leaf.proofs.TypeWalks.{fails_at}
+use Rattle.jskw_array.proofs.WalksOverParts.{fail_at, needed_at, one_pair, pairs_at, part_empty}
 use Rattle.jskw_array.proofs.ValidatorMeanings.{each_meets, each_needs, rest_meets, rest_needs}
-use Rattle.jskw_array.proofs.WalksOverItems.{each_needed_at, each_pairs_at, sum_at, until_at}
+use Rattle.jskw_array.proofs.WalksOverItems.{each_fails_at, each_needed_at, each_pairs_at, sum_at, until_at}
 use Rattle.jskw_array.proofs.ItemsTaken.{each_taken_needed, each_taken_pairs, taken_needed, taken_pairs}
 
 -- ---- the walk
@@ -27,23 +30,41 @@ pub record Walk {F Node Number Key : Type 0} (tree : Node → Tree) (old now : R
   pub from : before ≤ ctx
   pub to : ctx + cost ≤ before + bound
 
+-- it begins with what is left behind parts that hold
+pub walk_begun : {F Node Number Key : Type 0} (tree : Node → Tree) (old : Report F Node Number Key)
+    {left all : List Failure} {before ctx taken cost bound : ℕ} → all ≡ left → CountsUpTo before ctx taken
+    → taken + cost ≤ bound → Walk tree old old left all before ctx cost bound
+walk_begun tree old {left} {all} is counted within = record {
+  reported = subst (λ fs. Reported tree old old fs all) is (reported_nothing tree old all);
+  from = counted.from;
+  to = omega (arith, counted.to, within);
+}
+
+-- what is left begins with `first`, for which `here` applications are taken, and `less` for the rest; where the first
+-- failure alone is wanted, the rest is looked at only if there was none
+pub record Step (left first rest : List Failure) (here less cost : Bool → ℕ) : Type 0 where
+  pub is : left ≡ first ++ rest
+  pub within : (wanted : Bool) → here wanted ≤ cost wanted
+  pub behind : (wanted : Bool) → (wanted ≡ false → first ≡ []) → here wanted + less wanted ≤ cost wanted
+
 module _ {F Node Number Key : Type 0} (tree : Node → Tree) {old now : Report F Node Number Key}
-    {left all : List Failure} {before ctx cost bound : ℕ} (first rest : List Failure)
-    (walk : Walk tree old now left all before ctx cost bound) (is : left ≡ first ++ rest) (here : Bool → ℕ) where
+    {left all first rest : List Failure} {before ctx bound : ℕ} {here less cost : Bool → ℕ}
+    (walk : Walk tree old now left all before ctx (cost (keeps_list old)) bound)
+    (step : Step left first rest here less cost) where
   reported_here : Reported tree old now (first ++ rest) all
-  reported_here = subst (λ fs. Reported tree old now fs all) is walk.reported
+  reported_here = subst (λ fs. Reported tree old now fs all) step.is walk.reported
 
   counted_here : {next : ℕ} → CountsUpTo ctx next (here (keeps_list now)) → CountsUpTo ctx next (here (keeps_list old))
   counted_here {next} counted = subst (λ w. CountsUpTo ctx next (here w)) walk.reported.same counted
 
   -- the first part was reported, and more is wanted
-  pub walk_on : {new : Report F Node Number Key} {next : ℕ} (less : ℕ) → Reports tree now new first (Ok tt)
+  pub walk_on : {new : Report F Node Number Key} {next : ℕ} → Reports tree now new first (Ok tt)
       → CountsUpTo ctx next (here (keeps_list now))
-      → ((keeps_list old ≡ false → first ≡ []) → here (keeps_list old) + less ≤ cost)
-      → Walk tree old new rest all before next less bound
-  walk_on less reports counted within =
+      → Walk tree old new rest all before next (less (keeps_list old)) bound
+  walk_on reports counted =
       let c = counted_here counted in
-      let h = within (λ one. none_found tree first reports (walk.reported.same ∙ one)) in
+      let h =
+      step.behind (keeps_list old) (λ one. none_found tree first reports (walk.reported.same ∙ one)) in
       record {
         reported = reported_more tree first rest reported_here reports;
         from = omega (arith, walk.from, c.from);
@@ -51,15 +72,15 @@ module _ {F Node Number Key : Type 0} (tree : Node → Tree) {old now : Report F
       }
 
   -- it stopped in the first part
-  pub walk_stopped : {new : Report F Node Number Key} (r : Result Unit Stop) (x : Stop) → IsErrAnd r (λ y. y ≡ x)
+  pub walk_stopped : {new : Report F Node Number Key} {r : Result Unit Stop} {x : Stop} → IsErrAnd r (λ y. y ≡ x)
       → Reports tree now new first (Err x) → Reports tree old new all r
-  walk_stopped r x gives reports = reported_stopped tree first rest r x reported_here gives reports
+  walk_stopped {new} {r} {x} gives reports = reported_stopped tree first rest r x reported_here gives reports
 
-  pub walk_counted : {next : ℕ} → CountsUpTo ctx next (here (keeps_list now)) → here (keeps_list old) ≤ cost
-      → CountsUpTo before next bound
-  walk_counted counted within =
+  pub walk_counted : {next : ℕ} → CountsUpTo ctx next (here (keeps_list now)) → CountsUpTo before next bound
+  walk_counted counted =
       let c = counted_here counted in
-      record { from = omega (arith, walk.from, c.from); to = omega (arith, walk.to, c.to, within) }
+      let h = step.within (keeps_list old) in
+      record { from = omega (arith, walk.from, c.from); to = omega (arith, walk.to, c.to, h) }
 
 -- ---- what it takes
 
@@ -117,46 +138,83 @@ at_least true here rest whole is = omega (arith, is)
 at_least false here rest whole is = omega (arith, is)
 
 -- at an item
-module _ (ts : List Tree) (i : ℕ) (t : Tree) (within : i < length ts) (is : t ≡ get_or ts i t) (s : Schema) where
-  pub item_applied : (wanted : Bool) → applications wanted s t ≤ items_applications wanted s (drop i ts)
-  item_applied true = let e = sum_at ts i t within is (pairs s) in omega (arith, e)
-  item_applied false = at_least (holds s t) _ _ _ (until_at ts i t within is (holds s) (needed s))
+pub item_step : (ts : List Tree) (i : ℕ) (t : Tree) → i < length ts → t ≡ get_or ts i t → (s : Schema) (p : Pointer)
+    → Step (each_item (fail s) i (drop i ts) p) (fail s t (item_location p i))
+    (each_item (fail s) (i + 1) (drop (i + 1) ts) p) (λ w. applications w s t)
+    (λ w. items_applications w s (drop (i + 1) ts)) (λ w. items_applications w s (drop i ts))
+item_step ts i t within is s p = record { is = fails_at ts i t within is (fail s) p; within = one; behind = more }
+  where
+    all : sum_by (pairs s) (drop i ts) ≡ pairs s t + sum_by (pairs s) (drop (i + 1) ts)
+    all = sum_at ts i t within is (pairs s)
 
-  pub item_passed : (wanted : Bool) (p : Pointer) → (wanted ≡ false → fail s t p ≡ []) → applications wanted s t
-      + items_applications wanted s (drop (i + 1) ts) ≤ items_applications wanted s (drop i ts)
-  item_passed true p none = let e = sum_at ts i t within is (pairs s) in omega (arith, e)
-  item_passed false p none =
-      branch (holds s t) _ _ _ (until_at ts i t within is (holds s) (needed s))
-      (passed (holds s t) (fail s t p) (holds_empty s t p) none)
+    some : sum_to_failure (holds s) (needed s) (drop i ts)
+        ≡ needed s t + (if holds s t then sum_to_failure (holds s) (needed s) (drop (i + 1) ts) else 0)
+    some = until_at ts i t within is (holds s) (needed s)
 
-module _ (ss : List Schema) (ts : List Tree) (i : ℕ) (s : Schema) (t : Tree)
-    (schema_within : i < length ss) (within : i < length ts) (schema_is : s ≡ get_or ss i s)
-    (is : t ≡ get_or ts i t) where
-  pub each_item_applied : (wanted : Bool)
-      → applications wanted s t ≤ each_applications wanted (schemas_of (drop i ss)) (drop i ts)
-  each_item_applied true = let e = each_pairs_at ss ts i s t schema_within within schema_is is in omega (arith, e)
-  each_item_applied false = at_least (holds s t) _ _ _ (each_needed_at ss ts i s t schema_within within schema_is is)
+    one : (wanted : Bool) → applications wanted s t ≤ items_applications wanted s (drop i ts)
+    one true = omega (arith, all)
+    one false = at_least (holds s t) _ _ _ some
 
-  pub each_item_passed : (wanted : Bool) (p : Pointer) → (wanted ≡ false → fail s t p ≡ [])
-      → applications wanted s t + each_applications wanted (schemas_of (drop (i + 1) ss)) (drop (i + 1) ts)
-      ≤ each_applications wanted (schemas_of (drop i ss)) (drop i ts)
-  each_item_passed true p none = let e = each_pairs_at ss ts i s t schema_within within schema_is is in omega (arith, e)
-  each_item_passed false p none =
-      branch (holds s t) _ _ _ (each_needed_at ss ts i s t schema_within within schema_is is)
-      (passed (holds s t) (fail s t p) (holds_empty s t p) none)
+    more : (wanted : Bool) → (wanted ≡ false → fail s t (item_location p i) ≡ []) → applications wanted s t
+        + items_applications wanted s (drop (i + 1) ts) ≤ items_applications wanted s (drop i ts)
+    more true none = omega (arith, all)
+    more false none = branch (holds s t) _ _ _ some (passed (holds s t) _ (holds_empty s t (item_location p i)) none)
+
+pub each_step : (ss : List Schema) (ts : List Tree) (i : ℕ) (s : Schema) (t : Tree) → i < length ss → i < length ts
+    → s ≡ get_or ss i s → t ≡ get_or ts i t → (p : Pointer)
+    → Step (each_fails (schemas_of (drop i ss)) i (drop i ts) p) (fail s t (item_location p i))
+    (each_fails (schemas_of (drop (i + 1) ss)) (i + 1) (drop (i + 1) ts) p) (λ w. applications w s t)
+    (λ w. each_applications w (schemas_of (drop (i + 1) ss)) (drop (i + 1) ts))
+    (λ w. each_applications w (schemas_of (drop i ss)) (drop i ts))
+each_step ss ts i s t schema_within within schema_is is p = record {
+  is = each_fails_at ss ts i s t schema_within within schema_is is p;
+  within = one;
+  behind = more;
+}
+  where
+    all : each_pairs (schemas_of (drop i ss)) (drop i ts)
+        ≡ pairs s t + each_pairs (schemas_of (drop (i + 1) ss)) (drop (i + 1) ts)
+    all = each_pairs_at ss ts i s t schema_within within schema_is is
+
+    some : each_needed (schemas_of (drop i ss)) (drop i ts)
+        ≡ needed s t + (if holds s t then each_needed (schemas_of (drop (i + 1) ss)) (drop (i + 1) ts) else 0)
+    some = each_needed_at ss ts i s t schema_within within schema_is is
+
+    one : (wanted : Bool) → applications wanted s t ≤ each_applications wanted (schemas_of (drop i ss)) (drop i ts)
+    one true = omega (arith, all)
+    one false = at_least (holds s t) _ _ _ some
+
+    more : (wanted : Bool) → (wanted ≡ false → fail s t (item_location p i) ≡ []) → applications wanted s t
+        + each_applications wanted (schemas_of (drop (i + 1) ss)) (drop (i + 1) ts)
+        ≤ each_applications wanted (schemas_of (drop i ss)) (drop i ts)
+    more true none = omega (arith, all)
+    more false none = branch (holds s t) _ _ _ some (passed (holds s t) _ (holds_empty s t (item_location p i)) none)
 
 -- at a unit
-module _ {F Node Number Key : Type 0} (us : List (Part F Node Number Key)) (i : ℕ) (u : Part F Node Number Key)
-    (within : i < length us) (is : u ≡ get_or us i u) (t : Tree) where
-  pub unit_applied : (wanted : Bool)
-      → meaning_applications wanted (part_meaning u) t ≤ all_applications wanted (keywords_of (drop i us)) t
-  unit_applied true = let e = pairs_at us i u within is t in omega (arith, e)
-  unit_applied false = at_least (meaning_holds (part_meaning u) t) _ _ _ (needed_at us i u within is t)
+pub unit_step : {F Node Number Key : Type 0} (us : List (Part F Node Number Key)) (i : ℕ) (u : Part F Node Number Key)
+    → i < length us → u ≡ get_or us i u → (t : Tree) (p : Pointer)
+    → Step (all_fail (keywords_of (drop i us)) t p) (meaning_fail (part_meaning u) t p)
+    (all_fail (keywords_of (drop (i + 1) us)) t p) (λ w. meaning_applications w (part_meaning u) t)
+    (λ w. all_applications w (keywords_of (drop (i + 1) us)) t) (λ w. all_applications w (keywords_of (drop i us)) t)
+unit_step us i u within is t p = record { is = fail_at us i u within is t p; within = one; behind = more }
+  where
+    all : all_pairs (keywords_of (drop i us)) t
+        ≡ meaning_pairs (part_meaning u) t + all_pairs (keywords_of (drop (i + 1) us)) t
+    all = pairs_at us i u within is t
 
-  pub unit_passed : (wanted : Bool) (p : Pointer) → (wanted ≡ false → meaning_fail (part_meaning u) t p ≡ [])
-      → meaning_applications wanted (part_meaning u) t + all_applications wanted (keywords_of (drop (i + 1) us)) t
-      ≤ all_applications wanted (keywords_of (drop i us)) t
-  unit_passed true p none = let e = pairs_at us i u within is t in omega (arith, e)
-  unit_passed false p none =
-      branch (meaning_holds (part_meaning u) t) _ _ _ (needed_at us i u within is t)
-      (passed (meaning_holds (part_meaning u) t) (meaning_fail (part_meaning u) t p) (part_empty u t p) none)
+    some : all_needed (keywords_of (drop i us)) t ≡ meaning_needed (part_meaning u) t
+        + (if meaning_holds (part_meaning u) t then all_needed (keywords_of (drop (i + 1) us)) t else 0)
+    some = needed_at us i u within is t
+
+    one : (wanted : Bool)
+        → meaning_applications wanted (part_meaning u) t ≤ all_applications wanted (keywords_of (drop i us)) t
+    one true = omega (arith, all)
+    one false = at_least (meaning_holds (part_meaning u) t) _ _ _ some
+
+    more : (wanted : Bool) → (wanted ≡ false → meaning_fail (part_meaning u) t p ≡ [])
+        → meaning_applications wanted (part_meaning u) t + all_applications wanted (keywords_of (drop (i + 1) us)) t
+        ≤ all_applications wanted (keywords_of (drop i us)) t
+    more true none = omega (arith, all)
+    more false none =
+        branch (meaning_holds (part_meaning u) t) _ _ _ some
+        (passed (meaning_holds (part_meaning u) t) _ (part_empty u t p) none)

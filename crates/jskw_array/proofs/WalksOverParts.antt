@@ -1,9 +1,11 @@
 -- What a walk over a node's units has left at a unit, and at the end.
 use Rattle.std.proofs.Common.{◌≡◌, ℕ, zero, suc, ◌+◌, ◌<◌, ◌≤◌, List, [], ◌∷◌, ◌++◌, length, get_or, drop, max, true}
 use Rattle.std.proofs.Common.{false, ◌&&◌, ◌||◌, None, Some, refl, sym, if◌then◌else◌, ap, ◌∙◌, append_assoc, arith}
+use Rattle.std.proofs.Common.{Box, Global}
 use Rattle.std.proofs.lemmas.List.{drop_all}
 use Rattle.std.specs.Borrow.{Bor}
-use Rattle.jskw_array.specs.Words.{ArrayShapeValidator, Evaluation, HasParts, Keywords, OfKeyword, Pointer, Schema}
+use Rattle.jskw_array.specs.Words.{ArrayShapeValidator, CountsUpTo, Evaluation, HasParts, Keywords, OfKeyword}
+use Rattle.jskw_array.specs.Words.{Pointer, Schema}
 use Rattle.jskw_array.specs.Words.{Shape, Part, Tree, absorbed_by, absorbed_keywords, all_fail, keywords_delegate}
 use Rattle.jskw_array.specs.Words.{all_height, all_hold, all_needed, all_pairs, fail, false_schema, height, is_empty}
 use Rattle.jskw_array.specs.Words.{keyword, keyword_height, keywords_of, meaning_fail, meaning_holds, meaning_needed}
@@ -20,7 +22,7 @@ abbrev pub items_keywords : {F Node Number Key : Type 0} → ArrayShapeValidator
 items_keywords v = keyword v.items.location (validator_keyword v.items.validator) no_keywords
 
 -- it is no higher than all the shape's keywords
-pub items_height : {F Node Number Key : Type 0} (v : ArrayShapeValidator F Node Number Key)
+items_height : {F Node Number Key : Type 0} (v : ArrayShapeValidator F Node Number Key)
     → keyword_height (validator_keyword v.items.validator) ≤ all_height (shape_keywords v)
 items_height v =
     let parts = height_appended (absorbed_keywords v.absorbed) (items_keywords v) in
@@ -122,6 +124,13 @@ module _ {F Node Number Key : Type 0} (us : List (Part F Node Number Key)) (i : 
       → all_pairs (keywords_of (drop i us)) t ≡ meaning_pairs (part_meaning u) t + all_pairs (keywords_of rest) t
   pairs_at t = ap (λ ks. all_pairs ks t) here ∙ first_meets u rest t
 
+  -- the applications for it are among those for it and for those behind it
+  pub pairs_within : (t : Tree) {before ctx next bound : ℕ} → before ≤ ctx
+      → ctx + all_pairs (keywords_of (drop i us)) t ≤ before + bound
+      → CountsUpTo ctx next (meaning_pairs (part_meaning u) t) → CountsUpTo before next bound
+  pairs_within t from to counted =
+      record { from = omega (arith, from, counted.from); to = omega (arith, pairs_at t, to, counted.to) }
+
   pub fail_at : (t : Tree) (p : Pointer)
       → all_fail (keywords_of (drop i us)) t p ≡ meaning_fail (part_meaning u) t p ++ all_fail (keywords_of rest) t p
   fail_at t p = ap (λ ks. all_fail ks t p) here ∙ first_fails u rest t p
@@ -156,12 +165,27 @@ unit_height (r ∷ us) zero u within is = let e = ap part_tall is in let whole =
 unit_height (r ∷ us) (suc i) u within is = let below = unit_height us i u (omega arith) is in
     let whole = first_height r us in omega (arith, below, whole)
 
+-- `items` of a fused shape is no higher than the unit that is the shape
+pub shape_below : {F Node Number Key : Type 0} (u : Part F Node Number Key) (v : ArrayShapeValidator F Node Number Key)
+    {w : Box (ArrayShapeValidator F Node Number Key) Global} → u ≡ Shape w → v ≡ w.value
+    → keyword_height (validator_keyword v.items.validator) ≤ part_tall u
+shape_below u v is value =
+    let tall : part_tall u ≡ all_height (shape_keywords v) =
+    ap part_tall is ∙ ap (λ x. all_height (shape_keywords x)) (sym value) in
+    omega (arith, tall, items_height v)
+
 -- ---- a schema by its units
 
 module _ {F Node Number Key : Type 0} (s : Schema) (us : Bor (List (Part F Node Number Key)))
     (has : HasParts s (Some us)) where
   pub schema_pairs : (t : Tree) → pairs s t ≡ 1 + all_pairs (keywords_of us.now) t
   schema_pairs t = ap (λ r. pairs r t) has.1
+
+  -- it is one pair, and those of its units
+  pub schema_within : (t : Tree) {before ctx next : ℕ} → CountsUpTo before ctx 1
+      → CountsUpTo ctx next (all_pairs (keywords_of us.now) t) → CountsUpTo before next (pairs s t)
+  schema_within t one counted =
+      record { from = omega (arith, one.from, counted.from); to = omega (arith, schema_pairs t, one.to, counted.to) }
 
   pub schema_tree : (t : Tree) (p : Pointer)
       → tree s t p ≡ node_at (schema_location s) p (of_children None (units (keywords_of us.now) t p))
@@ -186,3 +210,6 @@ refused_tree q t p = refl
 pub one_pair : (s : Schema) (t : Tree) → 1 ≤ pairs s t
 one_pair (false_schema q) t = omega arith
 one_pair (schema_object q delegates ks) t = omega arith
+
+pub one_within : (s : Schema) (t : Tree) {before ctx : ℕ} → CountsUpTo before ctx 1 → CountsUpTo before ctx (pairs s t)
+one_within s t counted = record { from = counted.from; to = omega (arith, one_pair s t, counted.to) }

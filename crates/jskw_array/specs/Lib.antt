@@ -5,6 +5,7 @@ pub mod Fused
 pub mod Node
 pub mod Outline
 pub mod QuickArrays
+pub mod Passed
 pub mod Heights
 pub mod Siblings
 pub mod Agreement

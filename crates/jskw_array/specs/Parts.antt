@@ -5,6 +5,10 @@ use Rattle.jskw_report.specs.Keyword.{Keywords, no_keywords, keyword, append_key
 use Rattle.jskw_report.specs.Keyword.{keyword_delegates}
 use Rattle.jskw_report.specs.KeywordValue.{Refusal, map_ok}
 use Rattle.jskw_report.specs.Meaning.{Meaning, one_keyword}
+use Rattle.jskw_report.specs.Read.{read_keywords, readings_named}
+use Rattle.jskw_report.specs.Setting.{CompilePoint}
+use Rattle.jskw_report.specs.declared.keyword.KeywordName.{KeywordName}
+use Rattle.serde_json.specs.Data.{Members}
 use Rattle.jskw_leaf.specs.Items.{absorbed_keywords}
 use Rattle.jskw_array.specs.Fused.{shape_keywords, shape_meaning}
 use Rattle.jskw_array.specs.Meaning.{validator_keyword}
@@ -15,6 +19,10 @@ use Rattle.jskw_array.specs.declared.part.Part.TheVariants.{Keyword as OfKeyword
 -- keywords that are read after others, or their refusal
 abbrev pub after : Keywords → Result Keywords Refusal → Result Keywords Refusal
 after done r = map_ok (append_keywords done) r
+
+-- these keywords of an object, as they are read
+abbrev pub keywords_read : List KeywordName → CompilePoint → Members → Result Keywords Refusal
+keywords_read ws point ms = read_keywords ws point.setting point.location ms (λ name. readings_named name ms)
 
 module _ {F Node Number Key : Type 0} where
   -- the keywords of units, one after another

@@ -1,13 +1,11 @@
 //! Compiles schemas, keyword by keyword.
 ghost use Rattle.std.specs.Prelude.{◌++◌, ◌∷◌, ◌≡◌};
-ghost use Rattle.jskw_array.specs.Words.{[], Boolean, CompilesKeyword, CompilesTo, Err, IfOk};
-ghost use Rattle.jskw_array.specs.Words.{IsTrue, Keywords, Object, Reading, Refusal, Result};
-ghost use Rattle.jskw_array.specs.Words.{Schema, after, begin_fused, boolean_schema, each_of};
-ghost use Rattle.jskw_array.specs.Words.{fused_keywords, is_fused, is_handed_on, items_view};
-ghost use Rattle.jskw_array.specs.Words.{keyword_location, keyword_reading, keywords, keywords_of};
-ghost use Rattle.jskw_array.specs.Words.{map_ok, members_view, object, of_types, read, read_each};
-ghost use Rattle.jskw_array.specs.Words.{read_keywords, readings_named, schemas_of, shape_keywords};
-ghost use Rattle.jskw_array.specs.Words.{true, validator_keyword, view, wrong};
+ghost use Rattle.jskw_array.specs.Words.{[], Boolean, CompilesKeyword, CompilesTo, Err, IfOk, IsTrue, Keywords};
+ghost use Rattle.jskw_array.specs.Words.{Object, Reading, Refusal, Result, Schema, after, begin_fused};
+ghost use Rattle.jskw_array.specs.Words.{boolean_schema, each_of, fused_keywords, is_fused, is_handed_on};
+ghost use Rattle.jskw_array.specs.Words.{items_view, keyword_location, keyword_reading, keywords, keywords_of};
+ghost use Rattle.jskw_array.specs.Words.{map_ok, members_view, object, of_types, read, read_each, schemas_of};
+ghost use Rattle.jskw_array.specs.Words.{shape_keywords, true, validator_keyword, view, wrong, keywords_read};
 
 mod keyword;
 pub(crate) mod members;
@@ -126,9 +124,8 @@ fn node_of<'a, F: Json>(
     made: CompilationResult<'a, ()>,
 ) -> CompilationResult<'a, Subschema<F>>
     requires delegates { delegates ≡ is_handed_on ctx.now.setting (members_view parent.now.entries) }
-    requires made { let ms = members_view parent.now.entries in
-        CompilesTo (λ _. keywords_of parts.items) made
-        (read_keywords keywords ctx.now.setting ctx.now.location ms (λ name. readings_named name ms)) }
+    requires made { CompilesTo (λ _. keywords_of parts.items) made
+        (keywords_read keywords ctx.now (members_view parent.now.entries)) }
     requires fused { IfOk made (λ _. begin_fused parts.items
         ≡ is_fused ctx.now.setting (members_view parent.now.entries)) }
     ensures { CompilesTo (λ s. s) result
@@ -156,9 +153,8 @@ fn push_parts<'a, F: Json>(
 ) -> CompilationResult<'a, ()>
     requires empty { parts.old.items ≡ [] }
     requires delegates { delegates ≡ is_handed_on ctx.now.setting (members_view parent.now.entries) }
-    ensures made { let ms = members_view parent.now.entries in
-        CompilesTo (λ _. keywords_of parts.new.items) result
-        (read_keywords keywords ctx.now.setting ctx.now.location ms (λ name. readings_named name ms)) }
+    ensures made { CompilesTo (λ _. keywords_of parts.new.items) result
+        (keywords_read keywords ctx.now (members_view parent.now.entries)) }
     ensures fused { IfOk result (λ _. begin_fused parts.new.items
         ≡ is_fused ctx.now.setting (members_view parent.now.entries)) }
 {
@@ -187,9 +183,8 @@ fn push_shape<'a, F: Json>(
 ) -> CompilationResult<'a, ()>
     requires empty { parts.old.items ≡ [] }
     requires fused { IsTrue (is_fused ctx.now.setting (members_view parent.now.entries)) }
-    ensures made { let ms = members_view parent.now.entries in
-        CompilesTo (λ _. keywords_of parts.new.items) result
-        (read_keywords fused_keywords ctx.now.setting ctx.now.location ms (λ name. readings_named name ms)) }
+    ensures made { CompilesTo (λ _. keywords_of parts.new.items) result
+        (keywords_read fused_keywords ctx.now (members_view parent.now.entries)) }
     ensures fused { IfOk result (λ _. begin_fused parts.new.items ≡ true) }
 {
     let Some(items) = member_of(parent, KeywordName::Items.as_str()) else {
@@ -243,11 +238,9 @@ fn push_keywords<'a, F: Json>(
     parts: &mut Vec<Part<F>>,
 ) -> CompilationResult<'a, ()>
     requires { delegates ≡ is_handed_on ctx.now.setting (members_view parent.now.entries) }
-    ensures made { let ms = members_view parent.now.entries in
-        CompilesTo (λ _. keywords_of parts.new.items) result
+    ensures made { CompilesTo (λ _. keywords_of parts.new.items) result
         (after (keywords_of parts.old.items)
-        (read_keywords keywords.now ctx.now.setting ctx.now.location ms
-        (λ name. readings_named name ms))) }
+        (keywords_read keywords.now ctx.now (members_view parent.now.entries))) }
     ensures fused { IfOk result (λ _. begin_fused parts.new.items
         ≡ begin_fused parts.old.items) }
 {

@@ -1,11 +1,10 @@
 //! A schema for each item: `prefixItems` (JSON Schema Core 10.3.1.1), and `items` of an array of
 //! schemas (Draft 7 Validation 6.4.1). A non-array has no items.
-ghost use Rattle.std.specs.Prelude.{◌≡◌, ◌+◌, ◌≤◌};
-ghost use Rattle.jskw_array.specs.Words.{CountsUpTo, IfSome, IsTrue, CompilesTo, Refusal, Result};
-ghost use Rattle.jskw_array.specs.Words.{Schemas, drop, each_holds, each_needed, is_lawful};
-ghost use Rattle.jskw_array.specs.Words.{items, length, min, take, true};
+ghost use Rattle.std.specs.Prelude.{◌≡◌};
+ghost use Rattle.jskw_array.specs.Words.{CountsUpTo, IfSome, IsTrue, CompilesTo, Refusal, Result, Schemas};
+ghost use Rattle.jskw_array.specs.Words.{drop, each_holds, each_needed, is_lawful, items, length, min, true};
 ghost use Rattle.jskw_array.specs.Words.{each_keyword, each_of, keyword_holds, map_ok, one_keyword, schemas_of};
-ghost use Rattle.jskw_array.specs.Words.{validator_keyword};
+ghost use Rattle.jskw_array.specs.Words.{validator_keyword, PassesOverPairs, CountsBetween};
 
 use crate::node::Subschema;
 use crate::prefix_items::prefix_unit;
@@ -27,17 +26,14 @@ pub struct Each<F: Json> {
 }
 
 impl<F: Json> Each<F> {
-    // Returns the index of the first item that is not in the quick set of its schema, or `count`, if
-    // there is none.
+    // Returns the index of the first item that is not in the quick set of its schema, or how many
+    // items have a schema, if there is none.
     #[inline(always)]
-    fn first_not_accepted(&self, count: usize, instance: &F::Node) -> usize
-        requires lawful { IsTrue (is_lawful (F.Node.tree instance.now)) }
-        requires count { count ≡ min (length (items (F.Node.tree instance.now)))
-            (length self.now.nodes.items) }
-        ensures within { result ≤ count }
-        ensures valid { each_holds (schemas_of (take result self.now.nodes.items))
-            (items (F.Node.tree instance.now)) ≡ true }
+    fn first_not_accepted(&self, instance: &F::Node) -> usize
+        requires { IsTrue (is_lawful (F.Node.tree instance.now)) }
+        ensures { PassesOverPairs self.now.nodes.items (F.Node.tree instance.now) result }
     {
+        let count = instance.item_count().min(self.nodes.len());
         for index in 0..count {
             if !self.nodes[index].is_accepted(instance.item(index)) {
                 return index;
@@ -46,18 +42,16 @@ impl<F: Json> Each<F> {
         count
     }
 
-    // Returns how many items of an array of `count` items have a schema, if each of these is in the
-    // quick set of its schema.
+    // Returns how many items have a schema, if each of these is in the quick set of its schema.
     #[inline(always)]
-    pub(crate) fn accepted_count(&self, count: usize, instance: &F::Node) -> Option<usize>
-        requires lawful { IsTrue (is_lawful (F.Node.tree instance.now)) }
-        requires count { count ≡ length (items (F.Node.tree instance.now)) }
-        ensures valid { IfSome result (λ n.
-            keyword_holds (each_keyword self.now) (F.Node.tree instance.now) ≡ true) }
-        ensures count { IfSome result (λ n. n ≡ min count (length self.now.nodes.items)) }
+    pub(crate) fn accepted_count(&self, instance: &F::Node) -> Option<usize>
+        requires { IsTrue (is_lawful (F.Node.tree instance.now)) }
+        ensures { let t = F.Node.tree instance.now in IfSome result (λ n.
+            (keyword_holds (each_keyword self.now) t ≡ true)
+            × (n ≡ min (length (items t)) (length self.now.nodes.items))) }
     {
-        let count = count.min(self.nodes.len());
-        if self.first_not_accepted(count, instance) == count {
+        let count = instance.item_count().min(self.nodes.len());
+        if self.first_not_accepted(instance) == count {
             Some(count)
         } else {
             None
@@ -65,19 +59,14 @@ impl<F: Json> Each<F> {
     }
 
     // Applies each schema to its item, as far as the items are in the quick sets of their schemas.
-    // Returns the index of the first item that is not, or `count`, if there is none.
+    // Returns the index of the first item that is not, or how many items have a schema.
     #[inline(always)]
-    fn skip_accepted(&self, count: usize, instance: &F::Node, ctx: &mut ValidationContext) -> usize
-        requires lawful { IsTrue (is_lawful (F.Node.tree instance.now)) }
-        requires count { count ≡ min (length (items (F.Node.tree instance.now)))
-            (length self.now.nodes.items) }
-        ensures within { result ≤ count }
-        ensures valid { each_holds (schemas_of (take result self.now.nodes.items))
-            (items (F.Node.tree instance.now)) ≡ true }
-        ensures applied { min (ctx.old + result) u64.MAX ≤ ctx.new }
-        ensures counted { CountsUpTo ctx.old ctx.new result }
+    fn skip_accepted(&self, instance: &F::Node, ctx: &mut ValidationContext) -> usize
+        requires { IsTrue (is_lawful (F.Node.tree instance.now)) }
+        ensures passed { PassesOverPairs self.now.nodes.items (F.Node.tree instance.now) result }
+        ensures counted { CountsBetween ctx.old ctx.new result result }
     {
-        let index = self.first_not_accepted(count, instance);
+        let index = self.first_not_accepted(instance);
         ctx.count_more(index);
         index
     }
@@ -85,23 +74,15 @@ impl<F: Json> Each<F> {
     // Returns `is_valid` for the items from `first` on.
     #[inline(never)]
     #[cycle(is_valid)]
-    fn are_valid(
-        &self,
-        first: usize,
-        count: usize,
-        instance: &F::Node,
-        ctx: &mut ValidationContext,
-    ) -> bool
-        requires lawful { IsTrue (is_lawful (F.Node.tree instance.now)) }
-        requires count { count ≡ min (length (items (F.Node.tree instance.now)))
-            (length self.now.nodes.items) }
-        requires first { first ≤ count }
+    fn are_valid(&self, first: usize, instance: &F::Node, ctx: &mut ValidationContext) -> bool
+        requires { IsTrue (is_lawful (F.Node.tree instance.now)) }
         ensures answer { result ≡ each_holds (schemas_of (drop first self.now.nodes.items))
             (drop first (items (F.Node.tree instance.now))) }
         ensures counted { CountsUpTo ctx.old ctx.new (each_needed
             (schemas_of (drop first self.now.nodes.items))
             (drop first (items (F.Node.tree instance.now)))) }
     {
+        let count = instance.item_count().min(self.nodes.len());
         for index in first..count {
             if !self.nodes[index].is_valid(instance.item(index), ctx) {
                 return false;
@@ -119,11 +100,11 @@ impl<F: Json> Validate<F> for Each<F> {
     #[cycle(is_valid)]
     fn is_valid(&self, instance: &F::Node, ctx: &mut ValidationContext) -> bool {
         let count = instance.item_count().min(self.nodes.len());
-        let first = self.skip_accepted(count, instance, ctx);
+        let first = self.skip_accepted(instance, ctx);
         if first == count {
             return true;
         }
-        self.are_valid(first, count, instance, ctx)
+        self.are_valid(first, instance, ctx)
     }
 
     #[inline(always)]
@@ -136,7 +117,7 @@ impl<F: Json> Validate<F> for Each<F> {
         report: &mut Report<'i, F>,
     ) -> Result<(), Stop> {
         let count = instance.item_count().min(self.nodes.len());
-        for index in self.skip_accepted(count, instance, ctx)..count {
+        for index in self.skip_accepted(instance, ctx)..count {
             self.nodes[index].report_item(index, instance.item(index), location, ctx, report)?;
         }
         Ok(())

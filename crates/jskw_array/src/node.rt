@@ -1,16 +1,13 @@
 //! A compiled schema: the validators of its keywords, in the order in which a schema is read.
-ghost use Rattle.std.specs.Prelude.{◌≡◌, ◌+◌, ◌-◌, ◌≤◌};
-ghost use Rattle.jskw_array.specs.Words.{[], Appends, IsBeginning, CountsUpTo, HasParts, IfOk};
-ghost use Rattle.jskw_array.specs.Words.{IfSome, IsFirst, IsTrue, LeftParts, Reports};
-ghost use Rattle.jskw_array.specs.Words.{applications};
-ghost use Rattle.jskw_array.specs.Words.{boolean_schema, schemas_delegate, fail, false_schema};
-ghost use Rattle.jskw_array.specs.Words.{hands_on_required, keeps_list};
-ghost use Rattle.std.specs.Prelude.{if◌then◌else◌};
-ghost use Rattle.jskw_array.specs.Words.{drop, holds, is_fused_schema, is_lawful, is_some};
-ghost use Rattle.jskw_array.specs.Words.{Tree, items, length, limited, list_all, meaning_holds, shape_meaning, take};
-ghost use Rattle.jskw_array.specs.Words.{item_location, keywords_in, keywords_of, marked, min};
-ghost use Rattle.jskw_array.specs.Words.{needed, pairs, path_of, schema_location, schema_object};
-ghost use Rattle.jskw_array.specs.Words.{ArraysAreValid, schemas_of, shape_keywords, sum_by, tree, true};
+ghost use Rattle.std.specs.Prelude.{◌≡◌, ◌+◌, ◌-◌, ◌≤◌, if◌then◌else◌};
+ghost use Rattle.jskw_array.specs.Words.{[], Appends, IsBeginning, CountsUpTo, HasParts, IfOk, IfSome, IsFirst};
+ghost use Rattle.jskw_array.specs.Words.{IsTrue, LeftParts, Reports, applications, boolean_schema};
+ghost use Rattle.jskw_array.specs.Words.{schemas_delegate, fail, false_schema, hands_on_required, keeps_list};
+ghost use Rattle.jskw_array.specs.Words.{holds, is_fused_schema, is_lawful, is_some, Tree, items, length};
+ghost use Rattle.jskw_array.specs.Words.{limited, meaning_holds, shape_meaning, item_location, keywords_in};
+ghost use Rattle.jskw_array.specs.Words.{keywords_of, marked, min, needed, pairs, path_of, schema_location};
+ghost use Rattle.jskw_array.specs.Words.{schema_object, ArraysAreValid, schemas_of, shape_keywords, sum_by};
+ghost use Rattle.jskw_array.specs.Words.{tree, true, PassesOver, CountsBetween, items_between};
 
 use crate::items::ArrayShapeValidator;
 use crate::part::{
@@ -26,7 +23,7 @@ use jskw_report::{
     EvaluationNode, EvaluationResult, Fault, KeywordLocation, LazyLocation, Report, Stop, Validate,
     ValidationContext, ValidationError, ValidationErrorKind,
 };
-use jskw_value::Json;
+use jskw_value::{Json, Node};
 use std::alloc::{AllocError, Global};
 use std::marker::Model;
 
@@ -199,47 +196,16 @@ impl<F: Json> Subschema<F> {
         self.accepted.contains(instance)
     }
 
-    // Returns the index of the first item from `start` on that is not in the quick set, or `count`, if
-    // there is none. `count` is the number of items.
+    // Returns the index of the first item from `start` on that is not in the quick set, or the number
+    // of items, if there is none.
     #[inline(always)]
-    pub(crate) fn first_not_accepted(&self, start: usize, count: usize, instance: &F::Node) -> usize
+    pub(crate) fn first_not_accepted(&self, start: usize, instance: &F::Node) -> usize
         requires lawful { IsTrue (is_lawful (F.Node.tree instance.now)) }
-        requires count { count ≡ length (items (F.Node.tree instance.now)) }
-        requires start { start ≤ count }
-        ensures from { start ≤ result }
-        ensures within { result ≤ count }
-        ensures valid { list_all (holds self.now) (take (result - start)
-            (drop start (items (F.Node.tree instance.now)))) ≡ true }
+        requires start { start ≤ length (items (F.Node.tree instance.now)) }
+        ensures { PassesOver (holds self.now) (F.Node.tree instance.now) start result }
     {
+        let count = instance.item_count();
         self.accepted.first_outside(start, count, instance)
-    }
-
-    // Applies the schema to the items from `start` on, as far as it takes them. Returns the index of
-    // the first that it does not take; if there is none, `count`, the number of items, or `start` if
-    // that is past them.
-    #[inline(always)]
-    fn skip_accepted(
-        &self,
-        start: usize,
-        count: usize,
-        instance: &F::Node,
-        ctx: &mut ValidationContext,
-    ) -> usize
-        requires lawful { IsTrue (is_lawful (F.Node.tree instance.now)) }
-        requires count { count ≡ length (items (F.Node.tree instance.now)) }
-        ensures from { start ≤ result }
-        ensures within { result - start ≤ length (drop start (items (F.Node.tree instance.now))) }
-        ensures valid { list_all (holds self.now) (take (result - start)
-            (drop start (items (F.Node.tree instance.now)))) ≡ true }
-        ensures applied { min (ctx.old + (result - start)) u64.MAX ≤ ctx.new }
-        ensures counted { CountsUpTo ctx.old ctx.new (result - start) }
-    {
-        if start >= count {
-            return start;
-        }
-        let index = self.first_not_accepted(start, count, instance);
-        ctx.count_more(index - start);
-        index
     }
 
     // Returns arrays that are known to be valid by their length and the quick sets of their items, or
@@ -266,61 +232,50 @@ impl<F: Json> Subschema<F> {
     }
 
     // Applies the schema to the items from `start` on, as far as they are arrays whose items are in
-    // quick sets or of a type. Returns the index of the first that is not, or `count`, the number of
-    // items.
-    fn skip_arrays(
-        &self,
-        start: usize,
-        count: usize,
-        instance: &F::Node,
-        ctx: &mut ValidationContext,
-    ) -> usize
+    // quick sets or of a type. Returns the index of the first that is not, or the number of items.
+    fn skip_arrays(&self, start: usize, instance: &F::Node, ctx: &mut ValidationContext) -> usize
         requires lawful { IsTrue (is_lawful (F.Node.tree instance.now)) }
-        requires count { count ≡ length (items (F.Node.tree instance.now)) }
-        requires start { start ≤ count }
-        ensures from { start ≤ result }
-        ensures within { result ≤ count }
-        ensures valid { list_all (holds self.now) (take (result - start)
-            (drop start (items (F.Node.tree instance.now)))) ≡ true }
-        ensures applied { min (ctx.old + (result - start)) u64.MAX ≤ ctx.new }
-        ensures counted { CountsUpTo ctx.old ctx.new (sum_by (needed self.now)
-            (take (result - start) (drop start (items (F.Node.tree instance.now))))) }
+        requires start { start ≤ length (items (F.Node.tree instance.now)) }
+        ensures passed { PassesOver (holds self.now) (F.Node.tree instance.now) start result }
+        ensures counted { CountsBetween ctx.old ctx.new (result - start)
+            (sum_by (needed self.now) (items_between start result (F.Node.tree instance.now))) }
     {
         if let Some(shape) = self.typed_shape() {
-            return shape.skip_typed(start, count, instance, ctx);
+            let end = shape.typed_end(start, instance, ctx);
+            ctx.count_more(end - start);
+            return end;
         }
         match self.quick_arrays() {
-            Some(arrays) => arrays.skip(start, count, instance, ctx),
+            Some(arrays) => arrays.skip(start, instance, ctx),
             None => start,
         }
     }
 
-    // Applies the schema to the items from `start` on, as far as `skip_accepted` does, and then as far
-    // as `skip_arrays` does. Returns the index of the first that neither passes over; if there is
-    // none, `count`, the number of items, or `start` if that is past them.
+    // Applies the schema to the items from `start` on, as far as they are in the quick set, and then
+    // as far as `skip_arrays` does. Returns the index of the first that neither passes over; if there
+    // is none, the number of items, or `start` if that is past them.
     #[inline(always)]
     pub(crate) fn skip_valid(
         &self,
         start: usize,
-        count: usize,
         instance: &F::Node,
         ctx: &mut ValidationContext,
     ) -> usize
-        requires lawful { IsTrue (is_lawful (F.Node.tree instance.now)) }
-        requires count { count ≡ length (items (F.Node.tree instance.now)) }
-        ensures from { start ≤ result }
-        ensures within { result - start ≤ length (drop start (items (F.Node.tree instance.now))) }
-        ensures valid { list_all (holds self.now) (take (result - start)
-            (drop start (items (F.Node.tree instance.now)))) ≡ true }
-        ensures applied { min (ctx.old + (result - start)) u64.MAX ≤ ctx.new }
-        ensures counted { CountsUpTo ctx.old ctx.new (sum_by (needed self.now)
-            (take (result - start) (drop start (items (F.Node.tree instance.now))))) }
+        requires { IsTrue (is_lawful (F.Node.tree instance.now)) }
+        ensures passed { PassesOver (holds self.now) (F.Node.tree instance.now) start result }
+        ensures counted { CountsBetween ctx.old ctx.new (result - start)
+            (sum_by (needed self.now) (items_between start result (F.Node.tree instance.now))) }
     {
-        let first = self.skip_accepted(start, count, instance, ctx);
+        let count = instance.item_count();
+        if start >= count {
+            return start;
+        }
+        let first = self.first_not_accepted(start, instance);
+        ctx.count_more(first - start);
         if first >= count {
             return first;
         }
-        self.skip_arrays(first, count, instance, ctx)
+        self.skip_arrays(first, instance, ctx)
     }
 
     // Applies the schema to an instance that is known to be valid without a look at the keywords.

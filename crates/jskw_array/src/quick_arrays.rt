@@ -1,14 +1,12 @@
 //! Arrays that are known to be valid by their length and the quick sets of their items: a list of
 //! tuples, rows or pairs is passed over in two loops, without a call for each.
 ghost use Rattle.std.specs.Prelude.{◌≡◌, ◌≤◌, ◌+◌, ◌-◌};
-ghost use Rattle.jskw_array.specs.Words.{AddsKeywords, AreTuples, CountsUpTo, IfSome, IsTrue, Tree, all_hold};
-ghost use Rattle.jskw_array.specs.Words.{all_needed, arrays_cost, drop, in_arrays, in_outline};
-ghost use Rattle.jskw_array.specs.Words.{is_lawful, items, keyword_holds, keyword_needed};
-ghost use Rattle.jskw_array.specs.Words.{keywords_of, length, list_all, meaning_holds};
-ghost use Rattle.jskw_array.specs.Words.{absorbed_hold, front_holds, rest_holds};
-ghost use Rattle.jskw_array.specs.Words.{each_keyword, front_cost, rest_cost, rest_keyword};
-ghost use Rattle.jskw_array.specs.Words.{meaning_needed, min, part_meaning, sum_by, take, true};
-ghost use Rattle.jskw_array.specs.Words.{validator_keyword};
+ghost use Rattle.jskw_array.specs.Words.{AddsKeywords, AreTuples, IfSome, IsTrue, Tree, all_hold, all_needed};
+ghost use Rattle.jskw_array.specs.Words.{arrays_cost, in_arrays, in_outline, is_lawful, items, keyword_holds};
+ghost use Rattle.jskw_array.specs.Words.{keyword_needed, keywords_of, length, meaning_holds, absorbed_hold};
+ghost use Rattle.jskw_array.specs.Words.{front_holds, rest_holds, front_cost, rest_cost, meaning_needed, min};
+ghost use Rattle.jskw_array.specs.Words.{part_meaning, sum_by, true, validator_keyword, PassesOver};
+ghost use Rattle.jskw_array.specs.Words.{CountsBetween, items_between};
 
 use crate::each::Each;
 use crate::items::AbsorbedKeywords;
@@ -72,48 +70,19 @@ impl<'s, F: Json> QuickArrays<'s, F> {
             (keyword_needed (validator_keyword validator.now))) }
     {
         match validator {
-            Validator::Each(v) => self.and_front(v),
-            Validator::Rest(v) => self.and_rest(v),
-            Validator::AdditionalItemsBoolean(_) => Some(self.and_lengths(validator.outline())),
-            _ => None,
-        }
-    }
-
-    // Returns those of these lengths too.
-    fn and_lengths(self, lengths: Outline) -> QuickArrays<'s, F>
-        ensures { AddsKeywords self.entry result (in_outline lengths) (λ _. 0) }
-    {
-        QuickArrays {
-            lengths: self.lengths.and(lengths),
-            ..self
-        }
-    }
-
-    // Returns those whose first items are valid against these schemas too.
-    fn and_front(self, front: &'s Each<F>) -> Option<QuickArrays<'s, F>>
-        ensures { IfSome result (λ q. AddsKeywords self.entry q
-            (keyword_holds (each_keyword front.now)) (keyword_needed (each_keyword front.now))) }
-    {
-        match self.front {
-            None => Some(QuickArrays {
+            Validator::Each(front) if self.front.is_none() => Some(QuickArrays {
                 front: Some(front),
                 ..self
             }),
-            Some(_) => None,
-        }
-    }
-
-    // Returns those whose other items are valid against this schema too.
-    fn and_rest(self, rest: &'s Rest<F>) -> Option<QuickArrays<'s, F>>
-        ensures { IfSome result (λ q. AddsKeywords self.entry q
-            (keyword_holds (rest_keyword rest.now)) (keyword_needed (rest_keyword rest.now))) }
-    {
-        match self.rest {
-            None => Some(QuickArrays {
+            Validator::Rest(rest) if self.rest.is_none() => Some(QuickArrays {
                 rest: Some(rest),
                 ..self
             }),
-            Some(_) => None,
+            Validator::AdditionalItemsBoolean(_) => Some(QuickArrays {
+                lengths: self.lengths.and(validator.outline()),
+                ..self
+            }),
+            _ => None,
         }
     }
 
@@ -127,33 +96,27 @@ impl<'s, F: Json> QuickArrays<'s, F> {
         }
     }
 
-    // Returns how many of the items of an array of `count` items have a schema of the first ones, if
-    // each of these is in its quick set.
-    fn front_count(&self, count: usize, instance: &F::Node) -> Option<usize>
-        requires lawful { IsTrue (is_lawful (F.Node.tree instance.now)) }
-        requires count { count ≡ length (items (F.Node.tree instance.now)) }
-        ensures valid { IfSome result (λ n.
-            front_holds self.now.front (F.Node.tree instance.now) ≡ true) }
-        ensures count { IfSome result (λ n.
-            n ≡ front_cost self.now.front (F.Node.tree instance.now)) }
+    // Returns how many items of the instance have a schema of the first ones, if each of these is in
+    // its quick set.
+    fn front_count(&self, instance: &F::Node) -> Option<usize>
+        requires { IsTrue (is_lawful (F.Node.tree instance.now)) }
+        ensures { let t = F.Node.tree instance.now in IfSome result (λ n.
+            (front_holds self.now.front t ≡ true) × (n ≡ front_cost self.now.front t)) }
     {
         match self.front {
-            Some(front) => front.accepted_count(count, instance),
+            Some(front) => front.accepted_count(instance),
             None => Some(0),
         }
     }
 
     // Returns the same of the schema of the others.
-    fn rest_count(&self, count: usize, instance: &F::Node) -> Option<usize>
-        requires lawful { IsTrue (is_lawful (F.Node.tree instance.now)) }
-        requires count { count ≡ length (items (F.Node.tree instance.now)) }
-        ensures valid { IfSome result (λ n.
-            rest_holds self.now.rest (F.Node.tree instance.now) ≡ true) }
-        ensures count { IfSome result (λ n.
-            n ≡ rest_cost self.now.rest (F.Node.tree instance.now)) }
+    fn rest_count(&self, instance: &F::Node) -> Option<usize>
+        requires { IsTrue (is_lawful (F.Node.tree instance.now)) }
+        ensures { let t = F.Node.tree instance.now in IfSome result (λ n.
+            (rest_holds self.now.rest t ≡ true) × (n ≡ rest_cost self.now.rest t)) }
     {
         match self.rest {
-            Some(rest) => rest.accepted_count(count, instance),
+            Some(rest) => rest.accepted_count(instance),
             None => Some(0),
         }
     }
@@ -175,37 +138,34 @@ impl<'s, F: Json> QuickArrays<'s, F> {
         {
             return None;
         }
-        let count = Array::len(instance);
-        let front = self.front_count(count, instance)?;
-        let rest = self.rest_count(count, instance)?;
+        let front = self.front_count(instance)?;
+        let rest = self.rest_count(instance)?;
         Some(front.saturating_add(rest).saturating_add(1))
     }
 
     // Applies the schema to the items from `start` on, as far as they are in the set. Returns the
-    // index of the first that is not, or `count`, the number of items.
+    // index of the first that is not, or the number of items.
     #[inline(never)]
     pub(crate) fn skip(
         &self,
         start: usize,
-        count: usize,
         instance: &F::Node,
         ctx: &mut ValidationContext,
     ) -> usize
         requires lawful { IsTrue (is_lawful (F.Node.tree instance.now)) }
-        requires count { count ≡ length (items (F.Node.tree instance.now)) }
-        requires start { start ≤ count }
-        ensures from { start ≤ result }
-        ensures within { result ≤ count }
-        ensures passed { list_all (in_arrays self.now) (take (result - start)
-            (drop start (items (F.Node.tree instance.now)))) ≡ true }
-        ensures applied { min (ctx.old + sum_by (arrays_cost self.now) (take (result - start)
-            (drop start (items (F.Node.tree instance.now))))) u64.MAX ≤ ctx.new }
-        ensures counted { CountsUpTo ctx.old ctx.new (sum_by (arrays_cost self.now)
-            (take (result - start) (drop start (items (F.Node.tree instance.now))))) }
+        requires start { start ≤ length (items (F.Node.tree instance.now)) }
+        ensures passed { PassesOver (in_arrays self.now) (F.Node.tree instance.now) start result }
+        ensures counted { let cost = sum_by (arrays_cost self.now)
+            (items_between start result (F.Node.tree instance.now)) in
+            CountsBetween ctx.old ctx.new cost cost }
     {
         if let (None, Some(front), None) = (self.absorbed, self.front, self.rest) {
-            return self.skip_tuples(front, start, count, instance, ctx);
+            let (index, applied) = self.tuples_passed(front, start, instance);
+            ctx.count_more(applied);
+            ctx.count_more(index - start);
+            return index;
         }
+        let count = instance.item_count();
         for index in start..count {
             match self.applications(instance.item(index)) {
                 Some(applied) => ctx.count_more(applied),
@@ -215,58 +175,20 @@ impl<'s, F: Json> QuickArrays<'s, F> {
         count
     }
 
-    // Returns the same as `skip` if the first items alone have schemas, which are those of `front`.
+    // Returns the index of the first item from `start` on that is not in the set, or the number of
+    // items, and how many items of those before it have a schema, which is counted in a register.
+    // The first items alone must have schemas, which are those of `front`.
     #[inline(never)]
-    fn skip_tuples(
-        &self,
-        front: &Each<F>,
-        start: usize,
-        count: usize,
-        instance: &F::Node,
-        ctx: &mut ValidationContext,
-    ) -> usize
+    fn tuples_passed(&self, front: &Each<F>, start: usize, instance: &F::Node) -> (usize, usize)
         requires lawful { IsTrue (is_lawful (F.Node.tree instance.now)) }
-        requires count { count ≡ length (items (F.Node.tree instance.now)) }
-        requires start { start ≤ count }
+        requires start { start ≤ length (items (F.Node.tree instance.now)) }
         requires alone { AreTuples self.now front.now }
-        ensures from { start ≤ result }
-        ensures within { result ≤ count }
-        ensures passed { list_all (in_arrays self.now) (take (result - start)
-            (drop start (items (F.Node.tree instance.now)))) ≡ true }
-        ensures applied { min (ctx.old + sum_by (arrays_cost self.now) (take (result - start)
-            (drop start (items (F.Node.tree instance.now))))) u64.MAX ≤ ctx.new }
-        ensures counted { CountsUpTo ctx.old ctx.new (sum_by (arrays_cost self.now)
-            (take (result - start) (drop start (items (F.Node.tree instance.now))))) }
+        ensures passed { PassesOver (in_arrays self.now) (F.Node.tree instance.now) start result.0 }
+        ensures counted { let cost = sum_by (front_cost self.now.front)
+            (items_between start result.0 (F.Node.tree instance.now)) in
+            CountsBetween 0 result.1 cost cost }
     {
-        let (index, applied) = self.tuples_passed(front, start, count, instance);
-        ctx.count_more(applied);
-        ctx.count_more(index - start);
-        index
-    }
-
-    // Returns the index of the first item from `start` on that is not in the set, or `count`, and how
-    // many items of those before it have a schema, which is counted in a register.
-    #[inline(always)]
-    fn tuples_passed(
-        &self,
-        front: &Each<F>,
-        start: usize,
-        count: usize,
-        instance: &F::Node,
-    ) -> (usize, usize)
-        requires lawful { IsTrue (is_lawful (F.Node.tree instance.now)) }
-        requires count { count ≡ length (items (F.Node.tree instance.now)) }
-        requires start { start ≤ count }
-        requires alone { AreTuples self.now front.now }
-        ensures from { start ≤ result.0 }
-        ensures within { result.0 ≤ count }
-        ensures passed { list_all (in_arrays self.now) (take (result.0 - start)
-            (drop start (items (F.Node.tree instance.now)))) ≡ true }
-        ensures least { min (sum_by (front_cost self.now.front) (take (result.0 - start)
-            (drop start (items (F.Node.tree instance.now))))) u64.MAX ≤ result.1 }
-        ensures most { result.1 ≤ sum_by (front_cost self.now.front) (take (result.0 - start)
-            (drop start (items (F.Node.tree instance.now)))) }
-    {
+        let count = instance.item_count();
         let mut applied = 0usize;
         for index in start..count {
             match self.tuple_count(front, instance.item(index)) {
@@ -291,6 +213,6 @@ impl<'s, F: Json> QuickArrays<'s, F> {
         if !instance.is_array() || !self.lengths.contains(instance) {
             return None;
         }
-        front.accepted_count(Array::len(instance), instance)
+        front.accepted_count(instance)
     }
 }

@@ -1,9 +1,9 @@
 //! One schema for the items from an index on: `items` (JSON Schema Core 10.3.1.2), and
 //! `additionalItems` (Draft 7 Validation 6.4.2). A non-array has no items.
 ghost use Rattle.std.specs.Prelude.{◌≡◌, ◌-◌};
-ghost use Rattle.jskw_array.specs.Words.{CompilesTo, IfSome, IsTrue, Reading, is_lawful};
-ghost use Rattle.jskw_array.specs.Words.{items, keyword_holds, length, map_ok, one_keyword};
-ghost use Rattle.jskw_array.specs.Words.{rest_keyword, rest_of, true, validator_keyword};
+ghost use Rattle.jskw_array.specs.Words.{CompilesTo, IfSome, IsTrue, Reading, is_lawful, items, keyword_holds};
+ghost use Rattle.jskw_array.specs.Words.{length, map_ok, one_keyword, rest_keyword, rest_of, true};
+ghost use Rattle.jskw_array.specs.Words.{validator_keyword};
 
 use crate::node::Subschema;
 use crate::validator::Validator;
@@ -28,20 +28,19 @@ pub struct Rest<F: Json> {
 }
 
 impl<F: Json> Rest<F> {
-    // Returns how many items of an array of `count` items have the schema, if all of these are in its
-    // quick set.
+    // Returns how many items have the schema, if all of these are in its quick set.
     #[inline(always)]
-    pub(crate) fn accepted_count(&self, count: usize, instance: &F::Node) -> Option<usize>
-        requires lawful { IsTrue (is_lawful (F.Node.tree instance.now)) }
-        requires count { count ≡ length (items (F.Node.tree instance.now)) }
-        ensures valid { IfSome result (λ n.
-            keyword_holds (rest_keyword self.now) (F.Node.tree instance.now) ≡ true) }
-        ensures count { IfSome result (λ n. n ≡ count - self.now.start) }
+    pub(crate) fn accepted_count(&self, instance: &F::Node) -> Option<usize>
+        requires { IsTrue (is_lawful (F.Node.tree instance.now)) }
+        ensures { let t = F.Node.tree instance.now in IfSome result (λ n.
+            (keyword_holds (rest_keyword self.now) t ≡ true)
+            × (n ≡ length (items t) - self.now.start)) }
     {
+        let count = instance.item_count();
         if count <= self.start {
             return Some(0);
         }
-        if self.node.first_not_accepted(self.start, count, instance) == count {
+        if self.node.first_not_accepted(self.start, instance) == count {
             Some(count - self.start)
         } else {
             None
@@ -57,7 +56,7 @@ impl<F: Json> Validate<F> for Rest<F> {
     #[cycle(is_valid)]
     fn is_valid(&self, instance: &F::Node, ctx: &mut ValidationContext) -> bool {
         let count = instance.item_count();
-        for index in self.node.skip_valid(self.start, count, instance, ctx)..count {
+        for index in self.node.skip_valid(self.start, instance, ctx)..count {
             if !self.node.is_valid(instance.item(index), ctx) {
                 return false;
             }
@@ -75,7 +74,7 @@ impl<F: Json> Validate<F> for Rest<F> {
         report: &mut Report<'i, F>,
     ) -> Result<(), Stop> {
         let count = instance.item_count();
-        for index in self.node.skip_valid(self.start, count, instance, ctx)..count {
+        for index in self.node.skip_valid(self.start, instance, ctx)..count {
             self.node
                 .report_item(index, instance.item(index), location, ctx, report)?;
         }

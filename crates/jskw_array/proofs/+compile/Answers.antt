@@ -2,11 +2,11 @@ use Rattle.std.proofs.Common.{rules, ◌≡◌, Bool, ℕ, Some, None, Result, O
 use Rattle.std.proofs.Common.{ap, ap₂, subst, ◌∙◌, arith}
 use Rattle.jskw_array.specs.Words.{Array, Keyword, CompilesTo, Refusal, Schema, absorbed_keywords, active_member, after}
 use Rattle.jskw_array.specs.Words.{append_keywords, as_array, before, begin_fused, boxed_bounds, contains}
-use Rattle.jskw_array.specs.Words.{fused_keywords}
-use Rattle.jskw_array.specs.Words.{get_member, is_fused, is_items_schema, items_depth, items_from, items_view, join_ok}
-use Rattle.jskw_array.specs.Words.{keyword, keyword_location, keywords, keywords_of, map_ok, members_view, name_of}
-use Rattle.jskw_array.specs.Words.{no_keywords, of_type, readings_named, read, read_bounds, read_each, read_keywords}
-use Rattle.jskw_array.specs.Words.{keyword_reading, array_schema_count, shape_keywords, validator_keyword, view, wrong}
+use Rattle.jskw_array.specs.Words.{fused_keywords, get_member, is_fused, is_items_schema, items_depth, items_from}
+use Rattle.jskw_array.specs.Words.{items_view, join_ok, keyword, keyword_location, keywords, keywords_of, map_ok}
+use Rattle.jskw_array.specs.Words.{members_view, name_of, no_keywords, of_type, readings_named, read, read_bounds}
+use Rattle.jskw_array.specs.Words.{read_each, read_keywords, array_schema_count, shape_keywords, validator_keyword}
+use Rattle.jskw_array.specs.Words.{view, wrong}
 use Rattle.jskw_report.specs.declared.keyword.KeywordName.TheVariants as keyword_name
 use Rattle.jskw_array.proofs.Depths.{depth_array, item_depth, member_depth}
 use Rattle.jskw_array.proofs.CompiledSchemas.{after_none as after_no_schemas, each_end, each_made, each_refused}
@@ -18,7 +18,8 @@ use Rattle.jskw_array.proofs.KeywordReadings.{additional_absent, additional_fals
 use Rattle.jskw_array.proofs.KeywordReadings.{additional_true, bare_is_type, bare_stands, bare_start}
 use Rattle.jskw_array.proofs.KeywordReadings.{contains_of_schema, contains_read, items_of_array, items_of_one}
 use Rattle.jskw_array.proofs.KeywordReadings.{items_silent, prefix_of_array, prefix_refused, read_boolean, view-Bool}
-use Rattle.jskw_array.proofs.CompiledKeywords.{active_depth, active_reads, after_empty, inactive_reads, ok_then}
+use Rattle.jskw_array.proofs.CompiledKeywords.{active_depth, active_reads, after_empty, inactive_reads, keyword_same}
+use Rattle.jskw_array.proofs.CompiledKeywords.{ok_then}
 use Rattle.jskw_array.proofs.CompiledKeywords.{turn_end, turn_made, turn_refused, turn_silent}
 use Rattle.jskw_array.proofs.+compile.Goals as goal
 
@@ -311,8 +312,7 @@ pub items::compile-returns : goal.items::compile-returns
 items::compile-returns g t c =
     let ms = members_view c.args.parent.now.entries in
     let d = view c.args.schema.now in
-    compiles_as (validator_keyword {F = g.row.F.Denot} {Node = g.row.F-Node.Denot} {Number = g.row.F-Node-Number.Denot}
-    {Key = g.row.F-Node-PreparedKey.Denot}) (Some c.compile_schema.result) _ _
+    compiles_as _ (Some c.compile_schema.result) _ _
     (items_of_one c.args.ctx.now ms d (sym c.is_items_schema.ensures ∙ c.if-not-is_items_schema.false))
     c.compile_schema.ensures
 
@@ -451,10 +451,8 @@ compiler::compile_keyword-compile-requires g t c κs within = (omega (arith, c.d
 
 pub compiler::compile_keyword-returns-in-Items : goal.compiler::compile_keyword-returns-in-Items
 compiler::compile_keyword-returns-in-Items g t c =
-    compiles_as (validator_keyword {F = g.row.F.Denot} {Node = g.row.F-Node.Denot} {Number = g.row.F-Node-Number.Denot}
-    {Key = g.row.F-Node-PreparedKey.Denot}) c.compile.result _ _ (ap
-    (λ w. keyword_reading w c.args.ctx.now (members_view c.args.parent.now.entries) (view c.args.schema.now))
-    c.in-Items.is) c.compile.ensures
+    keyword_same c.compile.result c.args.ctx.now (members_view c.args.parent.now.entries)
+    (view c.args.schema.now) c.in-Items.is c.compile.ensures
 
 pub compiler::compile_keyword-compile-requires-in-PrefixItems
     : goal.compiler::compile_keyword-compile-requires-in-PrefixItems
@@ -462,10 +460,8 @@ compiler::compile_keyword-compile-requires-in-PrefixItems g t c κs within = (om
 
 pub compiler::compile_keyword-returns-in-PrefixItems : goal.compiler::compile_keyword-returns-in-PrefixItems
 compiler::compile_keyword-returns-in-PrefixItems g t c =
-    compiles_as (validator_keyword {F = g.row.F.Denot} {Node = g.row.F-Node.Denot} {Number = g.row.F-Node-Number.Denot}
-    {Key = g.row.F-Node-PreparedKey.Denot}) c.compile-in-PrefixItems.result _ _ (ap
-    (λ w. keyword_reading w c.args.ctx.now (members_view c.args.parent.now.entries) (view c.args.schema.now))
-    c.in-PrefixItems.is) c.compile-in-PrefixItems.ensures
+    keyword_same c.compile-in-PrefixItems.result c.args.ctx.now (members_view c.args.parent.now.entries)
+    (view c.args.schema.now) c.in-PrefixItems.is c.compile-in-PrefixItems.ensures
 
 pub compiler::compile_keyword-compile-requires-in-AdditionalItems
     : goal.compiler::compile_keyword-compile-requires-in-AdditionalItems
@@ -474,17 +470,13 @@ compiler::compile_keyword-compile-requires-in-AdditionalItems g t c κs within =
 
 pub compiler::compile_keyword-returns-in-AdditionalItems : goal.compiler::compile_keyword-returns-in-AdditionalItems
 compiler::compile_keyword-returns-in-AdditionalItems g t c =
-    compiles_as (validator_keyword {F = g.row.F.Denot} {Node = g.row.F-Node.Denot} {Number = g.row.F-Node-Number.Denot}
-    {Key = g.row.F-Node-PreparedKey.Denot}) c.compile-in-AdditionalItems.result _ _ (ap
-    (λ w. keyword_reading w c.args.ctx.now (members_view c.args.parent.now.entries) (view c.args.schema.now))
-    c.in-AdditionalItems.is) c.compile-in-AdditionalItems.ensures
+    keyword_same c.compile-in-AdditionalItems.result c.args.ctx.now (members_view c.args.parent.now.entries)
+    (view c.args.schema.now) c.in-AdditionalItems.is c.compile-in-AdditionalItems.ensures
 
 pub compiler::compile_keyword-compile-requires-in-Contains : goal.compiler::compile_keyword-compile-requires-in-Contains
 compiler::compile_keyword-compile-requires-in-Contains g t c κs within = (omega (arith, c.decreases), search rules)
 
 pub compiler::compile_keyword-returns-in-Contains : goal.compiler::compile_keyword-returns-in-Contains
 compiler::compile_keyword-returns-in-Contains g t c =
-    compiles_as (validator_keyword {F = g.row.F.Denot} {Node = g.row.F-Node.Denot} {Number = g.row.F-Node-Number.Denot}
-    {Key = g.row.F-Node-PreparedKey.Denot}) c.compile-in-Contains.result _ _ (ap
-    (λ w. keyword_reading w c.args.ctx.now (members_view c.args.parent.now.entries) (view c.args.schema.now))
-    c.in-Contains.is) c.compile-in-Contains.ensures
+    keyword_same c.compile-in-Contains.result c.args.ctx.now (members_view c.args.parent.now.entries)
+    (view c.args.schema.now) c.in-Contains.is c.compile-in-Contains.ensures

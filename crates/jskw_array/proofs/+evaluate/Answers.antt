@@ -2,18 +2,18 @@ use Rattle.std.proofs.Common.{rules, ◌≡◌, ◌∙◌, ◌++◌, [], ◌∷�
 use Rattle.std.proofs.Common.{IfOk, arith, append-nil}
 use Rattle.std.proofs.Math.Nat.{le_trans}
 use Rattle.std.proofs.lemmas.Grind.{common_steps}
-use Rattle.jskw_array.specs.Words.{absorbed_by, absorbed_keywords, all_height, boxed_bounds, evaluate_pairs}
-use Rattle.jskw_array.specs.Words.{failing_locations, false_schema, holds, item_location, items, keywords_of}
-use Rattle.jskw_array.specs.Words.{matching_result, meaning_unit, node_at, of_children, pairs, path_of}
-use Rattle.jskw_array.specs.Words.{prefix_annotation, result_of, schema_location, schemas_of, shape_keywords, tree}
-use Rattle.jskw_array.specs.Words.{part_location, part_meaning, units}
+use Rattle.jskw_array.specs.Words.{absorbed_by, absorbed_keywords, boxed_bounds, evaluate_pairs, failing_locations}
+use Rattle.jskw_array.specs.Words.{false_schema, holds, item_location, items, keywords_of, matching_result}
+use Rattle.jskw_array.specs.Words.{meaning_unit, node_at, of_children, pairs, path_of, prefix_annotation, result_of}
+use Rattle.jskw_array.specs.Words.{schema_location, schemas_of, tree, part_location, part_meaning, units}
 use Rattle.jskw_report.proofs.GatheredNodes.{gathered_all, index_end, index_passed, index_taken, node_end, node_passed}
 use Rattle.jskw_report.proofs.GatheredNodes.{node_taken}
 use Rattle.jskw_report.proofs.EvaluationValidity.{tree_valid}
 use Rattle.jskw_report.specs.Evaluation.{is_valid}
 use Rattle.jskw_array.specs.Heights.{rest_is_as_high}
-use Rattle.jskw_array.proofs.WalksOverParts.{false_tree, items_height, keywords_end, one_pair, pairs_at, schema_height}
-use Rattle.jskw_array.proofs.WalksOverParts.{schema_pairs, schema_tree, unit_height, unit_taken, part_tall}
+use Rattle.jskw_array.proofs.WalksOverParts.{false_tree, keywords_end, one_within, pairs_at}
+use Rattle.jskw_array.proofs.WalksOverParts.{pairs_within, schema_height, schema_tree, schema_within, shape_below}
+use Rattle.jskw_array.proofs.WalksOverParts.{unit_height, unit_taken}
 use Rattle.jskw_array.proofs.MatchedItems.{matching_is_unit}
 use Rattle.jskw_array.proofs.ValidatorMeanings.{each_meets, items_unit_is, prefix_unit_is}
 use Rattle.jskw_array.proofs.WalksOverItems.{each_lower, each_units_end, sum_at}
@@ -38,14 +38,9 @@ each::EachValidate::evaluate-loop-index-init g t c =
     }
 
 pub each::EachValidate::evaluate-evaluate_item-requires : goal.each::EachValidate::evaluate-evaluate_item-requires
-each::EachValidate::evaluate-evaluate_item-requires g t c κs within = (
-  omega (
-    arith,
-    each_lower c.args.self.now c.loop-index.index c.index.result.now (omega arith) c.index.ensures,
-    c.decreases,
-  ),
-  search rules,
-)
+each::EachValidate::evaluate-evaluate_item-requires g t c κs within =
+    let lower = each_lower c.args.self.now c.loop-index.index c.index.result.now (omega arith) c.index.ensures in
+    (omega (arith, lower, c.decreases), search rules)
 
 pub each::EachValidate::evaluate-returns-then-not-self-clause-gives
     : goal.each::EachValidate::evaluate-returns-then-not-self-clause-gives
@@ -154,14 +149,10 @@ matching::MatchingValidate::evaluate-returns-clause-gives g t c =
 -- ---- the keywords
 
 pub part::evaluate_parts-evaluate-requires-in-loop-part : goal.part::evaluate_parts-evaluate-requires-in-loop-part
-part::evaluate_parts-evaluate-requires-in-loop-part g t c κs within = (
-  omega (
-    arith,
-    unit_height c.args.parts.now c.loop-part.part-index c.part-item.result c.loop-part-test.true c.part-item.is,
-    c.decreases,
-  ),
-  search rules,
-)
+part::evaluate_parts-evaluate-requires-in-loop-part g t c κs within =
+    let lower =
+    unit_height c.args.parts.now c.loop-part.part-index c.part-item.result c.loop-part-test.true c.part-item.is in
+    (omega (arith, lower, c.decreases), search rules)
 
 pub part::evaluate_parts-loop-part-init : goal.part::evaluate_parts-loop-part-init
 part::evaluate_parts-loop-part-init g t c =
@@ -176,29 +167,15 @@ pub part::evaluate_parts-returns-in_err-result-clause-counted
     : goal.part::evaluate_parts-returns-in_err-result-clause-counted
 part::evaluate_parts-returns-in_err-result-clause-counted g t c =
     let l = c.loop-part in
-    let here =
-    pairs_at c.args.parts.now l.part-index c.part-item.result c.loop-part-test.true c.part-item.is
-    (g.F.Node.Rooted.tree c.args.instance.now) in
-    let next = c.in_err-result.ensures.counted in
-    record {
-      from =
-          omega (arith, l.invariant.counted_from, next.from);
-      to = omega (arith, here, l.invariant.counted_to, next.to);
-    }
+    pairs_within c.args.parts.now l.part-index _ c.loop-part-test.true c.part-item.is _ l.invariant.counted_from
+    l.invariant.counted_to c.in_err-result.ensures.counted
 
 pub part::evaluate_parts-returns-in_err-at_keyword-clause-counted
     : goal.part::evaluate_parts-returns-in_err-at_keyword-clause-counted
 part::evaluate_parts-returns-in_err-at_keyword-clause-counted g t c =
     let l = c.loop-part in
-    let here =
-    pairs_at c.args.parts.now l.part-index c.part-item.result c.loop-part-test.true c.part-item.is
-    (g.F.Node.Rooted.tree c.args.instance.now) in
-    let next = c.in_ok-result.ensures.counted in
-    record {
-      from =
-          omega (arith, l.invariant.counted_from, next.from);
-      to = omega (arith, here, l.invariant.counted_to, next.to);
-    }
+    pairs_within c.args.parts.now l.part-index _ c.loop-part-test.true c.part-item.is _ l.invariant.counted_from
+    l.invariant.counted_to c.in_ok-result.ensures.counted
 
 pub part::evaluate_parts-returns-in_err-push-clause-location
     : goal.part::evaluate_parts-returns-in_err-push-clause-location
@@ -209,15 +186,8 @@ pub part::evaluate_parts-returns-in_err-push-clause-counted
     : goal.part::evaluate_parts-returns-in_err-push-clause-counted
 part::evaluate_parts-returns-in_err-push-clause-counted g t c =
     let l = c.loop-part in
-    let here =
-    pairs_at c.args.parts.now l.part-index c.part-item.result c.loop-part-test.true c.part-item.is
-    (g.F.Node.Rooted.tree c.args.instance.now) in
-    let next = c.in_ok-result.ensures.counted in
-    record {
-      from =
-          omega (arith, l.invariant.counted_from, next.from);
-      to = omega (arith, here, l.invariant.counted_to, next.to);
-    }
+    pairs_within c.args.parts.now l.part-index _ c.loop-part-test.true c.part-item.is _ l.invariant.counted_from
+    l.invariant.counted_to c.in_ok-result.ensures.counted
 
 pub part::evaluate_parts-loop-part-preserved : goal.part::evaluate_parts-loop-part-preserved
 part::evaluate_parts-loop-part-preserved g t c =
@@ -265,10 +235,8 @@ part::evaluate_parts-returns-clause-gives g t c =
 pub part::PartValidate::evaluate-evaluate-requires-in-Shape
     : goal.part::PartValidate::evaluate-evaluate-requires-in-Shape
 part::PartValidate::evaluate-evaluate-requires-in-Shape g t c κs within =
-    let v = c.deref.result.now in
-    let tall : part_tall c.args.self.now ≡ all_height (shape_keywords v) =
-    ap part_tall c.in-Shape.is ∙ ap (λ w. all_height (shape_keywords w)) (sym c.deref.ensures) in
-    (omega (arith, tall, items_height v, c.decreases), search rules)
+    let below = shape_below c.args.self.now c.deref.result.now c.in-Shape.is c.deref.ensures in
+    (omega (arith, below, c.decreases), search rules)
 
 -- ---- a node
 
@@ -281,16 +249,12 @@ node::Subschema::evaluate_instance_below-evaluate_parts-requires g t c κs withi
 pub node::Subschema::evaluate_instance_below-returns-in_err-path-clause-counted
     : goal.node::Subschema::evaluate_instance_below-returns-in_err-path-clause-counted
 node::Subschema::evaluate_instance_below-returns-in_err-path-clause-counted g t c =
-    let one = one_pair c.args.self.now (g.F.Node.Rooted.tree c.args.instance.now) in
-    let counted = c.count_one.ensures.counted in
-    record { from = counted.from; to = omega (arith, one, counted.to) }
+    one_within c.args.self.now _ c.count_one.ensures.counted
 
 pub node::Subschema::evaluate_instance_below-returns-in_err-children-clause-counted
     : goal.node::Subschema::evaluate_instance_below-returns-in_err-children-clause-counted
 node::Subschema::evaluate_instance_below-returns-in_err-children-clause-counted g t c =
-    let one = one_pair c.args.self.now (g.F.Node.Rooted.tree c.args.instance.now) in
-    let counted = c.count_one.ensures.counted in
-    record { from = counted.from; to = omega (arith, one, counted.to) }
+    one_within c.args.self.now _ c.count_one.ensures.counted
 
 pub node::Subschema::evaluate_instance_below-returns-in_err-evaluate_parts-clause-applied
     : goal.node::Subschema::evaluate_instance_below-returns-in_err-evaluate_parts-clause-applied
@@ -300,11 +264,8 @@ node::Subschema::evaluate_instance_below-returns-in_err-evaluate_parts-clause-ap
 pub node::Subschema::evaluate_instance_below-returns-in_err-evaluate_parts-clause-counted
     : goal.node::Subschema::evaluate_instance_below-returns-in_err-evaluate_parts-clause-counted
 node::Subschema::evaluate_instance_below-returns-in_err-evaluate_parts-clause-counted g t c =
-    let whole =
-    schema_pairs c.args.self.now c.in-Some.parts c.in-Some.ensures (g.F.Node.Rooted.tree c.args.instance.now) in
-    let first = c.count_one.ensures.counted in
-    let rest = c.in_err-evaluate_parts.ensures.counted in
-    record { from = omega (arith, first.from, rest.from); to = omega (arith, whole, first.to, rest.to) }
+    schema_within c.args.self.now c.in-Some.parts c.in-Some.ensures _ c.count_one.ensures.counted
+    c.in_err-evaluate_parts.ensures.counted
 
 pub node::Subschema::evaluate_instance_below-returns-clause-applied
     : goal.node::Subschema::evaluate_instance_below-returns-clause-applied
@@ -314,11 +275,8 @@ node::Subschema::evaluate_instance_below-returns-clause-applied g t c =
 pub node::Subschema::evaluate_instance_below-returns-clause-counted
     : goal.node::Subschema::evaluate_instance_below-returns-clause-counted
 node::Subschema::evaluate_instance_below-returns-clause-counted g t c =
-    let whole =
-    schema_pairs c.args.self.now c.in-Some.parts c.in-Some.ensures (g.F.Node.Rooted.tree c.args.instance.now) in
-    let first = c.count_one.ensures.counted in
-    let rest = c.in_ok-evaluate_parts.ensures.counted in
-    record { from = omega (arith, first.from, rest.from); to = omega (arith, whole, first.to, rest.to) }
+    schema_within c.args.self.now c.in-Some.parts c.in-Some.ensures _ c.count_one.ensures.counted
+    c.in_ok-evaluate_parts.ensures.counted
 
 pub node::Subschema::evaluate_instance_below-returns-clause-gives
     : goal.node::Subschema::evaluate_instance_below-returns-clause-gives

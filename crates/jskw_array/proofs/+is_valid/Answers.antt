@@ -1,25 +1,20 @@
-use Rattle.std.proofs.Common.{rules, ◌≡◌, ◌∙◌, ◌+◌, ◌-◌, ◌≤◌, false, drop, sum_by, take, subst, sym, ap, arith}
-use Rattle.jskw_array.specs.Words.{all_height, holds, items, list_all, needed, shape_keywords, sum_to_failure}
+use Rattle.std.proofs.Common.{rules, ◌∙◌, ◌-◌, false, sym, arith}
+use Rattle.jskw_array.specs.Words.{holds, items, needed}
 use Rattle.jskw_array.specs.Heights.{rest_is_as_high}
 use Rattle.jskw_array.proofs.AcceptedValues.{counted_within, one_needed}
-use Rattle.jskw_array.proofs.PartsLeft.{only_holds, only_lower, only_needs}
-use Rattle.jskw_array.proofs.WalksOverParts.{items_height, passed_at, stopped_at, unit_height, part_tall}
+use Rattle.jskw_array.proofs.PartsLeft.{left_within, only_holds, only_lower, only_needs}
+use Rattle.jskw_array.proofs.WalksOverParts.{passed_at, shape_below, stopped_at, unit_height}
 use Rattle.jskw_array.proofs.ValidatorMeanings.{each_holds_of, each_needs, rest_holds_of, rest_needs}
 use Rattle.jskw_array.proofs.WalksOverItems.{each_holds_end, each_lower, until_at}
-use Rattle.jskw_array.proofs.ItemsTaken.{drop_behind, each_taken_holds, each_taken_needed, taken_holds, taken_needed}
+use Rattle.jskw_array.proofs.PassedItems.{pairs_applied, pairs_hold, passed_applied, passed_holds}
 use Rattle.jskw_array.proofs.+is_valid.Goals as goal
 
 -- ---- a schema for each item
 
 pub each::Each::are_valid-is_valid-requires : goal.each::Each::are_valid-is_valid-requires
-each::Each::are_valid-is_valid-requires g t c κs within = (
-  omega (
-    arith,
-    each_lower c.args.self.now c.loop-index.index c.index.result.now (omega arith) c.index.ensures,
-    c.decreases,
-  ),
-  search rules,
-)
+each::Each::are_valid-is_valid-requires g t c κs within =
+    let lower = each_lower c.args.self.now c.loop-index.index c.index.result.now (omega arith) c.index.ensures in
+    (omega (arith, lower, c.decreases), search rules)
 
 pub each::Each::are_valid-returns-clause-answer : goal.each::Each::are_valid-returns-clause-answer
 each::Each::are_valid-returns-clause-answer g t c =
@@ -34,49 +29,39 @@ pub each::EachValidate::is_valid-returns-then-first-count-clause-answer
     : goal.each::EachValidate::is_valid-returns-then-first-count-clause-answer
 each::EachValidate::is_valid-returns-then-first-count-clause-answer g t c =
     let v = c.args.self.now in
-    let instance = g.F.Node.Rooted.tree c.args.instance.now in
+    let u = g.F.Node.Rooted.tree c.args.instance.now in
     let ss = v.nodes.items in
     let n = c.skip_accepted-first.result in
-    let taken = c.skip_accepted-first.ensures in
-    sym (each_holds_of v instance
-    ∙ each_taken_holds n ss (items instance) (omega (arith, taken.within)) (omega (arith, taken.within)) taken.valid
-    ∙ each_holds_end ss (items instance) n (omega arith))
+    sym (each_holds_of v u ∙ pairs_hold ss u n c.skip_accepted-first.ensures.passed
+    ∙ each_holds_end ss (items u) n (omega arith))
 
 pub each::EachValidate::is_valid-returns-then-first-count-clause-counted
     : goal.each::EachValidate::is_valid-returns-then-first-count-clause-counted
 each::EachValidate::is_valid-returns-then-first-count-clause-counted g t c =
     let v = c.args.self.now in
-    let instance = g.F.Node.Rooted.tree c.args.instance.now in
+    let u = g.F.Node.Rooted.tree c.args.instance.now in
     let taken = c.skip_accepted-first.ensures in
-    let cost =
-    each_taken_needed c.skip_accepted-first.result v.nodes.items (items instance) (omega (arith, taken.within))
-    (omega (arith, taken.within)) taken.valid in
-    record { from = taken.counted.from; to = omega (arith, each_needs v instance, cost, taken.counted.to) }
+    let cost = pairs_applied v.nodes.items u c.skip_accepted-first.result taken.passed false in
+    let counted = taken.counted.counted in
+    record { from = counted.from; to = omega (arith, each_needs v u, cost, counted.to) }
 
 pub each::EachValidate::is_valid-returns-clause-answer : goal.each::EachValidate::is_valid-returns-clause-answer
 each::EachValidate::is_valid-returns-clause-answer g t c =
     let v = c.args.self.now in
-    let instance = g.F.Node.Rooted.tree c.args.instance.now in
-    let taken = c.skip_accepted-first.ensures in
+    let u = g.F.Node.Rooted.tree c.args.instance.now in
     c.are_valid.ensures.answer
-    ∙ sym (each_holds_of v instance ∙ each_taken_holds c.skip_accepted-first.result v.nodes.items (items instance)
-    (omega (arith, taken.within)) (omega (arith, taken.within)) taken.valid)
+    ∙ sym (each_holds_of v u
+    ∙ pairs_hold v.nodes.items u c.skip_accepted-first.result c.skip_accepted-first.ensures.passed)
 
 pub each::EachValidate::is_valid-returns-clause-counted : goal.each::EachValidate::is_valid-returns-clause-counted
 each::EachValidate::is_valid-returns-clause-counted g t c =
     let v = c.args.self.now in
-    let instance = g.F.Node.Rooted.tree c.args.instance.now in
+    let u = g.F.Node.Rooted.tree c.args.instance.now in
     let taken = c.skip_accepted-first.ensures in
+    let cost = pairs_applied v.nodes.items u c.skip_accepted-first.result taken.passed false in
+    let first = taken.counted.counted in
     let next = c.are_valid.ensures.counted in
-    let cost =
-    each_taken_needed c.skip_accepted-first.result v.nodes.items (items instance) (omega (arith, taken.within))
-    (omega (arith, taken.within)) taken.valid in
-    record {
-      from =
-          omega (arith, taken.counted.from, next.from);
-      to =
-          omega (arith, each_needs v instance, cost, taken.counted.to, next.to);
-    }
+    record { from = omega (arith, first.from, next.from); to = omega (arith, each_needs v u, cost, first.to, next.to) }
 
 -- ---- one schema for the items from an index on
 
@@ -103,23 +88,15 @@ rest::RestValidate::is_valid-returns-clause-counted g t c =
 pub rest::RestValidate::is_valid-loop-index-init : goal.rest::RestValidate::is_valid-loop-index-init
 rest::RestValidate::is_valid-loop-index-init g t c =
     let v = c.args.self.now in
-    let instance = g.F.Node.Rooted.tree c.args.instance.now in
-    let ts = items instance in
+    let u = g.F.Node.Rooted.tree c.args.instance.now in
     let i = c.skip_valid-index.result in
     let taken = c.skip_valid-index.ensures in
-    let n = i - v.start in
-    let behind : drop n (drop v.start ts) ≡ drop i ts = drop_behind v.start i ts taken.from in
-    let cost =
-    subst (λ us. sum_by (needed v.node) (take n (drop v.start ts))
-    + sum_to_failure (holds v.node) (needed v.node) us
-    ≤ sum_to_failure (holds v.node) (needed v.node) (drop v.start ts)) behind
-    (taken_needed v.node n (drop v.start ts) taken.within taken.valid) in
+    let counted = taken.counted.counted in
+    let cost = passed_applied v.node u v.start i taken.passed false in
     record {
-      answer =
-          rest_holds_of v instance ∙ taken_holds v.node n (drop v.start ts) taken.within taken.valid
-          ∙ ap (list_all (holds v.node)) behind;
-      counted_from = taken.counted.from;
-      counted_to = omega (arith, rest_needs v instance, cost, taken.counted.to);
+      answer = rest_holds_of v u ∙ passed_holds v.node u v.start i taken.passed;
+      counted_from = counted.from;
+      counted_to = omega (arith, rest_needs v u, cost, counted.to);
     }
 
 pub rest::RestValidate::is_valid-is_valid-requires : goal.rest::RestValidate::is_valid-is_valid-requires
@@ -129,14 +106,10 @@ rest::RestValidate::is_valid-is_valid-requires g t c κs within =
 -- ---- the units
 
 pub part::parts_are_valid-is_valid-requires : goal.part::parts_are_valid-is_valid-requires
-part::parts_are_valid-is_valid-requires g t c κs within = (
-  omega (
-    arith,
-    unit_height c.args.parts.now c.loop-part.part-index c.part-item.result c.loop-part-test.true c.part-item.is,
-    c.decreases,
-  ),
-  search rules,
-)
+part::parts_are_valid-is_valid-requires g t c κs within =
+    let lower =
+    unit_height c.args.parts.now c.loop-part.part-index c.part-item.result c.loop-part-test.true c.part-item.is in
+    (omega (arith, lower, c.decreases), search rules)
 
 pub part::parts_are_valid-loop-part-preserved : goal.part::parts_are_valid-loop-part-preserved
 part::parts_are_valid-loop-part-preserved g t c =
@@ -180,10 +153,8 @@ part::parts_are_valid-returns-then-not-is_valid-clause-counted g t c =
 pub part::PartValidate::is_valid-is_valid-requires-in-Shape
     : goal.part::PartValidate::is_valid-is_valid-requires-in-Shape
 part::PartValidate::is_valid-is_valid-requires-in-Shape g t c κs within =
-    let v = c.deref.result.now in
-    let tall : part_tall c.args.self.now ≡ all_height (shape_keywords v) =
-    ap part_tall c.in-Shape.is ∙ ap (λ w. all_height (shape_keywords w)) (sym c.deref.ensures) in
-    (omega (arith, tall, items_height v, c.decreases), search rules)
+    let below = shape_below c.args.self.now c.deref.result.now c.in-Shape.is c.deref.ensures in
+    (omega (arith, below, c.decreases), search rules)
 
 -- ---- a node
 
@@ -219,10 +190,7 @@ node::Subschema::keywords_are_valid-returns-in-len1-clause-counted g t c =
     let only =
     only_needs c.in-Some.parts.now _ _ c.in-len1.len_at_least c.in-len1.len_below c.part-item.is
     (g.F.Node.Rooted.tree c.args.instance.now) in
-    let whole = c.in-Some.ensures.parts.applied false in
-    let first = c.apply.ensures.counted in
-    let rest = c.is_valid.ensures.counted in
-    record { from = omega (arith, first.from, rest.from); to = omega (arith, whole, only, first.to, rest.to) }
+    left_within c.in-Some.ensures.parts false c.apply.ensures.counted c.is_valid.ensures.counted only
 
 pub node::Subschema::keywords_are_valid-returns-in_default-parts-clause-answer
     : goal.node::Subschema::keywords_are_valid-returns-in_default-parts-clause-answer
@@ -232,7 +200,4 @@ node::Subschema::keywords_are_valid-returns-in_default-parts-clause-answer g t c
 pub node::Subschema::keywords_are_valid-returns-in_default-parts-clause-counted
     : goal.node::Subschema::keywords_are_valid-returns-in_default-parts-clause-counted
 node::Subschema::keywords_are_valid-returns-in_default-parts-clause-counted g t c =
-    let whole = c.in-Some.ensures.parts.applied false in
-    let first = c.apply.ensures.counted in
-    let rest = c.parts_are_valid.ensures.counted in
-    record { from = omega (arith, first.from, rest.from); to = omega (arith, whole, first.to, rest.to) }
+    left_within c.in-Some.ensures.parts false c.apply.ensures.counted c.parts_are_valid.ensures.counted (omega arith)

@@ -1,4 +1,4 @@
-use Rattle.std.proofs.Common.{◌≡◌, ◌+◌, ◌*◌, ◌≤◌, length, drop, sum_by, count_by}
+use Rattle.std.proofs.Common.{◌≡◌, ◌+◌, ◌*◌, ◌≤◌, length, min, drop, sum_by, count_by}
 use Rattle.jskw_array.specs.Words.{all_height, all_hold, all_needed, each_holds, each_keyword, each_needed, height}
 use Rattle.jskw_array.specs.Words.{holds, items, keyword_height, keyword_holds, keyword_needed, keywords_of, list_all}
 use Rattle.jskw_array.specs.Words.{needed, rest_keyword, schemas_of, sum_to_failure, validator_keyword}
@@ -45,6 +45,7 @@ invariant-each::Each::are_valid-loop-index g l =
     let ts = items (g.F.Node.Rooted.tree l.instance) in
     let ss = l.self.nodes.items in
     record {
+      last : l.count ≡ min (length ts) (length ss);
       answer : each_holds (schemas_of (drop l.first ss)) (drop l.first ts)
           ≡ each_holds (schemas_of (drop l.index ss)) (drop l.index ts);
       counted_from : l.initial.ctx ≤ l.ctx;

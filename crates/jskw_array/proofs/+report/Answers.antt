@@ -1,24 +1,19 @@
-use Rattle.std.proofs.Common.{rules, ◌≡◌, ◌∙◌, ◌+◌, ◌-◌, ◌≤◌, Err, Ok, refl, drop, sum_by, take, ap, ap₂, sym, subst}
-use Rattle.std.proofs.Common.{append-nil, arith}
-use Rattle.jskw_array.specs.Words.{Reports, absorbed_keywords, all_fail, all_height, applications, each_item}
-use Rattle.jskw_array.specs.Words.{each_keyword, fail, item_location, items, keeps_list, keyword_fail}
-use Rattle.jskw_array.specs.Words.{meaning_applications, meaning_fail, needed, path_of, rest_keyword, shape_keywords}
-use Rattle.jskw_array.specs.Words.{part_meaning, validator_keyword}
+use Rattle.std.proofs.Common.{rules, ◌∙◌, ◌-◌, refl, ap, sym, subst, append-nil, arith}
+use Rattle.jskw_array.specs.Words.{Reports, absorbed_keywords, all_fail, fail, item_location, items, keeps_list}
+use Rattle.jskw_array.specs.Words.{keyword_fail, path_of, validator_keyword}
 use Rattle.jskw_report.proofs.AppendedKeywords.{fail_appended}
-use Rattle.jskw_report.proofs.ReportedFailures.{Reported, reported_all, reported_nothing, reports_begun, reports_behind}
+use Rattle.jskw_report.proofs.ReportedFailures.{reported_all, reported_nothing, reports_begun, reports_behind}
 use Rattle.jskw_report.proofs.ReportedFailures.{reports_memory, reports_none}
 use Rattle.jskw_array.specs.Heights.{rest_is_as_high}
 use Rattle.jskw_array.proofs.AcceptedValues.{counted_within, no_errors}
-use Rattle.jskw_array.proofs.WalksOverParts.{fail_at, items_height, items_keywords, keywords_end, unit_height}
-use Rattle.jskw_array.proofs.WalksOverParts.{part_tall}
+use Rattle.jskw_array.proofs.WalksOverParts.{items_keywords, keywords_end, shape_below, unit_height}
 use Rattle.jskw_array.proofs.ValidatorMeanings.{each_fails_of, rest_fails_of}
-use Rattle.jskw_leaf.proofs.TypeWalks.{entered, fails_at}
-use Rattle.jskw_array.proofs.WalksOverItems.{each_fails_at, each_fails_end, each_lower}
-use Rattle.jskw_array.proofs.ItemsTaken.{drop_behind, each_taken_fails, taken_fails}
-use Rattle.jskw_array.proofs.ReportingWalks.{each_applied, each_item_applied, each_item_passed, each_taken_applied}
-use Rattle.jskw_array.proofs.ReportingWalks.{item_applied, item_passed, items_applications, one_applied, rest_applied}
-use Rattle.jskw_array.proofs.ReportingWalks.{taken_applied, unit_applied, unit_passed, walk_counted, walk_on}
-use Rattle.jskw_array.proofs.ReportingWalks.{walk_stopped}
+use Rattle.jskw_leaf.proofs.TypeWalks.{entered}
+use Rattle.jskw_array.proofs.WalksOverItems.{each_fails_end, each_lower}
+use Rattle.jskw_array.proofs.PassedItems.{pairs_applied, pairs_fail, passed_applied, passed_fails}
+use Rattle.jskw_array.proofs.ReportingWalks.{each_applied, each_step, item_step, one_applied, rest_applied, unit_step}
+use Rattle.jskw_array.proofs.ReportingWalks.{walk_begun, walk_counted, walk_on, walk_stopped}
+use Rattle.jskw_array.proofs.PartsLeft.{left_within}
 use Rattle.jskw_array.proofs.+report.Goals as goal
 
 -- ---- an item
@@ -56,96 +51,57 @@ pub each::EachValidate::report_errors-loop-index-init : goal.each::EachValidate:
 each::EachValidate::report_errors-loop-index-init g t c =
     let v = c.args.self.now in
     let tree = g.F.Node.Rooted.tree in
-    let instance = tree c.args.instance.now in
+    let u = tree c.args.instance.now in
     let old = c.args.report.now in
-    let ss = v.nodes.items in
-    let ts = items instance in
     let p = path_of c.args.location.now in
     let n = c.skip_accepted-index.result in
     let taken = c.skip_accepted-index.ensures in
-    let left = each_taken_fails n ss ts p (omega (arith, taken.within)) (omega (arith, taken.within)) taken.valid in
-    let cost =
-    each_taken_applied (keeps_list old) n ss ts (omega (arith, taken.within))
-    (omega (arith, taken.within)) taken.valid in
+    let left = each_fails_of v u p ∙ pairs_fail v.nodes.items u n taken.passed p in
+    let cost = pairs_applied v.nodes.items u n taken.passed (keeps_list old) in
     record {
       last = omega arith;
-      walk = record {
-        reported =
-            subst (λ fs. Reported tree old old fs (keyword_fail (each_keyword v) instance p))
-            (each_fails_of v instance p ∙ left) (reported_nothing tree old _);
-        from = taken.counted.from;
-        to = omega (arith, each_applied (keeps_list old) v instance, cost, taken.counted.to);
-      };
+      walk = walk_begun tree old left taken.counted.counted (omega (arith, each_applied (keeps_list old) v u, cost));
       location = refl;
     }
 
 pub each::EachValidate::report_errors-report_item-requires : goal.each::EachValidate::report_errors-report_item-requires
-each::EachValidate::report_errors-report_item-requires g t c κs within = (
-  omega (
-    arith,
-    each_lower c.args.self.now c.loop-index.index c.index.result.now (omega arith) c.index.ensures,
-    c.decreases,
-  ),
-  search rules,
-)
+each::EachValidate::report_errors-report_item-requires g t c κs within =
+    let lower = each_lower c.args.self.now c.loop-index.index c.index.result.now (omega arith) c.index.ensures in
+    (omega (arith, lower, c.decreases), search rules)
 
 pub each::EachValidate::report_errors-returns-in_err-report_item-clause-reported
     : goal.each::EachValidate::report_errors-returns-in_err-report_item-clause-reported
 each::EachValidate::report_errors-returns-in_err-report_item-clause-reported g t c =
     let l = c.loop-index in
     let tree = g.F.Node.Rooted.tree in
-    let ts = items (tree c.args.instance.now) in
-    let p = path_of c.args.location.now in
-    let ss = c.args.self.now.nodes.items in
-    let s = c.index.result.now in
-    let u = tree c.item.result.now in
-    let at = each_fails_at ss ts l.index s u (omega arith) (omega arith) c.index.ensures c.item.ensures.value p in
-    let here =
-    subst (λ q. Reports tree l.report c.report_item.new.report (fail s u (item_location (path_of q) l.index))
-    (Err c.in_err-report_item.field-0.0)) l.invariant.location c.in_err-report_item.ensures.reported in
-    walk_stopped tree (fail s u (item_location p l.index)) _ l.invariant.walk at (λ w. applications w s u) _ _
-    c.from_residual.ensures.1 here
+    let step =
+    each_step c.args.self.now.nodes.items (items (tree c.args.instance.now)) l.index _ _ (omega arith) (omega arith)
+    c.index.ensures c.item.ensures.value (path_of c.args.location.now) in
+    walk_stopped tree l.invariant.walk step c.from_residual.ensures.1
+    (rw l.invariant.location at c.in_err-report_item.ensures.reported)
 
 pub each::EachValidate::report_errors-returns-in_err-report_item-clause-counted
     : goal.each::EachValidate::report_errors-returns-in_err-report_item-clause-counted
 each::EachValidate::report_errors-returns-in_err-report_item-clause-counted g t c =
     let l = c.loop-index in
     let tree = g.F.Node.Rooted.tree in
-    let ts = items (tree c.args.instance.now) in
-    let p = path_of c.args.location.now in
-    let ss = c.args.self.now.nodes.items in
-    let s = c.index.result.now in
-    let u = tree c.item.result.now in
-    let at = each_fails_at ss ts l.index s u (omega arith) (omega arith) c.index.ensures c.item.ensures.value p in
-    let cost =
-    each_item_applied ss ts l.index s u (omega arith) (omega arith) c.index.ensures c.item.ensures.value
-    (keeps_list c.args.report.now) in
-    walk_counted tree (fail s u (item_location p l.index)) _ l.invariant.walk at (λ w. applications w s u)
-    c.in_err-report_item.ensures.counted cost
+    let step =
+    each_step c.args.self.now.nodes.items (items (tree c.args.instance.now)) l.index _ _ (omega arith) (omega arith)
+    c.index.ensures c.item.ensures.value (path_of c.args.location.now) in
+    walk_counted tree l.invariant.walk step c.in_err-report_item.ensures.counted
 
 pub each::EachValidate::report_errors-loop-index-preserved : goal.each::EachValidate::report_errors-loop-index-preserved
 each::EachValidate::report_errors-loop-index-preserved g t c =
     let l = c.loop-index in
     let tree = g.F.Node.Rooted.tree in
-    let ts = items (tree c.args.instance.now) in
-    let p = path_of c.args.location.now in
-    let ss = c.args.self.now.nodes.items in
-    let s = c.index.result.now in
-    let u = tree c.item.result.now in
-    let at = each_fails_at ss ts l.index s u (omega arith) (omega arith) c.index.ensures c.item.ensures.value p in
-    let here =
-    subst
-    (λ q. Reports tree l.report c.report_item.new.report (fail s u (item_location (path_of q) l.index)) (Ok tt))
-    l.invariant.location c.in_ok-report_item.ensures.reported in
-    let cost =
-    each_item_passed ss ts l.index s u (omega arith) (omega arith) c.index.ensures c.item.ensures.value
-    (keeps_list c.args.report.now) (item_location p l.index) in
+    let next = c.in_ok-report_item.ensures in
+    let step =
+    each_step c.args.self.now.nodes.items (items (tree c.args.instance.now)) l.index _ _ (omega arith) (omega arith)
+    c.index.ensures c.item.ensures.value (path_of c.args.location.now) in
     record {
       last = l.invariant.last;
-      walk =
-          walk_on tree (fail s u (item_location p l.index)) _ l.invariant.walk at (λ w. applications w s u) _ here
-          c.in_ok-report_item.ensures.counted cost;
-      location = c.in_ok-report_item.ensures.location ∙ l.invariant.location;
+      walk = walk_on tree l.invariant.walk step (rw l.invariant.location at next.reported) next.counted;
+      location = next.location ∙ l.invariant.location;
     }
 
 pub each::EachValidate::report_errors-returns-clause-reported
@@ -162,30 +118,16 @@ pub rest::RestValidate::report_errors-loop-index-init : goal.rest::RestValidate:
 rest::RestValidate::report_errors-loop-index-init g t c =
     let v = c.args.self.now in
     let tree = g.F.Node.Rooted.tree in
-    let instance = tree c.args.instance.now in
+    let u = tree c.args.instance.now in
     let old = c.args.report.now in
-    let ts = items instance in
     let p = path_of c.args.location.now in
     let i = c.skip_valid-index.result in
     let taken = c.skip_valid-index.ensures in
-    let n = i - v.start in
-    let behind : drop n (drop v.start ts) ≡ drop i ts = drop_behind v.start i ts taken.from in
-    let left =
-    taken_fails v.node n (drop v.start ts) v.start p taken.within taken.valid
-    ∙ ap₂ (λ j us. each_item (fail v.node) j us p) {x = v.start + n} {y = i} (omega (arith, taken.from)) behind in
-    let cost =
-    subst (λ us. sum_by (needed v.node) (take n (drop v.start ts)) + items_applications (keeps_list old) v.node us
-    ≤ items_applications (keeps_list old) v.node (drop v.start ts)) behind
-    (taken_applied (keeps_list old) v.node n (drop v.start ts) taken.within taken.valid) in
+    let left = rest_fails_of v u p ∙ passed_fails v.node u v.start i taken.passed p in
+    let cost = passed_applied v.node u v.start i taken.passed (keeps_list old) in
     record {
       last = omega arith;
-      walk = record {
-        reported =
-            subst (λ fs. Reported tree old old fs (keyword_fail (rest_keyword v) instance p))
-            (rest_fails_of v instance p ∙ left) (reported_nothing tree old _);
-        from = taken.counted.from;
-        to = omega (arith, rest_applied (keeps_list old) v instance, cost, taken.counted.to);
-      };
+      walk = walk_begun tree old left taken.counted.counted (omega (arith, rest_applied (keeps_list old) v u, cost));
       location = refl;
     }
 
@@ -198,53 +140,34 @@ pub rest::RestValidate::report_errors-returns-in_err-report_item-clause-reported
 rest::RestValidate::report_errors-returns-in_err-report_item-clause-reported g t c =
     let l = c.loop-index in
     let tree = g.F.Node.Rooted.tree in
-    let ts = items (tree c.args.instance.now) in
-    let p = path_of c.args.location.now in
-    let s = c.args.self.now.node in
-    let u = tree c.item.result.now in
-    let at = fails_at ts l.index u (omega arith) c.item.ensures.value (fail s) p in
-    let here =
-    subst (λ q. Reports tree l.report c.report_item.new.report (fail s u (item_location (path_of q) l.index))
-    (Err c.in_err-report_item.field-0.0)) l.invariant.location c.in_err-report_item.ensures.reported in
-    walk_stopped tree (fail s u (item_location p l.index)) _ l.invariant.walk at (λ w. applications w s u) _ _
-    c.from_residual.ensures.1 here
+    let step =
+    item_step (items (tree c.args.instance.now)) l.index _ (omega arith) c.item.ensures.value c.args.self.now.node
+    (path_of c.args.location.now) in
+    walk_stopped tree l.invariant.walk step c.from_residual.ensures.1
+    (rw l.invariant.location at c.in_err-report_item.ensures.reported)
 
 pub rest::RestValidate::report_errors-returns-in_err-report_item-clause-counted
     : goal.rest::RestValidate::report_errors-returns-in_err-report_item-clause-counted
 rest::RestValidate::report_errors-returns-in_err-report_item-clause-counted g t c =
     let l = c.loop-index in
     let tree = g.F.Node.Rooted.tree in
-    let ts = items (tree c.args.instance.now) in
-    let p = path_of c.args.location.now in
-    let s = c.args.self.now.node in
-    let u = tree c.item.result.now in
-    let at = fails_at ts l.index u (omega arith) c.item.ensures.value (fail s) p in
-    let cost = item_applied ts l.index u (omega arith) c.item.ensures.value s (keeps_list c.args.report.now) in
-    walk_counted tree (fail s u (item_location p l.index)) _ l.invariant.walk at (λ w. applications w s u)
-    c.in_err-report_item.ensures.counted cost
+    let step =
+    item_step (items (tree c.args.instance.now)) l.index _ (omega arith) c.item.ensures.value c.args.self.now.node
+    (path_of c.args.location.now) in
+    walk_counted tree l.invariant.walk step c.in_err-report_item.ensures.counted
 
 pub rest::RestValidate::report_errors-loop-index-preserved : goal.rest::RestValidate::report_errors-loop-index-preserved
 rest::RestValidate::report_errors-loop-index-preserved g t c =
     let l = c.loop-index in
     let tree = g.F.Node.Rooted.tree in
-    let ts = items (tree c.args.instance.now) in
-    let p = path_of c.args.location.now in
-    let s = c.args.self.now.node in
-    let u = tree c.item.result.now in
-    let at = fails_at ts l.index u (omega arith) c.item.ensures.value (fail s) p in
-    let here =
-    subst
-    (λ q. Reports tree l.report c.report_item.new.report (fail s u (item_location (path_of q) l.index)) (Ok tt))
-    l.invariant.location c.in_ok-report_item.ensures.reported in
-    let cost =
-    item_passed ts l.index u (omega arith) c.item.ensures.value s (keeps_list c.args.report.now)
-    (item_location p l.index) in
+    let next = c.in_ok-report_item.ensures in
+    let step =
+    item_step (items (tree c.args.instance.now)) l.index _ (omega arith) c.item.ensures.value c.args.self.now.node
+    (path_of c.args.location.now) in
     record {
       last = l.invariant.last;
-      walk =
-          walk_on tree (fail s u (item_location p l.index)) _ l.invariant.walk at (λ w. applications w s u) _ here
-          c.in_ok-report_item.ensures.counted cost;
-      location = c.in_ok-report_item.ensures.location ∙ l.invariant.location;
+      walk = walk_on tree l.invariant.walk step (rw l.invariant.location at next.reported) next.counted;
+      location = next.location ∙ l.invariant.location;
     }
 
 -- ---- the keywords
@@ -263,64 +186,43 @@ part::report_parts-loop-part-init g t c =
     }
 
 pub part::report_parts-report_errors-requires : goal.part::report_parts-report_errors-requires
-part::report_parts-report_errors-requires g t c κs within = (
-  omega (
-    arith,
-    unit_height c.args.parts.now c.loop-part.part-index c.part-item.result c.loop-part-test.true c.part-item.is,
-    c.decreases,
-  ),
-  search rules,
-)
+part::report_parts-report_errors-requires g t c κs within =
+    let lower =
+    unit_height c.args.parts.now c.loop-part.part-index c.part-item.result c.loop-part-test.true c.part-item.is in
+    (omega (arith, lower, c.decreases), search rules)
 
 pub part::report_parts-returns-in_err-report_errors-clause-reported
     : goal.part::report_parts-returns-in_err-report_errors-clause-reported
 part::report_parts-returns-in_err-report_errors-clause-reported g t c =
     let l = c.loop-part in
     let tree = g.F.Node.Rooted.tree in
-    let instance = tree c.args.instance.now in
-    let p = path_of c.args.location.now in
-    let m = part_meaning c.part-item.result in
-    let at = fail_at c.args.parts.now l.part-index c.part-item.result c.loop-part-test.true c.part-item.is instance p in
-    let here =
-    subst (λ q. Reports tree l.report c.report_errors.new.report (meaning_fail m instance (path_of q))
-    (Err c.in_err-report_errors.field-0.0)) l.invariant.location c.in_err-report_errors.ensures.reported in
-    walk_stopped tree (meaning_fail m instance p) _ l.invariant.walk at (λ w. meaning_applications w m instance) _ _
-    c.from_residual.ensures.1 here
+    let step =
+    unit_step c.args.parts.now l.part-index c.part-item.result c.loop-part-test.true c.part-item.is
+    (tree c.args.instance.now) (path_of c.args.location.now) in
+    walk_stopped tree l.invariant.walk step c.from_residual.ensures.1
+    (rw l.invariant.location at c.in_err-report_errors.ensures.reported)
 
 pub part::report_parts-returns-in_err-report_errors-clause-counted
     : goal.part::report_parts-returns-in_err-report_errors-clause-counted
 part::report_parts-returns-in_err-report_errors-clause-counted g t c =
     let l = c.loop-part in
     let tree = g.F.Node.Rooted.tree in
-    let instance = tree c.args.instance.now in
-    let p = path_of c.args.location.now in
-    let m = part_meaning c.part-item.result in
-    let at = fail_at c.args.parts.now l.part-index c.part-item.result c.loop-part-test.true c.part-item.is instance p in
-    let cost =
-    unit_applied c.args.parts.now l.part-index c.part-item.result c.loop-part-test.true c.part-item.is instance
-    (keeps_list c.args.report.now) in
-    walk_counted tree (meaning_fail m instance p) _ l.invariant.walk at (λ w. meaning_applications w m instance)
-    c.in_err-report_errors.ensures.counted cost
+    let step =
+    unit_step c.args.parts.now l.part-index c.part-item.result c.loop-part-test.true c.part-item.is
+    (tree c.args.instance.now) (path_of c.args.location.now) in
+    walk_counted tree l.invariant.walk step c.in_err-report_errors.ensures.counted
 
 pub part::report_parts-loop-part-preserved : goal.part::report_parts-loop-part-preserved
 part::report_parts-loop-part-preserved g t c =
     let l = c.loop-part in
     let tree = g.F.Node.Rooted.tree in
-    let instance = tree c.args.instance.now in
-    let p = path_of c.args.location.now in
-    let m = part_meaning c.part-item.result in
-    let at = fail_at c.args.parts.now l.part-index c.part-item.result c.loop-part-test.true c.part-item.is instance p in
-    let here =
-    subst (λ q. Reports tree l.report c.report_errors.new.report (meaning_fail m instance (path_of q)) (Ok tt))
-    l.invariant.location c.in_ok-report_errors.ensures.reported in
-    let cost =
-    unit_passed c.args.parts.now l.part-index c.part-item.result c.loop-part-test.true c.part-item.is instance
-    (keeps_list c.args.report.now) p in
+    let next = c.in_ok-report_errors.ensures in
+    let step =
+    unit_step c.args.parts.now l.part-index c.part-item.result c.loop-part-test.true c.part-item.is
+    (tree c.args.instance.now) (path_of c.args.location.now) in
     record {
-      walk =
-          walk_on tree (meaning_fail m instance p) _ l.invariant.walk at (λ w. meaning_applications w m instance) _ here
-          c.in_ok-report_errors.ensures.counted cost;
-      location = c.in_ok-report_errors.ensures.location ∙ l.invariant.location;
+      walk = walk_on tree l.invariant.walk step (rw l.invariant.location at next.reported) next.counted;
+      location = next.location ∙ l.invariant.location;
     }
 
 pub part::report_parts-returns-clause-reported : goal.part::report_parts-returns-clause-reported
@@ -334,10 +236,8 @@ part::report_parts-returns-clause-reported g t c =
 pub part::PartValidate::report_errors-report_errors-requires-in-Shape
     : goal.part::PartValidate::report_errors-report_errors-requires-in-Shape
 part::PartValidate::report_errors-report_errors-requires-in-Shape g t c κs within =
-    let v = c.deref.result.now in
-    let tall : part_tall c.args.self.now ≡ all_height (shape_keywords v) =
-    ap part_tall c.in-Shape.is ∙ ap (λ w. all_height (shape_keywords w)) (sym c.deref.ensures) in
-    (omega (arith, tall, items_height v, c.decreases), search rules)
+    let below = shape_below c.args.self.now c.deref.result.now c.in-Shape.is c.deref.ensures in
+    (omega (arith, below, c.decreases), search rules)
 
 -- ---- the fused shape
 
@@ -386,7 +286,5 @@ node::Subschema::report_errors-returns-clause-reported g t c =
 
 pub node::Subschema::report_errors-returns-clause-counted : goal.node::Subschema::report_errors-returns-clause-counted
 node::Subschema::report_errors-returns-clause-counted g t c =
-    let whole = c.in-Some.ensures.parts.applied (keeps_list c.args.report.now) in
-    let first = c.apply.ensures.counted in
-    let rest = c.report_parts.ensures.counted in
-    record { from = omega (arith, first.from, rest.from); to = omega (arith, whole, first.to, rest.to) }
+    left_within c.in-Some.ensures.parts (keeps_list c.args.report.now) c.apply.ensures.counted
+    c.report_parts.ensures.counted (omega arith)

@@ -1,14 +1,12 @@
 //! The fused shape of an array: `type` of `array`, `minItems`, `maxItems` and `items` of one schema
 //! (JSON Schema Validation 6.1.1, 6.4.1, 6.4.2, Core 10.3.1.2), with no other keyword of items
 //! beside them. The type and the length are tested once, and then the items.
-ghost use Rattle.std.specs.Prelude.{◌≡◌, ◌+◌, ◌-◌, ◌≤◌};
-ghost use Rattle.jskw_array.specs.Words.{CountsUpTo, drop, is_lawful, items, length, list_all, meaning_holds};
-ghost use Rattle.jskw_array.specs.Words.{min, take, true};
-ghost use Rattle.jskw_array.specs.Words.{IsTrue, Keyword, CompilesTo, Refusal, Result, Some};
-ghost use Rattle.jskw_array.specs.Words.{absorbed_keywords, append_keywords, fused_keywords};
-ghost use Rattle.jskw_array.specs.Words.{get_member, is_fused, keyword, map_ok, members_view};
-ghost use Rattle.jskw_array.specs.Words.{name_of, no_keywords, readings_named, read_keywords};
-ghost use Rattle.jskw_array.specs.Words.{shape_keywords, shape_meaning, validator_keyword, view};
+ghost use Rattle.std.specs.Prelude.{◌≡◌, ◌-◌, ◌≤◌};
+ghost use Rattle.jskw_array.specs.Words.{is_lawful, items, length, meaning_holds, true, IsTrue, Keyword};
+ghost use Rattle.jskw_array.specs.Words.{CompilesTo, Refusal, Result, Some, absorbed_keywords, append_keywords};
+ghost use Rattle.jskw_array.specs.Words.{fused_keywords, get_member, is_fused, keyword, map_ok, members_view};
+ghost use Rattle.jskw_array.specs.Words.{name_of, no_keywords, shape_keywords, shape_meaning};
+ghost use Rattle.jskw_array.specs.Words.{validator_keyword, view, PassesOver, read_keywords, readings_named};
 
 use crate::items::{self, AbsorbedKeywords};
 use crate::part::LocatedValidator;
@@ -17,7 +15,7 @@ use jskw_report::{
     CompilationResult, Context, EvaluationResult, KeywordLocation, KeywordName, LazyLocation,
     Report, Stop, Validate, ValidationContext,
 };
-use jskw_value::{Array, Json};
+use jskw_value::{Array, Json, Node};
 use serde_json::{Map, Value};
 use std::alloc::{AllocError, Global};
 
@@ -73,50 +71,23 @@ impl<F: Json> ArrayShapeValidator<F> {
 }
 
 impl<F: Json> ArrayShapeValidator<F> {
-    // Applies the schema to the items from `start` on, as far as they are arrays of the shape, where
-    // their items are tested for a type alone. Returns the index of the first that is not, or
-    // `count`, the number of items.
+    // Returns the index of the first item from `start` on that is no array of the shape, where the
+    // items of these arrays are tested for a type alone, or the number of items, if there is none.
+    // Applies nothing.
     #[inline(never)]
-    pub(crate) fn skip_typed(
+    pub(crate) fn typed_end(
         &self,
         start: usize,
-        count: usize,
         instance: &F::Node,
         ctx: &mut ValidationContext,
     ) -> usize
         requires lawful { IsTrue (is_lawful (F.Node.tree instance.now)) }
-        requires count { count ≡ length (items (F.Node.tree instance.now)) }
-        requires start { start ≤ count }
-        ensures from { start ≤ result }
-        ensures within { result ≤ count }
-        ensures valid { list_all (meaning_holds (shape_meaning self.now)) (take (result - start)
-            (drop start (items (F.Node.tree instance.now)))) ≡ true }
-        ensures applied { min (ctx.old + (result - start)) u64.MAX ≤ ctx.new }
-        ensures counted { CountsUpTo ctx.old ctx.new (result - start) }
-    {
-        let end = self.typed_end(start, count, instance, ctx);
-        ctx.count_more(end - start);
-        end
-    }
-
-    // Returns what `skip_typed` does, and applies nothing.
-    #[inline(always)]
-    fn typed_end(
-        &self,
-        start: usize,
-        count: usize,
-        instance: &F::Node,
-        ctx: &mut ValidationContext,
-    ) -> usize
-        requires lawful { IsTrue (is_lawful (F.Node.tree instance.now)) }
-        requires count { count ≡ length (items (F.Node.tree instance.now)) }
-        requires start { start ≤ count }
-        ensures from { start ≤ result }
-        ensures within { result ≤ count }
-        ensures valid { list_all (meaning_holds (shape_meaning self.now)) (take (result - start)
-            (drop start (items (F.Node.tree instance.now)))) ≡ true }
+        requires start { start ≤ length (items (F.Node.tree instance.now)) }
+        ensures passed { PassesOver (meaning_holds (shape_meaning self.now))
+            (F.Node.tree instance.now) start result }
         ensures applied { ctx.new ≡ ctx.old }
     {
+        let count = instance.item_count();
         for index in start..count {
             let item = instance.item(index);
             let Some(_) = self.absorbed.valid_count(item) else {

@@ -7,5 +7,9 @@ pub loop-index-preserved : goal.loop-index-preserved
 loop-index-preserved g c =
     let l = c.loop-index in
     let accepted = c.is_accepted.ensures c.if-not-is_accepted.false in
-    each_taken_next c.args.self.now.nodes.items (items (g.F.Node.Rooted.tree c.args.instance.now)) l.index _ _
-    (omega arith) (omega arith) c.index.ensures c.item.ensures.value l.invariant accepted
+    record {
+      last = l.invariant.last;
+      valid =
+          each_taken_next c.args.self.now.nodes.items (items (g.F.Node.Rooted.tree c.args.instance.now)) l.index _ _
+          (omega arith) (omega arith) c.index.ensures c.item.ensures.value l.invariant.valid accepted;
+    }

@@ -1,25 +1,32 @@
 use Rattle.std.proofs.Common.{arith}
-use Rattle.jskw_array.specs.Words.{arrays_cost, in_arrays, items}
-use Rattle.jskw_array.proofs.QuickArrays.{more_cost, more_valid}
+use Rattle.jskw_array.specs.Words.{in_arrays, items_between}
+use Rattle.jskw_array.proofs.PassedItems.{passed_length, passing_on}
+use Rattle.jskw_array.proofs.QuickArrays.{tuples_cost}
 use Rattle.jskw_array.proofs.quick_arrays.QuickArrays.skip.Goals as goal
 
 pub loop-index-preserved : goal.loop-index-preserved
 loop-index-preserved g c =
-    let l = c.loop-index in
-    let q = c.args.self.now in
-    let tree = g.F.Node.Rooted.tree in
-    let ts = items (tree c.args.instance.now) in
-    let t = tree c.item.result.now in
     let known = c.in-Some.ensures in
-    let counted = c.count_more.ensures in
+    let before = c.loop-index.invariant.counted.counted.from in
+    let counted = c.count_more-in-Some.ensures in
+    passing_on c.loop-index.invariant _ c.loop-index-test.true c.item.ensures.value known.within known.least known.most
+    (omega (arith, before, counted.counted.from)) counted.applied counted.counted.to
+
+pub returns-in-None-Some-None-clause-counted : goal.returns-in-None-Some-None-clause-counted
+returns-in-None-Some-None-clause-counted g c =
+    let q = c.args.self.now in
+    let t = g.F.Node.Rooted.tree c.args.instance.now in
+    let passed = c.tuples_passed-index.ensures.passed in
+    let items = c.tuples_passed-index.ensures.counted in
+    let size = passed_length (in_arrays q) t c.args.start _ passed in
     let cost =
-    more_cost c.args.start l.index ts t l.invariant.from (omega arith) c.item.ensures.value (arrays_cost q) in
+    tuples_cost q c.in-None-Some-None.is-2 (items_between c.args.start c.tuples_passed-index.result.0 t) in
+    let first = c.count_more.ensures in
+    let second = c.count_more-in-None-Some-None.ensures in
     record {
-      from = omega (arith, l.invariant.from);
-      passed =
-          more_valid c.args.start l.index ts t l.invariant.from (omega arith) c.item.ensures.value (in_arrays q)
-          l.invariant.passed known.within;
-      applied = omega (arith, cost, known.least, l.invariant.applied, counted.applied);
-      counted_from = omega (arith, l.invariant.counted_from, counted.counted.from);
-      counted_to = omega (arith, cost, known.most, l.invariant.counted_to, counted.counted.to);
+      applied = omega (arith, size, cost, items.applied, first.applied, second.applied);
+      counted = record {
+        from = omega (arith, first.counted.from, second.counted.from);
+        to = omega (arith, size, cost, items.counted.to, first.counted.to, second.counted.to);
+      };
     }

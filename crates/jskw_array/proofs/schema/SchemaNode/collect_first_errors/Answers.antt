@@ -1,7 +1,7 @@
-use Rattle.std.proofs.Common.{◌≡◌, ◌∙◌, ◌++◌, true, ap, subst, sym, append-nil, take}
+use Rattle.std.proofs.Common.{◌∙◌, ◌++◌, ap, sym, append-nil, take}
 use Rattle.std.proofs.Math.Seq.{take-nil}
-use Rattle.jskw_array.specs.Words.{fail, failures_of, holds, path_of}
-use Rattle.jskw_array.proofs.AcceptedValues.{counted_within, no_errors}
+use Rattle.jskw_array.specs.Words.{fail, failures_of, path_of}
+use Rattle.jskw_array.proofs.AcceptedValues.{accepted_errors, counted_within}
 use Rattle.jskw_array.proofs.WalksOverParts.{one_pair}
 use Rattle.jskw_array.proofs.schema.SchemaNode.collect_first_errors.Goals as goal
 
@@ -14,10 +14,8 @@ returns-then-limit-eq0-clause-appended g c =
 pub returns-then-apply_if_accepted-clause-appended : goal.returns-then-apply_if_accepted-clause-appended
 returns-then-apply_if_accepted-clause-appended g c =
     let old = failures_of g.F.Node.Rooted.tree c.args.errors.now.items in
-    let t = g.F.Node.Rooted.tree c.args.instance.now in
-    let none =
-    no_errors c.args.self.now t (path_of c.args.location.now) (subst (λ s. holds s t ≡ true) c.self.view_is
-    (c.apply_if_accepted.ensures.valid c.if-apply_if_accepted.true)) in
+    let valid = c.apply_if_accepted.ensures.valid c.if-apply_if_accepted.true in
+    let none = accepted_errors _ c.args.self.now _ (path_of c.args.location.now) c.self.view_is valid in
     sym (ap (λ fs. old ++ take c.args.limit fs) none ∙ ap (λ fs. old ++ fs) (take-nil c.args.limit) ∙ append-nil old)
 
 pub returns-then-apply_if_accepted-clause-counted : goal.returns-then-apply_if_accepted-clause-counted
