@@ -98,40 +98,47 @@ fn time_on(
     row: &mut Row,
 ) -> io::Result<&'static str> {
     match compiled(rt.alloc(), &state.settings, schema) {
-        Some(node) => {
-            row.add(time_compile(rt, state.span, &state.settings, schema)?)?;
-            time_node(rt, state.span, instances, &node, line.last, row)?;
-        }
-        None => return Ok("not compiled"),
+        Some(node) => time_node(rt, state, schema, line, instances, &node, row),
+        None => Ok("not compiled"),
     }
-    if line.last.is_empty() {
-        return Ok("");
-    }
-    match time_decimals(rt, state.span, &state.settings, schema, line.instance)? {
-        Some(timing) => row.add_answer(timing)?,
-        None => return Ok("no decimals"),
-    }
-    add_loop(
-        time_by_hand(rt, state.span, instances, line.last)?,
-        line.last,
-        row,
-    )
 }
 
-// Adds what the observers of a node take.
+// Adds the timings of a case that compiles to this node.
 fn time_node(
     rt: &HostRuntime,
-    span: u128,
+    state: &State,
+    schema: &Value,
+    line: &Columns<'_>,
     instances: &[Instance],
     node: &SchemaNode<SerdeJson>,
-    last: &str,
     row: &mut Row,
-) -> io::Result<()> {
-    row.add_answer(time_is_valid(rt, span, instances, node)?)?;
-    if last.is_empty() {
-        Ok(())
+) -> io::Result<&'static str> {
+    row.add(time_compile(rt, state.span, &state.settings, schema)?)?;
+    row.add_answer(time_is_valid(rt, state.span, instances, node)?)?;
+    if line.last.is_empty() {
+        Ok("")
     } else {
-        time_others(rt, span, instances, node, row)
+        time_others(rt, state.span, instances, node, row)?;
+        time_beside(rt, state, schema, line, instances, row)
+    }
+}
+
+// Adds what `is_valid` over decimals takes, and the loop by hand.
+fn time_beside(
+    rt: &HostRuntime,
+    state: &State,
+    schema: &Value,
+    line: &Columns<'_>,
+    instances: &[Instance],
+    row: &mut Row,
+) -> io::Result<&'static str> {
+    match time_decimals(rt, state.span, &state.settings, schema, line.instance)? {
+        Some(timing) => {
+            row.add_answer(timing)?;
+            let by_hand = time_by_hand(rt, state.span, instances, line.last)?;
+            add_loop(by_hand, line.last, row)
+        }
+        None => Ok("no decimals"),
     }
 }
 
