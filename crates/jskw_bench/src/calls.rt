@@ -1,4 +1,4 @@
-//! Times calls other than a compile and `is_valid`.
+//! Times calls other than a compile and the observers.
 use crate::observers::{accepts_tree, compiled};
 use crate::timing::{Instance, Timing, fastest, instances, time_test};
 use jskw_array::SchemaNode;
@@ -12,47 +12,98 @@ use serde_json::Value;
 use std::alloc::{AllocError, Global};
 use std::io;
 
-/// Times the call of this name on a text. Returns `None` if there is no such call, or if it does
-/// not take the text.
+/// A call.
+#[derive(Clone, Copy)]
+pub(crate) enum Call {
+    Read,
+    ReadBytes,
+    Ask,
+    AskDecimals,
+    FirstUnlawful,
+    Message,
+    Insert,
+    FromPairs,
+    FromValue,
+    Settings,
+    Unchecked,
+}
+
+impl Call {
+    /// Returns the call of this name. No schema is written like one.
+    pub(crate) fn named(name: &str) -> Option<Call> {
+        match name {
+            "read" => Some(Call::Read),
+            "read_bytes" => Some(Call::ReadBytes),
+            "ask" => Some(Call::Ask),
+            "ask_decimals" => Some(Call::AskDecimals),
+            "first_unlawful" => Some(Call::FirstUnlawful),
+            "message" => Some(Call::Message),
+            "insert" => Some(Call::Insert),
+            "from_pairs" => Some(Call::FromPairs),
+            "from_value" => Some(Call::FromValue),
+            "settings" => Some(Call::Settings),
+            "unchecked" => Some(Call::Unchecked),
+            _ => None,
+        }
+    }
+}
+
+/// Times a call on a text. Returns `None` if the call does not take the text.
 pub(crate) fn time_call(
     rt: &HostRuntime,
     span: u128,
-    call: &str,
+    call: Call,
     text: &str,
 ) -> io::Result<Option<Timing>> {
     let alloc = rt.alloc();
-    if call == "read" {
-        return Ok(Some(time(rt, span, || Value::from_str(alloc, text).is_ok())?));
-    }
-    if call == "read_bytes" {
-        let bytes = text.as_bytes();
-        return Ok(Some(time(rt, span, || read_bytes(alloc, bytes).is_ok())?));
-    }
-    let Ok(value) = Value::from_str(alloc, text) else {
-        return Ok(None);
-    };
     match call {
-        "first_unlawful" => return Ok(Some(time(rt, span, || has_no_float(alloc, &value))?)),
-        "message" => return time_message(rt, span, text),
-        "unchecked" => return Ok(Some(time(rt, span, || lists_unchecked(alloc, &value))?)),
-        "from_value" => return Ok(Some(time(rt, span, || has_decimals(alloc, &value))?)),
-        _ => {}
+        Call::Read => time(rt, span, || Value::from_str(alloc, text).is_ok()),
+        Call::ReadBytes => time(rt, span, || read_bytes(alloc, text.as_bytes()).is_ok()),
+        Call::Message => time_message(rt, span, text),
+        _ => match Value::from_str(alloc, text) {
+            Ok(value) => time_on(rt, span, call, &value),
+            Err(_) => Ok(None),
+        },
     }
-    let Value::Array(names) = &value else {
-        return Ok(None);
-    };
-    let names = names.as_slice();
-    let timing = match call {
-        "insert" => time(rt, span, || inserts_all(alloc, names))?,
-        "from_pairs" => time(rt, span, || takes_pairs(alloc, names))?,
-        "settings" => time(
-            rt,
-            span,
-            || settings_of(alloc, Draft::Draft202012, names).is_ok(),
-        )?,
-        _ => return Ok(None),
-    };
-    Ok(Some(timing))
+}
+
+// Times a call on a value.
+fn time_on(rt: &HostRuntime, span: u128, call: Call, value: &Value) -> io::Result<Option<Timing>> {
+    if takes(call, value) {
+        time(rt, span, || succeeds(rt.alloc(), call, value))
+    } else {
+        Ok(None)
+    }
+}
+
+// Returns whether a call takes a value.
+fn takes(call: Call, value: &Value) -> bool {
+    match call {
+        Call::FirstUnlawful | Call::FromValue | Call::Unchecked => true,
+        Call::Insert | Call::FromPairs | Call::Settings => value.is_array(),
+        _ => false,
+    }
+}
+
+// Makes a call on a value, and returns whether it succeeds.
+fn succeeds(alloc: Global, call: Call, value: &Value) -> bool {
+    match call {
+        Call::FirstUnlawful => has_no_float(alloc, value),
+        Call::FromValue => has_decimals(alloc, value),
+        Call::Unchecked => lists_unchecked(alloc, value),
+        Call::Insert => inserts_all(alloc, items_of(value)),
+        Call::FromPairs => takes_pairs(alloc, items_of(value)),
+        Call::Settings => settings_of(alloc, Draft::Draft202012, items_of(value)).is_ok(),
+        _ => false,
+    }
+}
+
+// Returns the items of an array; none of another value.
+fn items_of(value: &Value) -> &[Value] {
+    match value {
+        Value::Array(items) => items.as_slice(),
+        _ => &[],
+    }
 }
 
 /// Returns the settings of a draft with all vocabularies. The strings among `names` are overridden.
@@ -72,32 +123,54 @@ pub(crate) fn settings_of(
 
 /// Times reading a text and asking a schema whether it is valid: as a value of `serde_json` by the
 /// call `ask`, as a tree of decimals by `ask_decimals`. A text that is not read is not valid, nor is
-/// one with a float for `serde_json`. Returns `None` if there is no such call or no such schema.
+/// one with a float for `serde_json`. Returns `None` for another call, or if there is no such schema.
 pub(crate) fn time_asking(
     rt: &HostRuntime,
     span: u128,
     settings: &Settings,
-    call: &str,
+    call: Call,
     text: &str,
     schema: &str,
 ) -> io::Result<Option<Timing>> {
-    let alloc = rt.alloc();
-    let Ok(schema) = Value::from_str(alloc, schema) else {
-        return Ok(None);
-    };
-    match call {
-        "ask" => match compiled(alloc, settings, &schema) {
-            Some(node) => Ok(Some(time(rt, span, || accepts_text(alloc, &node, text))?)),
-            None => Ok(None),
-        },
-        "ask_decimals" => match compiled(alloc, settings, &schema) {
-            Some(node) => {
-                let bytes = text.as_bytes();
-                Ok(Some(time(rt, span, || accepts_bytes(alloc, &node, bytes))?))
+    match Value::from_str(rt.alloc(), schema) {
+        Ok(schema) => match call {
+            Call::Ask => time_ask(rt, span, text, compiled(rt.alloc(), settings, &schema)),
+            Call::AskDecimals => {
+                time_ask_decimals(rt, span, text, compiled(rt.alloc(), settings, &schema))
             }
-            None => Ok(None),
+            _ => Ok(None),
         },
-        _ => Ok(None),
+        Err(_) => Ok(None),
+    }
+}
+
+// Times `ask` of a schema, if that was compiled.
+fn time_ask(
+    rt: &HostRuntime,
+    span: u128,
+    text: &str,
+    node: Option<SchemaNode<SerdeJson>>,
+) -> io::Result<Option<Timing>> {
+    match &node {
+        Some(node) => time(rt, span, || accepts_text(rt.alloc(), node, text)),
+        None => Ok(None),
+    }
+}
+
+// Times `ask_decimals` of a schema, if that was compiled.
+fn time_ask_decimals(
+    rt: &HostRuntime,
+    span: u128,
+    text: &str,
+    node: Option<SchemaNode<DecimalJson>>,
+) -> io::Result<Option<Timing>> {
+    match &node {
+        Some(node) => time(
+            rt,
+            span,
+            || accepts_bytes(rt.alloc(), node, text.as_bytes()),
+        ),
+        None => Ok(None),
     }
 }
 
@@ -118,10 +191,10 @@ fn accepts_bytes(alloc: Global, node: &SchemaNode<DecimalJson>, bytes: &[u8]) ->
 }
 
 // Times a call.
-fn time<F: Fn() -> bool>(rt: &HostRuntime, span: u128, call: F) -> io::Result<Timing>
+fn time<F: Fn() -> bool>(rt: &HostRuntime, span: u128, call: F) -> io::Result<Option<Timing>>
     requires { F.IsAlwaysCallable call }
 {
-    fastest(rt, span, 1, |calls| count_accepted(calls, &call))
+    Ok(Some(fastest(rt, span, 1, |calls| count_accepted(calls, &call))?))
 }
 
 // Makes `calls` calls, and returns how many return true.
@@ -152,25 +225,34 @@ fn lists_unchecked(alloc: Global, schema: &Value) -> bool {
 // Times an error of the text's value under the schema `false`, and its message, which has the value.
 fn time_message(rt: &HostRuntime, span: u128, text: &str) -> io::Result<Option<Timing>> {
     let alloc = rt.alloc();
-    let settings = settings_of(alloc, Draft::Draft202012, &[])?;
-    let Some(node) = compiled(alloc, &settings, &Value::Bool(false)) else {
-        return Ok(None);
-    };
     match instances(alloc, text)? {
-        Some(instances) => Ok(Some(time_first_error(rt, span, &instances, &node)?)),
+        Some(instances) => time_first_error(rt, span, &instances, false_schema(alloc)),
         None => Ok(None),
     }
 }
 
-// Times the first error of the instances, and its message.
+// Returns the schema `false`, if there is memory.
+fn false_schema(alloc: Global) -> Option<SchemaNode<SerdeJson>> {
+    let settings = Settings::new(Draft::Draft202012, VocabularySet::all(), Vec::new(alloc));
+    compiled(alloc, &settings, &Value::Bool(false))
+}
+
+// Times the first error of the instances under a schema, if that was compiled, and its message.
 fn time_first_error(
     rt: &HostRuntime,
     span: u128,
     instances: &[Instance],
-    node: &SchemaNode<SerdeJson>,
-) -> io::Result<Timing> {
-    let alloc = rt.alloc();
-    time_test(rt, span, instances, |i| has_message(alloc, node, i))
+    node: Option<SchemaNode<SerdeJson>>,
+) -> io::Result<Option<Timing>> {
+    match &node {
+        Some(node) => Ok(Some(time_test(
+            rt,
+            span,
+            instances,
+            |i| has_message(rt.alloc(), node, i),
+        )?)),
+        None => Ok(None),
+    }
 }
 
 // Returns whether the first error of an instance has a message.
@@ -192,30 +274,46 @@ fn has_decimals(alloc: Global, value: &Value) -> bool {
 fn inserts_all(alloc: Global, names: &[Value]) -> bool {
     let mut members = Members::new(alloc);
     for name in names {
-        let Some(Ok(name)) = name.as_str().map(|name| String::from_str(alloc, name)) else {
-            return false;
-        };
-        if members.insert(name, DecimalTree::Null).is_err() {
+        if !inserts(alloc, &mut members, name) {
             return false;
         }
     }
     true
 }
 
+// Inserts a member. Returns whether its name is a text and there is memory.
+fn inserts(alloc: Global, members: &mut Members, name: &Value) -> bool {
+    match name_of(alloc, name) {
+        Some(name) => members.insert(name, DecimalTree::Null).is_ok(),
+        None => false,
+    }
+}
+
+// Returns a copy of a text, if the value is one and there is memory.
+fn name_of(alloc: Global, value: &Value) -> Option<String> {
+    match value {
+        Value::String(name) => String::from_str(alloc, name.as_str()).ok(),
+        _ => None,
+    }
+}
+
 // Makes the members of these names at once. Returns whether this succeeds.
 fn takes_pairs(alloc: Global, names: &[Value]) -> bool {
+    match pairs_of(alloc, names) {
+        Some(pairs) => Members::from_pairs(pairs).is_ok(),
+        None => false,
+    }
+}
+
+// Returns a pair for each of these names, if all are texts and there is memory.
+fn pairs_of(alloc: Global, names: &[Value]) -> Option<Vec<Member<DecimalTree>>> {
     let mut pairs = Vec::new(alloc);
     for name in names {
-        let Some(Ok(name)) = name.as_str().map(|name| String::from_str(alloc, name)) else {
-            return false;
-        };
         let pair = Member {
-            name,
+            name: name_of(alloc, name)?,
             value: DecimalTree::Null,
         };
-        if pairs.push(pair).is_err() {
-            return false;
-        }
+        pairs.push(pair).ok()?;
     }
-    Members::from_pairs(pairs).is_ok()
+    Some(pairs)
 }

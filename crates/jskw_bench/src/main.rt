@@ -31,7 +31,7 @@ mod calls;
 mod observers;
 mod timing;
 
-use calls::{settings_of, time_asking, time_call};
+use calls::{Call, settings_of, time_asking, time_call};
 use jskw_array::{SchemaNode, Validator};
 use jskw_report::{Draft, Location, Settings};
 use jskw_value::SerdeJson;
@@ -40,51 +40,17 @@ use serde_json::Value;
 use std::alloc::Global;
 use std::io;
 use std::mem::size_of;
-use timing::{Row, instances};
+use timing::{Instance, Row, Timing, instances};
 
 // The nanoseconds that a batch of calls takes at least.
 const SPAN: u128 = 1_000_000;
 
-// Returns the row of a case, or a word that says why there is none.
-fn row_of(
-    rt: &HostRuntime,
-    settings: &Settings,
-    schema: &Value,
-    instance: &str,
-    loop_name: &str,
+// What lines say of those behind them.
+#[derive(Drop)]
+struct State {
+    settings: Settings,
+    // 0 if answers alone are printed
     span: u128,
-) -> io::Result<Result<Row, &'static str>> {
-    let Some(instances) = instances(rt.alloc(), instance)? else {
-        return Ok(Err("no instance"));
-    };
-    let Some(node) = compiled(rt.alloc(), settings, schema) else {
-        return Ok(Err("not compiled"));
-    };
-    let mut row = Row::new(rt.alloc());
-    row.add(time_compile(rt, span, settings, schema)?)?;
-    row.add_answer(time_is_valid(rt, span, &instances, &node)?)?;
-    if !loop_name.is_empty() {
-        time_others(rt, span, &instances, &node, &mut row)?;
-        match time_decimals(rt, span, settings, schema, instance)? {
-            Some(timing) => row.add_answer(timing)?,
-            None => return Ok(Err("no decimals")),
-        }
-        match time_by_hand(rt, span, &instances, loop_name)? {
-            Some(timing) => row.add_answer(timing)?,
-            None if loop_name == "-" => {}
-            None => return Ok(Err("no loop")),
-        }
-    }
-    Ok(Ok(row))
-}
-
-// Prints how many bytes a schema node, a keyword's validator and a location take, without what they
-// own.
-fn print_sizes(rt: &HostRuntime) -> io::Result<()> {
-    let node = size_of::<SchemaNode<SerdeJson>>();
-    let validator = size_of::<Validator<SerdeJson>>();
-    let location = size_of::<Location>();
-    println!(rt; "sizes\t{node}\t{validator}\t{location}")
 }
 
 // The columns of a line; those that it does not have are empty. That of the schema has the name of a
@@ -108,82 +74,160 @@ fn columns_of(line: &str) -> Columns<'_> {
     }
 }
 
-// Makes a call, and prints whether it succeeded.
-fn run_call(
+// Adds the timings of a case to a row. Returns a word that says why it has none, or an empty one.
+fn time_case(
     rt: &HostRuntime,
-    settings: &Settings,
+    state: &State,
+    schema: &Value,
     line: &Columns<'_>,
-    is_timed: bool,
-) -> io::Result<()> {
-    let (call, text) = (line.schema, line.instance);
-    let span = if is_timed { SPAN } else { 0 };
-    let timing = if line.last.is_empty() {
-        time_call(rt, span, call, text)?
+    row: &mut Row,
+) -> io::Result<&'static str> {
+    match instances(rt.alloc(), line.instance)? {
+        Some(instances) => time_on(rt, state, schema, line, &instances, row),
+        None => Ok("no instance"),
+    }
+}
+
+// Adds the timings of a case on these instances.
+fn time_on(
+    rt: &HostRuntime,
+    state: &State,
+    schema: &Value,
+    line: &Columns<'_>,
+    instances: &[Instance],
+    row: &mut Row,
+) -> io::Result<&'static str> {
+    match compiled(rt.alloc(), &state.settings, schema) {
+        Some(node) => time_node(rt, state, schema, line, instances, &node, row),
+        None => Ok("not compiled"),
+    }
+}
+
+// Adds the timings of a case that compiles to this node.
+fn time_node(
+    rt: &HostRuntime,
+    state: &State,
+    schema: &Value,
+    line: &Columns<'_>,
+    instances: &[Instance],
+    node: &SchemaNode<SerdeJson>,
+    row: &mut Row,
+) -> io::Result<&'static str> {
+    row.add(time_compile(rt, state.span, &state.settings, schema)?)?;
+    row.add_answer(time_is_valid(rt, state.span, instances, node)?)?;
+    if line.last.is_empty() {
+        Ok("")
     } else {
-        time_asking(rt, span, settings, call, text, line.last)?
+        time_others(rt, state.span, instances, node, row)?;
+        time_beside(rt, state, schema, line, instances, row)
+    }
+}
+
+// Adds what `is_valid` over decimals takes, and the loop by hand.
+fn time_beside(
+    rt: &HostRuntime,
+    state: &State,
+    schema: &Value,
+    line: &Columns<'_>,
+    instances: &[Instance],
+    row: &mut Row,
+) -> io::Result<&'static str> {
+    match time_decimals(rt, state.span, &state.settings, schema, line.instance)? {
+        Some(timing) => {
+            row.add_answer(timing)?;
+            let by_hand = time_by_hand(rt, state.span, instances, line.last)?;
+            add_loop(by_hand, line.last, row)
+        }
+        None => Ok("no decimals"),
+    }
+}
+
+// Adds what the loop of a name takes, if there is one. None has the name `-`.
+fn add_loop(timing: Option<Timing>, name: &str, row: &mut Row) -> io::Result<&'static str> {
+    match timing {
+        Some(timing) => row.add_answer(timing)?,
+        None if name == "-" => {}
+        None => return Ok("no loop"),
+    }
+    Ok("")
+}
+
+// Prints how many bytes a schema node, a keyword's validator and a location take, without what they
+// own.
+fn print_sizes(rt: &HostRuntime) -> io::Result<()> {
+    let node = size_of::<SchemaNode<SerdeJson>>();
+    let validator = size_of::<Validator<SerdeJson>>();
+    let location = size_of::<Location>();
+    println!(rt; "sizes\t{node}\t{validator}\t{location}")
+}
+
+// Makes a call, and prints whether it succeeded.
+fn run_call(rt: &HostRuntime, state: &State, call: Call, line: &Columns<'_>) -> io::Result<()> {
+    let timing = if line.last.is_empty() {
+        time_call(rt, state.span, call, line.instance)?
+    } else {
+        time_asking(
+            rt,
+            state.span,
+            &state.settings,
+            call,
+            line.instance,
+            line.last,
+        )?
     };
-    let Some(timing) = timing else {
-        return println!(rt; "{}\tno call", line.name);
-    };
-    let word = if timing.answer() == Some(true) {
+    match timing {
+        Some(timing) => print_timing(rt, state.span, line.name, timing),
+        None => print_word(rt, line.name, "no call"),
+    }
+}
+
+// Prints whether a call succeeded.
+fn print_timing(rt: &HostRuntime, span: u128, name: &str, timing: Timing) -> io::Result<()> {
+    let word = if timing.accepts_all() {
         "done"
     } else {
         "refused"
     };
     let mut row = Row::new(rt.alloc());
     row.add(timing)?;
-    print_row(rt, line.name, word, &row, is_timed)
+    print_row(rt, span, name, word, &row)
 }
 
 // Prints the row of a case or call with a word for its answer.
-fn print_row(
-    rt: &HostRuntime,
-    name: &str,
-    word: &str,
-    row: &Row,
-    is_timed: bool,
-) -> io::Result<()> {
+fn print_row(rt: &HostRuntime, span: u128, name: &str, word: &str, row: &Row) -> io::Result<()> {
     print!(rt; "{name}\t{word}")?;
-    if is_timed {
+    if span > 0 {
         row.print(rt)?;
     }
     println!(rt; "")
 }
 
-// Returns whether the word in place of a schema is the name of a call. No schema is written like
-// one.
-fn is_call(word: &str) -> bool {
-    matches!(
-        word,
-        "read"
-            | "read_bytes"
-            | "ask"
-            | "ask_decimals"
-            | "first_unlawful"
-            | "message"
-            | "insert"
-            | "from_pairs"
-            | "from_value"
-            | "settings"
-            | "unchecked"
-    )
+// Prints a word that says why a line has no row.
+fn print_word(rt: &HostRuntime, name: &str, word: &str) -> io::Result<()> {
+    println!(rt; "{name}\t{word}")
 }
 
 // Runs a case and prints its line.
-fn run_case(rt: &HostRuntime, settings: &Settings, line: &str, is_timed: bool) -> io::Result<()> {
-    let alloc = rt.alloc();
-    let line = columns_of(line);
-    let name = line.name;
-    if is_call(line.schema) {
-        return run_call(rt, settings, &line, is_timed);
+fn run_case(rt: &HostRuntime, state: &State, line: &Columns<'_>) -> io::Result<()> {
+    match Value::from_str(rt.alloc(), line.schema) {
+        Ok(schema) => run_schema(rt, state, &schema, line),
+        Err(_) => print_word(rt, line.name, "no schema"),
     }
-    let Ok(schema) = Value::from_str(alloc, line.schema) else {
-        return println!(rt; "{name}\tno schema");
-    };
-    let span = if is_timed { SPAN } else { 0 };
-    match row_of(rt, settings, &schema, line.instance, line.last, span)? {
-        Ok(row) => print_row(rt, name, row.word(), &row, is_timed),
-        Err(word) => println!(rt; "{name}\t{word}"),
+}
+
+// Runs a case of this schema and prints its line.
+fn run_schema(
+    rt: &HostRuntime,
+    state: &State,
+    schema: &Value,
+    line: &Columns<'_>,
+) -> io::Result<()> {
+    let mut row = Row::new(rt.alloc());
+    let why = time_case(rt, state, schema, line, &mut row)?;
+    if why.is_empty() {
+        print_row(rt, state.span, line.name, row.word(), &row)
+    } else {
+        print_word(rt, line.name, why)
     }
 }
 
@@ -198,31 +242,44 @@ fn draft_of(name: &str) -> Draft {
     }
 }
 
-// Returns the settings of a draft's name and an array of overridden names, with a tab between.
-fn settings_from(alloc: Global, text: &str) -> io::Result<Settings> {
-    let mut parts = text.split('\t');
-    let draft = draft_of(parts.next().unwrap_or(""));
-    match Value::from_str(alloc, parts.next().unwrap_or("")) {
-        Ok(Value::Array(names)) => Ok(settings_of(alloc, draft, names.as_slice())?),
-        _ => Ok(settings_of(alloc, draft, &[])?),
+// Returns the settings of a draft's name and an array of overridden names.
+fn settings_from(alloc: Global, draft: &str, names: &str) -> io::Result<Settings> {
+    match Value::from_str(alloc, names) {
+        Ok(Value::Array(names)) => Ok(settings_of(alloc, draft_of(draft), names.as_slice())?),
+        _ => Ok(settings_of(alloc, draft_of(draft), &[])?),
+    }
+}
+
+// Does what a line says.
+fn take_line(rt: &HostRuntime, state: &mut State, line: &str) -> io::Result<()> {
+    match line {
+        "check" => state.span = 0,
+        "time" => state.span = SPAN,
+        "sizes" => print_sizes(rt)?,
+        line => take_columns(rt, state, &columns_of(line))?,
+    }
+    Ok(())
+}
+
+// Does what a line of several columns says.
+fn take_columns(rt: &HostRuntime, state: &mut State, line: &Columns<'_>) -> io::Result<()> {
+    if line.name == "under" {
+        state.settings = settings_from(rt.alloc(), line.schema, line.instance)?;
+        return Ok(());
+    }
+    match Call::named(line.schema) {
+        Some(call) => run_call(rt, state, call, line),
+        None => run_case(rt, state, line),
     }
 }
 
 fn main(rt: HostRuntime) -> io::Result<()> {
-    let alloc = rt.alloc();
-    let mut settings = settings_of(alloc, Draft::Draft202012, &[])?;
-    let mut is_timed = false;
-    for line in rt.lines(alloc) {
-        let line = line?;
-        match line.as_str() {
-            "check" => is_timed = false,
-            "time" => is_timed = true,
-            "sizes" => print_sizes(&rt)?,
-            case => match case.strip_prefix("under\t") {
-                Some(text) => settings = settings_from(alloc, text)?,
-                None => run_case(&rt, &settings, case, is_timed)?,
-            },
-        }
+    let mut state = State {
+        settings: settings_of(rt.alloc(), Draft::Draft202012, &[])?,
+        span: 0,
+    };
+    for line in rt.lines(rt.alloc()) {
+        take_line(&rt, &mut state, line?.as_str())?;
     }
     Ok(())
 }

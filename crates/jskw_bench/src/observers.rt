@@ -172,27 +172,33 @@ pub(crate) fn time_by_hand(
     instances: &[Instance],
     name: &str,
 ) -> io::Result<Option<Timing>> {
-    let timing = match name {
-        "integers" => time_test(rt, span, instances, |i| by_hand::integers(&i.value))?,
-        "strings" => time_test(rt, span, instances, |i| by_hand::strings(&i.value))?,
-        "naturals" => time_test(rt, span, instances, |i| by_hand::naturals(&i.value))?,
-        "multiples" => time_test(rt, span, instances, |i| by_hand::multiples(&i.value))?,
-        "limited integers" => time_test(
-            rt,
-            span,
-            instances,
-            |i| by_hand::limited_integers(&i.value),
-        )?,
-        "rows" => time_test(rt, span, instances, |i| by_hand::rows(&i.value))?,
-        "limited rows" => time_test(rt, span, instances, |i| by_hand::limited_rows(&i.value))?,
-        "layers" => time_test(rt, span, instances, |i| by_hand::layers(&i.value))?,
-        "tuples" => time_test(rt, span, instances, |i| by_hand::tuples(&i.value))?,
-        "limited tuples" => time_test(rt, span, instances, |i| by_hand::limited_tuples(&i.value))?,
-        "objects" => time_test(rt, span, instances, |i| by_hand::objects(&i.value))?,
-        "unique" => time_test(rt, span, instances, |i| by_hand::unique(&i.value))?,
-        "orders" => time_test(rt, span, instances, |i| by_hand::orders(&i.value))?,
-        "natural" => time_test(rt, span, instances, |i| by_hand::natural(&i.value))?,
-        _ => return Ok(None),
-    };
-    Ok(Some(timing))
+    match name {
+        "integers" => time_loop(rt, span, instances, by_hand::integers),
+        "strings" => time_loop(rt, span, instances, by_hand::strings),
+        "naturals" => time_loop(rt, span, instances, by_hand::naturals),
+        "multiples" => time_loop(rt, span, instances, by_hand::multiples),
+        "limited integers" => time_loop(rt, span, instances, by_hand::limited_integers),
+        "rows" => time_loop(rt, span, instances, by_hand::rows),
+        "limited rows" => time_loop(rt, span, instances, by_hand::limited_rows),
+        "layers" => time_loop(rt, span, instances, by_hand::layers),
+        "tuples" => time_loop(rt, span, instances, by_hand::tuples),
+        "limited tuples" => time_loop(rt, span, instances, by_hand::limited_tuples),
+        "objects" => time_loop(rt, span, instances, by_hand::objects),
+        "unique" => time_loop(rt, span, instances, by_hand::unique),
+        "orders" => time_loop(rt, span, instances, by_hand::orders),
+        "natural" => time_loop(rt, span, instances, by_hand::natural),
+        _ => Ok(None),
+    }
+}
+
+// Times a loop.
+fn time_loop<F: Fn(&Value) -> bool>(
+    rt: &HostRuntime,
+    span: u128,
+    instances: &[Instance],
+    accepts: F,
+) -> io::Result<Option<Timing>>
+    requires { F.IsAlwaysCallable accepts }
+{
+    Ok(Some(time_test(rt, span, instances, |i| accepts(&i.value))?))
 }

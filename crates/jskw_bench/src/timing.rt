@@ -77,15 +77,14 @@ pub(crate) struct Timing {
 }
 
 impl Timing {
-    /// Returns true if each call accepted its instance, false if none did, and `None` otherwise.
-    pub(crate) fn answer(&self) -> Option<bool> {
-        if self.accepted == self.calls {
-            Some(true)
-        } else if self.accepted == 0 {
-            Some(false)
-        } else {
-            None
-        }
+    /// Returns whether each call accepted its instance.
+    pub(crate) fn accepts_all(&self) -> bool {
+        self.accepted == self.calls
+    }
+
+    /// Returns whether no call accepted its instance.
+    pub(crate) fn accepts_none(&self) -> bool {
+        self.accepted == 0
     }
 
     /// Prints the nanoseconds of a call behind a tab.
@@ -99,14 +98,16 @@ impl Timing {
 #[derive(Drop)]
 pub(crate) struct Row {
     timings: Vec<Timing>,
-    answers: Vec<Option<bool>>,
+    is_valid: bool,
+    is_invalid: bool,
 }
 
 impl Row {
     pub(crate) fn new(alloc: Global) -> Row {
         Row {
             timings: Vec::new(alloc),
-            answers: Vec::new(alloc),
+            is_valid: true,
+            is_invalid: true,
         }
     }
 
@@ -117,15 +118,16 @@ impl Row {
 
     /// Adds a call that returns whether the instance is valid.
     pub(crate) fn add_answer(&mut self, timing: Timing) -> Result<(), AllocError> {
-        self.answers.push(timing.answer())?;
+        self.is_valid &= timing.accepts_all();
+        self.is_invalid &= timing.accepts_none();
         self.add(timing)
     }
 
     /// Returns the word for what all answers say, `differs` if they don't agree.
     pub(crate) fn word(&self) -> &'static str {
-        if self.answers.iter().all(|answer| *answer == Some(true)) {
+        if self.is_valid {
             "valid"
-        } else if self.answers.iter().all(|answer| *answer == Some(false)) {
+        } else if self.is_invalid {
             "invalid"
         } else {
             "differs"

@@ -67,11 +67,9 @@ fn schema_under(
 {
     let ctx: Context<'_, DecimalJson> = Context::new(alloc, settings);
     let ctx = ctx.with_object_layer(false);
+    let members = unchecked(alloc, &ctx, value)?;
     match compile(alloc, &ctx, value) {
-        Ok(schema) => {
-            let members = unchecked(alloc, &ctx, value)?;
-            covered_schema(alloc, file, allow_unchecked, schema, members.as_slice())
-        }
+        Ok(schema) => covered_schema(alloc, file, allow_unchecked, schema, members.as_slice()),
         Err(CompileFault::Bad(error)) => Ok(Err(bad_schema(alloc, file, &error)?)),
         Err(CompileFault::Memory(error)) => Err(error),
     }

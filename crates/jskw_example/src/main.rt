@@ -50,13 +50,30 @@ fn print_errors(
 // Checks each line of standard input.
 fn check_lines(rt: &HostRuntime, node: &SchemaNode<SerdeJson>) -> io::Result<()> {
     for line in rt.lines(rt.alloc()) {
-        match Value::from_str(rt.alloc(), line?.as_str()) {
-            Ok(instance) if verdict(node, &instance) == Some(true) => println!(rt; "valid")?,
-            Ok(instance) => print_errors(rt, node, &instance)?,
-            Err(_) => println!(rt; "not checked: it is not JSON")?,
-        }
+        check_line(rt, node, line?.as_str())?;
     }
     Ok(())
+}
+
+// Checks the instance of a line.
+fn check_line(rt: &HostRuntime, node: &SchemaNode<SerdeJson>, line: &str) -> io::Result<()> {
+    match Value::from_str(rt.alloc(), line) {
+        Ok(instance) => check_instance(rt, node, &instance),
+        Err(_) => println!(rt; "not checked: it is not JSON"),
+    }
+}
+
+// Checks an instance.
+fn check_instance(
+    rt: &HostRuntime,
+    node: &SchemaNode<SerdeJson>,
+    instance: &Value,
+) -> io::Result<()> {
+    if verdict(node, instance) == Some(true) {
+        println!(rt; "valid")
+    } else {
+        print_errors(rt, node, instance)
+    }
 }
 
 const SCHEMA: &str = r#"{"type": "array", "items": {"type": "object", "required": ["name"]}}"#;

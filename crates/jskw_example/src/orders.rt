@@ -5,8 +5,9 @@ use crate::tree::evaluated;
 use crate::{compiled, node_of, value_of};
 use lotsibegn::{
     Annotations, CompileFault, EvaluationNode, Fault, LazyLocation, Node, SchemaNode, SerdeJson,
-    ValidationContext, ValidationErrorKind, Value,
+    ValidationContext, ValidationError, ValidationErrorKind, Value,
 };
+use std::alloc::{AllocError, Global};
 use std::io;
 
 const ORDER: &str = r#"{
@@ -55,27 +56,39 @@ fn print_errors(rt: &HostRuntime, schema: &SchemaNode<SerdeJson>, order: &Value)
         return println!(rt; "it holds a float");
     }
     let (mut location, mut ctx) = (LazyLocation::new(rt.alloc()), ValidationContext::new());
-    match schema.validate(order, &mut location, &mut ctx) {
-        Ok(()) => println!(rt; "no error")?,
-        Err(Fault::Invalid(error)) => println!(rt; "first: {}", error.message(rt.alloc())?)?,
-        Err(Fault::Memory(error)) => Err(error)?,
-    }
+    print_first(rt, schema.validate(order, &mut location, &mut ctx))?;
     let mut errors = Vec::new(rt.alloc());
     schema.collect_errors(order, &mut location, &mut ctx, &mut errors)?;
     for error in &errors {
-        let text = match error.kind() {
-            ValidationErrorKind::Required { property } => {
-                format!(in rt.alloc(); "{property} is missing")?
-            }
-            ValidationErrorKind::MinItems { limit } => {
-                format!(in rt.alloc(); "needs {limit} or more items")?
-            }
-            _ => error.message(rt.alloc())?,
-        };
-        let (at, by) = (error.instance_path().as_str(), error.schema_path().as_str());
-        println!(rt; "  {at} {text} ({by})")?;
+        print_error(rt, error)?;
     }
     Ok(())
+}
+
+// Prints the first error of an order, if it has one.
+fn print_first(rt: &HostRuntime, checked: Result<(), Fault<'_, SerdeJson>>) -> io::Result<()> {
+    match checked {
+        Ok(()) => println!(rt; "no error"),
+        Err(Fault::Invalid(error)) => println!(rt; "first: {}", error.message(rt.alloc())?),
+        Err(Fault::Memory(error)) => Err(error)?,
+    }
+}
+
+// Prints an error with its locations.
+fn print_error(rt: &HostRuntime, error: &ValidationError<SerdeJson>) -> io::Result<()> {
+    let (at, by) = (error.instance_path().as_str(), error.schema_path().as_str());
+    println!(rt; "  {at} {} ({by})", text_of(rt.alloc(), error)?)
+}
+
+// Returns what the shop says of an error.
+fn text_of(alloc: Global, error: &ValidationError<SerdeJson>) -> Result<String, AllocError> {
+    match error.kind() {
+        ValidationErrorKind::Required { property } => { format!(in alloc; "{property} is missing") }
+        ValidationErrorKind::MinItems { limit } => {
+            format!(in alloc; "needs {limit} or more items")
+        }
+        _ => error.message(alloc),
+    }
 }
 
 // Prints why a schema does not compile.

@@ -48,20 +48,31 @@ fn print_node(rt: &HostRuntime, depth: u64, node: &EvaluationNode) -> io::Result
     for _ in 0..depth {
         print!(rt; "  ")?;
     }
-    let word = if node.valid() { "valid" } else { "invalid" };
-    let (at, by) = (
-        node.instance_location().as_str(),
-        node.schema_location().as_str(),
-    );
-    print!(rt; "{word}: instance \"{at}\", schema \"{by}\"")?;
-    match node.annotations() {
-        Some(Annotations::Bool(flag)) => print!(rt; ", annotation {flag}")?,
-        Some(Annotations::Index(index)) => print!(rt; ", annotation {index}")?,
-        Some(Annotations::Indices(indices)) => print!(rt; ", annotation {indices:?}")?,
-        None => {}
+    print_unit(rt, node)?;
+    if let Some(annotations) = node.annotations() {
+        print_annotations(rt, annotations)?;
     }
     for error in node.errors() {
         print!(rt; ", {}", error.message())?;
     }
     println!(rt; "")
+}
+
+// Prints whether a node is valid, and both locations.
+fn print_unit(rt: &HostRuntime, node: &EvaluationNode) -> io::Result<()> {
+    let word = if node.valid() { "valid" } else { "invalid" };
+    let (at, by) = (
+        node.instance_location().as_str(),
+        node.schema_location().as_str(),
+    );
+    print!(rt; "{word}: instance \"{at}\", schema \"{by}\"")
+}
+
+// Prints the annotation of a node.
+fn print_annotations(rt: &HostRuntime, annotations: &Annotations) -> io::Result<()> {
+    match annotations {
+        Annotations::Bool(flag) => print!(rt; ", annotation {flag}"),
+        Annotations::Index(index) => print!(rt; ", annotation {index}"),
+        Annotations::Indices(indices) => print!(rt; ", annotation {indices:?}"),
+    }
 }
