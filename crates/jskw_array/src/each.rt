@@ -26,14 +26,15 @@ pub struct Each<F: Json> {
 }
 
 impl<F: Json> Each<F> {
-    // Returns the index of the first item that is not in the quick set of its schema, or how many
-    // items have a schema, if there is none.
+    // Returns the index of the first item that is not in the quick set of its schema, or `count`, if
+    // there is none.
     #[inline(always)]
-    fn first_not_accepted(&self, instance: &F::Node) -> usize
-        requires { IsTrue (is_lawful (F.Node.tree instance.now)) }
+    fn first_not_accepted(&self, count: usize, instance: &F::Node) -> usize
+        requires lawful { IsTrue (is_lawful (F.Node.tree instance.now)) }
+        requires count { count ≡ min (length (items (F.Node.tree instance.now)))
+            (length self.now.nodes.items) }
         ensures { PassesOverPairs self.now.nodes.items (F.Node.tree instance.now) result }
     {
-        let count = instance.item_count().min(self.nodes.len());
         for index in 0..count {
             if !self.nodes[index].is_accepted(instance.item(index)) {
                 return index;
@@ -42,16 +43,18 @@ impl<F: Json> Each<F> {
         count
     }
 
-    // Returns how many items have a schema, if each of these is in the quick set of its schema.
+    // Returns how many items of an array of `count` items have a schema, if each of these is in the
+    // quick set of its schema.
     #[inline(always)]
-    pub(crate) fn accepted_count(&self, instance: &F::Node) -> Option<usize>
-        requires { IsTrue (is_lawful (F.Node.tree instance.now)) }
-        ensures { let t = F.Node.tree instance.now in IfSome result (λ n.
-            (keyword_holds (each_keyword self.now) t ≡ true)
-            × (n ≡ min (length (items t)) (length self.now.nodes.items))) }
+    pub(crate) fn accepted_count(&self, count: usize, instance: &F::Node) -> Option<usize>
+        requires lawful { IsTrue (is_lawful (F.Node.tree instance.now)) }
+        requires count { count ≡ length (items (F.Node.tree instance.now)) }
+        ensures { IfSome result (λ n.
+            (keyword_holds (each_keyword self.now) (F.Node.tree instance.now) ≡ true)
+            × (n ≡ min count (length self.now.nodes.items))) }
     {
-        let count = instance.item_count().min(self.nodes.len());
-        if self.first_not_accepted(instance) == count {
+        let count = count.min(self.nodes.len());
+        if self.first_not_accepted(count, instance) == count {
             Some(count)
         } else {
             None
@@ -59,14 +62,16 @@ impl<F: Json> Each<F> {
     }
 
     // Applies each schema to its item, as far as the items are in the quick sets of their schemas.
-    // Returns the index of the first item that is not, or how many items have a schema.
+    // Returns the index of the first item that is not, or `count`, if there is none.
     #[inline(always)]
-    fn skip_accepted(&self, instance: &F::Node, ctx: &mut ValidationContext) -> usize
-        requires { IsTrue (is_lawful (F.Node.tree instance.now)) }
+    fn skip_accepted(&self, count: usize, instance: &F::Node, ctx: &mut ValidationContext) -> usize
+        requires lawful { IsTrue (is_lawful (F.Node.tree instance.now)) }
+        requires count { count ≡ min (length (items (F.Node.tree instance.now)))
+            (length self.now.nodes.items) }
         ensures passed { PassesOverPairs self.now.nodes.items (F.Node.tree instance.now) result }
         ensures counted { CountsBetween ctx.old ctx.new result result }
     {
-        let index = self.first_not_accepted(instance);
+        let index = self.first_not_accepted(count, instance);
         ctx.count_more(index);
         index
     }
@@ -100,7 +105,7 @@ impl<F: Json> Validate<F> for Each<F> {
     #[cycle(is_valid)]
     fn is_valid(&self, instance: &F::Node, ctx: &mut ValidationContext) -> bool {
         let count = instance.item_count().min(self.nodes.len());
-        let first = self.skip_accepted(instance, ctx);
+        let first = self.skip_accepted(count, instance, ctx);
         if first == count {
             return true;
         }
@@ -117,7 +122,7 @@ impl<F: Json> Validate<F> for Each<F> {
         report: &mut Report<'i, F>,
     ) -> Result<(), Stop> {
         let count = instance.item_count().min(self.nodes.len());
-        for index in self.skip_accepted(instance, ctx)..count {
+        for index in self.skip_accepted(count, instance, ctx)..count {
             self.nodes[index].report_item(index, instance.item(index), location, ctx, report)?;
         }
         Ok(())

@@ -196,15 +196,15 @@ impl<F: Json> Subschema<F> {
         self.accepted.contains(instance)
     }
 
-    // Returns the index of the first item from `start` on that is not in the quick set, or the number
-    // of items, if there is none.
+    // Returns the index of the first item from `start` on that is not in the quick set, or `count`, if
+    // there is none. `count` is the number of items.
     #[inline(always)]
-    pub(crate) fn first_not_accepted(&self, start: usize, instance: &F::Node) -> usize
+    pub(crate) fn first_not_accepted(&self, start: usize, count: usize, instance: &F::Node) -> usize
         requires lawful { IsTrue (is_lawful (F.Node.tree instance.now)) }
-        requires start { start ≤ length (items (F.Node.tree instance.now)) }
+        requires count { count ≡ length (items (F.Node.tree instance.now)) }
+        requires start { start ≤ count }
         ensures { PassesOver (holds self.now) (F.Node.tree instance.now) start result }
     {
-        let count = instance.item_count();
         self.accepted.first_outside(start, count, instance)
     }
 
@@ -270,7 +270,7 @@ impl<F: Json> Subschema<F> {
         if start >= count {
             return start;
         }
-        let first = self.first_not_accepted(start, instance);
+        let first = self.first_not_accepted(start, count, instance);
         ctx.count_more(first - start);
         if first >= count {
             return first;

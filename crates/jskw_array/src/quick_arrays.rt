@@ -96,27 +96,29 @@ impl<'s, F: Json> QuickArrays<'s, F> {
         }
     }
 
-    // Returns how many items of the instance have a schema of the first ones, if each of these is in
-    // its quick set.
-    fn front_count(&self, instance: &F::Node) -> Option<usize>
-        requires { IsTrue (is_lawful (F.Node.tree instance.now)) }
+    // Returns how many of the items of an array of `count` items have a schema of the first ones, if
+    // each of these is in its quick set.
+    fn front_count(&self, count: usize, instance: &F::Node) -> Option<usize>
+        requires lawful { IsTrue (is_lawful (F.Node.tree instance.now)) }
+        requires count { count ≡ length (items (F.Node.tree instance.now)) }
         ensures { let t = F.Node.tree instance.now in IfSome result (λ n.
             (front_holds self.now.front t ≡ true) × (n ≡ front_cost self.now.front t)) }
     {
         match self.front {
-            Some(front) => front.accepted_count(instance),
+            Some(front) => front.accepted_count(count, instance),
             None => Some(0),
         }
     }
 
     // Returns the same of the schema of the others.
-    fn rest_count(&self, instance: &F::Node) -> Option<usize>
-        requires { IsTrue (is_lawful (F.Node.tree instance.now)) }
+    fn rest_count(&self, count: usize, instance: &F::Node) -> Option<usize>
+        requires lawful { IsTrue (is_lawful (F.Node.tree instance.now)) }
+        requires count { count ≡ length (items (F.Node.tree instance.now)) }
         ensures { let t = F.Node.tree instance.now in IfSome result (λ n.
             (rest_holds self.now.rest t ≡ true) × (n ≡ rest_cost self.now.rest t)) }
     {
         match self.rest {
-            Some(rest) => rest.accepted_count(instance),
+            Some(rest) => rest.accepted_count(count, instance),
             None => Some(0),
         }
     }
@@ -138,8 +140,9 @@ impl<'s, F: Json> QuickArrays<'s, F> {
         {
             return None;
         }
-        let front = self.front_count(instance)?;
-        let rest = self.rest_count(instance)?;
+        let count = Array::len(instance);
+        let front = self.front_count(count, instance)?;
+        let rest = self.rest_count(count, instance)?;
         Some(front.saturating_add(rest).saturating_add(1))
     }
 
@@ -213,6 +216,6 @@ impl<'s, F: Json> QuickArrays<'s, F> {
         if !instance.is_array() || !self.lengths.contains(instance) {
             return None;
         }
-        front.accepted_count(instance)
+        front.accepted_count(Array::len(instance), instance)
     }
 }

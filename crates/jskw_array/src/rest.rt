@@ -28,19 +28,20 @@ pub struct Rest<F: Json> {
 }
 
 impl<F: Json> Rest<F> {
-    // Returns how many items have the schema, if all of these are in its quick set.
+    // Returns how many items of an array of `count` items have the schema, if all of these are in its
+    // quick set.
     #[inline(always)]
-    pub(crate) fn accepted_count(&self, instance: &F::Node) -> Option<usize>
-        requires { IsTrue (is_lawful (F.Node.tree instance.now)) }
-        ensures { let t = F.Node.tree instance.now in IfSome result (λ n.
-            (keyword_holds (rest_keyword self.now) t ≡ true)
-            × (n ≡ length (items t) - self.now.start)) }
+    pub(crate) fn accepted_count(&self, count: usize, instance: &F::Node) -> Option<usize>
+        requires lawful { IsTrue (is_lawful (F.Node.tree instance.now)) }
+        requires count { count ≡ length (items (F.Node.tree instance.now)) }
+        ensures { IfSome result (λ n.
+            (keyword_holds (rest_keyword self.now) (F.Node.tree instance.now) ≡ true)
+            × (n ≡ count - self.now.start)) }
     {
-        let count = instance.item_count();
         if count <= self.start {
             return Some(0);
         }
-        if self.node.first_not_accepted(self.start, instance) == count {
+        if self.node.first_not_accepted(self.start, count, instance) == count {
             Some(count - self.start)
         } else {
             None

@@ -17,7 +17,7 @@ returns g c =
     let outside = c.first_outside.ensures in
     record {
       from = omega (arith, outside.first);
-      within = omega (arith, outside.first, outside.within, length-drop start all, c.item_count-count.ensures);
+      within = omega (arith, outside.first, outside.within, length-drop start all, c.requires.count);
       valid =
           subst (λ n. list_all (holds s) (take n ts) ≡ true) {x = leading (is_in accepted) ts}
           {y = c.first_outside.result - start} (omega (arith, outside.first))
