@@ -2,14 +2,19 @@
 ghost use Rattle.std.specs.Prelude.{IsTrue};
 ghost use Rattle.jskw_value.specs.Tree.{is_lawful};
 
+use crate::compiled::{self, AsksKeywords, At, Recorder};
 use crate::members::number;
-use crate::{Lines, Recorder, Row, Text, compiled};
+use crate::{Lines, Members, Row, Text};
 use jskw_array::SchemaNode;
 use jskw_array::compiler::compile;
 use jskw_array::items::array_shape_fusion;
-use jskw_report::{CompileFault, Context, Fault, LazyLocation, ValidationContext};
+use jskw_report::{
+    CompileFault, Context, EvaluationNode, Fault, LazyLocation, LocationSegment, Validate,
+    ValidationContext,
+};
 use jskw_value::{Json, Node};
 use serde_json::Value;
+use std::alloc::AllocError;
 
 /// What the observers of a schema, or of its keywords one after the other, say of an instance.
 #[derive(Drop)]
@@ -38,6 +43,29 @@ impl Recorder for Said {
     }
 }
 
+// A keyword is asked as one of the schema of `items`, of the item of the index 7.
+impl AsksKeywords for Said {
+    fn ask_keyword<F: Json, V: Validate<F>>(&mut self, keyword: &V, (by, of): &At<'_, F::Node>) {
+        if !of.is_lawful() {
+            return;
+        }
+        let alloc = self.tree.alloc;
+        let (mut location, mut errors) = (LazyLocation::new(alloc), Vec::new(alloc));
+        self.errors.text.keep(location.push(7));
+        self.holds &= keyword.is_valid(of, &mut self.contexts[0]);
+        let first = keyword.validate(of, &mut location, &mut self.contexts[1]);
+        self.push_first(&first);
+        let made = keyword.collect_errors(of, &mut location, &mut self.contexts[2], &mut errors);
+        self.errors.push_errors(made, &errors);
+        let unit = keyword.evaluate(alloc, of, &mut location, &mut self.contexts[3]);
+        let node = match (unit, by, location.render()) {
+            (Ok(unit), Ok(by), Ok(at)) => EvaluationNode::new(alloc, unit, by, &at),
+            _ => Err(AllocError),
+        };
+        self.tree.push_tree(1, &node);
+    }
+}
+
 impl Said {
     /// What is said where nothing asserts anything. It is written as these lines are.
     pub(crate) fn new(lines: &Lines) -> Said {
@@ -61,14 +89,6 @@ impl Said {
     pub(crate) fn push_first<F: Json>(&mut self, answer: &Result<(), Fault<F>>) {
         if self.first.text.as_str().is_empty() {
             self.first.push_first(answer);
-        }
-    }
-
-    /// Notes a limit for which `collect_first_errors` did not give the first of all errors up to it.
-    pub(crate) fn push_limited(&mut self, limit: usize, is_full: bool, given: &str) {
-        let is_start = self.errors.text.as_str().starts_with(given);
-        if !is_start | !is_full {
-            write!(self.limits, "{limit}\n");
         }
     }
 
@@ -119,6 +139,25 @@ pub(crate) fn push_float<N: Node>(lines: &mut Lines, instance: &N) {
     match lines.text.made(instance.first_unlawful(lines.alloc)) {
         Some(Some(location)) => write!(lines.text, "float at {location}\n"),
         _ => lines.text.push("a float that is nowhere\n"),
+    }
+}
+
+/// Appends what the keywords of a row say one by one, or why one does not compile.
+pub(crate) fn push_keywords<F: Json>(lines: &mut Lines, row: &Row, parent: &Members, of: &F::Node) {
+    let root: Context<F> = Context::new(lines.alloc, row.settings);
+    let root = root.with_object_layer(row.object_layer);
+    let ctx = root.new_at_location(lines.alloc, LocationSegment::Name("items"));
+    let mut said = Said::new(lines);
+    if let Some(ctx) = &lines.text.made(ctx) {
+        compiled::ask_keywords(lines.alloc, &mut said, ctx, parent, of);
+    }
+    let root = if said.holds { "valid\n" } else { "invalid\n" };
+    if !said.refused.text.as_str().is_empty() {
+        lines.text.push(said.refused.text.as_str());
+    } else if !of.is_lawful() {
+        push_float(lines, of);
+    } else {
+        said.push_lines(&mut lines.text, root, row.test.get("evaluation").is_some());
     }
 }
 
@@ -190,6 +229,9 @@ fn observe_limits<F: Json>(said: &mut Said, node: &SchemaNode<F>, instance: &F::
         let made = node.collect_first_errors(limit, instance, &mut at, &mut ctx, &mut errors);
         let mut given = said.errors.others();
         given.push_errors(made, &errors);
-        said.push_limited(limit, errors.len() == limit.min(count), given.text.as_str());
+        let is_start = said.errors.text.as_str().starts_with(given.text.as_str());
+        if !is_start | (errors.len() != limit.min(count)) {
+            write!(said.limits, "{limit}\n");
+        }
     }
 }

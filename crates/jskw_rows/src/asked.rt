@@ -195,11 +195,10 @@ fn counts(lines: &mut Lines, node: &SchemaNode<AskedJson>, tree: &Asked) -> [u64
     let collect_one = tree.take_count();
     let all = node.collect_errors(tree, &mut location, &mut ctx, &mut errors);
     let collect_all = tree.take_count();
-    let evaluation = node.evaluate_instance(alloc, tree, &mut ctx);
+    let tree_is_made = node.evaluate_instance(alloc, tree, &mut ctx).is_ok();
     let is_memory = matches!(first, Err(Fault::Memory(_))) | one.is_err() | all.is_err();
-    if is_memory | evaluation.is_err() {
-        lines.text.cut();
-    }
+    let text = &mut lines.text;
+    text.push_if(is_memory | !tree_is_made, "out of memory\n");
     let evaluate = tree.take_count();
     [is_valid, validate, collect_one, collect_all, evaluate]
 }

@@ -9,11 +9,12 @@ mod settings;
 mod validators;
 mod values;
 
+use crate::compiled::Recorder;
 use crate::members::{items, text};
-use crate::{Lines, Made, Recorder};
-use jskw_report::{CompileFault, EvaluationNode, Fault, LazyLocation};
+use crate::{Lines, Made};
+use jskw_report::{CompileFault, EvaluationNode, LazyLocation};
 use jskw_text::read_bytes;
-use jskw_value::{DecimalTree, Json, Node};
+use jskw_value::{DecimalTree, Node};
 use serde_json::Value;
 use std::alloc::Global;
 use std::fmt::Display;
@@ -78,14 +79,6 @@ impl Printer<'_> {
         match &self.location.render() {
             Ok(at) => write!(self, "{}\n", at.as_str()),
             Err(_) => self.check(false),
-        }
-    }
-
-    /// Says what `validate` returned, and what the location is then.
-    fn tell_first<F: Json>(&mut self, answer: &Result<(), Fault<F>>) {
-        self.tell_at(matches!(answer, Err(Fault::Memory(_))));
-        if let Err(Fault::Invalid(error)) = answer {
-            self.lines.push_error(error);
         }
     }
 
@@ -166,8 +159,7 @@ fn make_calls(to: &mut Printer, arguments: &[Value]) {
 
 // Makes the call of an array of arguments, and prints these and what the call returns.
 fn make_case(to: &mut Printer, case: &Value) {
-    to.lines.text.push_made(case.to_string(to.lines.alloc));
-    to.lines.text.push(": ");
+    write!(to.lines.text, "{case}: ");
     push_case(&mut to.lines, to.kind, case);
     to.print_lines();
 }

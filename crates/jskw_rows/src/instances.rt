@@ -78,8 +78,7 @@ pub(crate) fn array_of(alloc: Global, maker: &Value) -> Option<Value> {
         push_item(&mut array, maker, item);
     }
     for item in items(maker, "more") {
-        array.push(",");
-        array.push_made(item.to_string(alloc));
+        write!(array, ",{item}");
     }
     array.push("]");
     array.push_if(is_inside, "]");
@@ -114,8 +113,8 @@ fn standing_for(maker: &Value, item: u64) -> u64 {
 fn push_choices(array: &mut Text, choices: &[Value], number: u64) {
     let mut rest = number;
     for choice in choices {
-        let either = choice.get(if rest % 2 == 0 { 0 } else { 1 });
-        array.push(either.and_then(Value::as_str).unwrap_or("?"));
+        let either = choice.get((rest % 2) as usize).and_then(Value::as_str);
+        array.push(either.unwrap_or("?"));
         rest /= 2;
     }
 }

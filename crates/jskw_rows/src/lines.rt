@@ -2,7 +2,7 @@
 use crate::{Made, Text};
 use jskw_report::{
     Annotations, EnumOptions, EvaluationNode, Fault, Location, TypeKind, ValidationError,
-    ValidationErrorKind,
+    ValidationErrorKind as Kind,
 };
 use jskw_value::{Json, JsonType, JsonTypeSet, SerdeJson};
 use serde_json::Value;
@@ -82,7 +82,7 @@ impl Lines {
     /// Appends the line of why a schema does not compile. The value at fault has its floats.
     pub(crate) fn push_refusal(&mut self, error: &ValidationError<SerdeJson>) {
         let mut value = Text::new(self.alloc);
-        value.push_made(error.instance().to_string(self.alloc));
+        write!(value, "{}", error.instance());
         self.text.push("refused: ");
         self.push_line(error.instance_path().as_str(), value.as_str(), error);
     }
@@ -104,30 +104,28 @@ impl Lines {
     }
 
     // Appends the keyword of a kind and its payload as JSON, `true` for one without.
-    fn push_kind(&mut self, kind: &ValidationErrorKind) {
+    fn push_kind(&mut self, kind: &Kind) {
         let text = &mut self.text;
         write!(text, "{} ", kind.keyword());
         match kind {
-            ValidationErrorKind::AdditionalItems { limit } => write!(text, "{limit}"),
-            ValidationErrorKind::CompileError { message } => write!(text, "\"{message}\""),
-            ValidationErrorKind::Constant { expected_value } => text.push_json(*expected_value),
-            ValidationErrorKind::Enum {
-                options: EnumOptions::Listed(options),
-            } => text.push_json(*options),
-            ValidationErrorKind::Enum {
-                options: EnumOptions::TypeNames,
-            } => text.push("\"typeNames\""),
-            ValidationErrorKind::MinItems { limit }
-            | ValidationErrorKind::MaxItems { limit }
-            | ValidationErrorKind::MinProperties { limit }
-            | ValidationErrorKind::MaxProperties { limit } => write!(text, "{limit}"),
-            ValidationErrorKind::Minimum { limit }
-            | ValidationErrorKind::Maximum { limit }
-            | ValidationErrorKind::ExclusiveMinimum { limit }
-            | ValidationErrorKind::ExclusiveMaximum { limit } => write!(text, "{limit}"),
-            ValidationErrorKind::MultipleOf { multiple_of } => write!(text, "{multiple_of}"),
-            ValidationErrorKind::Required { property } => push_name(self.alloc, text, property),
-            ValidationErrorKind::WrongType { kind } => push_types(text, *kind),
+            Kind::AdditionalItems { limit } => write!(text, "{limit}"),
+            Kind::CompileError { message } => write!(text, "\"{message}\""),
+            Kind::Constant { expected_value } => text.push_json(*expected_value),
+            Kind::Enum { options } => match options {
+                EnumOptions::Listed(options) => text.push_json(*options),
+                EnumOptions::TypeNames => text.push("\"typeNames\""),
+            },
+            Kind::MinItems { limit }
+            | Kind::MaxItems { limit }
+            | Kind::MinProperties { limit }
+            | Kind::MaxProperties { limit }
+            | Kind::MultipleOf { multiple_of: limit } => write!(text, "{limit}"),
+            Kind::Minimum { limit }
+            | Kind::Maximum { limit }
+            | Kind::ExclusiveMinimum { limit }
+            | Kind::ExclusiveMaximum { limit } => write!(text, "{limit}"),
+            Kind::Required { property } => push_name(self.alloc, text, property),
+            Kind::WrongType { kind } => push_types(text, *kind),
             _ => text.push("true"),
         }
     }

@@ -8,7 +8,6 @@ mod calls;
 mod compiled;
 mod group;
 mod instances;
-mod leaves;
 mod lines;
 mod members;
 mod row;
@@ -16,8 +15,6 @@ mod tally;
 mod text;
 mod wanted;
 
-use answer::Said;
-use compiled::Recorder;
 use lines::Lines;
 use members::Members;
 use row::Row;

@@ -13,7 +13,8 @@ pub(crate) type Members = Map<String, Value>;
 pub(crate) fn check_members(tally: &mut Tally, value: &Value, words: &str) {
     let mut known = 0usize;
     for word in words.split(' ') {
-        let found = count_of(value, word.strip_suffix("?").unwrap_or(word));
+        let names = word.strip_suffix("?").unwrap_or(word).split('|');
+        let found = names.filter(|name| value.get(*name).is_some()).count();
         if found > 1 || (found == 0 && !word.ends_with('?')) {
             tally.tell_wrong("just one has to be there", word);
         }
@@ -23,17 +24,6 @@ pub(crate) fn check_members(tally: &mut Tally, value: &Value, words: &str) {
     if members.is_none_or(|members| members.len() != known) {
         tally.tell_wrong("an object with no members but those of", words);
     }
-}
-
-// Returns how many members have one of the names with strokes between them.
-fn count_of(value: &Value, names: &str) -> usize {
-    let mut count = 0usize;
-    for name in names.split('|') {
-        if value.get(name).is_some() {
-            count = count.saturating_add(1);
-        }
-    }
-    count
 }
 
 /// The text of a member by its name, or of an item by its index; empty if there is none.

@@ -1,8 +1,8 @@
 //! A row, and how it is asked.
-use crate::answer::{push_float, push_whole};
+use crate::answer::{push_float, push_keywords, push_whole};
 use crate::instances::{AllKeys, Keys, decimals_of};
 use crate::members::{items, text};
-use crate::{Lines, Made, Members, Tally, Text, Wanted, asked, leaves};
+use crate::{Lines, Members, Tally, Text, Wanted, asked};
 use jskw_report::{Context, Settings};
 use jskw_service::{StdSink, StdSource, run, status};
 use jskw_text::read_bytes;
@@ -43,18 +43,13 @@ impl Row<'_> {
     pub(crate) fn request(&self, alloc: Global, instance: &Value) -> Text {
         let mut request = Text::new(alloc);
         write!(request, "{{\"draft\":\"{}\"", self.draft);
-        for (name, value) in &[
-            ("vocabularies", self.group.get("vocabularies")),
-            ("overridden", self.group.get("overridden")),
-            ("schema", Some(self.schema)),
-            ("instance", Some(instance)),
-        ] {
-            if let Some(value) = value {
-                write!(request, ",\"{name}\":");
-                request.push_made(value.to_string(alloc));
+        for name in &["vocabularies", "overridden"] {
+            if let Some(value) = self.group.get(*name) {
+                write!(request, ",\"{name}\":{value}");
             }
         }
-        request.push("}");
+        write!(request, ",\"schema\":{}", self.schema);
+        write!(request, ",\"instance\":{instance}}}");
         request
     }
 }
@@ -109,10 +104,11 @@ fn check_all(tally: &mut Tally, row: &Row, wanted: &Wanted, of: &Value) {
 fn check_text(tally: &mut Tally, row: &Row, wanted: &Wanted, of: &DecimalTree) {
     let mut own = Text::new(tally.alloc);
     own.push_json(of);
-    let given = match row.test.get("text") {
-        Some(Value::String(text)) => text.as_str(),
-        _ => own.as_str(),
-    };
+    let given = row
+        .test
+        .get("text")
+        .and_then(Value::as_str)
+        .unwrap_or(own.as_str());
     match &read_bytes(tally.alloc, given.as_bytes()) {
         Ok(read) => {
             let mut written = Text::new(tally.alloc);
@@ -131,7 +127,7 @@ fn check_over<F: Json>(tally: &mut Tally, row: &Row, wanted: &Wanted, of: &F::No
     tally.compare(way, wanted.answer.as_str(), found.text.as_str());
     if let Some(parent) = row.keywords {
         let mut found = Lines::new(tally.alloc, true, wanted.has_messages);
-        leaves::push_answer::<F>(&mut found, row, parent, of);
+        push_keywords::<F>(&mut found, row, parent, of);
         let mut by = Text::new(tally.alloc);
         write!(by, "{way}, each keyword by itself");
         tally.compare(by.as_str(), wanted.answer.as_str(), found.text.as_str());
@@ -167,7 +163,9 @@ pub(crate) fn check_unchecked(tally: &mut Tally, row: &Row) {
         let root: Context<SerdeJson> = Context::new(tally.alloc, row.settings);
         let ctx = root.with_object_layer(*layer);
         let mut found = Text::new(tally.alloc);
-        push_unchecked(&mut found, &unchecked(tally.alloc, &ctx, row.schema));
+        if let Some(list) = &found.made(unchecked(tally.alloc, &ctx, row.schema)) {
+            push_unchecked(&mut found, list);
+        }
         tally.take_layer(*layer);
         tally.compare("unchecked", wanted.as_str(), found.as_str());
     }
@@ -175,14 +173,13 @@ pub(crate) fn check_unchecked(tally: &mut Tally, row: &Row) {
 }
 
 /// Appends a line for each member: its location, and why it is not checked.
-pub(crate) fn push_unchecked(to: &mut Text, list: &Made<Vec<UncheckedMember>>) {
-    match list {
-        Ok(list) => {
-            for member in list {
-                let (at, reason) = (member.location().as_str(), member.reason().as_str());
-                write!(to, "{at} {reason}\n");
-            }
-        }
-        Err(_) => to.cut(),
+pub(crate) fn push_unchecked(to: &mut Text, list: &[UncheckedMember]) {
+    for member in list {
+        write!(
+            to,
+            "{} {}\n",
+            member.location().as_str(),
+            member.reason().as_str()
+        );
     }
 }

@@ -131,8 +131,7 @@ impl Tally {
             self.differing = self.differing.saturating_add(1);
             self.differing_of_row = self.differing_of_row.saturating_add(1);
             if self.differing_of_row == 1 {
-                self.told.push(self.place.as_str());
-                write!(self.told, ", {way}{}\n", self.layer);
+                write!(self.told, "{}, {way}{}\n", self.place.as_str(), self.layer);
                 write!(self.told, "  asked: {}\n", cut(self.question.as_str()));
                 write!(self.told, "  wanted: {}\n", cut(difference(wanted, found)));
                 write!(self.told, "  found: {}\n", cut(difference(found, wanted)));

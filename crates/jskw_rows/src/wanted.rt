@@ -29,15 +29,20 @@ impl Wanted {
             output: Text::new(alloc),
             has_messages: false,
         };
-        for error in items(test, "errors") {
-            wanted.push_error(test, instance, error);
-        }
         let (has_errors, is_valid) = (test.get("errors").is_some(), test.get("valid").is_some());
+        for error in items(test, "errors") {
+            let found = instance.pointer(text(error, "instanceLocation"));
+            wanted.push_error(error, found, test.get("decimals").is_some(), "\t");
+        }
         wanted.output.push_if(has_errors, "status 1\n");
         wanted.answer.push_if(is_valid, "valid\n");
         wanted.output.push_if(is_valid, "valid\nstatus 0\n");
         if let Some(error) = test.get("refused") {
-            wanted.push_refusal(error);
+            let found = error.get("value").unwrap_or(&Value::Null);
+            wanted.answer.push("refused: ");
+            wanted.output.push("refused: schema\t");
+            wanted.push_error(error, Some(found), false, "");
+            wanted.output.push("status 2\n");
         }
         if test.get("float").is_some() {
             let location = text(test, "float");
@@ -48,36 +53,9 @@ impl Wanted {
         wanted
     }
 
-    // Appends the error of a schema that does not compile.
-    fn push_refusal(&mut self, error: &Value) {
-        let mut value = Text::new(self.alloc);
-        let found = error.get("value").unwrap_or(&Value::Null);
-        value.push_made(found.to_string(self.alloc));
-        self.answer.push("refused: ");
-        self.output.push("refused: schema\t");
-        self.push_line(error, value.as_str(), "");
-        self.output.push("status 2\n");
-    }
-
-    // Appends an error of a test, whose value at fault is that of the instance.
-    fn push_error(&mut self, test: &Value, instance: &Value, error: &Value) {
-        let mut value = Text::new(self.alloc);
-        match instance.pointer(text(error, "instanceLocation")) {
-            None => value.push("a value that is nowhere"),
-            Some(found) if test.get("decimals").is_none() => {
-                value.push_made(found.to_string(self.alloc));
-            }
-            Some(found) => {
-                if let Ok(Some(tree)) = &decimals_of(self.alloc, found) {
-                    value.push_json(tree);
-                }
-            }
-        }
-        self.push_line(error, value.as_str(), "\t");
-    }
-
-    // Appends the lines of an error about a value of this text. `tab` separates the two locations.
-    fn push_line(&mut self, error: &Value, value: &str, tab: &str) {
+    // Appends the lines of an error about this value, of which texts may stand for decimals. `tab`
+    // separates the two locations.
+    fn push_error(&mut self, error: &Value, found: Option<&Value>, has_decimals: bool, tab: &str) {
         let Some((keyword, payload)) = keyword_of(error) else {
             return self.answer.push("an error without a keyword");
         };
@@ -87,14 +65,30 @@ impl Wanted {
         by.push_if(is_default, keyword);
         by.push(text(error, "keywordLocation"));
         write!(self.output, "{keyword}\t{at}{tab}{}\n", by.as_str());
-        write!(self.answer, "{keyword} ");
-        self.answer.push_made(payload.to_string(self.alloc));
-        write!(self.answer, " at {at} by {} of {value}", by.as_str());
+        write!(
+            self.answer,
+            "{keyword} {payload} at {at} by {} of ",
+            by.as_str()
+        );
+        self.push_value(found, has_decimals);
         if error.get("message").is_some() {
             self.has_messages = true;
             write!(self.answer, ", {}", text(error, "message"));
         }
         self.answer.push("\n");
+    }
+
+    // Appends the value at fault.
+    fn push_value(&mut self, found: Option<&Value>, has_decimals: bool) {
+        match found {
+            None => self.answer.push("a value that is nowhere"),
+            Some(found) if !has_decimals => write!(self.answer, "{found}"),
+            Some(found) => {
+                if let Ok(Some(tree)) = &decimals_of(self.alloc, found) {
+                    self.answer.push_json(tree);
+                }
+            }
+        }
     }
 }
 

@@ -63,34 +63,28 @@ struct FailsOnce<T> {
 }
 
 impl<T> FailsOnce<T> {
-    // Returns whether this call is the one that fails.
-    fn fails(&mut self) -> bool {
+    // Returns how many of so many bytes this call may move, or its error.
+    fn most(&mut self, count: usize) -> io::Result<usize> {
         let fails = self.calls == 0;
         self.calls = self.calls.wrapping_sub(1);
-        fails
+        match self.error {
+            Some(kind) if fails => Err(kind)?,
+            _ => Ok(if fails { 0 } else { count }),
+        }
     }
 }
 
 impl<R: Read> Read for FailsOnce<R> {
     fn read(&mut self, buf: &mut [u8]) -> io::Result<usize> {
-        match (self.fails(), self.error) {
-            (true, Some(kind)) => Err(kind)?,
-            (true, None) => Ok(0),
-            (false, _) => {
-                let most = buf.len().min(4);
-                self.device.read(&mut buf[..most])
-            }
-        }
+        let most = self.most(4)?.min(buf.len());
+        self.device.read(&mut buf[..most])
     }
 }
 
 impl<W: Write> Write for FailsOnce<W> {
     fn write(&mut self, bytes: &[u8]) -> io::Result<usize> {
-        match (self.fails(), self.error) {
-            (true, Some(kind)) => Err(kind)?,
-            (true, None) => Ok(0),
-            (false, _) => self.device.write(&bytes[..bytes.len().min(3)]),
-        }
+        let most = self.most(3)?.min(bytes.len());
+        self.device.write(&bytes[..most])
     }
 
     fn flush(&mut self) -> io::Result<()> {
@@ -104,11 +98,9 @@ impl<W: Write> Write for FailsOnce<W> {
 pub(super) fn push_runs(lines: &mut Lines, of_reader: bool) {
     for error in &[Some(ErrorKind::Interrupted), Some(ErrorKind::Other), None] {
         for calls in 0..10 {
-            if of_reader {
-                push_run(lines, calls, usize::MAX, *error);
-            } else {
-                push_run(lines, usize::MAX, calls, *error);
-            }
+            let reads = if of_reader { calls } else { usize::MAX };
+            let writes = if of_reader { usize::MAX } else { calls };
+            push_run(lines, reads, writes, *error);
         }
     }
 }

@@ -4,13 +4,12 @@ ghost use Rattle.std.specs.Prelude.{IsTrue};
 ghost use Rattle.jskw_value.specs.Tree.{is_lawful};
 
 use super::Printer;
-use crate::leaves::At;
-use crate::{Made, compiled};
+use crate::Made;
+use crate::compiled::{self, AsksKeywords, At};
 use jskw_array::SchemaNode;
 use jskw_array::compiler::compile;
-use jskw_leaf::is_leaf;
 use jskw_report::{
-    Context, EvaluationResult, KeywordName, Location, LocationSegment, Settings, Validate,
+    Context, EvaluationResult, Fault, Location, LocationSegment, Settings, Validate,
     ValidationContext, ValidationError, ValidationErrorKind,
 };
 use jskw_value::{Json, Node};
@@ -19,13 +18,8 @@ use serde_json::Value;
 type Errors<'i, F> = Vec<ValidationError<'i, F>>;
 
 /// Compiles a schema, and asks of an instance what the calls of a kind ask.
-pub(super) fn ask_over<F: Json>(
-    to: &mut Printer,
-    settings: &Settings,
-    schema: &Value,
-    of: &F::Node,
-) {
-    let root: Context<F> = Context::new(to.lines.alloc, settings);
+pub(super) fn ask_over<F: Json>(to: &mut Printer, by: &Settings, schema: &Value, of: &F::Node) {
+    let root: Context<F> = Context::new(to.lines.alloc, by);
     let below = root.new_at_location(to.lines.alloc, LocationSegment::Name("a/b"));
     match (to.kind, &below) {
         ("below", Ok(below)) => ask_schema(to, below, schema, of),
@@ -34,8 +28,8 @@ pub(super) fn ask_over<F: Json>(
 }
 
 fn ask_schema<'r, F: Json>(to: &mut Printer, ctx: &Context<F>, schema: &Value, of: &'r F::Node) {
-    if to.kind == "leaves" {
-        ask_keywords(to, ctx, schema, of);
+    if let ("leaves", Value::Object(parent)) = (to.kind, schema) {
+        compiled::ask_keywords(to.lines.alloc, to, ctx, parent, of);
     }
     to.announce("compile", true);
     let node = compile(to.lines.alloc, ctx, schema);
@@ -55,44 +49,21 @@ fn ask_node<'r, F: Json>(to: &mut Printer<'_>, node: &SchemaNode<F>, &(of,): &(&
     }
 }
 
-// Asks each keyword by itself.
-fn ask_keywords<'r, F: Json>(to: &mut Printer, ctx: &Context<F>, schema: &Value, of: &'r F::Node) {
-    let (alloc, Value::Object(parent)) = (to.lines.alloc, schema) else {
-        return;
-    };
-    for keyword in KeywordName::ALL {
-        match parent.get(keyword.as_str()) {
-            Some(schema) if is_leaf(keyword) && keyword.is_active(ctx) => {
-                let name = LocationSegment::Name(keyword.as_str());
-                let by = ctx.location().join(alloc, name);
-                let validator = jskw_leaf::compile(alloc, ctx, parent, keyword, schema);
-                compiled::ask(to, validator, &(by, of), ask_keyword);
-            }
-            _ => {}
-        }
+// A keyword that is asked by itself holds.
+impl AsksKeywords for Printer<'_> {
+    fn ask_keyword<F: Json, V: Validate<F>>(&mut self, keyword: &V, (by, of): &At<'_, F::Node>) {
+        let (Ok(by), true) = (by, of.is_lawful()) else {
+            return self.check(false);
+        };
+        let (mut errors, mut ctx) = (Vec::new(self.lines.alloc), ValidationContext::new());
+        self.announce(by.as_str(), false);
+        let is_valid = keyword.is_valid(of, &mut ctx);
+        let first = keyword.validate(of, &mut self.location, &mut ctx);
+        let all = keyword.collect_errors(of, &mut self.location, &mut ctx, &mut errors);
+        let unit = keyword.evaluate(self.lines.alloc, of, &mut self.location, &mut ctx);
+        let are_alike = is_valid & first.is_ok() & all.is_ok() & errors.is_empty();
+        write!(self, ", answered {}\n", are_alike & is_valid_unit(&unit));
     }
-}
-
-// Asks the observers of a keyword that holds.
-fn ask_keyword<'r, F: Json, V: Validate<F>>(
-    to: &mut Printer<'_>,
-    keyword: &V,
-    (by, of): &At<'r, F::Node>,
-) {
-    if !of.is_lawful() {
-        return to.check(false);
-    }
-    let (mut errors, mut ctx) = (Vec::new(to.lines.alloc), ValidationContext::new());
-    match by {
-        Ok(by) => to.announce(by.as_str(), false),
-        Err(_) => to.check(false),
-    }
-    let is_valid = keyword.is_valid(of, &mut ctx);
-    let first = keyword.validate(of, &mut to.location, &mut ctx);
-    let all = keyword.collect_errors(of, &mut to.location, &mut ctx, &mut errors);
-    let unit = keyword.evaluate(to.lines.alloc, of, &mut to.location, &mut ctx);
-    let holds = is_valid & first.is_ok() & all.is_ok() & errors.is_empty() & is_valid_unit(&unit);
-    write!(to, ", answered {holds}\n");
 }
 
 fn is_valid_unit(unit: &Made<EvaluationResult>) -> bool {
@@ -111,7 +82,10 @@ fn ask_observers<F: Json>(to: &mut Printer, node: &SchemaNode<F>, of: &F::Node)
     write!(to, ", answered {is_valid}\n");
     to.announce("validate", takes_memory);
     let first = node.validate(of, &mut to.location, &mut ctx);
-    to.tell_first(&first);
+    to.tell_at(matches!(first, Err(Fault::Memory(_))));
+    if let Err(Fault::Invalid(error)) = &first {
+        to.lines.push_error(error);
+    }
     collect_errors(to, "collect_errors", node, of);
     collect_errors(to, "collect_first_errors", node, of);
     to.announce("evaluate_instance", true);

@@ -32,8 +32,8 @@ fn ask_unchecked(to: &mut Printer, settings: &Settings, schema: &Value) {
     to.announce("unchecked", true);
     let list = unchecked(to.lines.alloc, &ctx, schema);
     to.tell(list.is_err());
-    if list.is_ok() {
-        push_unchecked(&mut to.lines.text, &list);
+    if let Ok(list) = &list {
+        push_unchecked(&mut to.lines.text, list);
     }
 }
 

@@ -27,12 +27,11 @@ pub(super) fn ask(to: &mut Printer, arguments: &[Value]) {
         to.push_node(tree);
     }
     let mut text = String::new(to.lines.alloc);
-    let is_old = text.push_str("old ").is_ok();
+    to.check(text.push_str("old ").is_ok());
     to.announce("write_json", true);
     let written = value.write_json(&mut text);
     to.tell(written.is_err());
     to.lines.text.push(text.as_str());
-    to.check(is_old);
 }
 
 // The coefficient and the scale of the decimal that is made of them, if there is one.
