@@ -25,7 +25,7 @@ use jskw_value::{DecimalJson, DecimalTree};
 use std::alloc::{AllocError, Global};
 
 /// The answer to a document.
-#[derive(Drop)]
+#[derive(Debug, Drop)]
 pub struct Answer {
     /// Whether the document is valid, or was not checked.
     pub verdict: Verdict,

@@ -5,7 +5,7 @@ ghost use Rattle.jskw_documents.specs.declared.fault.CheckFault.TheVariants.{Mem
 use std::alloc::AllocError;
 
 /// Why the documents of a reader could not be checked to their end.
-#[derive(Clone, Copy)]
+#[derive(Clone, Copy, Debug, PartialEq, Eq)]
 pub enum CheckFault {
     /// The reader failed.
     Read,

@@ -1,7 +1,7 @@
 //! How documents are answered.
 
 /// What is written of a document.
-#[derive(Clone, Copy)]
+#[derive(Clone, Copy, Debug, PartialEq, Eq)]
 pub enum Output {
     /// A line for each error.
     Text,
@@ -12,7 +12,7 @@ pub enum Output {
 }
 
 /// How documents are answered.
-#[derive(Clone, Copy)]
+#[derive(Clone, Copy, Debug, PartialEq, Eq)]
 pub struct Options {
     /// What is written of each document.
     pub output: Output,

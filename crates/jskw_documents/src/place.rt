@@ -11,7 +11,7 @@ use jskw_service::push_bytes;
 use std::alloc::{AllocError, Global};
 
 /// A file, and what is known of the place in it.
-#[derive(Clone, Copy)]
+#[derive(Clone, Copy, Debug)]
 pub struct Place<'f> {
     /// The name of the file.
     pub file: &'f str,
