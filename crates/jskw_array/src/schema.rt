@@ -21,11 +21,21 @@ use std::marker::Model;
 /// Each of its observers has one condition: the instance is lawful, that is, it contains no float;
 /// `Node::is_lawful` returns whether it is. In contracts a node is the schema that it was compiled
 /// from, keyword by keyword.
-#[derive(Drop)]
 pub struct SchemaNode<F: Json> {
     // that of the schema, as a text
     location: Location,
     schema: Subschema<F>,
+}
+
+// Written out: a derived one is proved again, with those of all validators, in each crate that drops
+// a node.
+impl<F: Json> Drop for SchemaNode<F> {
+    fn drop(self) {
+        let SchemaNode {
+            location: _,
+            schema: _,
+        } = self;
+    }
 }
 
 impl<F: Json> Model for SchemaNode<F> {

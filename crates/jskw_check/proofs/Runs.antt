@@ -12,15 +12,6 @@ use Rattle.jskw_documents.specs.Schemas.{schema_given}
 use Rattle.jskw_check.specs.Commands.{Asked, check, wrong}
 use Rattle.jskw_check.specs.Program.{Runs, Tells, schema_unread, usage_error}
 
--- a text of four parts, written one by one
-pub four_written : (n p q r s t u v w x : List ℕ) → n ≡ [] → p ≡ n ++ u → q ≡ p ++ v → r ≡ q ++ w → s ≡ r ++ x
-    → t ≡ s → t ≡ u ++ (v ++ (w ++ x))
-four_written n p q r s t u v w x none first second third fourth is =
-    is ∙ fourth
-    ∙ ap (λ z. z ++ x)
-    (third ∙ ap (λ z. z ++ w) (second ∙ ap (λ z. z ++ v) (first ∙ ap (λ z. z ++ u) none)))
-    ∙ append_assoc (u ++ v) w x ∙ append_assoc u v (w ++ x)
-
 -- wrong arguments
 pub runs_wrong : {E : Type 0} (made : Result ℕ E) (bytes_of : List ℕ → Option (List ℕ)) (why : List ℕ)
     (v : Option (List ℕ)) (failed : Bool) (x y : Option (List ℕ))

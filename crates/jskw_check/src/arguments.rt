@@ -8,7 +8,7 @@ ghost use Rattle.jskw_check.specs.Arguments.{names_of, next_value, no_draft, no_
 ghost use Rattle.jskw_check.specs.Arguments.{output_named, some_or, takes_next, takes_value, value_in, valued};
 ghost use Rattle.jskw_check.specs.Arguments.{vocabularies_or, with_names};
 ghost use Rattle.jskw_check.specs.CommandView.{TakesWords, TakesArgument, command_view, unfinished_view};
-ghost use Rattle.jskw_check.specs.Commands.{command, command_said};
+ghost use Rattle.jskw_check.specs.Commands.{command, command_said, or_input};
 
 use crate::given::{Command, Given, Unfinished};
 use jskw_documents::Output;
@@ -50,15 +50,13 @@ fn command_from(alloc: Global, said: Unfinished) -> Result<Command, AllocError>
         options,
         lines,
         progress,
-        mut files,
+        files,
     } = said;
     let Some(schema) = schema else {
         let why = "the following arguments are required: --schema";
         return Ok(Command::Wrong(String::from_str(alloc, why)?));
     };
-    if files.is_empty() {
-        files.push(String::from_str(alloc, "-")?)?;
-    }
+    let files = or_input(alloc, files)?;
     Ok(Command::Check(Given {
         schema,
         schema_options,
@@ -67,6 +65,16 @@ fn command_from(alloc: Global, said: Unfinished) -> Result<Command, AllocError>
         progress,
         files,
     }))
+}
+
+// Returns the files, or standard input if there is none.
+fn or_input(alloc: Global, mut files: Vec<String>) -> Result<Vec<String>, AllocError>
+    ensures { IfOk result (λ all. map string_bytes all.items ≡ or_input (map string_bytes files.items)) }
+{
+    if files.is_empty() {
+        files.push(String::from_str(alloc, "-")?)?;
+    }
+    Ok(files)
 }
 
 // Takes the first argument of these words, which is one of them or two. Behind `--` each is a file.

@@ -13,7 +13,7 @@ use crate::given::{Command, Given};
 use crate::trouble::Trouble;
 use crate::usage::{HELP, USAGE, VERSION};
 use jskw_documents::{CheckFault, Checker, Folder, UNREAD, Watcher, check_files, schema_of};
-use jskw_service::{ReadFault, Sink, Source, push_bytes, read_all, status, write_all};
+use jskw_service::{ReadFault, Sink, Source, read_all, status, write_all};
 use std::alloc::Global;
 
 // The status if something could not be checked.
@@ -100,12 +100,8 @@ fn refuse_arguments<E: Sink>(alloc: Global, why: &str, errors: &mut E) -> Result
         (E.contents errors.old) (E.contents errors.new) (usage_error why.now)) }
     ensures no_output { is_output_trouble result ≡ false }
 {
-    let mut text = Vec::new(alloc);
-    push_bytes(&mut text, USAGE.as_bytes())?;
-    push_bytes(&mut text, b"jskw check: error: ")?;
-    push_bytes(&mut text, why.as_bytes())?;
-    push_bytes(&mut text, b"\n")?;
-    Ok(tell(errors, &text))
+    let text = format!(in alloc; "{USAGE}jskw check: error: {why}\n")?;
+    Ok(tell(errors, text.as_bytes()))
 }
 
 // Writes why the file of the schema cannot be read.
@@ -120,12 +116,8 @@ fn refuse_schema<E: Sink>(
         (E.contents errors.old) (E.contents errors.new) (schema_unread name.now why.now)) }
     ensures no_output { is_output_trouble result ≡ false }
 {
-    let mut text = Vec::new(alloc);
-    push_bytes(&mut text, name.as_bytes())?;
-    push_bytes(&mut text, b": ")?;
-    push_bytes(&mut text, why.as_bytes())?;
-    push_bytes(&mut text, b"\n")?;
-    Ok(tell(errors, &text))
+    let text = format!(in alloc; "{name}: {why}\n")?;
+    Ok(tell(errors, text.as_bytes()))
 }
 
 // Checks the files, if there is a schema.
@@ -144,6 +136,30 @@ fn check<F: Folder, O: Sink, E: Sink, S: Show>(
         (E.contents errors.old) (E.contents errors.new)) }
     ensures failed { O.has_failed out.new ≡ is_output_trouble result }
 {
+    match read_schema(alloc, folder, given.schema.as_str())? {
+        Ok(text) => check_by(alloc, given, &text, folder, out, errors, show),
+        Err(why) => refuse_schema(alloc, given.schema.as_str(), why, errors),
+    }
+}
+
+// Checks the files by the schema of this text, if it is one.
+fn check_by<F: Folder, O: Sink, E: Sink, S: Show>(
+    alloc: Global,
+    given: Given,
+    text: &[u8],
+    folder: &F,
+    out: &mut O,
+    errors: &mut E,
+    show: &mut S,
+) -> Result<u8, Trouble>
+    requires out_works { O.has_failed out.old ≡ false }
+    requires errors_work { E.has_failed errors.old ≡ false }
+    requires text { HasBytes (F.bytes_of folder.now (string_bytes given.schema)) text.now }
+    ensures runs { IfOk result (λ status. Runs (F.bytes_of folder.now) (check (given_view given)) status
+        (O.contents out.old) (O.contents out.new) (E.has_failed errors.new)
+        (E.contents errors.old) (E.contents errors.new)) }
+    ensures failed { O.has_failed out.new ≡ is_output_trouble result }
+{
     let Given {
         schema,
         schema_options,
@@ -152,11 +168,7 @@ fn check<F: Folder, O: Sink, E: Sink, S: Show>(
         progress,
         files,
     } = given;
-    let text = match read_schema(alloc, folder, schema.as_str())? {
-        Ok(text) => text,
-        Err(why) => return refuse_schema(alloc, schema.as_str(), why, errors),
-    };
-    match schema_of(alloc, schema.as_str(), &text, schema_options)? {
+    match schema_of(alloc, schema.as_str(), text, schema_options)? {
         Ok(schema) => {
             ask_if(show, progress);
             let checker = Checker { schema, options };

@@ -1,7 +1,7 @@
 //! What is done, shown on standard error.
 use crate::program::Show;
 use jskw_documents::{Counts, Watcher};
-use std::alloc::AllocError;
+use std::alloc::{AllocError, Global};
 use std::io::{IsTerminal, Write};
 use std::time::Instant;
 
@@ -64,22 +64,15 @@ impl<'r> Progress<'r> {
     fn line(&self, end: char) -> Result<String, AllocError> {
         let alloc = self.rt.alloc();
         let all = self.before.plus(self.counts);
-        let time = milliseconds(self.begun, now(self.rt)).max(1);
-        let mut line = grouped(self.rt, all.documents as u128)?;
-        line.push_str(" documents, ")?;
-        line.push_str(tenths(self.rt, all.bytes as u128 / 100_000)?.as_str())?;
-        line.push_str(" MB, ")?;
-        line.push_str(grouped(self.rt, all.errors as u128)?.as_str())?;
-        line.push_str(" errors, ")?;
-        line.push_str(tenths(self.rt, all.bytes as u128 / 100 / time)?.as_str())?;
-        line.push_str(" MB/s")?;
+        let speed = all.bytes as u128 / 100 / milliseconds(self.begun, now(self.rt)).max(1);
+        let mut line = String::new(alloc);
+        push_counts(alloc, &mut line, all, speed)?;
         if let Some(size) = self.size {
             let part = self.counts.bytes as u128 * 100 / (size as u128).max(1);
-            line.push_str(format!(in alloc; ", {part}% of the file")?.as_str())?;
+            line.push_str(", ")?;
+            push_grouped(alloc, &mut line, part, "% of the file")?;
         }
-        let mut padded = format!(in alloc; "{:<79}", line.as_str())?;
-        padded.push(end)?;
-        Ok(padded)
+        format!(in alloc; "{:<79}{end}", line.as_str())
     }
 }
 
@@ -128,11 +121,30 @@ fn milliseconds(from: Option<Instant>, to: Option<Instant>) -> u128 {
     }
 }
 
-// Returns a number, with a comma before each three digits.
-fn grouped(rt: &HostRuntime, number: u128) -> Result<String, AllocError> {
-    let alloc = rt.alloc();
+// Appends counts, and a speed in tenths of MB/s.
+fn push_counts(
+    alloc: Global,
+    line: &mut String,
+    all: Counts,
+    speed: u128,
+) -> Result<(), AllocError> {
+    let bytes = all.bytes as u128 / 100_000;
+    push_grouped(alloc, line, all.documents as u128, " documents, ")?;
+    push_grouped(alloc, line, bytes / 10, ".")?;
+    push_grouped(alloc, line, bytes % 10, " MB, ")?;
+    push_grouped(alloc, line, all.errors as u128, " errors, ")?;
+    push_grouped(alloc, line, speed / 10, ".")?;
+    push_grouped(alloc, line, speed % 10, " MB/s")
+}
+
+// Appends a number, with a comma before each three digits, and its unit.
+fn push_grouped(
+    alloc: Global,
+    text: &mut String,
+    number: u128,
+    unit: &str,
+) -> Result<(), AllocError> {
     let digits = format!(in alloc; "{number}")?;
-    let mut text = String::new(alloc);
     let mut left = digits.len();
     for digit in digits.as_str().chars() {
         text.push(digit)?;
@@ -141,13 +153,5 @@ fn grouped(rt: &HostRuntime, number: u128) -> Result<String, AllocError> {
             text.push(',')?;
         }
     }
-    Ok(text)
-}
-
-// Returns a number of tenths, with one decimal.
-fn tenths(rt: &HostRuntime, number: u128) -> Result<String, AllocError> {
-    let mut text = grouped(rt, number / 10)?;
-    let alloc = rt.alloc();
-    text.push_str(format!(in alloc; ".{}", number % 10)?.as_str())?;
-    Ok(text)
+    text.push_str(unit)
 }

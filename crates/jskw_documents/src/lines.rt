@@ -9,6 +9,7 @@ ghost use Rattle.jskw_documents.specs.Streams.{Takes, is_in_line, last_line_of, 
 
 use crate::answer::{answer_to, worse_of};
 use crate::checker::Checker;
+use crate::document::write_answer;
 use crate::fault::CheckFault;
 use crate::watcher::{Counts, Watcher};
 use jskw_service::{Sink, Source, Verdict, write_all};
@@ -274,17 +275,10 @@ fn take_last<W: Sink, V: Watcher>(
         return Ok(lines.verdict);
     }
     let line = mem::replace(&mut lines.begun, Vec::new(alloc));
-    let number = Some(lines.next);
-    let answer = answer_to(alloc, checker, file, number, &line, &mut lines.reader)?;
-    let Ok(()) = write_all(writer, &answer.text) else {
-        return Err(CheckFault::Write);
-    };
-    watcher.saw(
-        lines.counts.plus(Counts {
-            documents: 1,
-            bytes: line.len(),
-            errors: answer.errors,
-        }),
-    );
-    Ok(worse_of(lines.verdict, answer.verdict))
+    let (number, before) = (Some(lines.next), lines.counts);
+    let trees = &mut lines.reader;
+    let said = write_answer(
+        alloc, checker, file, number, &line, trees, before, writer, watcher,
+    )?;
+    Ok(worse_of(lines.verdict, said))
 }

@@ -26,7 +26,6 @@ use std::alloc::{AllocError, Global};
 /// [`compile`] returns every variant but `False`, which is for the schema `false`.
 ///
 /// [`compile`]: crate::compile
-#[derive(Drop)]
 pub enum LeafValidator<F: Json> {
     /// The schema `false` (JSON Schema Core 4.3.2).
     False(FalseValidator),
@@ -76,6 +75,14 @@ macro_rules! dispatch {
             $(LeafValidator::$variant($validator) => $answer,)+
         }
     };
+}
+
+// Written out: a derived one is proved again, with those of all validators, in each crate that drops
+// one.
+impl<F: Json> Drop for LeafValidator<F> {
+    fn drop(self) {
+        dispatch!(self, _validator => {})
+    }
 }
 
 impl<F: Json> LeafValidator<F> {

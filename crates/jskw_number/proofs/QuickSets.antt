@@ -2,7 +2,7 @@
 use Rattle.std.proofs.Common.{◌≡◌, ℕ, zero, suc, List, [], ◌∷◌, ap, get_or, ◌^◌, ◌*◌, ◌%◌, ◌==◌, ◌&&◌, ◌||◌, ℤ, pos}
 use Rattle.std.proofs.Common.{negsuc, ◌*ℤ◌, ◌+ℤ◌, Bool, true, false, not, if◌then◌else◌, Some, None, refl, sym, ap₂}
 use Rattle.std.proofs.Common.{subst, ◌∙◌, arith, lit<, ◌≤◌, ◌<◌, ◌+◌, ◌-◌, drop, length}
-use Rattle.std.proofs.lemmas.Bool.{and_parts, lt-ltb, or_left, true≢false}
+use Rattle.std.proofs.lemmas.Bool.{and_parts, leb-false, leb-true, lt-ltb, ltb-false, or_left, true≢false}
 use Rattle.std.proofs.Math.Bool.{and-true}
 use Rattle.std.proofs.Math.Dec.{eqb-suc-zero}
 use Rattle.std.proofs.Math.IntN.{*ℤ-one, *ℤ_comm, one, suc_ℤ-*ℤ, zero-*ℤ}
@@ -10,8 +10,8 @@ use Rattle.std.proofs.Math.Nat.{mul-mod_left, one-le-pow}
 use Rattle.std.proofs.lemmas.Int.{ints}
 use Rattle.std.proofs.lemmas.List.{drop_more}
 use Rattle.std.specs.Option.{option_and_then, option_map_or}
-use Rattle.std.specs.Prelude.{int_le, int_lt, nat_lt, unsigned_abs, ◌≤ℤ◌, ◌<ℤ◌}
-use Rattle.jskw_value.specs.Number.{Num, exact, float, i64_of, is_multiple_of, is_written_as_integer}
+use Rattle.std.specs.Prelude.{int_le, int_lt, nat_le, nat_lt, unsigned_abs, ◌≤ℤ◌, ◌<ℤ◌}
+use Rattle.jskw_value.specs.Number.{Num, exact, float, i64_of, is_multiple_of, is_written_as_integer, u64_of}
 use Rattle.jskw_value.specs.Number.{written_integer}
 use Rattle.jskw_value.specs.Tree.{Tree, null, boolean, number, string, array, object, as_number, is_array}
 use Rattle.jskw_value.specs.Types as types
@@ -26,7 +26,7 @@ use Rattle.jskw_number.specs.declared.quick_set.QuickSet.{QuickSet}
 use Rattle.std.specs.Int.NonZero.{non_zero_u64_get}
 use Rattle.std.specs.declared.num.NonZeroU64.{NonZeroU64}
 use Rattle.jskw_number.specs.QuickSet.{Accepts, IsNarrower, divides, encloses, has_fraction, has_number, in_range}
-use Rattle.jskw_number.specs.QuickSet.{has_type, is_in, is_in_limits, leading, type_index}
+use Rattle.jskw_number.specs.QuickSet.{has_type, is_in, is_in_limits, is_in_types, leading, type_index}
 use Rattle.jskw_report.proofs.HoldsElsewhere.{IsOther, holds_of_other, subject}
 use Rattle.jskw_number.proofs.Divisors.{divides_other}
 use Rattle.jskw_number.proofs.Limits.{limit_other}
@@ -154,6 +154,35 @@ pub all_between : (r : IntegerRange) (z : ℤ) → non_zero_u64_get r.divisor �
     → in_range r z ≡ (int_le r.low z && int_le z r.high)
 all_between r z e = rw (one_divides r.divisor z e) (and-true _)
 
+-- ---- integers from 0 on
+
+-- one comparison tests both ends: that of the difference to the first, as a word of 64 bits
+pub window : (f l k : ℕ) → f ≤ l → l < 2 ^ 64 → k < 2 ^ 64
+    → nat_le ((k + (2 ^ 64 - f)) % 2 ^ 64) (l - f) ≡ (nat_le f k && nat_le k l)
+window f l k order top word = go _ _ _ refl refl refl
+  where
+    offset : ℕ
+    offset = (k + (2 ^ 64 - f)) % 2 ^ 64
+
+    go : (r x y : Bool) → nat_le offset (l - f) ≡ r → nat_le f k ≡ x → nat_le k l ≡ y → r ≡ (x && y)
+    go true true true a b c = refl
+    go false false y a b c = refl
+    go false true false a b c = refl
+    go true false y a b c =
+        let here = leb-true offset (l - f) a in
+        let below = leb-false f k b in
+        absurd (omega (arith, order, top, word, here, below))
+    go true true false a b c =
+        let here = leb-true offset (l - f) a in
+        let above = leb-true f k b in
+        let beyond = leb-false k l c in
+        absurd (omega (arith, order, top, word, here, above, beyond))
+    go false true true a b c =
+        let beyond = leb-false offset (l - f) a in
+        let above = leb-true f k b in
+        let below = leb-true k l c in
+        absurd (omega (arith, order, top, word, beyond, above, below))
+
 -- ---- two ranges
 
 -- the integers of `both` are those of a range cut by the divisor of the other, then from its lower bound on, then up to
@@ -207,6 +236,10 @@ accepted_integers q g test e within (string s) h = absurd (true≢false (sym h �
 accepted_integers q g test e within (array ts) h = absurd (true≢false (sym h ∙ e (array ts)))
 accepted_integers q g test e within (object ms) h = absurd (true≢false (sym h ∙ e (object ms)))
 
+or_right : (a b : Bool) → b ≡ true → (a || b) ≡ true
+or_right true b w = refl
+or_right false b w = w
+
 or_none : (b : Bool) → (b || false) ≡ true → b ≡ true
 or_none true h = refl
 or_none false h = h
@@ -241,61 +274,94 @@ whole_is_integer : (rule : Integers) (c : ℤ) → is_integer_by rule (number (e
 whole_is_integer by_value c = let none : unsigned_abs c % 1 ≡ 0 = omega arith in rw none refl
 whole_is_integer as_written c = refl
 
--- and so is a number of a range
-in_range_is_integer : (rule : Integers) (g : IntegerRange) (n : Num) → has_number g n ≡ true
-    → is_integer_by rule (number n) ≡ true
-in_range_is_integer rule g (exact c zero) h = whole_is_integer rule c
-in_range_is_integer rule g (exact c (suc k)) h = absurd (true≢false (sym h))
-in_range_is_integer rule g float h = absurd (true≢false (sym h))
-
 -- marks of the types of the set
 abbrev pub types_in : JsonTypeSet → List Bool
 types_in s =
-    types.contains s Null ∷ types.contains s Boolean ∷ types.contains s Number ∷ types.contains s String
-    ∷ types.contains s Array ∷ types.contains s Object ∷ []
+    types.contains s Null ∷ types.contains s Boolean ∷ (types.contains s Number || types.contains s Integer)
+    ∷ types.contains s String ∷ types.contains s Array ∷ types.contains s Object ∷ []
+
+typed_alone : (a b : Bool) → (a && (b || true)) ≡ a
+typed_alone true true = refl
+typed_alone true false = refl
+typed_alone false b = refl
 
 -- what is no number is in a set by its type
 by_type : (q : QuickSet) (t : Tree) → as_number t ≡ None → is_in q t ≡ has_type q t
-by_type q t e = go q.is_limited
-  where
-    go : (l : Bool) → (if l then option_map_or (is_in_limits q) (as_number t) (has_type q t) else has_type q t)
-        ≡ has_type q t
-    go true = ap (λ o. option_map_or (is_in_limits q) o (has_type q t)) e
-    go false = refl
+by_type q (number n) e = cc
+by_type q null e = refl
+by_type q (boolean b) e = refl
+by_type q (string x) e = refl
+by_type q (array ts) e = refl
+by_type q (object ms) e = refl
 
-pub accepted_types : (q : QuickSet) (s : JsonTypeSet) → q.types ≡ types_in s
-    → q.is_limited ≡ (types.contains s Integer && not (types.contains s Number)) → q.has_fractions ≡ not q.is_limited
+-- a tree is in a limited set as the number that it is
+pub limited_in : (q : QuickSet) (t : Tree) (n : Num) → q.is_limited ≡ true → as_number t ≡ Some n
+    → is_in q t ≡ is_in_limits q n
+limited_in q (number m) n l e =
+    let same : m ≡ n = cc in
+    ap (λ b. if b then is_in_limits q m else is_in_types q m) l ∙ ap (is_in_limits q) same
+limited_in q _ n l e = cc
+
+-- a tree is in a set by its type, if it is no number with a fraction or the set has fractions
+abbrev pub in_types : QuickSet → Tree → Bool
+in_types q t =
+    has_type q t && (q.has_fractions || not (option_map_or (λ n. not (is_written_as_integer n)) (as_number t) false))
+
+-- and in another one by its type, if it has no fraction or the set has fractions
+pub typed_in : (q : QuickSet) (t : Tree) → q.is_limited ≡ false → is_in q t ≡ in_types q t
+typed_in q (number n) l =
+    ap (λ b. if b then is_in_limits q n else is_in_types q n) l
+    ∙ ap (λ b. has_type q (number n) && (q.has_fractions || b)) (sym (twice (is_written_as_integer n)))
+  where
+    twice : (b : Bool) → not (not b) ≡ b
+    twice true = refl
+    twice false = refl
+typed_in q null l = sym (typed_alone _ _)
+typed_in q (boolean b) l = sym (typed_alone _ _)
+typed_in q (string x) l = sym (typed_alone _ _)
+typed_in q (array ts) l = sym (typed_alone _ _)
+typed_in q (object ms) l = sym (typed_alone _ _)
+
+-- which is so of what is no number
+pub other_in : (q : QuickSet) (t : Tree) → as_number t ≡ None → is_in q t ≡ in_types q t
+other_in q (number n) e = cc
+other_in q null e = sym (typed_alone _ _)
+other_in q (boolean b) e = sym (typed_alone _ _)
+other_in q (string x) e = sym (typed_alone _ _)
+other_in q (array ts) e = sym (typed_alone _ _)
+other_in q (object ms) e = sym (typed_alone _ _)
+
+pub ruleset values_within = (limited_in, typed_in, other_in)
+
+pub accepted_types : (q : QuickSet) (s : JsonTypeSet) → q.types ≡ types_in s → q.is_limited ≡ false
+    → q.has_fractions ≡ (types.contains s Number || not (types.contains s Integer))
     → (rule : Integers) (t : Tree) → is_in q t ≡ true → is_of rule s t ≡ true
 accepted_types q s e l f rule = go
   where
-    marked : (t : Tree) → has_type q t ≡ types.contains s (types.json_type t)
-    marked null = ap (λ ts. get_or ts 0 false) e
-    marked (boolean b) = ap (λ ts. get_or ts 1 false) e
-    marked (number n) = ap (λ ts. get_or ts 2 false) e
-    marked (string x) = ap (λ ts. get_or ts 3 false) e
-    marked (array ts) = ap (λ ts. get_or ts 4 false) e
-    marked (object ms) = ap (λ ts. get_or ts 5 false) e
+    written : (n : Num) → is_written_as_integer n ≡ true → is_integer_by rule (number n) ≡ true
+    written (exact c zero) h = whole_is_integer rule c
+    written (exact c (suc k)) h = absurd (true≢false (sym h ∙ eqb-suc-zero k))
+    written float h = absurd (true≢false (sym h))
 
-    other : (t : Tree) → as_number t ≡ None → is_in q t ≡ true → is_of rule s t ≡ true
-    other t none h = or_left _ _ (sym (marked t) ∙ sym (by_type q t none) ∙ h)
+    numbers : (n : Num) (a i : Bool) → ((a || i) && ((a || not i) || is_written_as_integer n)) ≡ true
+        → (a || (i && is_integer_by rule (number n))) ≡ true
+    numbers n true i h = refl
+    numbers n false true h = written n h
+    numbers n false false h = h
 
-    numbers : (n : Num) (a i : Bool) → q.has_fractions ≡ not (i && not a)
-        → (if i && not a then is_in_limits q n else a) ≡ true → (a || (i && is_integer_by rule (number n))) ≡ true
-    numbers n true i w h = refl
-    numbers n false true w h =
-        in_range_is_integer rule q.integers n
-        (subst (λ b. ((b && has_fraction q.integers n) || has_number q.integers n) ≡ true) w h)
-    numbers n false false w h = h
+    marked : (i : ℕ) → get_or q.types i false ≡ get_or (types_in s) i false
+    marked i = ap (λ ts. get_or ts i false) e
 
     go : (t : Tree) → is_in q t ≡ true → is_of rule s t ≡ true
     go (number n) h =
-        numbers n (types.contains s Number) (types.contains s Integer) (f ∙ ap not l)
-        (ap₂ (λ b m. if b then is_in_limits q n else m) (sym l) (sym (marked (number n))) ∙ h)
-    go null h = other null refl h
-    go (boolean b) h = other (boolean b) refl h
-    go (string x) h = other (string x) refl h
-    go (array ts) h = other (array ts) refl h
-    go (object ms) h = other (object ms) refl h
+        numbers n (types.contains s Number) (types.contains s Integer)
+        (sym (ap (λ b. if b then is_in_limits q n else is_in_types q n) l
+        ∙ ap₂ (λ m x. m && (x || is_written_as_integer n)) (marked 2) f) ∙ h)
+    go null h = or_left _ _ (sym (marked 0) ∙ h)
+    go (boolean b) h = or_left _ _ (sym (marked 1) ∙ h)
+    go (string x) h = or_left _ _ (sym (marked 3) ∙ h)
+    go (array ts) h = or_left _ _ (sym (marked 4) ∙ h)
+    go (object ms) h = or_left _ _ (sym (marked 5) ∙ h)
 
 -- ---- what a keyword is not about
 
@@ -343,7 +409,33 @@ other_within q n e =
     written (exact c (suc k)) = rw (eqb-suc-zero k) refl
     written float = refl
 
-pub ruleset numbers_within = (integer_within, other_within)
+-- a number from 0 on is in a set by the range if it is in that, whose end is a word
+pub natural_within : (q : QuickSet) (n : Num) (k : ℕ) → option_and_then u64_of (written_integer n) ≡ Some k
+    → q.integers.high <ℤ pos (2 ^ 63) → is_in_limits q n ≡ in_range q.integers (pos k)
+natural_within q (exact (pos m) zero) k e h =
+    ap₂ (λ b x. b || x) (and_none q.has_fractions) (go (nat_lt m (2 ^ 63)) refl)
+  where
+    word : (b : Bool) → (if b then Some m else None) ≡ Some k → m ≡ k
+    word true w = cc
+    word false w = cc
+
+    same : m ≡ k
+    same = word (nat_lt m (2 ^ 64)) e
+
+    above : (x : Bool) → int_le (pos k) q.integers.high ≡ x → nat_lt m (2 ^ 63) ≡ false
+        → (int_le q.integers.low (pos k) && x && divides q.integers.divisor (pos k)) ≡ false
+    above true f g = let large = ltb-false m (2 ^ 63) g in absurd (omega (arith, ints, same, f, large, h))
+    above false f g = ap (λ b. b && divides q.integers.divisor (pos k)) (and_none (int_le q.integers.low (pos k)))
+
+    go : (b : Bool) → nat_lt m (2 ^ 63) ≡ b
+        → option_map_or (in_range q.integers) (if b then Some (pos m) else None) false ≡ in_range q.integers (pos k)
+    go true f = ap (λ x. in_range q.integers (pos x)) same
+    go false f = sym (above (int_le (pos k) q.integers.high) refl f)
+natural_within q (exact (negsuc m) zero) k e h = cc
+natural_within q (exact c (suc i)) k e h = cc
+natural_within q float k e h = cc
+
+pub ruleset numbers_within = (natural_within, integer_within, other_within)
 
 -- a number that passes a test is in the set if all that it accepts are
 pub passed_is_in : (q : QuickSet) (t : Tree) (n : Num) (accepts : Num → Bool)
@@ -377,10 +469,6 @@ enclosed_is_in q (number m) n l h limited fractions one e enclosed = go q.is_lim
     same : m ≡ n
     same = cc
 
-    or_right : (a b : Bool) → b ≡ true → (a || b) ≡ true
-    or_right true b w = refl
-    or_right false b w = w
-
     numbers : (x : Num) → encloses q.integers x ≡ true → is_in_limits q x ≡ true
     numbers (exact c zero) w =
         or_right (q.has_fractions && false) (has_number q.integers (exact c zero))
@@ -388,7 +476,7 @@ enclosed_is_in q (number m) n l h limited fractions one e enclosed = go q.is_lim
     numbers (exact c (suc k)) w = rw (fractions, w) refl
     numbers float w = absurd (true≢false (sym w))
 
-    go : (b : Bool) → b ≡ true → (if b then is_in_limits q m else has_type q (number m)) ≡ true
+    go : (b : Bool) → b ≡ true → (if b then is_in_limits q m else is_in_types q m) ≡ true
     go true w = numbers m (ap (encloses q.integers) same ∙ enclosed)
     go false w = absurd (true≢false (sym w))
 enclosed_is_in q _ n l h limited fractions one e enclosed = cc
@@ -404,62 +492,137 @@ leading_next {A = A} check xs i d l h =
 
 -- ---- two sets
 
-pub neither_left : (a b : Bool) → (a || b) ≡ false → a ≡ false
-neither_left true b h = h
-neither_left false b h = refl
-
-pub neither_right : (a b : Bool) → (a || b) ≡ false → b ≡ false
-neither_right true b h = absurd (true≢false h)
-neither_right false b h = h
-
 -- what is in a set is in two others if each has all of it
-pub both_true : (q r s : QuickSet) → ((t : Tree) → is_in q t ≡ true → is_in r t ≡ true)
+both_true : (q r s : QuickSet) → ((t : Tree) → is_in q t ≡ true → is_in r t ≡ true)
     → ((t : Tree) → is_in q t ≡ true → is_in s t ≡ true)
     → (t : Tree) → is_in q t ≡ true → (is_in r t && is_in s t) ≡ true
 both_true q r s one other t h = rw (one t h, other t h) refl
 
--- A set is part of another if its types, its range and its fractions are. Of the other's range and fractions one need
--- know only which numbers they put into it.
-pub is_part : (q s : QuickSet) (r : IntegerRange)
-    → ((j : JsonType) → get_or q.types (type_index j) false ≡ true → get_or s.types (type_index j) false ≡ true)
-    → (q.is_limited ≡ false → s.is_limited ≡ false) → (q.has_fractions ≡ true → s.has_fractions ≡ true)
-    → IsNarrower q.integers r → ((z : ℤ) → in_range q.integers z ≡ true → in_range r z ≡ true)
+-- numbers of a range are in a set if those of a wider range are, with fractions or without
+within_range : (s : QuickSet) (k r : IntegerRange) (f : Bool) → (f ≡ true → s.has_fractions ≡ true)
+    → IsNarrower k r → ((z : ℤ) → in_range k z ≡ true → in_range r z ≡ true)
     → ((n : Num) → has_number r n ≡ true → is_in s (number n) ≡ true)
     → ((n : Num) → s.has_fractions ≡ true → has_fraction r n ≡ true → is_in s (number n) ≡ true)
-    → (t : Tree) → is_in q t ≡ true → is_in s t ≡ true
-is_part q s r typed limited fractions narrower within integers between = go
+    → (n : Num) → ((f && has_fraction k n) || has_number k n) ≡ true → is_in s (number n) ≡ true
+within_range s k r f fractions narrower within integers between = numbers
   where
-    kept : (c : ℤ) (b : Bool) → option_map_or (in_range q.integers) (if b then Some c else None) false ≡ true
+    kept : (c : ℤ) (b : Bool) → option_map_or (in_range k) (if b then Some c else None) false ≡ true
         → option_map_or (in_range r) (if b then Some c else None) false ≡ true
     kept c true h = within c h
     kept c false h = h
 
-    whole : (c : ℤ) → has_number q.integers (exact c zero) ≡ true → has_number r (exact c zero) ≡ true
+    whole : (c : ℤ) → has_number k (exact c zero) ≡ true → has_number r (exact c zero) ≡ true
     whole (pos n) h = kept (pos n) (nat_lt n (2 ^ 63)) h
     whole (negsuc n) h = kept (negsuc n) (nat_lt n (2 ^ 63)) h
 
-    numbers : (n : Num) → is_in_limits q n ≡ true → is_in s (number n) ≡ true
+    numbers : (n : Num) → ((f && has_fraction k n) || has_number k n) ≡ true → is_in s (number n) ≡ true
     numbers (exact c zero) h =
-        integers (exact c zero)
-        (whole c (sym (ap (λ b. b || has_number q.integers (exact c zero)) (and_none q.has_fractions)) ∙ h))
-    numbers (exact c (suc k)) h =
-        let both = and_parts q.has_fractions (encloses q.integers (exact c (suc k))) (or_none _ h) in
-        between (exact c (suc k)) (fractions both.0) (enclosed_wider q.integers r narrower (exact c (suc k)) both.1)
-    numbers float h = absurd (true≢false (sym (or_none _ h) ∙ and_none q.has_fractions))
+        integers (exact c zero) (whole c (sym (ap (λ b. b || has_number k (exact c zero)) (and_none f)) ∙ h))
+    numbers (exact c (suc i)) h =
+        let both = and_parts f (encloses k (exact c (suc i))) (or_none _ h) in
+        between (exact c (suc i)) (fractions both.0) (enclosed_wider k r narrower (exact c (suc i)) both.1)
+    numbers float h = absurd (true≢false (sym (or_none _ h) ∙ and_none f))
 
-    number_in : (n : Num) (l : Bool) → q.is_limited ≡ l → (if l then is_in_limits q n else has_type q (number n)) ≡ true
-        → is_in s (number n) ≡ true
-    number_in n true e h = numbers n h
-    number_in n false e h =
-        ap (λ b. if b then is_in_limits s n else has_type s (number n)) (limited e) ∙ typed Number h
+-- a set is part of another if its numbers are and what is no number
+is_part : (q s : QuickSet) (marks : List Bool)
+    → ((t : Tree) → as_number t ≡ None → is_in q t ≡ get_or marks (type_index (types.json_type t)) false)
+    → ((j : JsonType) → get_or marks (type_index j) false ≡ true → get_or s.types (type_index j) false ≡ true)
+    → ((n : Num) → is_in q (number n) ≡ true → is_in s (number n) ≡ true) → (t : Tree) → is_in q t ≡ true
+    → is_in s t ≡ true
+is_part q s marks typed part numbers (number n) h = numbers n h
+is_part q s marks typed part numbers null h = part Null (sym (typed null refl) ∙ h)
+is_part q s marks typed part numbers (boolean b) h = part Boolean (sym (typed (boolean b) refl) ∙ h)
+is_part q s marks typed part numbers (string x) h = part String (sym (typed (string x) refl) ∙ h)
+is_part q s marks typed part numbers (array ts) h = part Array (sym (typed (array ts) refl) ∙ h)
+is_part q s marks typed part numbers (object ms) h = part Object (sym (typed (object ms) refl) ∙ h)
 
-    other : (t : Tree) → as_number t ≡ None → is_in q t ≡ true → is_in s t ≡ true
-    other t none h = by_type s t none ∙ typed (types.json_type t) (sym (by_type q t none) ∙ h)
+-- a set of the types of two others
+module _ (q r s : QuickSet) (marks : List Bool)
+    (typed : (t : Tree) → as_number t ≡ None → is_in q t ≡ get_or marks (type_index (types.json_type t)) false)
+    (both : (j : JsonType) → get_or marks (type_index j) false
+    ≡ (get_or r.types (type_index j) false && get_or s.types (type_index j) false)) where
+  left : (j : JsonType) → get_or marks (type_index j) false ≡ true → get_or r.types (type_index j) false ≡ true
+  left j h = (and_parts _ _ (sym (both j) ∙ h)).0
 
-    go : (t : Tree) → is_in q t ≡ true → is_in s t ≡ true
-    go (number n) h = number_in n q.is_limited refl h
-    go null h = other null refl h
-    go (boolean b) h = other (boolean b) refl h
-    go (string x) h = other (string x) refl h
-    go (array ts) h = other (array ts) refl h
-    go (object ms) h = other (object ms) refl h
+  right : (j : JsonType) → get_or marks (type_index j) false ≡ true → get_or s.types (type_index j) false ≡ true
+  right j h = (and_parts _ _ (sym (both j) ∙ h)).1
+
+  -- and of the numbers of two ranges
+  pub both_limited : (k g h : IntegerRange) (f : Bool)
+      → ((n : Num) → is_in q (number n) ≡ ((f && has_fraction k n) || has_number k n))
+      → f ≡ (r.has_fractions && s.has_fractions) → IsNarrower k g × IsNarrower k h
+      → ((z : ℤ) → in_range k z ≡ true → (in_range g z && in_range h z) ≡ true)
+      → ((n : Num) → has_number g n ≡ true → is_in r (number n) ≡ true)
+      → ((n : Num) → r.has_fractions ≡ true → has_fraction g n ≡ true → is_in r (number n) ≡ true)
+      → ((n : Num) → has_number h n ≡ true → is_in s (number n) ≡ true)
+      → ((n : Num) → s.has_fractions ≡ true → has_fraction h n ≡ true → is_in s (number n) ≡ true)
+      → (t : Tree) → is_in q t ≡ true → (is_in r t && is_in s t) ≡ true
+  both_limited k g h f numbers e narrower within a b c d =
+      both_true q r s
+      (is_part q r marks typed left (λ n w. within_range r k g f (λ x. (and_parts _ _ (sym e ∙ x)).0) narrower.0
+      (λ z x. (and_parts _ _ (within z x)).0) a b n (sym (numbers n) ∙ w)))
+      (is_part q s marks typed right (λ n w. within_range s k h f (λ x. (and_parts _ _ (sym e ∙ x)).1) narrower.1
+      (λ z x. (and_parts _ _ (within z x)).1) c d n (sym (numbers n) ∙ w)))
+
+-- numbers that are in one set by their type are so in another
+by_types : (q s : QuickSet) → q.is_limited ≡ false → s.is_limited ≡ false
+    → (get_or q.types 2 false ≡ true → get_or s.types 2 false ≡ true)
+    → (q.has_fractions ≡ true → s.has_fractions ≡ true) → (n : Num) → is_in q (number n) ≡ true
+    → is_in s (number n) ≡ true
+by_types q s l m part fractions n h =
+    let both = and_parts (has_type q (number n)) (q.has_fractions || is_written_as_integer n)
+    (sym (ap (λ b. if b then is_in_limits q n else is_in_types q n) l) ∙ h) in
+    ap (λ b. if b then is_in_limits s n else is_in_types s n) m
+    ∙ rw (part both.0, with_fraction q.has_fractions s.has_fractions (is_written_as_integer n) fractions both.1) refl
+  where
+    with_fraction : (a b w : Bool) → (a ≡ true → b ≡ true) → (a || w) ≡ true → (b || w) ≡ true
+    with_fraction true b w f e = ap (λ x. x || w) (f refl)
+    with_fraction false true w f e = refl
+    with_fraction false false w f e = e
+
+-- a set of the types of two others of which neither limits the numbers
+pub both_typed : (q r s : QuickSet) → q.is_limited ≡ false → r.is_limited ≡ false → s.is_limited ≡ false
+    → ((j : JsonType) → get_or q.types (type_index j) false
+    ≡ (get_or r.types (type_index j) false && get_or s.types (type_index j) false))
+    → q.has_fractions ≡ (r.has_fractions && s.has_fractions)
+    → (t : Tree) → is_in q t ≡ true → (is_in r t && is_in s t) ≡ true
+both_typed q r s l m n both f =
+    both_true q r s
+    (is_part q r q.types (by_type q) (λ j h. (and_parts _ _ (sym (both j) ∙ h)).0)
+    (by_types q r l m (λ h. (and_parts _ _ (sym (both Number) ∙ h)).0) (λ h. (and_parts _ _ (sym f ∙ h)).0)))
+    (is_part q s q.types (by_type q) (λ j h. (and_parts _ _ (sym (both j) ∙ h)).1)
+    (by_types q s l n (λ h. (and_parts _ _ (sym (both Number) ∙ h)).1) (λ h. (and_parts _ _ (sym f ∙ h)).1)))
+
+-- numbers of a set whose type alone decides of them
+pub typed_number : (q : QuickSet) → q.is_limited ≡ false → get_or q.types 2 false ≡ true → (n : Num)
+    → has_number q.integers n ≡ true → is_in q (number n) ≡ true
+typed_number q l e n h =
+    ap (λ b. if b then is_in_limits q n else is_in_types q n) l
+    ∙ ap₂ (λ a w. a && (q.has_fractions || w)) e (written n h) ∙ or_true q.has_fractions
+  where
+    written : (n : Num) → has_number q.integers n ≡ true → is_written_as_integer n ≡ true
+    written (exact c zero) w = refl
+    written (exact c (suc k)) w = absurd (true≢false (sym w))
+    written float w = absurd (true≢false (sym w))
+
+    or_true : (b : Bool) → (b || true) ≡ true
+    or_true true = refl
+    or_true false = refl
+
+pub typed_fraction : (q : QuickSet) → q.is_limited ≡ false → get_or q.types 2 false ≡ true → (n : Num)
+    → q.has_fractions ≡ true → is_in q (number n) ≡ true
+typed_fraction q l e n f =
+    ap (λ b. if b then is_in_limits q n else is_in_types q n) l
+    ∙ ap₂ (λ a b. a && (b || is_written_as_integer n)) e f
+
+pub ranged_number : (q : QuickSet) → q.is_limited ≡ true → (n : Num) → has_number q.integers n ≡ true
+    → is_in q (number n) ≡ true
+ranged_number q l n h = ap (λ b. if b then is_in_limits q n else is_in_types q n) l ∙ or_right _ _ h
+
+pub ranged_fraction : (q : QuickSet) → q.is_limited ≡ true → (n : Num) → q.has_fractions ≡ true
+    → has_fraction q.integers n ≡ true → is_in q (number n) ≡ true
+ranged_fraction q l n f h =
+    ap (λ b. if b then is_in_limits q n else is_in_types q n) l
+    ∙ ap₂ (λ a b. (a && b) || has_number q.integers n) f h
+
+pub ruleset numbers_in = (typed_number, typed_fraction, ranged_number, ranged_fraction)

@@ -2,11 +2,11 @@
 use Rattle.std.specs.Int.NonZero.{non_zero_u64_get}
 use Rattle.std.specs.Option.{option_and_then, option_map_or}
 use Rattle.std.specs.Prelude.{◌≡◌, ℕ, zero, suc, List, [], ◌∷◌, get_or, if◌then◌else◌, ℤ, int_le, unsigned_abs, ◌%◌}
-use Rattle.std.specs.Prelude.{◌==◌, ◌&&◌, ◌||◌, Bool, true, false, pos, ◌^◌, ◌*ℤ◌, ◌≤ℤ◌, ◌+◌, ◌-◌, ◌≤◌, drop}
-use Rattle.std.specs.Prelude.{length, nat_lt}
+use Rattle.std.specs.Prelude.{◌==◌, ◌&&◌, ◌||◌, Bool, true, false, pos, ◌^◌, ◌*ℤ◌, ◌≤ℤ◌, ◌+◌, ◌≤◌, drop}
+use Rattle.std.specs.Prelude.{length, nat_le}
 use Rattle.std.specs.declared.num.NonZeroU64.{NonZeroU64}
-use Rattle.jskw_value.specs.Number.{Num, exact, float, i64_of, u64_of, written_integer}
-use Rattle.jskw_value.specs.Tree.{Tree, as_number}
+use Rattle.jskw_value.specs.Number.{Num, exact, float, i64_of, is_written_as_integer, u64_of, written_integer}
+use Rattle.jskw_value.specs.Tree.{Tree, number}
 use Rattle.jskw_value.specs.Types.{json_type}
 use Rattle.jskw_value.specs.declared.types.JsonType.{JsonType}
 use Rattle.jskw_value.specs.declared.types.JsonType.TheVariants.{Array, Boolean, Integer, Null, Number, Object, String}
@@ -28,9 +28,9 @@ in_range r z = int_le r.low z && int_le z r.high && divides r.divisor z
 abbrev pub has_number : IntegerRange → Num → Bool
 has_number r n = option_map_or (in_range r) (option_and_then i64_of (written_integer n)) false
 
--- k is one of these integers: its difference to the first, as a word of 64 bits, is less than their number
+-- k is one of these integers
 abbrev pub in_naturals : Naturals → ℕ → Bool
-in_naturals m k = nat_lt ((k + (2 ^ 64 - m.first)) % 2 ^ 64) m.count
+in_naturals m k = nat_le m.first k && nat_le k m.last
 
 -- the number is written without a fraction, is from 0 to 2^64 - 1, and passes the check
 abbrev pub has_natural : (ℕ → Bool) → Num → Bool
@@ -65,13 +65,18 @@ type_index Object = 5
 abbrev pub has_type : QuickSet → Tree → Bool
 has_type q t = get_or q.types (type_index (json_type t)) false
 
--- the number is in the set, if this is limited: it is in the range, or has a fraction and is between the ends
+-- the number is in the range of the set, or has a fraction and is between the ends
 abbrev pub is_in_limits : QuickSet → Num → Bool
 is_in_limits q n = (q.has_fractions && has_fraction q.integers n) || has_number q.integers n
 
--- the tree is in the set: a number of a limited set by the range, and all else by its type
+-- the number is in the set, if this is not limited: by its type, but with a fraction only if the set has fractions
+abbrev pub is_in_types : QuickSet → Num → Bool
+is_in_types q n = has_type q (number n) && (q.has_fractions || is_written_as_integer n)
+
+-- the tree is in the set: a number as above, and all else by its type
 abbrev pub is_in : QuickSet → Tree → Bool
-is_in q t = if q.is_limited then option_map_or (is_in_limits q) (as_number t) (has_type q t) else has_type q t
+is_in q (number n) = if q.is_limited then is_in_limits q n else is_in_types q n
+is_in q t = has_type q t
 
 -- the number of elements before the first that fails the check
 abbrev pub leading : {A : Type 0} → (A → Bool) → List A → ℕ

@@ -13,7 +13,6 @@ use jskw_report::{Assertion, KeywordLocation, ValidationErrorKind};
 use jskw_value::Json;
 
 /// The validator of one keyword on numbers or sizes.
-#[derive(Drop)]
 pub enum NumberValidator {
     /// `minItems` (JSON Schema Validation 6.4.2).
     MinItems(MinItemsValidator),
@@ -61,6 +60,14 @@ macro_rules! dispatch {
             $(NumberValidator::$variant($validator) => $answer,)+
         }
     };
+}
+
+// Written out: a derived one is proved again, with those of all validators, in each crate that drops
+// one.
+impl Drop for NumberValidator {
+    fn drop(self) {
+        dispatch!(self, _validator => {})
+    }
 }
 
 impl NumberValidator {

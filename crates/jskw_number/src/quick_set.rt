@@ -1,19 +1,19 @@
 //! Sets of values that a keyword is known to accept, and that a few instructions test. A keyword
 //! may accept more: a value that is not in its set is tested by the keyword itself.
-ghost use Rattle.std.specs.Prelude.{◌%◌, ◌&&◌, ◌*ℤ◌, ◌+◌, ◌-◌, ◌<◌, ◌<ℤ◌, ◌==◌, ◌^◌, ◌≡◌, ◌≤ℤ◌, ◌≤◌, IsTrue};
+ghost use Rattle.std.specs.Prelude.{◌%◌, ◌&&◌, ◌*ℤ◌, ◌+◌, ◌-◌, ◌<◌, ◌<ℤ◌, ◌==◌, ◌^◌, ◌≡◌, ◌≤ℤ◌, ◌≤◌, IfSome};
+ghost use Rattle.std.specs.Prelude.{IsTrue};
 ghost use Rattle.std.specs.Option.{option_map_or};
 ghost use Rattle.std.specs.Prelude.{Bool, ℕ, ℤ, drop, false, get_or, int_le, length, negsuc, not, pos, true};
 ghost use Rattle.jskw_value.specs.Number.{Num, exact, is_exact, is_multiple_of, is_written_as_integer};
 ghost use Rattle.jskw_value.specs.Tree.{Items, Members, array, as_number, is_lawful, items, number, object};
 ghost use Rattle.jskw_value.specs.declared.types.JsonType.{JsonType};
-ghost use Rattle.jskw_number.specs.QuickSet.{IsBehind, IsNarrower, divides, encloses, has_natural, has_number};
-ghost use Rattle.jskw_number.specs.QuickSet.{in_range, in_naturals, is_in, is_in_limits, leading, type_index};
 ghost use Rattle.std.specs.Int.NonZero.{non_zero_u64_get};
 ghost use Rattle.jskw_value.specs.Decimal.{value};
 
 mod making;
 
 use jskw_value::{Array, Decimal, JsonNumber, JsonType, Node};
+use making::type_index;
 use std::num::NonZeroU64;
 
 /// The integers from `low` to `high` that are multiples of the divisor. That is 1 for all of them.
@@ -25,6 +25,8 @@ pub struct IntegerRange {
 }
 
 impl IntegerRange {
+    ghost use Rattle.jskw_number.specs.QuickSet.{IsNarrower, divides, encloses, has_number, in_naturals, in_range};
+
     /// Returns the integers from `low` to `high`.
     #[tactic(auto, using(crate::proofs::QuickSets::all_between))]
     pub fn between(low: i64, high: i64) -> IntegerRange
@@ -103,6 +105,26 @@ impl IntegerRange {
         divisor == 1 || number.unsigned_abs() % divisor == 0
     }
 
+    // Returns whether the ends alone decide which numbers from 0 on are in the range.
+    fn ends_decide(&self) -> bool
+        ensures { result ≡ true
+            → (pos 0 ≤ℤ self.now.high) × (non_zero_u64_get self.now.divisor ≡ 1) }
+    {
+        self.high >= 0 && self.divisor.get() == 1
+    }
+
+    // Returns whether the number is in the range, of which the ends alone decide that.
+    #[inline(always)]
+    #[tactic(auto, using(crate::proofs::QuickSets::all_between))]
+    fn has_natural(&self, natural: u64) -> bool
+        requires high { pos 0 ≤ℤ self.now.high }
+        requires divisor { non_zero_u64_get self.now.divisor ≡ 1 }
+        ensures is_in { result ≡ in_range self.now (pos natural) }
+        ensures word { self.now.high <ℤ pos (2 ^ 63) }
+    {
+        natural <= self.high as u64 && self.low <= natural as i64
+    }
+
     // Returns whether the number, which must be lawful, is an integer of the range that is written
     // without a fraction.
     #[inline(always)]
@@ -145,21 +167,19 @@ impl IntegerRange {
         Ends { range: self }
     }
 
-    // Returns the integers from 0 on that are between the ends.
-    fn naturals(&self) -> Naturals
-        ensures { (k : ℕ) → k < 2 ^ 64 → in_naturals result k ≡ true
-            → (k < 2 ^ 63) × ((int_le self.now.low (pos k) && int_le (pos k) self.now.high) ≡ true) }
+    // Returns the integers from 0 on that are between the ends, if there are any.
+    fn naturals(&self) -> Option<Naturals>
+        ensures { IfSome result (λ m. (k : ℕ) → in_naturals m k ≡ true
+            → (k < 2 ^ 63) × ((int_le self.now.low (pos k) && int_le (pos k) self.now.high) ≡ true)) }
     {
         let first = if self.low < 0 { 0 } else { self.low };
-        let count = if self.high < first {
-            0
-        } else {
-            (self.high - first) as u64 + 1
-        };
-        Naturals {
-            first: first as u64,
-            count,
+        if self.high < first {
+            return None;
         }
+        Some(Naturals {
+            first: first as u64,
+            last: self.high as u64,
+        })
     }
 
     // The integers of the range that are not below the other.
@@ -237,6 +257,8 @@ struct Integers {
 }
 
 impl NumberTest for Integers {
+    ghost use Rattle.jskw_number.specs.QuickSet.{has_number};
+
     ghost accepts = { λ i. has_number i.range };
 
     #[inline(always)]
@@ -245,24 +267,30 @@ impl NumberTest for Integers {
     }
 }
 
-// So many integers from `first` on, which one comparison tests.
+// The integers from `first` to `last`, which one comparison tests.
 #[derive(Clone, Copy, Debug)]
 struct Naturals {
     first: u64,
-    count: u64,
+    last: u64,
+    ghost order: { first ≤ last },
 }
 
 impl Naturals {
+    ghost use Rattle.jskw_number.specs.QuickSet.{in_naturals};
+
     // Returns whether the number is one of them.
     #[inline(always)]
+    #[tactic(auto, using(crate::proofs::QuickSets::window))]
     fn has(&self, number: u64) -> bool
         ensures { result ≡ in_naturals self.now number }
     {
-        number.wrapping_sub(self.first) < self.count
+        number.wrapping_sub(self.first) <= self.last - self.first
     }
 }
 
 impl NumberTest for Naturals {
+    ghost use Rattle.jskw_number.specs.QuickSet.{has_natural, in_naturals};
+
     ghost accepts = { λ m. has_natural (in_naturals m) };
 
     #[inline(always)]
@@ -284,6 +312,8 @@ struct NaturalMultiples {
 }
 
 impl NumberTest for NaturalMultiples {
+    ghost use Rattle.jskw_number.specs.QuickSet.{divides, has_natural, in_naturals};
+
     ghost accepts = { λ m. has_natural (λ k. in_naturals m.naturals k
         && divides m.range.divisor (pos k)) };
 
@@ -307,6 +337,8 @@ struct Multiples {
 }
 
 impl NumberTest for Multiples {
+    ghost use Rattle.jskw_number.specs.QuickSet.{has_number};
+
     ghost accepts = { λ m. has_number m.range };
 
     #[inline(always)]
@@ -331,6 +363,8 @@ struct Ends {
 }
 
 impl NumberTest for Ends {
+    ghost use Rattle.jskw_number.specs.QuickSet.{encloses};
+
     ghost accepts = { λ e. encloses e.range };
 
     #[inline(always)]
@@ -339,23 +373,31 @@ impl NumberTest for Ends {
     }
 }
 
-/// A set of values by their types, in which the numbers may be limited to the integers of a range
-/// that are written without a fraction, or to these and all between them that have one.
+/// A set of values by their types, in which the numbers may be limited to those that are written
+/// without a fraction, to the integers of a range among these, or to such integers and all numbers
+/// between them that have a fraction.
 #[derive(Clone, Copy, Debug)]
 pub struct QuickSet {
-    // for each type, at its place, whether values of the type are in the set
+    // for each type, at its place, whether values of the type are in the set; at that of numbers, if
+    // these are limited, whether the ends of the range alone decide which of them from 0 on are in it
     types: [bool; 6],
-    // the numbers in the set are the integers of the range, whatever `types` has for numbers
+    // the numbers in the set are the integers of the range
     is_limited: bool,
-    // and those with a fraction between its ends
+    // and those with a fraction: between its ends if the numbers are limited, else all
     has_fractions: bool,
     integers: IntegerRange,
+    ghost high: { is_limited ≡ true → get_or types 2 false ≡ true → pos 0 ≤ℤ integers.high },
+    ghost divisor: { is_limited ≡ true → get_or types 2 false ≡ true
+        → non_zero_u64_get integers.divisor ≡ 1 },
 }
 
 impl QuickSet {
+    ghost use Rattle.jskw_number.specs.QuickSet.{IsBehind, is_in, is_in_limits, leading};
+
     /// Returns whether the instance is in the set. The instance must be lawful: it contains no
     /// float. Allocates nothing.
     #[inline(always)]
+    #[tactic(auto, using(crate::proofs::QuickSets::values_within))]
     pub fn contains<N: Node>(&self, instance: &N) -> bool
         requires { IsTrue (is_lawful (N.tree instance.now)) }
         ensures { result ≡ is_in self.now (N.tree instance.now) }
@@ -365,7 +407,13 @@ impl QuickSet {
                 return self.has(number);
             }
         }
-        self.types[type_index(instance.json_type())]
+        if !self.types[type_index(instance.json_type())] {
+            return false;
+        }
+        if self.has_fractions {
+            return true;
+        }
+        !is_fraction(instance)
     }
 
     /// Returns whether all arrays are in the set; if not, none is.
@@ -386,9 +434,15 @@ impl QuickSet {
     #[inline(always)]
     #[tactic(auto, using(crate::proofs::QuickSets::numbers_within))]
     fn has<A: JsonNumber>(&self, number: &A) -> bool
-        requires { IsTrue (is_exact (A.number number.now)) }
+        requires limited { self.now.is_limited ≡ true }
+        requires lawful { IsTrue (is_exact (A.number number.now)) }
         ensures { result ≡ is_in_limits self.now (A.number number.now) }
     {
+        if self.types[type_index(JsonType::Number)] {
+            if let Some(natural) = number.as_u64() {
+                return self.integers.has_natural(natural);
+            }
+        }
         match number.as_i64() {
             Some(integer) => self.integers.contains(integer),
             None => {
@@ -409,7 +463,9 @@ impl QuickSet {
         ensures { IsBehind self.now (items (N.tree instance.now)) start result }
     {
         let range = self.integers;
-        let naturals = range.naturals();
+        let Some(naturals) = range.naturals() else {
+            return start;
+        };
         if range.divisor.get() == 1 {
             return self.behind(&naturals, start, count, instance);
         }
@@ -548,36 +604,5 @@ fn is_fraction<N: Node>(instance: &N) -> bool
     match instance.as_number() {
         Some(number) => !number.is_written_as_integer(),
         None => false,
-    }
-}
-
-// Returns the types that have a mark in both.
-fn in_both(types: &[bool; 6], others: &[bool; 6]) -> [bool; 6]
-    ensures { (j : JsonType) → get_or result (type_index j) false
-        ≡ (get_or types.now (type_index j) false && get_or others.now (type_index j) false) }
-{
-    [
-        types[0] && others[0],
-        types[1] && others[1],
-        types[2] && others[2],
-        types[3] && others[3],
-        types[4] && others[4],
-        types[5] && others[5],
-    ]
-}
-
-// Returns the place of a type in a set. The order is that of the variants of `serde_json::Value`, so
-// that a value's variant is its place.
-fn type_index(json_type: JsonType) -> usize
-    ensures value { result ≡ type_index json_type }
-    ensures within { result < 6 }
-{
-    match json_type {
-        JsonType::Null => 0,
-        JsonType::Boolean => 1,
-        JsonType::Integer | JsonType::Number => 2,
-        JsonType::String => 3,
-        JsonType::Array => 4,
-        JsonType::Object => 5,
     }
 }

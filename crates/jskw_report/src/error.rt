@@ -154,7 +154,6 @@ enum SchemaPath<'i> {
 /// the keyword location from the validator; it owns the instance location. A compile error borrows
 /// the value at fault from the schema and owns its keyword location; its instance location is the
 /// empty pointer.
-#[derive(Drop)]
 #[derive_where(Debug)]
 pub struct ValidationError<'i, F: Json> {
     kind: ValidationErrorKind<'i>,
@@ -162,6 +161,19 @@ pub struct ValidationError<'i, F: Json> {
     schema_path: SchemaPath<'i>,
     #[derive_where(skip)]
     instance: &'i F::Node,
+}
+
+// Written out, as those of the other types that many crates drop: a derived one is proved again, with
+// those of all fields, in each crate that drops one.
+impl<'i, F: Json> Drop for ValidationError<'i, F> {
+    fn drop(self) {
+        let ValidationError {
+            kind: _,
+            instance_path: _,
+            schema_path: _,
+            instance: _,
+        } = self;
+    }
 }
 
 impl<'i, F: Json> ValidationError<'i, F> {

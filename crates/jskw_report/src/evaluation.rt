@@ -17,10 +17,19 @@ use std::alloc::{AllocError, Global};
 use std::marker::Model;
 
 /// The description of one error: the keyword that failed, and a message.
-#[derive(Debug, Drop)]
+#[derive(Debug)]
 pub struct ErrorDescription {
     keyword: &'static str,
     message: String,
+}
+
+impl Drop for ErrorDescription {
+    fn drop(self) {
+        let ErrorDescription {
+            keyword: _,
+            message: _,
+        } = self;
+    }
 }
 
 impl Model for ErrorDescription {

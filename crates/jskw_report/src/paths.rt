@@ -29,9 +29,15 @@ pub enum LocationSegment<'s> {
 /// whole value. Two locations are equal if their texts are.
 ///
 /// A text of up to 19 bytes takes no memory of its own; copies share a longer one.
-#[derive(Debug, Drop)]
+#[derive(Debug)]
 pub struct Location {
     text: LocationText,
+}
+
+impl Drop for Location {
+    fn drop(self) {
+        let Location { text: _ } = self;
+    }
 }
 
 impl Model for Location {

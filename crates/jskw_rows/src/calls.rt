@@ -1,18 +1,15 @@
-//! Calls that no schema makes, and calls that `memory/run` refuses memory: those of a line of standard
-//! input, with what each gives and what its arguments hold afterwards. `README.md` beside `src/` lists
-//! their kinds, and says what is printed.
+//! The calls of a line of standard input, with what each gives and what its arguments hold afterwards.
+//! `README.md` beside `src/` lists their kinds, and says what is printed.
 mod devices;
-mod members;
 mod observers;
 mod reports;
-mod settings;
 mod validators;
 mod values;
 
-use crate::compiled::Recorder;
+use crate::Lines;
+use crate::answer::Recorder;
 use crate::members::{items, text};
-use crate::{Lines, Made};
-use jskw_report::{CompileFault, EvaluationNode, LazyLocation};
+use jskw_report::{CompileFault, LazyLocation};
 use jskw_text::read_bytes;
 use jskw_value::{DecimalTree, Node};
 use serde_json::Value;
@@ -29,15 +26,14 @@ struct Printer<'r> {
     is_right: bool,
     /// What a call gave and left, which is printed before the next is announced.
     lines: Lines,
-    /// Where the instance of a call is.
+    /// Where the instance of a call is: item 2 of item 7 of an item so far behind that the text takes memory.
     location: LazyLocation,
 }
 
 impl Printer<'_> {
     /// What `write!` calls.
     fn write_fmt<D: Display + Drop>(&mut self, part: D) {
-        let printed = print!(self.rt; "{part}");
-        self.check(printed.is_ok());
+        self.is_right &= print!(self.rt; "{part}").is_ok();
     }
 
     /// Notes whether a line says what to do, or can be made and printed.
@@ -48,14 +44,12 @@ impl Printer<'_> {
     /// Prints what the last call gave, each line behind a tab.
     fn print_lines(&mut self) {
         for line in self.lines.text.as_str().lines() {
-            let printed = print!(self.rt; "\t{line}\n");
-            self.is_right &= printed.is_ok();
+            self.is_right &= print!(self.rt; "\t{line}\n").is_ok();
         }
         self.lines.text.set("");
         self.lines.described.set("");
     }
 
-    /// Appends the text of a node to what the call gave.
     fn push_node<N: Node>(&mut self, node: &N) {
         self.lines.text.push_json(node);
         self.lines.text.push("\n");
@@ -70,22 +64,17 @@ impl Printer<'_> {
 
     /// Says that the call has returned and whether it ran out of memory.
     fn tell(&mut self, is_memory: bool) {
-        write!(self, ", {}\n", answered(is_memory));
+        let word = if is_memory { "memory" } else { "answered" };
+        write!(self, ", {word}\n");
     }
 
     /// Says that the call has returned and whether it ran out of memory, and what the location is then.
     fn tell_at(&mut self, is_memory: bool) {
-        write!(self, ", {} at ", answered(is_memory));
+        let word = if is_memory { "memory" } else { "answered" };
+        write!(self, ", {word} at ");
         match &self.location.render() {
             Ok(at) => write!(self, "{}\n", at.as_str()),
             Err(_) => self.check(false),
-        }
-    }
-
-    /// Appends the lines of an evaluation, and of the errors that it describes, to what the call gave.
-    fn push_tree(&mut self, answer: &Made<EvaluationNode>) {
-        if let Ok(root) = answer {
-            self.lines.push_described(root);
         }
     }
 }
@@ -99,19 +88,6 @@ impl Recorder for Printer<'_> {
     }
 }
 
-/// Returns the location of item 2 of item 7 of an item far behind: its text is so long that it takes memory.
-fn far_below(alloc: Global) -> LazyLocation {
-    let mut location = LazyLocation::new(alloc);
-    for index in &[1_000_000_000_000_000_000, 7, 2] {
-        let _ = location.push(*index);
-    }
-    location
-}
-
-fn answered(is_memory: bool) -> &'static str {
-    if is_memory { "memory" } else { "answered" }
-}
-
 /// Prints the name of a line and makes its calls. Returns whether it says what to do.
 pub(crate) fn make(rt: &HostRuntime, line: &str) -> bool {
     match &Value::from_str(rt.alloc(), line) {
@@ -120,7 +96,7 @@ pub(crate) fn make(rt: &HostRuntime, line: &str) -> bool {
     }
 }
 
-fn make_line(rt: &HostRuntime, items: &[Value]) -> bool {
+fn make_line<'l>(rt: &'l HostRuntime, items: &'l [Value]) -> bool {
     let [Value::String(line), Value::String(kind), arguments @ ..] = items else {
         return false;
     };
@@ -131,8 +107,11 @@ fn make_line(rt: &HostRuntime, items: &[Value]) -> bool {
         is_of_decimals: of_decimals.is_some(),
         is_right: true,
         lines: Lines::new(rt.alloc(), false, true),
-        location: far_below(rt.alloc()),
+        location: LazyLocation::new(rt.alloc()),
     };
+    for index in &[1_000_000_000_000_000_000, 7, 2] {
+        to.is_right &= to.location.push(*index).is_ok();
+    }
     write!(to, "{line}\n");
     make_calls(&mut to, arguments);
     to.print_lines();
@@ -142,29 +121,24 @@ fn make_line(rt: &HostRuntime, items: &[Value]) -> bool {
 fn make_calls(to: &mut Printer, arguments: &[Value]) {
     match to.kind {
         "value" => values::ask(to, arguments),
-        "insert" => members::insert(to, arguments),
-        "from_pairs" => members::from_pairs(to, arguments),
-        "from_last_pairs" => members::from_last_pairs(to, arguments),
+        "insert" => values::insert(to, arguments),
+        "from_pairs" => values::from_pairs(to, arguments),
+        "from_last_pairs" => values::from_last_pairs(to, arguments),
         "read_bytes" => devices::read(to, arguments, true),
         "read_nothing" => devices::read(to, arguments, false),
         "reply_to" => devices::reply(to, arguments),
-        "compile" | "schema" | "below" | "leaves" | "unchecked" => settings::ask(to, arguments),
-        _ => {
+        "compile" | "schema" | "below" | "leaves" | "unchecked" => observers::ask(to, arguments),
+        kind => {
             for case in arguments {
-                make_case(to, case);
+                write!(to.lines.text, "{case}: ");
+                push_case(&mut to.lines, kind, case);
+                to.print_lines();
             }
         }
     }
 }
 
-// Makes the call of an array of arguments, and prints these and what the call returns.
-fn make_case(to: &mut Printer, case: &Value) {
-    write!(to.lines.text, "{case}: ");
-    push_case(&mut to.lines, to.kind, case);
-    to.print_lines();
-}
-
-// Makes a call of this kind, and appends what it returns.
+// Makes a call of this kind, with an array of arguments, and appends what it returns.
 fn push_case(lines: &mut Lines, kind: &str, case: &Value) {
     match kind {
         "Decimal::new" => values::push_new(lines, case),
@@ -183,7 +157,7 @@ fn push_case(lines: &mut Lines, kind: &str, case: &Value) {
         "required" => validators::push_required(lines, case),
         "Limit" => validators::push_limits(lines, value(case, 0)),
         "new" => validators::push_new(lines, case),
-        _ => settings::push_case(lines, kind, case),
+        _ => validators::push_case(lines, kind, case),
     }
 }
 

@@ -1,43 +1,31 @@
 //! Groups of rows: a schema under a setting, and tests of it; or requests.
-use crate::instances::array_of;
-use crate::members::{check_members, items, push_lines, settings_of, text};
-use crate::{Members, Row, Tally, Text, row};
-use jskw_leaf::is_leaf;
-use jskw_report::{Context, KeywordName, Settings};
-use jskw_value::SerdeJson;
+use crate::members::{array_of, check_members, has, items, push_lines, settings_of, text};
+use crate::{Row, Tally, Text, row};
 use serde_json::Value;
-use std::alloc::Global;
 
-// The members of a group, of a test, of a claim of counts, of an array that is made, and of requests.
+// The members of a group, and of a test.
 const GROUP: &str = "description drafts? vocabularies? overridden? objectLayer? schema fused? \
     handsOnRequired? refused|unchecked|tests";
 
 const TEST: &str = "description data|each|made decimals? text? valid|errors|float evaluation? \
     applications? asked?";
 
-const COUNTS: &str = "untilFirst ofAll collected?";
-
 const MAKER: &str = "count front? choices? back? crowded? again? more? inside?";
 
-const REQUESTS: &str = "description requests";
-
 /// Asks the rows of a group, or its requests.
-pub(crate) fn check(tally: &mut Tally, group: &Value) {
+pub(crate) fn check(tally: &mut Tally, file: &str, group: &Value) {
     let rows = tally.rows;
-    tally.begin_group(text(group, "description"));
-    let is_of_requests = group.get("requests").is_some();
-    check_members(tally, group, if is_of_requests { REQUESTS } else { GROUP });
-    for request in items(group, "requests") {
-        tally.begin_test("requests", text(request, "description"));
-        check_members(tally, request, "description request output");
-        tally.begin_row(text(request, "request"));
-        let mut wanted = Text::new(tally.alloc);
-        push_lines(&mut wanted, request, "output");
-        row::check_run(tally, text(request, "request"), wanted.as_str());
-        tally.end_row();
+    tally.begin_group(file, text(group, "description"));
+    if has(group, "requests") {
+        check_members(tally, group, "description requests");
+    } else {
+        check_members(tally, group, GROUP);
+        if !has(group, "drafts") {
+            check_draft(tally, group, "2020-12");
+        }
     }
-    if group.get("drafts").is_none() && !is_of_requests {
-        check_draft(tally, group, "2020-12");
+    for request in items(group, "requests") {
+        check_request(tally, request);
     }
     for draft in items(group, "drafts") {
         check_draft(tally, group, draft.as_str().unwrap_or("?"));
@@ -46,11 +34,21 @@ pub(crate) fn check(tally: &mut Tally, group: &Value) {
     tally.check_rows(rows);
 }
 
+fn check_request(tally: &mut Tally, request: &Value) {
+    tally.begin_test("requests", text(request, "description"));
+    check_members(tally, request, "description request output");
+    tally.begin_row(text(request, "request"));
+    let mut wanted = Text::new(tally.alloc);
+    push_lines(&mut wanted, request, "output");
+    row::check_run(tally, text(request, "request"), wanted.as_str());
+    tally.end_row();
+}
+
 // Asks the rows of a group in one draft.
 fn check_draft(tally: &mut Tally, group: &Value, draft: &str) {
     tally.end_tests();
     let settings = settings_of(tally.alloc, group, draft);
-    let (Ok(Some(settings)), Some(schema)) = (&settings, group.get("schema")) else {
+    let (Some(settings), Some(schema)) = (&settings, group.get("schema")) else {
         return tally.tell_wrong("schema, drafts, vocabularies or overridden", draft);
     };
     let row = Row {
@@ -58,7 +56,6 @@ fn check_draft(tally: &mut Tally, group: &Value, draft: &str) {
         draft,
         settings,
         schema,
-        keywords: keywords_of(tally.alloc, settings, schema),
         test: group,
         layers: layers_of(tally, group),
         object_layer: true,
@@ -67,11 +64,11 @@ fn check_draft(tally: &mut Tally, group: &Value, draft: &str) {
 }
 
 fn check_tests(tally: &mut Tally, mut row: Row) {
-    if row.claims("refused") {
+    if has(row.group, "refused") {
         tally.begin_test(row.draft, "refused");
         row::check(tally, row, &Value::Null);
     }
-    if row.claims("unchecked") {
+    if has(row.group, "unchecked") {
         tally.begin_test(row.draft, "unchecked");
         row::check_unchecked(tally, &row);
     }
@@ -88,7 +85,7 @@ fn check_test(tally: &mut Tally, row: Row) {
     check_members(tally, test, TEST);
     for counts in &["applications", "asked"] {
         if let Some(most) = test.get(*counts) {
-            check_members(tally, most, COUNTS);
+            check_members(tally, most, "untilFirst ofAll collected?");
         }
     }
     if let Some(instance) = test.get("data") {
@@ -105,19 +102,6 @@ fn check_test(tally: &mut Tally, row: Row) {
         }
     }
     tally.check_rows(rows);
-}
-
-// Returns a schema that is an object in which no keyword that is read has subschemas.
-fn keywords_of<'s>(alloc: Global, settings: &Settings, schema: &'s Value) -> Option<&'s Members> {
-    let parent = schema.as_object()?;
-    let ctx: Context<SerdeJson> = Context::new(alloc, settings);
-    for keyword in KeywordName::ALL {
-        let is_read = parent.contains_key(keyword.as_str()) && keyword.is_active(&ctx);
-        if is_read && !is_leaf(keyword) {
-            return None;
-        }
-    }
-    Some(parent)
 }
 
 // The object layers with which the answers of a group hold: `true` is with one.

@@ -1,14 +1,70 @@
-//! Errors as lines, each with its payload, both locations and the value at fault, and evaluations.
-use crate::{Made, Text};
+//! Texts that grow, and the lines of errors and evaluations.
 use jskw_report::{
     Annotations, EnumOptions, EvaluationNode, Fault, Location, TypeKind, ValidationError,
     ValidationErrorKind as Kind,
 };
-use jskw_value::{Json, JsonType, JsonTypeSet, SerdeJson};
+use jskw_value::{Json, JsonType, JsonTypeSet, Node, SerdeJson};
 use serde_json::Value;
-use std::alloc::Global;
+use std::alloc::{AllocError, Global};
+use std::fmt::Display;
 
-/// The lines of errors or of an evaluation, and how they are written.
+/// A result that is an error only if memory runs out.
+pub(crate) type Made<T> = Result<T, AllocError>;
+
+/// A text that grows, and whether memory ran out: it says so in the end, so that nobody asks at each step.
+#[derive(Drop)]
+pub(crate) struct Text(String, bool);
+
+impl Text {
+    pub(crate) fn new(alloc: Global) -> Text {
+        Text(String::new(alloc), false)
+    }
+
+    /// The text, or that memory ran out, which no row wants.
+    pub(crate) fn as_str(&self) -> &str {
+        match self.1 {
+            true => "out of memory",
+            false => self.0.as_str(),
+        }
+    }
+
+    pub(crate) fn push(&mut self, part: &str) {
+        self.1 |= self.0.push_str(part).is_err();
+    }
+
+    pub(crate) fn push_if(&mut self, is_so: bool, part: &str) {
+        if is_so {
+            self.push(part);
+        }
+    }
+
+    pub(crate) fn set(&mut self, text: &str) {
+        self.0.clear();
+        self.1 = false;
+        self.push(text);
+    }
+
+    pub(crate) fn write_fmt<D: Display + Drop>(&mut self, part: D) {
+        self.1 |= self.0.write_fmt(part).is_err();
+    }
+
+    pub(crate) fn push_json<N: Node>(&mut self, node: &N) {
+        self.1 |= node.write_json(&mut self.0).is_err();
+    }
+
+    /// Notes whether memory ran out in what belongs to this text.
+    pub(crate) fn keep(&mut self, made: Made<()>) {
+        self.1 |= made.is_err();
+    }
+
+    /// Returns what was made. If memory ran out, notes that and returns `None`.
+    pub(crate) fn made<T>(&mut self, made: Made<T>) -> Option<T> {
+        self.1 |= made.is_err();
+        made.ok()
+    }
+}
+
+/// The lines of errors, each with its payload, both locations and the value at fault, or of an evaluation.
 #[derive(Drop)]
 pub(crate) struct Lines {
     pub(crate) alloc: Global,
@@ -54,16 +110,15 @@ impl Lines {
         location.as_str().strip_prefix(start).unwrap_or("?")
     }
 
-    /// Appends the line of the error that `validate` returned, if any.
+    /// Appends the line of the error that `validate` returned, if any, unless there is one before it.
     pub(crate) fn push_first<F: Json>(&mut self, answer: &Result<(), Fault<F>>) {
         match answer {
-            Ok(()) => {}
-            Err(Fault::Invalid(error)) => self.push_error(error),
-            Err(Fault::Memory(_)) => self.text.cut(),
+            Err(Fault::Invalid(it)) if self.described.as_str().is_empty() => self.push_error(it),
+            Err(Fault::Memory(_)) => self.text.keep(Err(AllocError)),
+            _ => {}
         }
     }
 
-    /// Appends the lines of the errors that were collected.
     pub(crate) fn push_errors<F: Json>(&mut self, made: Made<()>, errors: &[ValidationError<F>]) {
         self.text.keep(made);
         for error in errors {
@@ -89,18 +144,17 @@ impl Lines {
 
     // Appends the line of an error about a value of this text, with the message if it is to be written.
     fn push_line<F: Json>(&mut self, at: &str, value: &str, error: &ValidationError<F>) {
-        let mut message = Text::new(self.alloc);
-        message.push_made(error.message(self.alloc));
+        let message = self.text.made(error.message(self.alloc));
+        let message = message.as_deref().unwrap_or("");
         self.push_kind(error.kind());
         let by = self.behind("/items", error.schema_path());
         let is_same = error.evaluation_path() == error.schema_path();
         write!(self.text, " at {at} by {by} of {value}");
         self.text.push_if(!is_same, ", by another path");
         self.text.push_if(self.has_messages, ", ");
-        self.text.push_if(self.has_messages, message.as_str());
+        self.text.push_if(self.has_messages, message);
         self.text.push("\n");
-        let (keyword, message) = (error.kind().keyword(), message.as_str());
-        write!(self.described, "{keyword}: {message}\n");
+        write!(self.described, "{}: {message}\n", error.kind().keyword());
     }
 
     // Appends the keyword of a kind and its payload as JSON, `true` for one without.
@@ -130,17 +184,18 @@ impl Lines {
         }
     }
 
-    /// Appends the lines of an evaluation, and of the errors that it describes.
-    pub(crate) fn push_described(&mut self, tree: &EvaluationNode) {
-        self.push_nodes(0, tree);
-        self.text.push(self.described.as_str());
+    /// Appends the lines of an evaluation that was made, and of the errors that it describes.
+    pub(crate) fn push_described(&mut self, tree: &Made<EvaluationNode>) {
+        if let Ok(tree) = tree {
+            self.push_nodes(0, tree);
+            self.text.push(self.described.as_str());
+        }
     }
 
     /// Appends the lines of an evaluation. `depth` is how many nodes are above it.
-    pub(crate) fn push_tree(&mut self, depth: usize, node: &Made<EvaluationNode>) {
-        match node {
-            Ok(node) => self.push_nodes(depth, node),
-            Err(_) => self.text.cut(),
+    pub(crate) fn push_tree(&mut self, depth: usize, node: Made<EvaluationNode>) {
+        if let Some(node) = &self.text.made(node) {
+            self.push_nodes(depth, node);
         }
     }
 
@@ -189,12 +244,11 @@ fn push_types(text: &mut Text, kind: TypeKind) {
         TypeKind::Multiple(types) => (types, "[", "]"),
     };
     text.push(open);
-    let mut is_first = true;
     for (name, json_type) in &TYPES {
         if types.contains(*json_type) {
-            text.push_if(!is_first, ",");
+            let is_next = text.as_str().ends_with('"');
+            text.push_if(is_next, ",");
             write!(text, "\"{name}\"");
-            is_first = false;
         }
     }
     text.push(close);

@@ -5,25 +5,19 @@
 mod answer;
 mod asked;
 mod calls;
-mod compiled;
 mod group;
-mod instances;
 mod lines;
 mod members;
 mod row;
 mod tally;
-mod text;
-mod wanted;
 
-use lines::Lines;
+use lines::{Lines, Made, Text};
 use members::Members;
 use row::Row;
 use serde_json::Value;
 use std::process::ExitCode;
 use std::{env, fs, io};
 use tally::Tally;
-use text::{Made, Text};
-use wanted::Wanted;
 
 // The names of the files of rows in a folder, sorted.
 fn file_names(rt: &HostRuntime, folder: &str) -> io::Result<Vec<String>> {
@@ -39,11 +33,11 @@ fn file_names(rt: &HostRuntime, folder: &str) -> io::Result<Vec<String>> {
 }
 
 // Asks the rows of a file's text, which is an array of groups.
-fn check_text(tally: &mut Tally, text: &str) {
+fn check_text(tally: &mut Tally, file: &str, text: &str) {
     match &Value::from_str(tally.alloc, text) {
         Ok(Value::Array(groups)) => {
             for group in groups {
-                group::check(tally, group);
+                group::check(tally, file, group);
             }
         }
         Ok(_) => tally.tell_wrong("the file has to be a JSON array", "another value"),
@@ -62,25 +56,25 @@ fn check_file(rt: &HostRuntime, tally: &mut Tally, folder: &str, name: &str) -> 
     let text = fs::read_to_string(rt, path.as_str())?;
     let before = tally.rows;
     tally.begin_file(name);
-    check_text(tally, text.as_str());
+    check_text(tally, name, text.as_str());
     let rows = tally.rows.saturating_sub(before);
     println!(rt; "{}{name}: {rows} rows", tally.told.as_str())
 }
 
 // Asks the rows of a folder, and returns whether no answer differs and no row has a mistake.
-fn check_folder(rt: &HostRuntime, folder: &str) -> io::Result<bool> {
-    let mut tally = Tally::new(rt.alloc());
+fn check_folder(rt: &HostRuntime, tally: &mut Tally, folder: Option<&str>) -> io::Result<bool> {
+    let folder = folder.unwrap_or(".");
     for name in &file_names(rt, folder)? {
-        check_file(rt, &mut tally, folder, name.as_str())?;
+        check_file(rt, tally, folder, name.as_str())?;
     }
     let (rows, differing, mistakes) = (tally.rows, tally.differing, tally.mistakes);
     println!(rt; "{rows} rows, {differing} answers differ, {mistakes} mistakes")?;
-    Ok(differing == 0 && mistakes == 0)
+    Ok((differing == 0) & (mistakes == 0))
 }
 
 fn main(rt: HostRuntime) -> io::Result<ExitCode> {
     let folder = env::args(&rt)?.nth(1);
-    let mut is_right = check_folder(&rt, folder.as_ref().map_or(".", String::as_str))?;
+    let mut is_right = check_folder(&rt, &mut Tally::new(rt.alloc()), folder.as_deref())?;
     if folder.is_none() {
         for line in rt.lines(rt.alloc()) {
             is_right &= calls::make(&rt, line?.as_str());

@@ -1,8 +1,10 @@
-//! The members of the objects that rows are made of, and the settings that they say. What is of another
-//! kind is read as if it were empty, so that the answers differ.
+//! The members of rows, and what they say: settings, trees of decimals, arrays that are too long to be
+//! written out. What is of another kind is read as if it were empty, so that the answers differ.
 use crate::{Made, Tally, Text};
 use jskw_report::Settings;
 use jskw_service::{draft_named, overridden_of, vocabularies_of};
+use jskw_value::fingerprint::of_whole;
+use jskw_value::{Decimal, DecimalJson, DecimalTree, Json, Member, Node};
 use serde_json::{Index, Map, Value};
 use std::alloc::Global;
 
@@ -13,27 +15,44 @@ pub(crate) type Members = Map<String, Value>;
 pub(crate) fn check_members(tally: &mut Tally, value: &Value, words: &str) {
     let mut known = 0usize;
     for word in words.split(' ') {
-        let names = word.strip_suffix("?").unwrap_or(word).split('|');
-        let found = names.filter(|name| value.get(*name).is_some()).count();
-        if found > 1 || (found == 0 && !word.ends_with('?')) {
-            tally.tell_wrong("just one has to be there", word);
-        }
-        known = known.saturating_add(found);
+        known = known.saturating_add(check_word(tally, value, word));
     }
-    let members = value.as_object();
-    if members.is_none_or(|members| members.len() != known) {
-        tally.tell_wrong("an object with no members but those of", words);
+    match value {
+        Value::Object(members) if members.len() == known => {}
+        _ => tally.tell_wrong("an object with no members but those of", words),
     }
+}
+
+// Tells unless a value has one of the names of a word, or none if it may be missing. Returns how many.
+fn check_word(tally: &mut Tally, value: &Value, word: &str) -> usize {
+    let (names, mut found) = (word.strip_suffix("?").unwrap_or(word), 0usize);
+    for name in names.split('|') {
+        found = found.saturating_add(has(value, name) as usize);
+    }
+    if (found > 1) | ((found == 0) & (names == word)) {
+        tally.tell_wrong("just one has to be there", word);
+    }
+    found
+}
+
+pub(crate) fn has(of: &Value, name: &str) -> bool {
+    of.get(name).is_some()
 }
 
 /// The text of a member by its name, or of an item by its index; empty if there is none.
 pub(crate) fn text<I: Index + Drop>(of: &Value, at: I) -> &str {
-    of.get(at).and_then(Value::as_str).unwrap_or("")
+    match of.get(at) {
+        Some(Value::String(text)) => text.as_str(),
+        _ => "",
+    }
 }
 
 /// The number of one; 0 if there is none.
 pub(crate) fn number<I: Index + Drop>(of: &Value, at: I) -> u64 {
-    of.get(at).and_then(Value::as_u64).unwrap_or(0)
+    match of.get(at) {
+        Some(Value::Number(number)) => number.as_u64().unwrap_or(0),
+        _ => 0,
+    }
 }
 
 /// The items of one; none if it is no array.
@@ -53,13 +72,120 @@ pub(crate) fn push_lines(to: &mut Text, of: &Value, name: &'static str) {
 }
 
 /// The settings of a group in the draft of this name, if it and what the group says of them is right.
-pub(crate) fn settings_of(alloc: Global, group: &Value, draft: &str) -> Made<Option<Settings>> {
-    let vocabularies = vocabularies_of(group.get("vocabularies"));
-    let overridden = overridden_of(alloc, group.get("overridden"))?;
-    match (draft_named(draft), vocabularies, overridden) {
-        (Some(draft), Some(vocabularies), Some(overridden)) => {
-            Ok(Some(Settings::new(draft, vocabularies, overridden)))
-        }
-        _ => Ok(None),
+pub(crate) fn settings_of(alloc: Global, group: &Value, draft: &str) -> Option<Settings> {
+    let draft = draft_named(draft)?;
+    let vocabularies = vocabularies_of(group.get("vocabularies"))?;
+    let overridden = overridden_of(alloc, group.get("overridden")).ok()??;
+    Some(Settings::new(draft, vocabularies, overridden))
+}
+
+/// Trees of decimals of which `N` members are visited in the time of a lookup: with 0 every
+/// required name is looked up, with the greatest all names are walked for.
+pub(crate) struct Keys<const N: usize>;
+
+pub(crate) type AllKeys = Keys<0xffff_ffff_ffff_ffff>;
+
+impl<const N: usize> Json for Keys<N> {
+    type Node = DecimalTree;
+
+    const KEYS_PER_LOOKUP: usize = N;
+
+    fn prepare_key(alloc: Global, name: &str) -> Made<String> {
+        DecimalJson::prepare_key(alloc, name)
     }
+}
+
+/// Returns the tree of a value in which each decimal is written as a text, or `None` if the value has a float.
+pub(crate) fn decimals_of(alloc: Global, value: &Value) -> Made<Option<DecimalTree>> {
+    match value.is_lawful() {
+        true => Ok(Some(tree_of(alloc, value)?)),
+        false => Ok(None),
+    }
+}
+
+fn tree_of(alloc: Global, value: &Value) -> Made<DecimalTree> {
+    match value {
+        Value::String(text) => match decimal_of(alloc, text.as_str()) {
+            Some(decimal) => Ok(DecimalTree::Number(decimal)),
+            None => Ok(DecimalTree::Text(text.clone()?)),
+        },
+        Value::Array(items) => {
+            let mut trees = Vec::new(alloc);
+            for item in items {
+                trees.push(tree_of(alloc, item)?)?;
+            }
+            Ok(DecimalTree::Array(trees))
+        }
+        Value::Object(members) => {
+            let mut pairs = Vec::new(alloc);
+            for (name, value) in members.iter() {
+                let (name, value) = (name.clone()?, tree_of(alloc, value)?);
+                pairs.push(Member { name, value })?;
+            }
+            Ok(DecimalTree::Object(jskw_value::Members::from_last_pairs(pairs)?))
+        }
+        _ => Ok(DecimalTree::from_value(alloc, value)?.unwrap_or(DecimalTree::Null)),
+    }
+}
+
+/// Returns the decimal that is written as a text, if one is: `-0.50` is -50 with the scale 2.
+pub(crate) fn decimal_of(alloc: Global, text: &str) -> Option<Decimal> {
+    let (whole, fraction) = text.split_once('.').unwrap_or((text, ""));
+    let mut digits = Text::new(alloc);
+    write!(digits, "{whole}{fraction}");
+    match (digits.as_str().parse(), fraction.len().try_into()) {
+        (Ok(coefficient), Ok(scale)) => Decimal::new(coefficient, scale),
+        _ => None,
+    }
+}
+
+/// Returns the array that a value describes, as `README.md` beside `src/` says; `None` if it is no JSON.
+pub(crate) fn array_of(alloc: Global, maker: &Value) -> Option<Value> {
+    let is_inside = has(maker, "inside");
+    let mut array = Text::new(alloc);
+    array.push_if(is_inside, "[");
+    array.push("[");
+    for item in 0..number(maker, "count") {
+        push_item(&mut array, maker, item);
+    }
+    for item in items(maker, "more") {
+        write!(array, ",{item}");
+    }
+    array.push("]");
+    array.push_if(is_inside, "]");
+    Value::from_str(alloc, array.as_str()).ok()
+}
+
+// Appends the item of a number, if it has one, behind a comma if it is not the first.
+fn push_item(array: &mut Text, maker: &Value, item: u64) {
+    if has(maker, "crowded") && !is_crowded(item) {
+        return;
+    }
+    let is_first = array.as_str().ends_with('[');
+    array.push_if(!is_first, ",");
+    array.push(text(maker, "front"));
+    let number = match items(maker, "again") {
+        [first, other] if other.as_u64() == Some(item) => first.as_u64().unwrap_or(item),
+        _ => item,
+    };
+    match maker.get("choices") {
+        None => write!(array, "{number}"),
+        Some(_) => push_choices(array, items(maker, "choices"), number),
+    }
+    array.push(text(maker, "back"));
+}
+
+// Appends a text of each two, by the binary digits of a number, the last one first.
+fn push_choices(array: &mut Text, choices: &[Value], number: u64) {
+    let mut rest = number;
+    for choice in choices {
+        array.push(text(choice, (rest % 2) as usize));
+        rest /= 2;
+    }
+}
+
+// Whether the fingerprint of a number is of a sixteenth of the words of a sketch.
+fn is_crowded(number: u64) -> bool {
+    let print = of_whole(&DecimalTree::Number(Decimal::from(number)), 0);
+    print >> 60 == 0 && (print >> 28) % 16 == 0
 }

@@ -1,9 +1,9 @@
-//! A row, and how it is asked.
+//! A row, what it wants, and how it is asked.
 use crate::answer::{push_float, push_keywords, push_whole};
-use crate::instances::{AllKeys, Keys, decimals_of};
-use crate::members::{items, text};
-use crate::{Lines, Members, Tally, Text, Wanted, asked};
-use jskw_report::{Context, Settings};
+use crate::members::{AllKeys, Keys, decimals_of, has, items, push_lines, text};
+use crate::{Lines, Members, Tally, Text, asked};
+use jskw_leaf::is_leaf;
+use jskw_report::{Context, KeywordName, Settings};
 use jskw_service::{StdSink, StdSource, run, status};
 use jskw_text::read_bytes;
 use jskw_unchecked::{UncheckedMember, unchecked};
@@ -18,8 +18,6 @@ pub(crate) struct Row<'r> {
     pub(crate) draft: &'r str,
     pub(crate) settings: &'r Settings,
     pub(crate) schema: &'r Value,
-    /// The schema, if it is an object in which no keyword that is read has subschemas.
-    pub(crate) keywords: Option<&'r Members>,
     /// The test; the group, if that says that the schema does not compile.
     pub(crate) test: &'r Value,
     /// With an object layer if `true`. `run`, which has none, is asked too if `false` is among them.
@@ -28,15 +26,18 @@ pub(crate) struct Row<'r> {
     pub(crate) object_layer: bool,
 }
 
-impl Row<'_> {
-    /// Whether the group has a member of this name.
-    pub(crate) fn claims(&self, name: &'static str) -> bool {
-        self.group.get(name).is_some()
-    }
-
-    // Whether some texts of the instance stand for decimals.
-    fn has_decimals(&self) -> bool {
-        self.test.get("decimals").is_some()
+impl<'r> Row<'r> {
+    // Returns the schema if it is an object in which no keyword that is read has subschemas.
+    fn keywords(&self, alloc: Global) -> Option<&'r Members> {
+        let parent = self.schema.as_object()?;
+        let ctx: Context<SerdeJson> = Context::new(alloc, self.settings);
+        for keyword in KeywordName::ALL {
+            let is_there = parent.contains_key(keyword.as_str());
+            if is_there && !is_leaf(keyword) && keyword.is_active(&ctx) {
+                return None;
+            }
+        }
+        Some(parent)
     }
 
     /// The request that asks for the row.
@@ -58,7 +59,8 @@ impl Row<'_> {
 pub(crate) fn check(tally: &mut Tally, mut row: Row, instance: &Value) {
     let request = row.request(tally.alloc, instance);
     let mut question = Text::new(tally.alloc);
-    let (layers, decimals, text) = (row.layers, row.has_decimals(), text(row.test, "text"));
+    let (layers, text) = (row.layers, text(row.test, "text"));
+    let decimals = has(row.test, "decimals");
     write!(question, "{}, object layer: {layers:?}", request.as_str());
     write!(question, ", decimals: {decimals}");
     question.push_if(!text.is_empty(), ", ");
@@ -73,7 +75,7 @@ pub(crate) fn check(tally: &mut Tally, mut row: Row, instance: &Value) {
     }
     for layer in row.layers {
         row.object_layer = *layer;
-        tally.take_layer(*layer);
+        tally.layer = Some(*layer);
         check_all(tally, &row, &wanted, instance);
     }
     tally.end_row();
@@ -81,7 +83,7 @@ pub(crate) fn check(tally: &mut Tally, mut row: Row, instance: &Value) {
 
 // Asks a row over each representation.
 fn check_all(tally: &mut Tally, row: &Row, wanted: &Wanted, of: &Value) {
-    let tree = if row.has_decimals() {
+    let tree = if has(row.test, "decimals") {
         decimals_of(tally.alloc, of)
     } else {
         check_over::<SerdeJson>(tally, row, wanted, of, "over serde_json");
@@ -99,16 +101,14 @@ fn check_all(tally: &mut Tally, row: &Row, wanted: &Wanted, of: &Value) {
     }
 }
 
-// Asks a row over the tree that is read from a text: that of the test if it has one, which has to be
-// read as the instance, or else the text that the instance is written as.
+// Asks a row over the tree that is read from the text of the test, or else from that of the instance.
 fn check_text(tally: &mut Tally, row: &Row, wanted: &Wanted, of: &DecimalTree) {
     let mut own = Text::new(tally.alloc);
     own.push_json(of);
-    let given = row
-        .test
-        .get("text")
-        .and_then(Value::as_str)
-        .unwrap_or(own.as_str());
+    let given = match row.test.get("text") {
+        Some(Value::String(given)) => given.as_str(),
+        _ => own.as_str(),
+    };
     match &read_bytes(tally.alloc, given.as_bytes()) {
         Ok(read) => {
             let mut written = Text::new(tally.alloc);
@@ -125,7 +125,7 @@ fn check_over<F: Json>(tally: &mut Tally, row: &Row, wanted: &Wanted, of: &F::No
     let mut found = Lines::new(tally.alloc, false, wanted.has_messages);
     push_whole::<F>(&mut found, row, of);
     tally.compare(way, wanted.answer.as_str(), found.text.as_str());
-    if let Some(parent) = row.keywords {
+    if let Some(parent) = row.keywords(tally.alloc) {
         let mut found = Lines::new(tally.alloc, true, wanted.has_messages);
         push_keywords::<F>(&mut found, row, parent, of);
         let mut by = Text::new(tally.alloc);
@@ -146,18 +146,14 @@ pub(crate) fn check_run(tally: &mut Tally, request: &str, wanted: &str) {
     tally.compare("by run", wanted, found.as_str());
 }
 
-/// Compares the members of a schema that are unchecked, with their reasons, with the pairs that a group
-/// lists, with each object layer.
+/// Compares the unchecked members of a schema, with their reasons, with the pairs that a group lists.
 pub(crate) fn check_unchecked(tally: &mut Tally, row: &Row) {
     let (request, layers) = (row.request(tally.alloc, &Value::Null), row.layers);
     let (mut question, mut wanted) = (Text::new(tally.alloc), Text::new(tally.alloc));
     write!(question, "{}, unchecked: {layers:?}", request.as_str());
     tally.begin_row(question.as_str());
     for pair in items(row.group, "unchecked") {
-        for (place, end) in &[("/0", " "), ("/1", "\n")] {
-            let part = pair.pointer(place).and_then(Value::as_str);
-            write!(wanted, "{}{end}", part.unwrap_or("?"));
-        }
+        write!(wanted, "{} {}\n", text(pair, 0), text(pair, 1));
     }
     for layer in layers {
         let root: Context<SerdeJson> = Context::new(tally.alloc, row.settings);
@@ -166,7 +162,7 @@ pub(crate) fn check_unchecked(tally: &mut Tally, row: &Row) {
         if let Some(list) = &found.made(unchecked(tally.alloc, &ctx, row.schema)) {
             push_unchecked(&mut found, list);
         }
-        tally.take_layer(*layer);
+        tally.layer = Some(*layer);
         tally.compare("unchecked", wanted.as_str(), found.as_str());
     }
     tally.end_row();
@@ -175,11 +171,98 @@ pub(crate) fn check_unchecked(tally: &mut Tally, row: &Row) {
 /// Appends a line for each member: its location, and why it is not checked.
 pub(crate) fn push_unchecked(to: &mut Text, list: &[UncheckedMember]) {
     for member in list {
-        write!(
-            to,
-            "{} {}\n",
-            member.location().as_str(),
-            member.reason().as_str()
-        );
+        let (location, reason) = (member.location().as_str(), member.reason().as_str());
+        write!(to, "{location} {reason}\n");
     }
+}
+
+// What a row wants: the lines of the answers, and what `run` writes.
+#[derive(Drop)]
+struct Wanted {
+    alloc: Global,
+    answer: Text,
+    output: Text,
+    // whether an error has a message; then all have one
+    has_messages: bool,
+}
+
+impl Wanted {
+    // What a test wants of an instance, or a group whose schema does not compile.
+    fn of(alloc: Global, test: &Value, instance: &Value) -> Wanted {
+        let mut wanted = Wanted {
+            alloc,
+            answer: Text::new(alloc),
+            output: Text::new(alloc),
+            has_messages: false,
+        };
+        let (has_errors, is_valid) = (has(test, "errors"), has(test, "valid"));
+        for error in items(test, "errors") {
+            let found = instance.pointer(text(error, "instanceLocation"));
+            wanted.push_error(error, found, has(test, "decimals"), "\t");
+        }
+        wanted.output.push_if(has_errors, "status 1\n");
+        wanted.answer.push_if(is_valid, "valid\n");
+        wanted.output.push_if(is_valid, "valid\nstatus 0\n");
+        if let Some(error) = test.get("refused") {
+            let found = error.get("value").unwrap_or(&Value::Null);
+            wanted.answer.push("refused: ");
+            wanted.output.push("refused: schema\t");
+            wanted.push_error(error, Some(found), false, "");
+            wanted.output.push("status 2\n");
+        }
+        if has(test, "float") {
+            let location = text(test, "float");
+            write!(wanted.answer, "float at {location}\n");
+            write!(wanted.output, "refused: float\t{location}\nstatus 2\n");
+        }
+        push_lines(&mut wanted.answer, test, "evaluation");
+        wanted
+    }
+
+    // Appends the lines of an error about this value, in which texts may stand for decimals.
+    fn push_error(&mut self, error: &Value, found: Option<&Value>, has_decimals: bool, tab: &str) {
+        let Some((keyword, payload)) = keyword_of(error) else {
+            return self.answer.push("an error without a keyword");
+        };
+        let (at, mut by) = (text(error, "instanceLocation"), Text::new(self.alloc));
+        let is_default = keyword != "falseSchema" && !has(error, "keywordLocation");
+        by.push_if(is_default, "/");
+        by.push_if(is_default, keyword);
+        by.push(text(error, "keywordLocation"));
+        write!(self.output, "{keyword}\t{at}{tab}{}\n", by.as_str());
+        let by = by.as_str();
+        write!(self.answer, "{keyword} {payload} at {at} by {by} of ");
+        self.push_value(found, has_decimals);
+        if has(error, "message") {
+            self.has_messages = true;
+            write!(self.answer, ", {}", text(error, "message"));
+        }
+        self.answer.push("\n");
+    }
+
+    // Appends the value at fault.
+    fn push_value(&mut self, found: Option<&Value>, has_decimals: bool) {
+        match found {
+            None => self.answer.push("a value that is nowhere"),
+            Some(found) if !has_decimals => write!(self.answer, "{found}"),
+            Some(found) => {
+                if let Ok(Some(tree)) = &decimals_of(self.alloc, found) {
+                    self.answer.push_json(tree);
+                }
+            }
+        }
+    }
+}
+
+// Returns the only other member of an error: its keyword, with the payload.
+fn keyword_of(error: &Value) -> Option<(&str, &Value)> {
+    let mut found = None;
+    for (name, payload) in error.as_object()?.iter() {
+        match name.as_str() {
+            "instanceLocation" | "keywordLocation" | "value" | "message" => {}
+            keyword if found.is_none() => found = Some((keyword, payload)),
+            _ => return None,
+        }
+    }
+    found
 }

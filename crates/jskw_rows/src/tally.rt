@@ -3,22 +3,18 @@ use crate::Text;
 use std::alloc::Global;
 use std::collections::BTreeSet;
 
-// How many bytes of a line are printed.
-const COLUMNS: usize = 400;
-
 /// The rows that were asked, and what is to be printed of them.
 #[derive(Drop)]
 pub(crate) struct Tally {
     pub(crate) alloc: Global,
-    file: Text,
-    // the file and the group
+    // the file and the group that are read or asked, as far as one has begun
     group: Text,
-    // the file, the group and the test that are read or asked, as far as one has begun
-    place: Text,
+    // behind them the test, if one has begun
+    test: Text,
     // what the row asks
     question: Text,
-    // with or without an object layer, behind the way; empty if the way has none
-    layer: &'static str,
+    /// Whether the way is with an object layer, if it has one.
+    pub(crate) layer: Option<bool>,
     // how many answers of the row were not the wanted ones
     differing_of_row: u64,
     pub(crate) told: Text,
@@ -35,11 +31,10 @@ impl Tally {
     pub(crate) fn new(alloc: Global) -> Tally {
         Tally {
             alloc,
-            file: Text::new(alloc),
             group: Text::new(alloc),
-            place: Text::new(alloc),
+            test: Text::new(alloc),
             question: Text::new(alloc),
-            layer: "",
+            layer: None,
             differing_of_row: 0,
             told: Text::new(alloc),
             rows: 0,
@@ -50,13 +45,13 @@ impl Tally {
     }
 
     pub(crate) fn begin_file(&mut self, name: &str) {
-        self.file.set(name);
-        self.place.set(name);
+        self.group.set(name);
+        self.end_tests();
         self.told.set("");
     }
 
-    pub(crate) fn begin_group(&mut self, name: &str) {
-        self.group.set(self.file.as_str());
+    pub(crate) fn begin_group(&mut self, file: &str, name: &str) {
+        self.group.set(file);
         write!(self.group, ": {name}");
         self.end_tests();
     }
@@ -66,13 +61,13 @@ impl Tally {
         let mut all = Text::new(self.alloc);
         write!(all, "{}: {part}: {name}", self.group.as_str());
         self.end_tests();
-        write!(self.place, ": {name}");
+        write!(self.test, ": {name}");
         self.take(all.as_str(), "two tests of one name");
     }
 
     /// Ends the tests of a group: a mistake that is recorded next is in the group.
     pub(crate) fn end_tests(&mut self) {
-        self.place.set(self.group.as_str());
+        self.test.set("");
     }
 
     /// Counts a row, and takes what it asks, which no other row of any file may ask.
@@ -90,7 +85,7 @@ impl Tally {
             self.told.push(" to other ways of asking it\n");
         }
         self.differing_of_row = 0;
-        self.layer = "";
+        self.layer = None;
     }
 
     /// Tells if no row was asked since there were so many.
@@ -98,14 +93,6 @@ impl Tally {
         if self.rows == before {
             self.tell_wrong("no row is asked of", "it");
         }
-    }
-
-    /// Takes the object layer with which the row is asked next.
-    pub(crate) fn take_layer(&mut self, layer: bool) {
-        self.layer = match layer {
-            true => ", with an object layer",
-            false => ", without an object layer",
-        };
     }
 
     // Takes a text that may be taken once.
@@ -120,18 +107,20 @@ impl Tally {
     /// Records a mistake in what is read or asked, and the member or text that has it.
     pub(crate) fn tell_wrong(&mut self, what: &str, with: &str) {
         self.mistakes = self.mistakes.saturating_add(1);
-        self.told.push(self.place.as_str());
+        self.told.push(self.group.as_str());
+        self.told.push(self.test.as_str());
         write!(self.told, "\n  wrong: {what}: {}\n", cut(with));
     }
 
-    /// Records the row if its answer is not the wanted one. `way` is the call that gave it. Of the first
-    /// such answer of a row the first line that differs is printed; the others are counted.
+    /// Records the answer of a row to a way of asking, unless it is the wanted one. The first is printed.
     pub(crate) fn compare(&mut self, way: &str, wanted: &str, found: &str) {
         if wanted != found {
             self.differing = self.differing.saturating_add(1);
             self.differing_of_row = self.differing_of_row.saturating_add(1);
             if self.differing_of_row == 1 {
-                write!(self.told, "{}, {way}{}\n", self.place.as_str(), self.layer);
+                self.told.push(self.group.as_str());
+                self.told.push(self.test.as_str());
+                write!(self.told, ", {way}{}\n", layer_text(self.layer));
                 write!(self.told, "  asked: {}\n", cut(self.question.as_str()));
                 write!(self.told, "  wanted: {}\n", cut(difference(wanted, found)));
                 write!(self.told, "  found: {}\n", cut(difference(found, wanted)));
@@ -140,17 +129,28 @@ impl Tally {
     }
 }
 
-// Returns the first line of a text that is another in the other text, or what is left behind that.
-fn difference<'t>(text: &'t str, other: &str) -> &'t str {
-    for (line, other) in text.lines().zip(other.lines()) {
-        if line != other {
-            return line;
-        }
+fn layer_text(layer: Option<bool>) -> &'static str {
+    match layer {
+        None => "",
+        Some(true) => ", with an object layer",
+        Some(false) => ", without an object layer",
     }
-    text.get(other.len()..).unwrap_or("nothing more")
 }
 
-// Returns the beginning of a long line, unless a character goes on behind it.
+// Returns the first line of a text that is another in the other text.
+fn difference<'t>(text: &'t str, other: &str) -> &'t str {
+    let mut others = other.split('\n');
+    for line in text.split('\n') {
+        match others.next() {
+            Some(other) if line == other => {}
+            _ if line.is_empty() => break,
+            _ => return line,
+        }
+    }
+    "nothing more"
+}
+
+// Returns the first 400 bytes of a longer line, unless a character goes on behind them.
 fn cut(line: &str) -> &str {
-    line.get(..COLUMNS).unwrap_or(line)
+    line.get(..400).unwrap_or(line)
 }

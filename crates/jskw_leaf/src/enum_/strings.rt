@@ -8,12 +8,11 @@ ghost use Rattle.jskw_leaf.specs.Options.{has_null, has_text, is_text, picked, s
 use super::table::{OptionTable, TableEnumValidator};
 use crate::text_table::{is_in_table, sorted};
 use jskw_number::QuickSet;
-use jskw_value::{Json, KeyHead, Node, PropertyName};
+use jskw_value::{Json, Node, PropertyName, is_same_name};
 use serde_json::Value;
 use std::alloc::{AllocError, Global};
 
-/// A table of at most 10 strings. Compares an instance with each: its first bytes, and then the rest
-/// only if these are equal.
+/// A table of at most 10 strings. Compares an instance with each.
 #[derive(Drop)]
 pub struct FewStrings {
     names: Vec<PropertyName>,
@@ -97,9 +96,8 @@ impl OptionTable for SortedStrings {
 fn is_one_of(names: &[PropertyName], text: &str) -> bool
     ensures { result ≡ some_text names.now text.now }
 {
-    let head = KeyHead::of(text);
     for name in names {
-        if name.matches(head, text) {
+        if is_same_name(name.as_str(), text) {
             return true;
         }
     }

@@ -19,9 +19,15 @@ const WHOLE: usize = 128;
 /// above is kept, which all that is below shares, and the few steps from there: many schemas at the
 /// end of a deep one take no more memory than others. The text of such a location is made when an
 /// error or an evaluation needs it.
-#[derive(Debug, Drop)]
+#[derive(Debug)]
 pub struct KeywordLocation {
     place: Place,
+}
+
+impl Drop for KeywordLocation {
+    fn drop(self) {
+        let KeywordLocation { place: _ } = self;
+    }
 }
 
 #[derive(Debug, Drop)]

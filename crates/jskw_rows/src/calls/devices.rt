@@ -53,21 +53,17 @@ fn bytes_of(to: &mut Printer, parts: &[Value]) -> Vec<u8> {
 // A request, which is read in 8 pieces of 4 bytes and the end. Its reply is written in 5 pieces of 3.
 const REQUEST: &[u8] = b"{\"schema\":false,\"instance\":null}";
 
-// A reader or a writer that fails once, after `calls` calls, and works before and afterwards. Without
+// A reader or a writer that fails once, after so many calls, and works before and afterwards. Without
 // an error to give it moves no byte then.
 #[derive(Drop)]
-struct FailsOnce<T> {
-    device: T,
-    calls: usize,
-    error: Option<ErrorKind>,
-}
+struct FailsOnce<T>(T, usize, Option<ErrorKind>);
 
 impl<T> FailsOnce<T> {
     // Returns how many of so many bytes this call may move, or its error.
     fn most(&mut self, count: usize) -> io::Result<usize> {
-        let fails = self.calls == 0;
-        self.calls = self.calls.wrapping_sub(1);
-        match self.error {
+        let fails = self.1 == 0;
+        self.1 = self.1.wrapping_sub(1);
+        match self.2 {
             Some(kind) if fails => Err(kind)?,
             _ => Ok(if fails { 0 } else { count }),
         }
@@ -77,18 +73,18 @@ impl<T> FailsOnce<T> {
 impl<R: Read> Read for FailsOnce<R> {
     fn read(&mut self, buf: &mut [u8]) -> io::Result<usize> {
         let most = self.most(4)?.min(buf.len());
-        self.device.read(&mut buf[..most])
+        self.0.read(&mut buf[..most])
     }
 }
 
 impl<W: Write> Write for FailsOnce<W> {
     fn write(&mut self, bytes: &[u8]) -> io::Result<usize> {
         let most = self.most(3)?.min(bytes.len());
-        self.device.write(&bytes[..most])
+        self.0.write(&bytes[..most])
     }
 
     fn flush(&mut self) -> io::Result<()> {
-        self.device.flush()
+        self.0.flush()
     }
 }
 
@@ -106,18 +102,10 @@ pub(super) fn push_runs(lines: &mut Lines, of_reader: bool) {
 }
 
 fn push_run(lines: &mut Lines, reads: usize, writes: usize, error: Option<ErrorKind>) {
-    let mut source = StdSource::new(FailsOnce {
-        device: REQUEST,
-        calls: reads,
-        error,
-    });
-    let mut sink = StdSink::new(FailsOnce {
-        device: Vec::new(lines.alloc),
-        calls: writes,
-        error,
-    });
+    let mut source = StdSource::new(FailsOnce(REQUEST, reads, error));
+    let mut sink = StdSink::new(FailsOnce(Vec::new(lines.alloc), writes, error));
     let outcome = run(lines.alloc, &mut source, &mut sink);
-    let (status, written) = (status(&outcome), sink.into_inner().device);
+    let (status, written) = (status(&outcome), sink.into_inner().0);
     let written = std::str::from_utf8(written.as_slice()).unwrap_or("?");
     write!(lines.text, "\n{error:?} {outcome:?} {status} {written:?}");
 }

@@ -66,8 +66,9 @@ pub(super) fn push_messages(lines: &mut Lines, options: &Value) {
     ] {
         let (at, by) = (Location::new(lines.alloc), Location::new(lines.alloc));
         let error: ValidationError<SerdeJson> = ValidationError::new(*kind, at, &by, &Value::Null);
-        lines.text.push_made(error.message(lines.alloc));
-        lines.text.push(";");
+        if let Some(message) = &lines.text.made(error.message(lines.alloc)) {
+            write!(lines.text, "{message};");
+        }
     }
 }
 
@@ -83,9 +84,7 @@ pub(super) fn push_constants(lines: &mut Lines) {
 
 // The lines of a node that is made by hand; and the counts of a context from 0 on.
 pub(super) fn push_unit(lines: &mut Lines) {
-    if let Some(node) = &lines.text.made(node_by_hand(lines.alloc)) {
-        lines.push_described(node);
-    }
+    lines.push_described(&node_by_hand(lines.alloc));
     let mut ctx = ValidationContext::new();
     for _ in 0..3 {
         write!(lines.text, "{} ", ctx.applications());

@@ -1,10 +1,9 @@
-//! Calls of keywords by themselves, and of validators that are made by hand.
+//! Calls of settings, of contexts, of keywords by themselves, and of validators that are made by hand.
 #![tactic(auto, using(jskw_value::proofs::DecimalTrees::lawful_tree))]
 
 use super::{tree, value};
-use crate::instances::array_of;
-use crate::members::text;
-use crate::{Lines, Members, Text, compiled};
+use crate::members::{array_of, settings_of, text};
+use crate::{Lines, Members, Text, answer};
 use jskw_array::compiler::compile;
 use jskw_array::items::{
     ArrayShapeValidator, BooleanItems, IntegerItems, IntegerItemsDraft4, ItemType, NumberItems,
@@ -20,13 +19,75 @@ use jskw_leaf::type_::{
 };
 use jskw_number::helpers::map_get_u64;
 use jskw_number::minmax::{Above, AtLeast, AtMost, Below, Limit, LimitTest, Whole};
+use jskw_report::Vocabulary::{Applicator, Core, Validation};
 use jskw_report::context::member_of;
-use jskw_report::{Context, LazyLocation, Location, LocationSegment, Validate, ValidationContext};
+use jskw_report::{
+    Context, LazyLocation, Location, LocationSegment, Settings, Validate, ValidationContext,
+    VocabularySet,
+};
+use jskw_service::vocabularies_of;
 use jskw_value::{DecimalJson, DecimalTree, Node};
 use serde_json::Value;
 
-/// The context of a schema whose instances are trees of decimals.
-pub(super) type Ctx<'s> = Context<'s, DecimalJson>;
+type Ctx<'s> = Context<'s, DecimalJson>;
+
+/// Makes a call of this kind under the settings that stand first, and appends what it returns.
+pub(super) fn push_case(lines: &mut Lines, kind: &str, case: &Value) {
+    let settings = settings_of(lines.alloc, value(case, 1), text(case, 0));
+    let (Some(settings), Value::Object(parent)) = (&settings, value(case, 1)) else {
+        return lines.text.push("no settings");
+    };
+    let ctx: Ctx = Context::new(lines.alloc, settings);
+    let instance = tree(lines.alloc, case, 3);
+    match kind {
+        "Settings" => push_settings(lines, settings, &ctx, case),
+        "Context" => push_contexts(lines, ctx, parent),
+        "map_get_u64" => push_bound(lines, &ctx, parent, text(case, 2)),
+        "additional_items" => push_rest(lines, &ctx, parent, &instance),
+        "ArrayShapeValidator" => push_shape(lines, &ctx, parent, &instance),
+        "enum" => push_options(lines, &ctx, value(case, 2), &instance),
+        _ => lines.text.push("an unknown call"),
+    }
+}
+
+// What settings and a context under them say of the draft, the vocabularies and a name.
+fn push_settings(lines: &mut Lines, settings: &Settings, ctx: &Ctx, case: &Value) {
+    let set = vocabularies_of(value(case, 1).get("vocabularies"));
+    let set = set.unwrap_or(VocabularySet::empty());
+    let is_all = set == VocabularySet::all();
+    let (own, of_context) = (settings.draft(), ctx.draft());
+    write!(lines.text, "{own:?} {of_context:?} {is_all}");
+    for one in &[Core, Applicator, Validation] {
+        let (has, also) = (settings.has_vocabulary(*one), ctx.has_vocabulary(*one));
+        write!(lines.text, " {one:?} {has} {also} {}", set.contains(*one));
+    }
+    let name = text(case, 2);
+    let is_one = settings.is_keyword_overridden(name);
+    write!(lines.text, ", {is_one} {}", ctx.is_keyword_overridden(name));
+}
+
+// What contexts say of themselves: with the layer, without it, two below, and with the layer again.
+fn push_contexts(lines: &mut Lines, whole: Ctx, parent: &Members) {
+    push_context(&mut lines.text, &whole);
+    let whole = whole.with_object_layer(false);
+    push_context(&mut lines.text, &whole);
+    let items = whole.new_at_location(lines.alloc, LocationSegment::Name("items"));
+    if let Some(items) = &lines.text.made(items) {
+        push_context(&mut lines.text, items);
+        let second = items.new_at_location(lines.alloc, LocationSegment::Index(1));
+        if let Some(second) = lines.text.made(second) {
+            push_context(&mut lines.text, &second);
+            push_context(&mut lines.text, &second.with_object_layer(true));
+        }
+    }
+    let (x, y) = (member_of(parent, "x"), member_of(parent, "y"));
+    write!(lines.text, "{} {}", x.is_some(), y.is_some());
+}
+
+fn push_context(text: &mut Text, ctx: &Ctx) {
+    let (location, layer) = (ctx.location().as_str(), ctx.object_layer());
+    write!(text, "{location} {:?} {layer};", ctx.draft());
+}
 
 // The value of a limit of each relation that is made of 7 and that value.
 pub(super) fn push_limits(lines: &mut Lines, value: &Value) {
@@ -52,28 +113,24 @@ pub(super) fn push_new(lines: &mut Lines, case: &Value) {
     }
 }
 
-fn push_made(lines: &mut Lines, name: &str, at: Location, item: &DecimalTree) {
+fn push_made(to: &mut Lines, name: &str, at: Location, item: &DecimalTree) {
     match name {
-        "false" => push_owned(lines, FalseValidator::new(at), item),
-        "array" => push_owned(lines, ArrayTypeValidator::new(at), item),
-        "boolean" => push_owned(lines, BooleanTypeValidator::new(at), item),
-        "integer" => push_owned(lines, IntegerTypeValidator::new(at), item),
-        "integer of Draft 4" => push_owned(lines, IntegerTypeDraft4::new(at), item),
-        "null" => push_owned(lines, NullTypeValidator::new(at), item),
-        "number" => push_owned(lines, NumberTypeValidator::new(at), item),
-        "object" => push_owned(lines, ObjectTypeValidator::new(at), item),
-        "string" => push_owned(lines, StringTypeValidator::new(at), item),
-        "boolean of items" => push_item::<BooleanItems>(lines, at, item),
-        "integer of items" => push_item::<IntegerItems>(lines, at, item),
-        "integer of Draft 4 of items" => push_item::<IntegerItemsDraft4>(lines, at, item),
-        "number of items" => push_item::<NumberItems>(lines, at, item),
-        "string of items" => push_item::<StringItems>(lines, at, item),
-        _ => lines.text.push("an unknown validator"),
+        "false" => push_owned(to, FalseValidator::new(at), item),
+        "array" => push_owned(to, ArrayTypeValidator::new(at), item),
+        "boolean" => push_owned(to, BooleanTypeValidator::new(at), item),
+        "integer" => push_owned(to, IntegerTypeValidator::new(at), item),
+        "integer of Draft 4" => push_owned(to, IntegerTypeDraft4::new(at), item),
+        "null" => push_owned(to, NullTypeValidator::new(at), item),
+        "number" => push_owned(to, NumberTypeValidator::new(at), item),
+        "object" => push_owned(to, ObjectTypeValidator::new(at), item),
+        "string" => push_owned(to, StringTypeValidator::new(at), item),
+        "boolean of items" => push_owned(to, BooleanItems::compile_type(at), item),
+        "integer of items" => push_owned(to, IntegerItems::compile_type(at), item),
+        "integer of Draft 4 of items" => push_owned(to, IntegerItemsDraft4::compile_type(at), item),
+        "number of items" => push_owned(to, NumberItems::compile_type(at), item),
+        "string of items" => push_owned(to, StringItems::compile_type(at), item),
+        _ => to.text.push("an unknown validator"),
     }
-}
-
-fn push_item<T: ItemType>(lines: &mut Lines, at: Location, item: &DecimalTree) {
-    push_owned(lines, T::compile_type(at), item);
 }
 
 fn push_owned<V: Validate<DecimalJson> + Drop>(lines: &mut Lines, made: V, item: &DecimalTree) {
@@ -92,13 +149,13 @@ fn push_said<V: Validate<DecimalJson>>(lines: &mut Lines, validator: &V, item: &
 pub(super) fn push_required(lines: &mut Lines, case: &Value) {
     let (at, item) = (Location::new(lines.alloc), tree(lines.alloc, case, 1));
     let required = compile_with_path::<DecimalJson>(lines.alloc, value(case, 0), at);
-    compiled::ask(lines, required, &item, push_said);
+    answer::ask(lines, required, &item, push_said);
 }
 
 // The bound that a schema has as its member of this name.
-pub(super) fn push_bound(lines: &mut Lines, ctx: &Ctx, parent: &Members, name: &str) {
+fn push_bound(lines: &mut Lines, ctx: &Ctx, parent: &Members, name: &str) {
     let bound = map_get_u64(lines.alloc, parent, ctx, name);
-    compiled::ask(lines, bound, &(), push_number);
+    answer::ask(lines, bound, &(), push_number);
 }
 
 fn push_number(lines: &mut Lines, number: &u64, _: &()) {
@@ -106,10 +163,10 @@ fn push_number(lines: &mut Lines, number: &u64, _: &()) {
 }
 
 // How many schemas the evaluation of `additionalItems` by itself applies.
-pub(super) fn push_rest(lines: &mut Lines, ctx: &Ctx, parent: &Members, of: &DecimalTree) {
+fn push_rest(lines: &mut Lines, ctx: &Ctx, parent: &Members, of: &DecimalTree) {
     let value = parent.get("additionalItems").unwrap_or(&Value::Null);
     let rest = additional_items::compile(lines.alloc, ctx, parent, value);
-    compiled::ask(lines, rest, of, push_applied);
+    answer::ask(lines, rest, of, push_applied);
 }
 
 fn push_applied<V: Validate<DecimalJson>>(lines: &mut Lines, validator: &V, of: &DecimalTree) {
@@ -119,11 +176,11 @@ fn push_applied<V: Validate<DecimalJson>>(lines: &mut Lines, validator: &V, of: 
 }
 
 // The nodes of `type`, `minItems` and `maxItems` of a fused shape; nothing of a schema without one.
-pub(super) fn push_shape(lines: &mut Lines, ctx: &Ctx, parent: &Members, of: &DecimalTree) {
+fn push_shape(lines: &mut Lines, ctx: &Ctx, parent: &Members, of: &DecimalTree) {
     match member_of(parent, "items") {
         Some(items) if array_shape_fusion(ctx, parent) => {
             let shape = ArrayShapeValidator::compile(lines.alloc, ctx, parent, items);
-            compiled::ask(lines, Some(shape), of, push_absorbed);
+            answer::ask(lines, Some(shape), of, push_absorbed);
         }
         _ => {}
     }
@@ -133,7 +190,7 @@ fn push_absorbed(lines: &mut Lines, shape: &ArrayShapeValidator<DecimalJson>, of
     let (alloc, absorbed, is_array) = (lines.alloc, shape.absorbed(), of.is_array());
     let (at, mut nodes) = (Location::new(alloc), Vec::new(alloc));
     let node = absorbed.evaluate_type::<DecimalJson>(alloc, of, is_array, &at);
-    lines.push_tree(0, &node);
+    lines.push_tree(0, node);
     let length = of.item_count() as u64;
     let count = if is_array { Some(length) } else { None };
     let made = absorbed.evaluate_counts::<DecimalJson>(alloc, of, count, &at, &mut nodes);
@@ -144,7 +201,7 @@ fn push_absorbed(lines: &mut Lines, shape: &ArrayShapeValidator<DecimalJson>, of
 }
 
 // Whether an instance is one of the options of a made array.
-pub(super) fn push_options(lines: &mut Lines, ctx: &Ctx, maker: &Value, of: &DecimalTree) {
+fn push_options(lines: &mut Lines, ctx: &Ctx, maker: &Value, of: &DecimalTree) {
     let mut schema = Text::new(lines.alloc);
     schema.push("{\"enum\":");
     if let Some(options) = &array_of(lines.alloc, maker) {
@@ -153,7 +210,7 @@ pub(super) fn push_options(lines: &mut Lines, ctx: &Ctx, maker: &Value, of: &Dec
     schema.push("}");
     if let Ok(schema) = &Value::from_str(lines.alloc, schema.as_str()) {
         let node = compile(lines.alloc, ctx, schema);
-        compiled::ask(lines, Some(node), of, push_holds);
+        answer::ask(lines, Some(node), of, push_holds);
     }
 }
 
