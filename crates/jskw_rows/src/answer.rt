@@ -10,8 +10,8 @@ use jskw_array::compiler::compile;
 use jskw_array::items::array_shape_fusion;
 use jskw_leaf::is_leaf;
 use jskw_report::{
-    CompilationResult, CompileFault, Context, EvaluationNode, EvaluationResult, KeywordName,
-    LazyLocation, Location, LocationSegment, Validate, ValidationContext,
+    CompileFault, Context, EvaluationNode, KeywordName, LazyLocation, Location, LocationSegment,
+    Validate, ValidationContext, ValidationError,
 };
 use jskw_value::{Json, Node};
 use serde_json::Value;
@@ -33,57 +33,35 @@ impl Recorder for Lines {
     }
 }
 
-/// Has `say` ask what was compiled, of what it is given for that; or takes down why nothing was.
-pub(crate) fn ask<R: Recorder, C: Drop, A, S>(
-    to: &mut R,
-    compiled: Option<CompilationResult<'_, C>>,
-    asked: &A,
-    say: S,
-)
-where
-    S: FnOnce(&mut R, &C, &A),
-    requires { S.IsAlwaysCallable say }
-{
-    match &compiled {
-        None => to.push_refused(None),
-        Some(Ok(compiled)) => say(to, compiled, asked),
-        Some(Err(fault)) => to.push_refused(Some(fault)),
-    }
-    drop(compiled);
-}
-
 /// What asks the keywords of a schema one by one.
 pub(crate) trait AsksKeywords: Recorder {
     /// Asks the keyword at a location, by itself, of an instance.
-    fn ask_keyword<F: Json, V: Validate<F>>(&mut self, keyword: &V, at: &At<'_, F::Node>);
+    fn ask_keyword<F: Json, V: Validate<F>>(&mut self, it: &V, at: &Location, of: &F::Node);
 }
 
-/// The location of a keyword, and an instance: `say` takes no bare reference to an associated type.
-pub(crate) type At<'r, N> = (Made<Location>, &'r N);
-
 /// Compiles each keyword that is read and has no subschemas, and has it asked by itself.
-pub(crate) fn ask_keywords<'r, F: Json, R: AsksKeywords>(
+pub(crate) fn ask_keywords<F: Json, R: AsksKeywords>(
     to: &mut R,
     alloc: Global,
     ctx: &Context<F>,
     parent: &Members,
-    of: &'r F::Node,
+    of: &F::Node,
 ) {
     for keyword in KeywordName::ALL {
         match parent.get(keyword.as_str()) {
             Some(schema) if is_leaf(keyword) && keyword.is_active(ctx) => {
                 let name = LocationSegment::Name(keyword.as_str());
-                let at = (ctx.location().join(alloc, name), of);
-                let validator = jskw_leaf::compile(alloc, ctx, parent, keyword, schema);
-                ask(to, validator, &at, ask_keyword);
+                let at = &ctx.location().join(alloc, name);
+                match (&jskw_leaf::compile(alloc, ctx, parent, keyword, schema), at) {
+                    (None, _) => to.push_refused(None),
+                    (Some(Ok(it)), Ok(at)) => to.ask_keyword(it, at, of),
+                    (Some(Err(fault)), _) => to.push_refused(Some(fault)),
+                    (_, Err(_)) => to.push_refused(Some(&CompileFault::Memory(AllocError))),
+                }
             }
             _ => {}
         }
     }
-}
-
-fn ask_keyword<F: Json, R: AsksKeywords, V: Validate<F>>(to: &mut R, it: &V, at: &At<'_, F::Node>) {
-    to.ask_keyword(it, at);
 }
 
 // What `is_valid`, `validate`, `collect_errors` and `evaluate` say, of a schema or of keywords one by one.
@@ -111,7 +89,7 @@ impl Recorder for Said {
 
 // A keyword is asked as one of the schema of `items`, of the item of the index 7.
 impl AsksKeywords for Said {
-    fn ask_keyword<F: Json, V: Validate<F>>(&mut self, it: &V, (by, of): &At<'_, F::Node>) {
+    fn ask_keyword<F: Json, V: Validate<F>>(&mut self, it: &V, by: &Location, of: &F::Node) {
         if !of.is_lawful() {
             return;
         }
@@ -124,7 +102,12 @@ impl AsksKeywords for Said {
         let made = it.collect_errors(of, &mut location, &mut self.contexts[2], &mut errors);
         self.errors.push_errors(made, &errors);
         let unit = it.evaluate(alloc, of, &mut location, &mut self.contexts[3]);
-        self.tree.push_tree(1, node_of(alloc, unit, by, &location));
+        match (unit, location.render()) {
+            (Ok(unit), Ok(at)) => self
+                .tree
+                .push_tree(1, EvaluationNode::new(alloc, unit, by, &at)),
+            _ => self.tree.text.keep(Err(AllocError)),
+        }
     }
 }
 
@@ -215,22 +198,8 @@ pub(crate) fn push_keywords<F: Json>(lines: &mut Lines, row: &Row, parent: &Memb
     }
 }
 
-fn node_of(
-    alloc: Global,
-    unit: Made<EvaluationResult>,
-    by: &Made<Location>,
-    location: &LazyLocation,
-) -> Made<EvaluationNode> {
-    let Ok(by) = by else {
-        return Err(AllocError);
-    };
-    EvaluationNode::new(alloc, unit?, by, &location.render()?)
-}
-
-type Of<'r, N> = (&'r Row<'r>, &'r N);
-
 /// Appends what the schema of a row says of itself and of the instance, or its refusal.
-pub(crate) fn push_whole<'r, F: Json>(lines: &mut Lines, row: &'r Row<'r>, instance: &'r F::Node) {
+pub(crate) fn push_whole<F: Json>(lines: &mut Lines, row: &Row, instance: &F::Node) {
     let ctx = Context::<F>::new(lines.alloc, row.settings).with_object_layer(row.object_layer);
     let is_fused = match row.schema {
         Value::Object(parent) => array_shape_fusion(&ctx, parent),
@@ -238,13 +207,15 @@ pub(crate) fn push_whole<'r, F: Json>(lines: &mut Lines, row: &'r Row<'r>, insta
     };
     let wants_fused = has(row.group, "fused");
     push_call(lines, "array_shape_fusion", wants_fused, is_fused);
-    let schema = compile(lines.alloc, &ctx, row.schema);
-    ask(lines, Some(schema), &(row, instance), push_node::<F>);
+    match &compile(lines.alloc, &ctx, row.schema) {
+        Ok(node) => push_node(lines, node, row, instance),
+        Err(fault) => lines.push_refused(Some(fault)),
+    }
 }
 
 // Appends what a schema says of itself, behind whether it is fused, and of an instance, which is asked
 // twice if the row claims the counts.
-fn push_node<'r, F: Json>(lines: &mut Lines, node: &SchemaNode<F>, &(row, of): &Of<'r, F::Node>) {
+fn push_node<F: Json>(lines: &mut Lines, node: &SchemaNode<F>, row: &Row, of: &F::Node) {
     let (has_shape, delegates) = (node.array_shape().is_some(), node.hands_on_required());
     push_call(lines, "array_shape", has(row.group, "fused"), has_shape);
     let is_claimed = has(row.group, "handsOnRequired") && row.object_layer;
@@ -298,12 +269,24 @@ fn observe_limit<F: Json>(
 {
     let alloc = said.tree.alloc;
     let (mut at, mut errors) = (LazyLocation::new(alloc), Vec::new(alloc));
-    let mut ctx = ValidationContext::new();
-    let made = node.collect_first_errors(limit, instance, &mut at, &mut ctx, &mut errors);
+    let made = collect_first(limit, node, instance, &mut at, &mut errors);
     let mut given = said.errors.others();
     given.push_errors(made, &errors);
     let is_start = said.errors.text.as_str().starts_with(given.text.as_str());
     if !is_start | (errors.len() != limit.min(count)) {
         write!(said.limits, "{limit}\n");
     }
+}
+
+/// Collects so many of the first errors at the most. No clause says which, so callers have short proofs.
+pub(crate) fn collect_first<'i, F: Json>(
+    limit: usize,
+    node: &'i SchemaNode<F>,
+    of: &'i F::Node,
+    at: &mut LazyLocation,
+    errors: &mut Vec<ValidationError<'i, F>>,
+) -> Made<()>
+    requires { IsTrue (is_lawful (F.Node.tree of.now)) }
+{
+    node.collect_first_errors(limit, of, at, &mut ValidationContext::new(), errors)
 }

@@ -2,8 +2,9 @@
 ghost use Rattle.std.specs.Prelude.{string_bytes};
 ghost use Rattle.jskw_rows.specs.Asks.{asked_tree};
 
+use crate::answer::{Recorder, collect_first};
 use crate::members::number;
-use crate::{Lines, Made, Row, Tally, answer};
+use crate::{Lines, Made, Row, Tally};
 use jskw_array::SchemaNode;
 use jskw_array::compiler::compile;
 use jskw_report::{Context, Fault, LazyLocation, ValidationContext};
@@ -160,14 +161,16 @@ pub(crate) fn check(tally: &mut Tally, row: &Row, most: &Value, instance: &Value
     let mut lines = Lines::new(tally.alloc, false, false);
     if let Some(tree) = lines.text.made(Asked::of(tally.alloc, instance)) {
         let ctx: Context<AskedJson> = Context::new(tally.alloc, row.settings);
-        let node = compile(tally.alloc, &ctx, row.schema);
-        answer::ask(&mut lines, Some(node), &(tree, most), push_counts);
+        match &compile(tally.alloc, &ctx, row.schema) {
+            Ok(node) => push_counts(&mut lines, node, &tree, most),
+            Err(fault) => lines.push_refused(Some(fault)),
+        }
     }
     tally.compare("how often nodes are asked", "", lines.text.as_str());
 }
 
 // Appends the counts of the observers if one of them is too large, or 0.
-fn push_counts(lines: &mut Lines, node: &SchemaNode<AskedJson>, (tree, most): &(Asked, &Value)) {
+fn push_counts(lines: &mut Lines, node: &SchemaNode<AskedJson>, tree: &Asked, most: &Value) {
     for time in &["once", "once more"] {
         let [a, b, c, d, e] = counts(lines, node, tree);
         let (least, first, all) = (a.min(b).min(c).min(d).min(e), a.max(b).max(c), d.max(e));
@@ -187,7 +190,7 @@ fn counts(lines: &mut Lines, node: &SchemaNode<AskedJson>, tree: &Asked) -> [u64
     let is_valid = tree.take_count();
     let first = node.validate(tree, &mut location, &mut ctx);
     let validate = tree.take_count();
-    let one = node.collect_first_errors(1, tree, &mut location, &mut ctx, &mut errors);
+    let one = collect_first(1, node, tree, &mut location, &mut errors);
     let collect_one = tree.take_count();
     let all = node.collect_errors(tree, &mut location, &mut ctx, &mut errors);
     let collect_all = tree.take_count();

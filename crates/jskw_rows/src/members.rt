@@ -75,8 +75,10 @@ pub(crate) fn push_lines(to: &mut Text, of: &Value, name: &'static str) {
 pub(crate) fn settings_of(alloc: Global, group: &Value, draft: &str) -> Option<Settings> {
     let draft = draft_named(draft)?;
     let vocabularies = vocabularies_of(group.get("vocabularies"))?;
-    let overridden = overridden_of(alloc, group.get("overridden")).ok()??;
-    Some(Settings::new(draft, vocabularies, overridden))
+    match overridden_of(alloc, group.get("overridden")) {
+        Ok(Some(overridden)) => Some(Settings::new(draft, vocabularies, overridden)),
+        _ => None,
+    }
 }
 
 /// Trees of decimals of which `N` members are visited in the time of a lookup: with 0 every

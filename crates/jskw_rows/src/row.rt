@@ -29,11 +29,13 @@ pub(crate) struct Row<'r> {
 impl<'r> Row<'r> {
     // Returns the schema if it is an object in which no keyword that is read has subschemas.
     fn keywords(&self, alloc: Global) -> Option<&'r Members> {
-        let parent = self.schema.as_object()?;
+        let Value::Object(parent) = self.schema else {
+            return None;
+        };
         let ctx: Context<SerdeJson> = Context::new(alloc, self.settings);
         for keyword in KeywordName::ALL {
-            let is_there = parent.contains_key(keyword.as_str());
-            if is_there && !is_leaf(keyword) && keyword.is_active(&ctx) {
+            let found = parent.get(keyword.as_str());
+            if found.is_some() && !is_leaf(keyword) && keyword.is_active(&ctx) {
                 return None;
             }
         }

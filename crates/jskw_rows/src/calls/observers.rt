@@ -3,7 +3,7 @@ ghost use Rattle.std.specs.Prelude.{IsTrue};
 ghost use Rattle.jskw_value.specs.Tree.{is_lawful};
 
 use super::Printer;
-use crate::answer::{AsksKeywords, At, ask as ask_compiled, ask_keywords};
+use crate::answer::{AsksKeywords, Recorder, ask_keywords, collect_first};
 use crate::members::settings_of;
 use crate::row::push_unchecked;
 use jskw_array::SchemaNode;
@@ -50,16 +50,18 @@ fn ask_over<F: Json>(to: &mut Printer, by: &Settings, schema: &Value, of: &F::No
     }
 }
 
-fn ask_schema<'r, F: Json>(to: &mut Printer, ctx: &Context<F>, schema: &Value, of: &'r F::Node) {
+fn ask_schema<F: Json>(to: &mut Printer, ctx: &Context<F>, schema: &Value, of: &F::Node) {
     if let ("leaves", Value::Object(parent)) = (to.kind, schema) {
         ask_keywords(to, to.lines.alloc, ctx, parent, of);
     }
     to.announce("compile", true);
-    let node = compile(to.lines.alloc, ctx, schema);
-    ask_compiled(to, Some(node), &(of,), ask_node::<F>);
+    match &compile(to.lines.alloc, ctx, schema) {
+        Ok(node) => ask_node(to, node, of),
+        Err(fault) => to.push_refused(Some(fault)),
+    }
 }
 
-fn ask_node<'r, F: Json>(to: &mut Printer<'_>, node: &SchemaNode<F>, &(of,): &(&'r F::Node,)) {
+fn ask_node<F: Json>(to: &mut Printer, node: &SchemaNode<F>, of: &F::Node) {
     to.tell(false);
     if !of.is_lawful() {
         return to.check(false);
@@ -74,10 +76,10 @@ fn ask_node<'r, F: Json>(to: &mut Printer<'_>, node: &SchemaNode<F>, &(of,): &(&
 
 // A keyword that is asked by itself holds.
 impl AsksKeywords for Printer<'_> {
-    fn ask_keyword<F: Json, V: Validate<F>>(&mut self, it: &V, (by, of): &At<'_, F::Node>) {
-        let (Ok(by), true) = (by, of.is_lawful()) else {
+    fn ask_keyword<F: Json, V: Validate<F>>(&mut self, it: &V, by: &Location, of: &F::Node) {
+        if !of.is_lawful() {
             return self.check(false);
-        };
+        }
         let (mut errors, mut ctx) = (Vec::new(self.lines.alloc), ValidationContext::new());
         self.announce(by.as_str(), false);
         let is_valid = it.is_valid(of, &mut ctx);
@@ -125,7 +127,7 @@ fn collect_errors<F: Json>(to: &mut Printer, is_few: bool, node: &SchemaNode<F>,
     let takes_memory = to.kind.starts_with("schema");
     let collected = if is_few {
         to.announce("collect_first_errors", takes_memory);
-        node.collect_first_errors(2, of, &mut to.location, &mut ctx, &mut errors)
+        collect_first(2, node, of, &mut to.location, &mut errors)
     } else {
         to.announce("collect_errors", takes_memory);
         node.collect_errors(of, &mut to.location, &mut ctx, &mut errors)

@@ -2,14 +2,15 @@
 #![tactic(auto, using(jskw_value::proofs::DecimalTrees::lawful_tree))]
 
 use super::{tree, value};
+use crate::answer::Recorder;
 use crate::members::{array_of, settings_of, text};
-use crate::{Lines, Members, Text, answer};
+use crate::{Lines, Members, Text};
+use jskw_array::additional_items;
 use jskw_array::compiler::compile;
 use jskw_array::items::{
     ArrayShapeValidator, BooleanItems, IntegerItems, IntegerItemsDraft4, ItemType, NumberItems,
     StringItems, array_shape_fusion,
 };
-use jskw_array::{SchemaNode, additional_items};
 use jskw_leaf::boolean::FalseValidator;
 use jskw_leaf::legacy::type_draft_4::IntegerTypeValidator as IntegerTypeDraft4;
 use jskw_leaf::required::compile_with_path;
@@ -148,25 +149,30 @@ fn push_said<V: Validate<DecimalJson>>(lines: &mut Lines, validator: &V, item: &
 // What the validator of a value of `required` says, or why there is none.
 pub(super) fn push_required(lines: &mut Lines, case: &Value) {
     let (at, item) = (Location::new(lines.alloc), tree(lines.alloc, case, 1));
-    let required = compile_with_path::<DecimalJson>(lines.alloc, value(case, 0), at);
-    answer::ask(lines, required, &item, push_said);
+    match &compile_with_path::<DecimalJson>(lines.alloc, value(case, 0), at) {
+        None => lines.push_refused(None),
+        Some(Ok(required)) => push_said(lines, required, &item),
+        Some(Err(fault)) => lines.push_refused(Some(fault)),
+    }
 }
 
 // The bound that a schema has as its member of this name.
 fn push_bound(lines: &mut Lines, ctx: &Ctx, parent: &Members, name: &str) {
-    let bound = map_get_u64(lines.alloc, parent, ctx, name);
-    answer::ask(lines, bound, &(), push_number);
-}
-
-fn push_number(lines: &mut Lines, number: &u64, _: &()) {
-    write!(lines.text, "{number}");
+    match &map_get_u64(lines.alloc, parent, ctx, name) {
+        None => lines.push_refused(None),
+        Some(Ok(bound)) => write!(lines.text, "{bound}"),
+        Some(Err(fault)) => lines.push_refused(Some(fault)),
+    }
 }
 
 // How many schemas the evaluation of `additionalItems` by itself applies.
 fn push_rest(lines: &mut Lines, ctx: &Ctx, parent: &Members, of: &DecimalTree) {
     let value = parent.get("additionalItems").unwrap_or(&Value::Null);
-    let rest = additional_items::compile(lines.alloc, ctx, parent, value);
-    answer::ask(lines, rest, of, push_applied);
+    match &additional_items::compile(lines.alloc, ctx, parent, value) {
+        None => lines.push_refused(None),
+        Some(Ok(rest)) => push_applied(lines, rest, of),
+        Some(Err(fault)) => lines.push_refused(Some(fault)),
+    }
 }
 
 fn push_applied<V: Validate<DecimalJson>>(lines: &mut Lines, validator: &V, of: &DecimalTree) {
@@ -179,8 +185,10 @@ fn push_applied<V: Validate<DecimalJson>>(lines: &mut Lines, validator: &V, of: 
 fn push_shape(lines: &mut Lines, ctx: &Ctx, parent: &Members, of: &DecimalTree) {
     match member_of(parent, "items") {
         Some(items) if array_shape_fusion(ctx, parent) => {
-            let shape = ArrayShapeValidator::compile(lines.alloc, ctx, parent, items);
-            answer::ask(lines, Some(shape), of, push_absorbed);
+            match &ArrayShapeValidator::compile(lines.alloc, ctx, parent, items) {
+                Ok(shape) => push_absorbed(lines, shape, of),
+                Err(fault) => lines.push_refused(Some(fault)),
+            }
         }
         _ => {}
     }
@@ -209,12 +217,12 @@ fn push_options(lines: &mut Lines, ctx: &Ctx, maker: &Value, of: &DecimalTree) {
     }
     schema.push("}");
     if let Ok(schema) = &Value::from_str(lines.alloc, schema.as_str()) {
-        let node = compile(lines.alloc, ctx, schema);
-        answer::ask(lines, Some(node), of, push_holds);
+        match &compile(lines.alloc, ctx, schema) {
+            Ok(node) => {
+                let holds = node.is_valid(of, &mut ValidationContext::new());
+                write!(lines.text, "{holds}");
+            }
+            Err(fault) => lines.push_refused(Some(fault)),
+        }
     }
-}
-
-fn push_holds(lines: &mut Lines, node: &SchemaNode<DecimalJson>, of: &DecimalTree) {
-    let holds = node.is_valid(of, &mut ValidationContext::new());
-    write!(lines.text, "{holds}");
 }
