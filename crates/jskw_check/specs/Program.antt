@@ -9,7 +9,7 @@ use Rattle.jskw_documents.specs.Schemas.{schema_given}
 use Rattle.jskw_check.specs.Commands.{Asked, Command, check, help, version, wrong}
 use Rattle.jskw_check.specs.declared.usage.TheConstants.{HELP, USAGE}
 use Rattle.jskw_check.specs.declared.trouble.Trouble.{Trouble}
-use Rattle.jskw_check.specs.declared.trouble.Trouble.TheVariants.{Output}
+use Rattle.jskw_check.specs.declared.trouble.Trouble.TheVariants.{Output, TooLong}
 
 -- ---- texts
 
@@ -80,3 +80,13 @@ pub record Runs (bytes_of : List ℕ → Option (List ℕ)) (c : Command) (statu
 abbrev pub is_output_trouble : {A : Type 0} → Result A Trouble → Bool
 is_output_trouble (Err Output) = true
 is_output_trouble r = false
+
+-- a file has more blocks or lines than can be counted
+abbrev pub is_length_trouble : {A : Type 0} → Result A Trouble → Bool
+is_length_trouble (Err TooLong) = true
+is_length_trouble r = false
+
+-- each line of a file is a document
+abbrev pub asks_for_lines : Command → Bool
+asks_for_lines (check a) = a.lines
+asks_for_lines c = false

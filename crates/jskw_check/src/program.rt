@@ -6,7 +6,8 @@ ghost use Rattle.jskw_service.specs.declared.service.Verdict.{Verdict};
 ghost use Rattle.jskw_documents.specs.Files.{AnswersFiles, HasBytes};
 ghost use Rattle.jskw_check.specs.CommandView.{command_view, given_view};
 ghost use Rattle.jskw_check.specs.Commands.{check, command};
-ghost use Rattle.jskw_check.specs.Program.{Runs, Tells, is_output_trouble, schema_unread, usage_error};
+ghost use Rattle.jskw_check.specs.Program.{Runs, Tells, asks_for_lines, is_length_trouble, is_output_trouble};
+ghost use Rattle.jskw_check.specs.Program.{schema_unread, usage_error};
 
 use crate::arguments::command_of;
 use crate::given::{Command, Given};
@@ -41,6 +42,7 @@ pub(crate) fn run<F: Folder, O: Sink, E: Sink, S: Show>(
         (O.contents out.old) (O.contents out.new) (E.has_failed errors.new)
         (E.contents errors.old) (E.contents errors.new)) }
     ensures failed { O.has_failed out.new ≡ is_output_trouble result }
+    ensures short { asks_for_lines (command (map string_bytes words.now)) ≡ false → is_length_trouble result ≡ false }
 {
     let command = command_of(alloc, words)?;
     obey(alloc, command, folder, out, errors, show)
@@ -61,6 +63,7 @@ fn obey<F: Folder, O: Sink, E: Sink, S: Show>(
         (O.contents out.old) (O.contents out.new) (E.has_failed errors.new)
         (E.contents errors.old) (E.contents errors.new)) }
     ensures failed { O.has_failed out.new ≡ is_output_trouble result }
+    ensures short { asks_for_lines (command_view command) ≡ false → is_length_trouble result ≡ false }
 {
     match command {
         Command::Help => print(out, HELP),
@@ -76,6 +79,7 @@ fn print<O: Sink>(out: &mut O, text: &str) -> Result<u8, Trouble>
     ensures prints { IfOk result (λ status. (status ≡ 0)
         × Appends (O.contents out.old) (O.contents out.new) text.now) }
     ensures failed { O.has_failed out.new ≡ is_output_trouble result }
+    ensures short { is_length_trouble result ≡ false }
 {
     match write_all(out, text.as_bytes()) {
         Ok(()) => Ok(0),
@@ -99,6 +103,7 @@ fn refuse_arguments<E: Sink>(alloc: Global, why: &str, errors: &mut E) -> Result
     ensures tells { IfOk result (λ status. (status ≡ 2) × Tells (E.has_failed errors.new)
         (E.contents errors.old) (E.contents errors.new) (usage_error why.now)) }
     ensures no_output { is_output_trouble result ≡ false }
+    ensures short { is_length_trouble result ≡ false }
 {
     let text = format!(in alloc; "{USAGE}jskw check: error: {why}\n")?;
     Ok(tell(errors, text.as_bytes()))
@@ -115,6 +120,7 @@ fn refuse_schema<E: Sink>(
     ensures tells { IfOk result (λ status. (status ≡ 2) × Tells (E.has_failed errors.new)
         (E.contents errors.old) (E.contents errors.new) (schema_unread name.now why.now)) }
     ensures no_output { is_output_trouble result ≡ false }
+    ensures short { is_length_trouble result ≡ false }
 {
     let text = format!(in alloc; "{name}: {why}\n")?;
     Ok(tell(errors, text.as_bytes()))
@@ -135,6 +141,7 @@ fn check<F: Folder, O: Sink, E: Sink, S: Show>(
         (O.contents out.old) (O.contents out.new) (E.has_failed errors.new)
         (E.contents errors.old) (E.contents errors.new)) }
     ensures failed { O.has_failed out.new ≡ is_output_trouble result }
+    ensures short { given.lines ≡ false → is_length_trouble result ≡ false }
 {
     match read_schema(alloc, folder, given.schema.as_str())? {
         Ok(text) => check_by(alloc, given, &text, folder, out, errors, show),
@@ -159,6 +166,7 @@ fn check_by<F: Folder, O: Sink, E: Sink, S: Show>(
         (O.contents out.old) (O.contents out.new) (E.has_failed errors.new)
         (E.contents errors.old) (E.contents errors.new)) }
     ensures failed { O.has_failed out.new ≡ is_output_trouble result }
+    ensures short { given.lines ≡ false → is_length_trouble result ≡ false }
 {
     let Given {
         schema,
@@ -194,6 +202,7 @@ fn read_schema<F: Folder>(
     ensures reads { IfOk result (λ read. IfOk read
         (λ text. HasBytes (F.bytes_of folder.now name.now) text.items)) }
     ensures no_output { is_output_trouble result ≡ false }
+    ensures short { is_length_trouble result ≡ false }
 {
     match folder.open(name) {
         Ok(file) => {
@@ -213,6 +222,7 @@ fn read_whole<R: Source>(
     ensures reads { IfOk result (λ read. IfOk read (λ text. HasBytes (R.remaining reader.old) text.items)) }
     ensures unread { IfOk result (λ read. OnErr read (R.has_failed reader.new ≡ true)) }
     ensures no_output { is_output_trouble result ≡ false }
+    ensures short { is_length_trouble result ≡ false }
 {
     match read_all(alloc, reader) {
         Ok(text) => Ok(Ok(text)),
@@ -236,6 +246,7 @@ fn check_under<F: Folder, O: Sink, V: Watcher>(
         × AnswersFiles checker.now lines (F.bytes_of folder.now) (map string_bytes files.now) said text
         × Appends (O.contents out.old) (O.contents out.new) text × (status ≡ status_of_verdict said)) }
     ensures failed { O.has_failed out.new ≡ is_output_trouble result }
+    ensures short { lines ≡ false → is_length_trouble result ≡ false }
 {
     match check_files(alloc, checker, lines, folder, files, out, watcher) {
         Ok(said) => Ok(status(&Ok(said))),

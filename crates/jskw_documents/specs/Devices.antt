@@ -5,7 +5,7 @@ use Rattle.jskw_service.specs.declared.service.Verdict.{Verdict}
 use Rattle.jskw_documents.specs.Documents.{IsAnswer, verdict_on}
 use Rattle.jskw_documents.specs.declared.checker.Checker.{Checker}
 use Rattle.jskw_documents.specs.declared.fault.CheckFault.{CheckFault}
-use Rattle.jskw_documents.specs.declared.fault.CheckFault.TheVariants.{Read, Write}
+use Rattle.jskw_documents.specs.declared.fault.CheckFault.TheVariants.{Read, TooLong, Write}
 
 -- the reader failed
 abbrev pub is_read_fault : {A : Type 0} → Result A CheckFault → Bool
@@ -16,6 +16,11 @@ is_read_fault r = false
 abbrev pub is_write_fault : {A : Type 0} → Result A CheckFault → Bool
 is_write_fault (Err Write) = true
 is_write_fault r = false
+
+-- the reader gave more blocks or lines than can be counted
+abbrev pub is_too_long : {A : Type 0} → Result A CheckFault → Bool
+is_too_long (Err TooLong) = true
+is_too_long r = false
 
 -- all was read, what was to be read having gone from r to s, and the answer to it was written, what was written going
 -- from v to w; this is the verdict

@@ -1,7 +1,7 @@
 //! A document that is read from a device.
 ghost use Rattle.std.specs.Prelude.{◌≡◌, ℕ, List, false, true, IfOk, OnErr, OnOk, IsErrOf};
 ghost use Rattle.std.specs.Io.KnownBytes.{Appends};
-ghost use Rattle.jskw_documents.specs.Devices.{AnswersDocument, is_read_fault, is_write_fault};
+ghost use Rattle.jskw_documents.specs.Devices.{AnswersDocument, is_read_fault, is_too_long, is_write_fault};
 ghost use Rattle.jskw_documents.specs.Documents.{IsAnswer, verdict_on};
 
 use crate::answer::answer_to;
@@ -34,6 +34,7 @@ pub fn check_document<R: Source, W: Sink, V: Watcher>(
     ensures failed { W.has_failed writer.new ≡ is_write_fault result }
     ensures read_failed { IsErrOf result CheckFault.Read → R.has_failed reader.new ≡ true }
     ensures unread { IsErrOf result CheckFault.Read → W.contents writer.new ≡ W.contents writer.old }
+    ensures short { is_too_long result ≡ false }
     ensures unwritten { OnErr result (is_write_fault result ≡ false
         → W.contents writer.new ≡ W.contents writer.old) }
 {
@@ -70,6 +71,7 @@ pub(crate) fn write_answer<W: Sink, V: Watcher>(
         × (said ≡ verdict_on checker.now.schema document.now)) }
     ensures failed { W.has_failed writer.new ≡ is_write_fault result }
     ensures no_read { is_read_fault result ≡ false }
+    ensures short { is_too_long result ≡ false }
     ensures unwritten { OnErr result (is_write_fault result ≡ false
         → W.contents writer.new ≡ W.contents writer.old) }
 {

@@ -1,7 +1,7 @@
 //! The files that are checked.
 ghost use Rattle.std.specs.Prelude.{◌≡◌, ℕ, List, false, true, map, string_bytes, IfOk, IsErrOf};
 ghost use Rattle.std.specs.Io.KnownBytes.{Appends};
-ghost use Rattle.jskw_documents.specs.Devices.{is_read_fault, is_write_fault};
+ghost use Rattle.jskw_documents.specs.Devices.{is_read_fault, is_too_long, is_write_fault};
 ghost use Rattle.jskw_documents.specs.Files.{AnswersFile, AnswersFiles, AnswersPart, AnswersWhole, IsUnread};
 
 use crate::answer::worse_of;
@@ -25,7 +25,8 @@ pub const UNREAD: &str = "it cannot be read to its end";
 ///
 /// # Errors
 ///
-/// Fails if the writer does, if memory runs out, or if a file has 2^64 blocks or lines.
+/// Fails if the writer does, if memory runs out, or if a file of which each line is a document has
+/// 2^64 blocks or lines.
 pub fn check_files<F: Folder, W: Sink, V: Watcher>(
     alloc: Global,
     checker: &Checker,
@@ -41,6 +42,7 @@ pub fn check_files<F: Folder, W: Sink, V: Watcher>(
         × Appends (W.contents writer.old) (W.contents writer.new) text) }
     ensures failed { W.has_failed writer.new ≡ is_write_fault result }
     ensures no_read { is_read_fault result ≡ false }
+    ensures short { lines ≡ false → is_too_long result ≡ false }
 {
     let mut verdict = Verdict::Valid;
     for file in files {
@@ -74,6 +76,7 @@ fn check_file<F: Folder, W: Sink, V: Watcher>(
         × Appends (W.contents writer.old) (W.contents writer.new) text) }
     ensures failed { W.has_failed writer.new ≡ is_write_fault result }
     ensures no_read { is_read_fault result ≡ false }
+    ensures short { lines ≡ false → is_too_long result ≡ false }
 {
     match folder.open(name) {
         Ok(file) => {
@@ -108,6 +111,7 @@ fn check_opened<R: Source, W: Sink, V: Watcher>(
         × Appends (W.contents writer.old) (W.contents writer.new) text) }
     ensures failed { W.has_failed writer.new ≡ is_write_fault result }
     ensures no_read { is_read_fault result ≡ false }
+    ensures short { lines ≡ false → is_too_long result ≡ false }
 {
     match check_reader(alloc, checker, lines, name, reader, writer, watcher) {
         Ok(said) => Ok(said),
@@ -136,6 +140,7 @@ fn check_reader<R: Source, W: Sink, V: Watcher>(
         × Appends (W.contents writer.old) (W.contents writer.new) text }
     ensures read_failed { IsErrOf result CheckFault.Read → R.has_failed reader.new ≡ true }
     ensures failed { W.has_failed writer.new ≡ is_write_fault result }
+    ensures short { lines ≡ false → is_too_long result ≡ false }
 {
     if lines {
         check_lines(alloc, checker, name, reader, writer, watcher)
@@ -158,6 +163,7 @@ fn refuse<W: Sink>(
         × Appends (W.contents writer.old) (W.contents writer.new) text) }
     ensures failed { W.has_failed writer.new ≡ is_write_fault result }
     ensures no_read { is_read_fault result ≡ false }
+    ensures short { is_too_long result ≡ false }
 {
     let place = Place {
         file: name,

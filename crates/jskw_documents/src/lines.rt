@@ -47,8 +47,8 @@ pub(crate) struct Lines {
 ///
 /// # Errors
 ///
-/// Fails if a device does, or if memory runs out. If the reader failed, the answers to all lines
-/// that were read to their end are written.
+/// Fails if a device does, if memory runs out, or if the reader gave 2^64 blocks or lines. If the
+/// reader failed, the answers to all lines that were read to their end are written.
 pub fn check_lines<R: Source, W: Sink, V: Watcher>(
     alloc: Global,
     checker: &Checker,
