@@ -171,6 +171,7 @@ impl<F: Json> SchemaNode<F> {
             (fail self.now (F.Node.tree instance.now) (path_of location.old))) result }
         ensures location { location.new ≡ location.old }
         ensures applied { 1 ≤ limit → min (ctx.old + 1) u64.MAX ≤ ctx.new }
+        ensures none { limit ≡ 0 → ctx.new ≡ ctx.old }
         ensures counted { CountsUpTo ctx.old ctx.new (pairs self.now (F.Node.tree instance.now)) }
     {
         if limit == 0 {
