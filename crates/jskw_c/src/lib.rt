@@ -174,7 +174,7 @@ pub extern "C" fn jskw_is_valid(alloc: Global, handle: &mut SchemaHandle, instan
     }
 }
 
-// Returns the status of a handle and an instance.
+// Returns what `jskw_is_valid` answers. Fails only if memory runs out.
 fn status_of(alloc: Global, handle: &mut SchemaHandle, instance: &[u8]) -> Result<u32, AllocError>
     ensures kept { handle.new.schema ≡ handle.old.schema }
     ensures status { IfOk result (λ status. status ≡ asked_status handle.old.schema instance.now) }
