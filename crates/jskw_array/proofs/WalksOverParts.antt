@@ -1,7 +1,7 @@
 -- What a walk over a node's units has left at a unit, and at the end.
 use Rattle.std.proofs.Common.{◌≡◌, ℕ, zero, suc, ◌+◌, ◌<◌, ◌≤◌, List, [], ◌∷◌, ◌++◌, length, get_or, drop, max, true}
-use Rattle.std.proofs.Common.{false, ◌&&◌, ◌||◌, None, Some, refl, sym, if◌then◌else◌, ap, ◌∙◌, append_assoc, arith}
-use Rattle.std.proofs.Common.{Box, Global}
+use Rattle.std.proofs.Common.{false, ◌&&◌, ◌||◌, None, Some, refl, sym, subst, if◌then◌else◌, ap, ◌∙◌, append_assoc}
+use Rattle.std.proofs.Common.{Box, Global, arith}
 use Rattle.std.proofs.lemmas.List.{drop_all}
 use Rattle.std.specs.Borrow.{Bor}
 use Rattle.jskw_array.specs.Words.{ArrayShapeValidator, CountsUpTo, Evaluation, HasParts, Keywords, OfKeyword}
@@ -10,8 +10,9 @@ use Rattle.jskw_array.specs.Words.{Shape, Part, Tree, absorbed_by, absorbed_keyw
 use Rattle.jskw_array.specs.Words.{all_height, all_hold, all_needed, all_pairs, fail, false_schema, height, is_empty}
 use Rattle.jskw_array.specs.Words.{keyword, keyword_height, keywords_of, meaning_fail, meaning_holds, meaning_needed}
 use Rattle.jskw_array.specs.Words.{meaning_pairs, meaning_unit, no_keywords, node_at, of_children, of_errors, pairs}
-use Rattle.jskw_array.specs.Words.{schema_location, schema_object, shape_keywords, tree, part_delegates, part_location}
-use Rattle.jskw_array.specs.Words.{part_meaning, units, validator_keyword}
+use Rattle.jskw_array.specs.Words.{schema_location, schema_object, shape_keywords, tree, part_delegates, own_keyword}
+use Rattle.jskw_array.specs.Words.{part_meaning, units, validator_keyword, keyword_pairs, one_keyword}
+use Rattle.jskw_array.specs.declared.part.LocatedValidator.{LocatedValidator}
 use Rattle.jskw_report.proofs.AppendedKeywords.{fail_appended, delegates_appended, height_appended, hold_appended}
 use Rattle.jskw_report.proofs.AppendedKeywords.{needed_appended, pairs_appended, units_appended}
 use Rattle.jskw_report.proofs.HoldsIsNoFailure.{all_empty, keyword_empty}
@@ -64,7 +65,7 @@ module _ {F Node Number Key : Type 0} where
 
   first_units : (u : Part F Node Number Key) (us : List (Part F Node Number Key)) (t : Tree) (p : Pointer)
       → units (keywords_of (u ∷ us)) t p ≡ units (absorbed_by u) t p
-      ++ node_at (part_location u) p (meaning_unit (part_meaning u) t p) ∷ units (keywords_of us) t p
+      ++ node_at ((own_keyword u).location) p (meaning_unit (part_meaning u) t p) ∷ units (keywords_of us) t p
   first_units (OfKeyword k) us t p = refl
   first_units (Shape v) us t p =
       let before = units (absorbed_keywords v.value.absorbed) t p in
@@ -142,11 +143,11 @@ module _ {F Node Number Key : Type 0} (us : List (Part F Node Number Key)) (i : 
   -- its nodes were gathered behind those before it
   pub unit_taken : (t : Tree) (p : Pointer) (done settled now all : List Evaluation)
       → settled ≡ done ++ units (absorbed_by u) t p
-      → now ≡ settled ++ node_at (part_location u) p (meaning_unit (part_meaning u) t p) ∷ []
+      → now ≡ settled ++ node_at ((own_keyword u).location) p (meaning_unit (part_meaning u) t p) ∷ []
       → done ++ units (keywords_of (drop i us)) t p ≡ all → now ++ units (keywords_of rest) t p ≡ all
   unit_taken t p done settled now all before is whole =
       let before_it = units (absorbed_by u) t p in
-      let x = node_at (part_location u) p (meaning_unit (part_meaning u) t p) in
+      let x = node_at ((own_keyword u).location) p (meaning_unit (part_meaning u) t p) in
       let behind = units (keywords_of rest) t p in
       ap (λ es. es ++ behind) is ∙ append_assoc settled (x ∷ []) behind ∙ ap (λ es. es ++ x ∷ behind) before
       ∙ append_assoc done before_it (x ∷ behind)
@@ -173,6 +174,42 @@ shape_below u v is value =
     let tall : part_tall u ≡ all_height (shape_keywords v) =
     ap part_tall is ∙ ap (λ x. all_height (shape_keywords x)) (sym value) in
     omega (arith, tall, items_height v)
+
+-- ---- the keyword whose unit a part gives
+
+module _ {F Node Number Key : Type 0} where
+  own_height : (u : Part F Node Number Key) → keyword_height (validator_keyword (own_keyword u).validator) ≤ part_tall u
+  own_height (OfKeyword k) = omega arith
+  own_height (Shape v) = items_height v.value
+
+  own_pairs : (u : Part F Node Number Key) (t : Tree)
+      → keyword_pairs (validator_keyword (own_keyword u).validator) t ≤ meaning_pairs (part_meaning u) t
+  own_pairs (OfKeyword k) t = omega arith
+  own_pairs (Shape v) t =
+      let whole = pairs_appended t (absorbed_keywords v.value.absorbed) (items_keywords v.value) in
+      omega (arith, whole)
+
+  own_unit : (u : Part F Node Number Key) (t : Tree) (p : Pointer)
+      → meaning_unit (one_keyword (validator_keyword (own_keyword u).validator)) t p
+      ≡ meaning_unit (part_meaning u) t p
+  own_unit (OfKeyword k) t p = refl
+  own_unit (Shape v) t p = refl
+
+  -- k is that of the part
+  module _ (u : Part F Node Number Key) (k : LocatedValidator F Node Number Key) (is : k ≡ own_keyword u) where
+    pub own_lower : keyword_height (validator_keyword k.validator) ≤ part_tall u
+    own_lower = subst (λ x. keyword_height (validator_keyword x.validator) ≤ part_tall u) (sym is) (own_height u)
+
+    pub own_counted : (t : Tree) {ctx next : ℕ} → CountsUpTo ctx next (keyword_pairs (validator_keyword k.validator) t)
+        → CountsUpTo ctx next (meaning_pairs (part_meaning u) t)
+    own_counted t counted =
+        let cost = subst (λ x. keyword_pairs (validator_keyword x.validator) t ≤ meaning_pairs (part_meaning u) t)
+        (sym is) (own_pairs u t) in
+        record { from = counted.from; to = omega (arith, cost, counted.to) }
+
+    pub own_gives : (t : Tree) (p : Pointer)
+        → meaning_unit (one_keyword (validator_keyword k.validator)) t p ≡ meaning_unit (part_meaning u) t p
+    own_gives t p = ap (λ x. meaning_unit (one_keyword (validator_keyword x.validator)) t p) is ∙ own_unit u t p
 
 -- ---- a schema by its units
 

@@ -1,6 +1,5 @@
 -- What the units of a node stand for.
 use Rattle.std.specs.Prelude.{◌≡◌, List, [], ◌∷◌, Bool, true, false, Result}
-use Rattle.jskw_value.specs.Pointer.{Pointer}
 use Rattle.jskw_report.specs.Keyword.{Keywords, no_keywords, keyword, append_keywords, keywords_delegate}
 use Rattle.jskw_report.specs.Keyword.{keyword_delegates}
 use Rattle.jskw_report.specs.KeywordValue.{Refusal, map_ok}
@@ -13,6 +12,7 @@ use Rattle.jskw_leaf.specs.Items.{absorbed_keywords}
 use Rattle.jskw_array.specs.Fused.{shape_keywords, shape_meaning}
 use Rattle.jskw_array.specs.Meaning.{validator_keyword}
 use Rattle.jskw_array.specs.declared.items.array_shape.ArrayShapeValidator.{ArrayShapeValidator}
+use Rattle.jskw_array.specs.declared.part.LocatedValidator.{LocatedValidator}
 use Rattle.jskw_array.specs.declared.part.Part.{Part}
 use Rattle.jskw_array.specs.declared.part.Part.TheVariants.{Keyword as OfKeyword, Shape}
 
@@ -35,10 +35,10 @@ module _ {F Node Number Key : Type 0} where
   part_meaning (OfKeyword k) = one_keyword (validator_keyword k.validator)
   part_meaning (Shape v) = shape_meaning v.value
 
-  -- the keyword location of the unit that is given
-  abbrev pub part_location : Part F Node Number Key → Pointer
-  part_location (OfKeyword k) = k.location
-  part_location (Shape v) = v.value.items.location
+  -- the keyword whose unit is given
+  abbrev pub own_keyword : Part F Node Number Key → LocatedValidator F Node Number Key
+  own_keyword (OfKeyword k) = k
+  own_keyword (Shape v) = v.value.items
 
   -- the keywords before the one whose unit is given
   abbrev pub absorbed_by : Part F Node Number Key → Keywords

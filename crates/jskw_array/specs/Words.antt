@@ -67,7 +67,7 @@ pub use Rattle.jskw_array.specs.Meaning.{no_additional_items, rest_keyword, rest
 pub use Rattle.jskw_array.specs.Limits.{deciding_count, failing_locations, locations_of, matching_result}
 pub use Rattle.jskw_array.specs.Fused.{IsBeginning, fused_keywords, shape_keywords, shape_meaning}
 pub use Rattle.jskw_array.specs.Parts.{IsShape, absorbed_by, after, begin_fused, is_shape, keywords_of, part_delegates}
-pub use Rattle.jskw_array.specs.Parts.{keywords_read, part_location, part_meaning}
+pub use Rattle.jskw_array.specs.Parts.{keywords_read, own_keyword, part_meaning}
 pub use Rattle.jskw_array.specs.Node.{AreSettled, HasParts, IsLeft, LeftParts, boolean_schema, marked, schema_of}
 pub use Rattle.jskw_array.specs.Outline.{in_outline}
 pub use Rattle.jskw_array.specs.QuickArrays.{AddsKeywords, AreTuples, ArraysAreValid, absorbed_hold, arrays_cost}

@@ -5,17 +5,18 @@ ghost use Rattle.jskw_array.specs.Words.{AreSettled, CountsUpTo, IfOk, IfSome, I
 ghost use Rattle.jskw_array.specs.Words.{IsTrue, Reports, Tree, all_applications};
 ghost use Rattle.jskw_array.specs.Words.{all_fail, keywords_delegate, all_hold, all_needed, all_pairs};
 ghost use Rattle.jskw_array.specs.Words.{in_outline, is_in};
-ghost use Rattle.jskw_array.specs.Words.{is_lawful, is_shape, is_some, keywords_of, meaning_holds};
-ghost use Rattle.jskw_array.specs.Words.{path_of, true, part_delegates};
-ghost use Rattle.jskw_array.specs.Words.{keeps_list, part_location, part_meaning, units as units_of};
+ghost use Rattle.jskw_array.specs.Words.{is_lawful, is_shape, is_some, keeps_list, keywords_of};
+ghost use Rattle.jskw_array.specs.Words.{meaning_applications, meaning_fail, meaning_holds, meaning_needed};
+ghost use Rattle.jskw_array.specs.Words.{own_keyword, part_delegates, part_meaning, path_of, true};
+ghost use Rattle.jskw_array.specs.Words.{units as units_of};
 
 use crate::items::ArrayShapeValidator;
 use crate::outline::Outline;
 use crate::validator::Validator;
 use jskw_number::QuickSet;
 use jskw_report::{
-    EvaluationNode, EvaluationResult, KeywordLocation, LazyLocation, Location, Report, Stop,
-    Validate, ValidationContext,
+    EvaluationNode, KeywordLocation, LazyLocation, Location, Report, Stop, Validate,
+    ValidationContext,
 };
 use jskw_value::Json;
 use std::alloc::{AllocError, Global};
@@ -38,52 +39,6 @@ pub(crate) struct LocatedValidator<F: Json> {
     pub(crate) location: KeywordLocation,
 }
 
-impl<F: Json> Validate<F> for Part<F> {
-    ghost meaning = { part_meaning };
-
-    #[inline(always)]
-    #[cycle(is_valid)]
-    fn is_valid(&self, instance: &F::Node, ctx: &mut ValidationContext) -> bool {
-        match self {
-            Part::Keyword(keyword) => keyword.validator.is_valid(instance, ctx),
-            Part::Shape(shape) => shape.is_valid(instance, ctx),
-        }
-    }
-
-    #[inline(always)]
-    #[cycle(report)]
-    fn report_errors<'i>(
-        &'i self,
-        instance: &'i F::Node,
-        location: &mut LazyLocation,
-        ctx: &mut ValidationContext,
-        report: &mut Report<'i, F>,
-    ) -> Result<(), Stop> {
-        match self {
-            Part::Keyword(keyword) => {
-                keyword
-                    .validator
-                    .report_errors(instance, location, ctx, report)
-            }
-            Part::Shape(shape) => shape.report_errors(instance, location, ctx, report),
-        }
-    }
-
-    #[cycle(evaluate)]
-    fn evaluate(
-        &self,
-        alloc: Global,
-        instance: &F::Node,
-        location: &mut LazyLocation,
-        ctx: &mut ValidationContext,
-    ) -> Result<EvaluationResult, AllocError> {
-        match self {
-            Part::Keyword(keyword) => keyword.validator.evaluate(alloc, instance, location, ctx),
-            Part::Shape(shape) => shape.evaluate(alloc, instance, location, ctx),
-        }
-    }
-}
-
 impl<F: Json> Part<F> {
     // Returns the fused shape, if the part is one.
     pub(crate) fn shape(&self) -> Option<&ArrayShapeValidator<F>>
@@ -96,13 +51,55 @@ impl<F: Json> Part<F> {
         }
     }
 
-    // Returns the keyword location of the part's evaluation node.
-    fn location(&self) -> &KeywordLocation
-        ensures { result.now ≡ part_location self.now }
+    // Returns the keyword whose evaluation node is the part's.
+    fn own(&self) -> &LocatedValidator<F>
+        ensures { result.now ≡ own_keyword self.now }
     {
         match self {
-            Part::Keyword(keyword) => &keyword.location,
-            Part::Shape(shape) => &shape.items.location,
+            Part::Keyword(keyword) => keyword,
+            Part::Shape(shape) => &shape.items,
+        }
+    }
+
+    // Returns whether every keyword of the part holds of the instance.
+    #[inline(always)]
+    #[cycle(is_valid)]
+    pub(crate) fn is_valid(&self, instance: &F::Node, ctx: &mut ValidationContext) -> bool
+        requires { IsTrue (is_lawful (F.Node.tree instance.now)) }
+        ensures answer { result ≡ meaning_holds (part_meaning self.now) (F.Node.tree instance.now) }
+        ensures counted { CountsUpTo ctx.old ctx.new
+            (meaning_needed (part_meaning self.now) (F.Node.tree instance.now)) }
+    {
+        match self {
+            Part::Keyword(keyword) => keyword.validator.is_valid(instance, ctx),
+            Part::Shape(shape) => shape.is_valid(instance, ctx),
+        }
+    }
+
+    // Adds the errors of the part's keywords to `report`, in order, until no other is wanted.
+    #[inline(always)]
+    #[cycle(report)]
+    fn report_errors<'i>(
+        &'i self,
+        instance: &'i F::Node,
+        location: &mut LazyLocation,
+        ctx: &mut ValidationContext,
+        report: &mut Report<'i, F>,
+    ) -> Result<(), Stop>
+        requires { IsTrue (is_lawful (F.Node.tree instance.now)) }
+        ensures reported { Reports F.Node.tree report.old report.new (meaning_fail
+            (part_meaning self.now) (F.Node.tree instance.now) (path_of location.old)) result }
+        ensures location { location.new ≡ location.old }
+        ensures counted { CountsUpTo ctx.old ctx.new (meaning_applications (keeps_list report.old)
+            (part_meaning self.now) (F.Node.tree instance.now)) }
+    {
+        match self {
+            Part::Keyword(keyword) => {
+                keyword
+                    .validator
+                    .report_errors(instance, location, ctx, report)
+            }
+            Part::Shape(shape) => shape.report_errors(instance, location, ctx, report),
         }
     }
 
@@ -197,8 +194,9 @@ pub(crate) fn evaluate_parts<F: Json>(
                 .absorbed
                 .evaluate::<F>(alloc, instance, path, children)?,
         }
-        let result = part.evaluate(alloc, instance, location, ctx)?;
-        children.push(EvaluationNode::at_keyword(alloc, result, part.location(), path)?)?;
+        let own = part.own();
+        let result = own.validator.evaluate(alloc, instance, location, ctx)?;
+        children.push(EvaluationNode::at_keyword(alloc, result, &own.location, path)?)?;
     }
     Ok(())
 }

@@ -5,14 +5,14 @@ use Rattle.std.proofs.lemmas.Grind.{common_steps}
 use Rattle.jskw_array.specs.Words.{absorbed_by, absorbed_keywords, boxed_bounds, evaluate_pairs, failing_locations}
 use Rattle.jskw_array.specs.Words.{false_schema, holds, item_location, items, keywords_of, matching_result}
 use Rattle.jskw_array.specs.Words.{meaning_unit, node_at, of_children, pairs, path_of, prefix_annotation, result_of}
-use Rattle.jskw_array.specs.Words.{schema_location, schemas_of, tree, part_location, part_meaning, units}
+use Rattle.jskw_array.specs.Words.{schema_location, schemas_of, tree, own_keyword, part_meaning, units}
 use Rattle.jskw_report.proofs.GatheredNodes.{gathered_all, index_end, index_passed, index_taken, node_end, node_passed}
 use Rattle.jskw_report.proofs.GatheredNodes.{node_taken}
 use Rattle.jskw_report.proofs.EvaluationValidity.{tree_valid}
 use Rattle.jskw_report.specs.Evaluation.{is_valid}
 use Rattle.jskw_array.specs.Heights.{rest_is_as_high}
-use Rattle.jskw_array.proofs.WalksOverParts.{false_tree, keywords_end, one_within, pairs_at}
-use Rattle.jskw_array.proofs.WalksOverParts.{pairs_within, schema_height, schema_tree, schema_within, shape_below}
+use Rattle.jskw_array.proofs.WalksOverParts.{false_tree, keywords_end, one_within, own_counted, own_gives, own_lower}
+use Rattle.jskw_array.proofs.WalksOverParts.{pairs_at, pairs_within, schema_height, schema_tree, schema_within}
 use Rattle.jskw_array.proofs.WalksOverParts.{unit_height, unit_taken}
 use Rattle.jskw_array.proofs.MatchedItems.{matching_is_unit}
 use Rattle.jskw_array.proofs.ValidatorMeanings.{each_meets, items_unit_is, prefix_unit_is}
@@ -152,7 +152,8 @@ pub part::evaluate_parts-evaluate-requires-in-loop-part : goal.part::evaluate_pa
 part::evaluate_parts-evaluate-requires-in-loop-part g t c κs within =
     let lower =
     unit_height c.args.parts.now c.loop-part.part-index c.part-item.result c.loop-part-test.true c.part-item.is in
-    (omega (arith, lower, c.decreases), search rules)
+    let own = own_lower c.part-item.result c.own-own.result.now c.own-own.ensures in
+    (omega (arith, own, lower, c.decreases), search rules)
 
 pub part::evaluate_parts-loop-part-init : goal.part::evaluate_parts-loop-part-init
 part::evaluate_parts-loop-part-init g t c =
@@ -168,14 +169,14 @@ pub part::evaluate_parts-returns-in_err-result-clause-counted
 part::evaluate_parts-returns-in_err-result-clause-counted g t c =
     let l = c.loop-part in
     pairs_within c.args.parts.now l.part-index _ c.loop-part-test.true c.part-item.is _ l.invariant.counted_from
-    l.invariant.counted_to c.in_err-result.ensures.counted
+    l.invariant.counted_to (own_counted _ c.own-own.result.now c.own-own.ensures _ c.in_err-result.ensures.counted)
 
 pub part::evaluate_parts-returns-in_err-at_keyword-clause-counted
     : goal.part::evaluate_parts-returns-in_err-at_keyword-clause-counted
 part::evaluate_parts-returns-in_err-at_keyword-clause-counted g t c =
     let l = c.loop-part in
     pairs_within c.args.parts.now l.part-index _ c.loop-part-test.true c.part-item.is _ l.invariant.counted_from
-    l.invariant.counted_to c.in_ok-result.ensures.counted
+    l.invariant.counted_to (own_counted _ c.own-own.result.now c.own-own.ensures _ c.in_ok-result.ensures.counted)
 
 pub part::evaluate_parts-returns-in_err-push-clause-location
     : goal.part::evaluate_parts-returns-in_err-push-clause-location
@@ -187,7 +188,7 @@ pub part::evaluate_parts-returns-in_err-push-clause-counted
 part::evaluate_parts-returns-in_err-push-clause-counted g t c =
     let l = c.loop-part in
     pairs_within c.args.parts.now l.part-index _ c.loop-part-test.true c.part-item.is _ l.invariant.counted_from
-    l.invariant.counted_to c.in_ok-result.ensures.counted
+    l.invariant.counted_to (own_counted _ c.own-own.result.now c.own-own.ensures _ c.in_ok-result.ensures.counted)
 
 pub part::evaluate_parts-loop-part-preserved : goal.part::evaluate_parts-loop-part-preserved
 part::evaluate_parts-loop-part-preserved g t c =
@@ -204,16 +205,17 @@ part::evaluate_parts-loop-part-preserved g t c =
           (ap (λ v. absorbed_keywords v.absorbed) w.deref.ensures ∙ ap absorbed_by (sym w.in-Shape.is)))
     ] in
     let before = absorbed ∙ ap (λ q. l.children.items ++ units (absorbed_by u) instance q) c.requires.path in
+    let k = c.own-own.result.now in
     let result =
-    c.in_ok-result.ensures.gives
+    c.in_ok-result.ensures.gives ∙ own_gives u k c.own-own.ensures instance _
     ∙ ap (λ q. meaning_unit (part_meaning u) instance (path_of q)) l.invariant.location in
     let made =
     c.in_ok-at_keyword.ensures
-    ∙ ap (λ q. node_at q c.args.path.now (result_of c.in_ok-result.result)) c.location.ensures
-    ∙ ap₂ (node_at (part_location u)) c.requires.path result in
+    ∙ ap (λ x. node_at x.location c.args.path.now (result_of c.in_ok-result.result)) c.own-own.ensures
+    ∙ ap₂ (node_at (own_keyword u).location) c.requires.path result in
     let more = c.in_ok-push.ensures.items ∙ ap (λ e. c.match-part.children.items ++ e ∷ []) made in
     let cost = pairs_at us l.part-index u c.loop-part-test.true c.part-item.is instance in
-    let next = c.in_ok-result.ensures.counted in
+    let next = own_counted u k c.own-own.ensures instance c.in_ok-result.ensures.counted in
     record {
       gathered =
           unit_taken us l.part-index u c.loop-part-test.true c.part-item.is instance p _ _ _ _ before more
@@ -231,12 +233,6 @@ part::evaluate_parts-returns-clause-gives g t c =
     gathered_all _ _ _
     (ap (λ ks. units ks instance p) (keywords_end c.args.parts.now l.part-index c.loop-part-test.false))
     l.invariant.gathered
-
-pub part::PartValidate::evaluate-evaluate-requires-in-Shape
-    : goal.part::PartValidate::evaluate-evaluate-requires-in-Shape
-part::PartValidate::evaluate-evaluate-requires-in-Shape g t c κs within =
-    let below = shape_below c.args.self.now c.deref.result.now c.in-Shape.is c.deref.ensures in
-    (omega (arith, below, c.decreases), search rules)
 
 -- ---- a node
 

@@ -3,7 +3,6 @@ use Rattle.jskw_array.specs.Words.{all_height, all_pairs, each_keyword, each_pai
 use Rattle.jskw_array.specs.Words.{evaluate_pairs, height, holds, items, keyword_height, keyword_pairs, keywords_of}
 use Rattle.jskw_array.specs.Words.{matching_indices, pairs, path_of, rest_keyword, schemas_of, tree, units}
 use Rattle.jskw_array.specs.Words.{validator_keyword}
-use Rattle.jskw_array.proofs.WalksOverParts.{part_tall}
 use Rattle.jskw_array.proofs.+evaluate.Given as goal
 
 abbrev pub decreases-node::Subschema::evaluate_instance_below : goal.decreases-node::Subschema::evaluate_instance_below
@@ -14,14 +13,6 @@ decreases-node::Subschema::evaluate_item g l = 10 * height l.self.now + 1
 
 abbrev pub decreases-part::evaluate_parts : goal.decreases-part::evaluate_parts
 decreases-part::evaluate_parts g l = 10 * all_height (keywords_of l.parts.now) + 7
-
-abbrev pub decreases-part::PartValidate::evaluate : goal.decreases-part::PartValidate::evaluate
-decreases-part::PartValidate::evaluate g l = 10 * part_tall l.self.now + 6
-
-abbrev pub decreases-items::array_shape::ArrayShapeValidatorValidate::evaluate
-    : goal.decreases-items::array_shape::ArrayShapeValidatorValidate::evaluate
-decreases-items::array_shape::ArrayShapeValidatorValidate::evaluate g l =
-    10 * keyword_height (validator_keyword l.self.now.items.validator) + 5
 
 abbrev pub decreases-validator::ValidatorValidate::evaluate : goal.decreases-validator::ValidatorValidate::evaluate
 decreases-validator::ValidatorValidate::evaluate g l = 10 * keyword_height (validator_keyword l.self.now) + 3

@@ -1,4 +1,4 @@
-use Rattle.std.proofs.Common.{rules, ◌∙◌, ◌-◌, false, sym, arith}
+use Rattle.std.proofs.Common.{rules, ◌∙◌, false, sym, arith}
 use Rattle.jskw_array.specs.Words.{holds, items, needed}
 use Rattle.jskw_array.specs.Heights.{rest_is_as_high}
 use Rattle.jskw_array.proofs.AcceptedValues.{counted_within, one_needed}
@@ -150,9 +150,9 @@ part::parts_are_valid-returns-then-not-is_valid-clause-counted g t c =
           omega (arith, stopped.1, l.invariant.counted_to, next.to);
     }
 
-pub part::PartValidate::is_valid-is_valid-requires-in-Shape
-    : goal.part::PartValidate::is_valid-is_valid-requires-in-Shape
-part::PartValidate::is_valid-is_valid-requires-in-Shape g t c κs within =
+pub part::Part::is_valid-is_valid-requires-in-Shape
+    : goal.part::Part::is_valid-is_valid-requires-in-Shape
+part::Part::is_valid-is_valid-requires-in-Shape g t c κs within =
     let below = shape_below c.args.self.now c.deref.result.now c.in-Shape.is c.deref.ensures in
     (omega (arith, below, c.decreases), search rules)
 

@@ -14,8 +14,8 @@ decreases-node::Subschema::keywords_are_valid g l = 10 * height l.self.now
 abbrev pub decreases-part::parts_are_valid : goal.decreases-part::parts_are_valid
 decreases-part::parts_are_valid g l = 10 * all_height (keywords_of l.parts.now) + 8
 
-abbrev pub decreases-part::PartValidate::is_valid : goal.decreases-part::PartValidate::is_valid
-decreases-part::PartValidate::is_valid g l = 10 * part_tall l.self.now + 7
+abbrev pub decreases-part::Part::is_valid : goal.decreases-part::Part::is_valid
+decreases-part::Part::is_valid g l = 10 * part_tall l.self.now + 7
 
 abbrev pub decreases-items::array_shape::ArrayShapeValidatorValidate::is_valid
     : goal.decreases-items::array_shape::ArrayShapeValidatorValidate::is_valid

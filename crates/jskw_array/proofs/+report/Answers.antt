@@ -1,4 +1,4 @@
-use Rattle.std.proofs.Common.{rules, ◌∙◌, ◌-◌, refl, ap, sym, subst, append-nil, arith}
+use Rattle.std.proofs.Common.{rules, ◌∙◌, refl, ap, sym, subst, append-nil, arith}
 use Rattle.jskw_array.specs.Words.{Reports, absorbed_keywords, all_fail, fail, item_location, items, keeps_list}
 use Rattle.jskw_array.specs.Words.{keyword_fail, path_of, validator_keyword}
 use Rattle.jskw_report.proofs.AppendedKeywords.{fail_appended}
@@ -233,9 +233,9 @@ part::report_parts-returns-clause-reported g t c =
     (λ ks. all_fail ks (tree c.args.instance.now) (path_of c.args.location.now))
     (keywords_end c.args.parts.now l.part-index c.loop-part-test.false))
 
-pub part::PartValidate::report_errors-report_errors-requires-in-Shape
-    : goal.part::PartValidate::report_errors-report_errors-requires-in-Shape
-part::PartValidate::report_errors-report_errors-requires-in-Shape g t c κs within =
+pub part::Part::report_errors-report_errors-requires-in-Shape
+    : goal.part::Part::report_errors-report_errors-requires-in-Shape
+part::Part::report_errors-report_errors-requires-in-Shape g t c κs within =
     let below = shape_below c.args.self.now c.deref.result.now c.in-Shape.is c.deref.ensures in
     (omega (arith, below, c.decreases), search rules)
 

@@ -16,8 +16,8 @@ decreases-node::Subschema::report_item g l = 10 * height l.self.now + 1
 abbrev pub decreases-part::report_parts : goal.decreases-part::report_parts
 decreases-part::report_parts g l = 10 * all_height (keywords_of l.parts.now) + 7
 
-abbrev pub decreases-part::PartValidate::report_errors : goal.decreases-part::PartValidate::report_errors
-decreases-part::PartValidate::report_errors g l = 10 * part_tall l.self.now + 6
+abbrev pub decreases-part::Part::report_errors : goal.decreases-part::Part::report_errors
+decreases-part::Part::report_errors g l = 10 * part_tall l.self.now + 6
 
 abbrev pub decreases-items::array_shape::ArrayShapeValidatorValidate::report_errors
     : goal.decreases-items::array_shape::ArrayShapeValidatorValidate::report_errors

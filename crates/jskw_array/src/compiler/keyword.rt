@@ -33,30 +33,16 @@ pub(crate) fn push_part<'a, F: Json>(
 {
     match compiled {
         None => Ok(()),
-        Some(Ok(validator)) => Ok(push_validator(alloc, ctx, keyword, validator, parts)?),
+        Some(Ok(validator)) => {
+            let location = location_of(alloc, ctx, keyword, &validator)?;
+            parts.push(Part::Keyword(LocatedValidator {
+                validator,
+                location,
+            }))?;
+            Ok(())
+        }
         Some(Err(fault)) => Err(fault),
     }
-}
-
-// Appends a keyword with its validator.
-fn push_validator<F: Json>(
-    alloc: Global,
-    ctx: &Context<'_, F>,
-    keyword: KeywordName,
-    validator: Validator<F>,
-    parts: &mut Vec<Part<F>>,
-) -> Result<(), AllocError>
-    ensures { IfOk result (λ _. parts.new.items ≡ parts.old.items ++ part.Keyword (record {
-      validator = validator;
-      location = keyword_location ctx.now.location keyword;
-    }) ∷ []) }
-{
-    let location = location_of(alloc, ctx, keyword, &validator);
-    parts.push(Part::Keyword(location.map(|location| LocatedValidator {
-        validator,
-        location,
-    })?))?;
-    Ok(())
 }
 
 // Returns the location of a keyword: that of the validator's errors, if it is the same, else one that

@@ -144,7 +144,6 @@ impl<F: Json> Validate<F> for ArrayShapeValidator<F> {
             .report_errors(instance, location, ctx, report)
     }
 
-    #[cycle(evaluate)]
     fn evaluate(
         &self,
         alloc: Global,

@@ -27,8 +27,8 @@ pub(crate) fn compile_inline<'a, F: Json>(
         (read (view schema.now) ctx.now.setting
         (keyword_location ctx.now.location KeywordName.Items))) }
 {
-    let location = ctx.keyword_location(alloc, KeywordName::Items)?;
     let below = ctx.new_at_keyword(alloc, KeywordName::Items)?;
+    let location = below.place().copy()?;
     let type_location = below.keyword_location(alloc, KeywordName::TypeKeyword)?;
     Ok(typed_items(only_type(schema), ctx.draft(), location, type_location))
 }

@@ -8,7 +8,7 @@ pub returns : goal.returns
 returns g c =
     let point = c.args.ctx.now in
     let q = keyword_location point.location Items in
-    let location = c.in_ok-location.ensures in
+    let location = c.in_ok-location.ensures ∙ c.place.ensures ∙ ap (λ below. below.location) c.in_ok-below.ensures in
     let type_location =
     c.in_ok-type_location.ensures
     ∙ ap (λ below. keyword_location below.location TypeKeyword) c.in_ok-below.ensures in
