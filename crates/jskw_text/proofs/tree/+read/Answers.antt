@@ -3,11 +3,11 @@ use Rattle.std.proofs.Common.{ap, ap₂, ◌∙◌, arith, rules}
 use Rattle.json.specs.Token.{Token}
 use Rattle.json.specs.Json.{parse_map, after_end_array, read_key, items, members, value}
 use Rattle.json.specs.Reads.{token_of}
-use Rattle.json.proofs.Grammar.{value_is, value-begin_array, value-begin_object, read_key-shorter}
+use Rattle.json.proofs.Grammar.{value_is, read_key-shorter}
 use Rattle.jskw_value.specs.DecimalTree.{decimal_tree}
 use Rattle.jskw_value.specs.Decimal.{value as number_value}
-use Rattle.jskw_value.specs.Tree.{null, boolean, number, string, array, object}
-use Rattle.jskw_value.specs.declared.decimal_tree.DecimalTree.{Text, Number, Bool, Null, the_lemmas}
+use Rattle.jskw_value.specs.Tree.{number, array, object}
+use Rattle.jskw_value.specs.declared.decimal_tree.DecimalTree.{Number, the_lemmas}
 use Rattle.jskw_value.proofs.DecimalTrees.{tree_of_array}
 use Rattle.jskw_value.specs.Members.{lasts}
 use Rattle.jskw_text.specs.Members.{members_seen}
@@ -15,7 +15,7 @@ use Rattle.jskw_text.specs.Stop.{Explains, location_of}
 use Rattle.jskw_text.specs.declared.fault.Stop.TheVariants.{Broken}
 use Rattle.jskw_text.specs.Reading.{on_found, put, tree_of, items_of, members_of}
 use Rattle.jskw_text.proofs.Members.{tree_of_members, last_seen}
-use Rattle.jskw_text.proofs.Reading.{returned, length-append_one, parsed_array, parsed_object, explained, item_read}
+use Rattle.jskw_text.proofs.Reading.{returned, length-append_one, leaf_value, array_value, object_value, explained, item_read}
 use Rattle.jskw_text.proofs.Reading.{item_faulty, items_over, member_read, member_faulty, key_refused, members_over}
 use Rattle.jskw_text.proofs.Reading.{items_before, items_before-no_items, one_more_item}
 use Rattle.jskw_text.proofs.tree.+read.Goals as goal
@@ -43,61 +43,38 @@ read-returns-then-depth-eq0-2-clause-err t c =
 pub read-returns-in_err-read_items-in-BeginArray-clause-err
     : goal.read-returns-in_err-read_items-in-BeginArray-clause-err
 read-returns-in_err-read_items-in-BeginArray-clause-err t c =
-    let first : c.args.reader.now ≡ token_of c.in_ok-token.token ∷ c.next.new.self = grind arith in
-    let opened =
-    ap (parse_map tree_of) (ap (value c.args.depth)
-    (first ∙ ap (λ k. token_of k ∷ c.next.new.self) c.in-BeginArray.is)
-    ∙ value-begin_array c.args.depth c.next.new.self (omega arith))
-    ∙ parsed_array (items (value (c.args.depth - 1)) (length c.next.new.self) c.next.new.self) in
     let fault = c.in_err-read_items-in-BeginArray in
     let is : c.from_residual-in_err-read_items-in-BeginArray.result ≡ Err fault.field-0.0 = search rules in
-    returned _ fault.field-0.0 _ _ is opened (explained array fault.field-0.0 _ fault.ensures.err)
+    let first : c.args.reader.now ≡ Token.begin_array ∷ c.next.new.self = grind arith in
+    returned _ fault.field-0.0 _ _ is (array_value c.args.depth _ _ first (omega arith))
+    (explained array fault.field-0.0 _ fault.ensures.err)
 
 pub read-returns-in_err-read_members-in-BeginObject-clause-err
     : goal.read-returns-in_err-read_members-in-BeginObject-clause-err
 read-returns-in_err-read_members-in-BeginObject-clause-err t c =
-    let first : c.args.reader.now ≡ token_of c.in_ok-token.token ∷ c.next.new.self = grind arith in
-    let opened =
-    ap (parse_map tree_of) (ap (value c.args.depth)
-    (first ∙ ap (λ k. token_of k ∷ c.next.new.self) c.in-BeginObject.is)
-    ∙ value-begin_object c.args.depth c.next.new.self (omega arith))
-    ∙ parsed_object (members (value (c.args.depth - 1)) (length c.next.new.self) c.next.new.self) in
     let fault = c.in_err-read_members-in-BeginObject in
     let is : c.from_residual-in_err-read_members-in-BeginObject.result ≡ Err fault.field-0.0 = search rules in
-    returned _ fault.field-0.0 _ _ is opened (explained object fault.field-0.0 _ fault.ensures.err)
+    let first : c.args.reader.now ≡ Token.begin_object ∷ c.next.new.self = grind arith in
+    returned _ fault.field-0.0 _ _ is (object_value c.args.depth _ _ first (omega arith))
+    (explained object fault.field-0.0 _ fault.ensures.err)
 
 pub read-returns-in_ok-from_str-in-String-clause-ok : goal.read-returns-in_ok-from_str-in-String-clause-ok
 read-returns-in_ok-from_str-in-String-clause-ok t c =
-    let first : c.args.reader.now ≡ token_of c.in_ok-token.token ∷ c.next.new.self = grind arith in
-    let is : c.args.reader.now ≡ Token.string c.in-String.text.now ∷ c.next.new.self = grind (arith, first) in
-    let seen : decimal_tree (Text c.in_ok-from_str-in-String.field-0) ≡ string c.in-String.text.now =
-    search (rules, the_lemmas) in
-    ap (parse_map tree_of) (ap (value c.args.depth) is ∙ value_is c.args.depth _)
-    ∙ ap (λ d. Some (Ok d, c.next.new.self)) (sym seen)
+    leaf_value c.args.depth _ (Token.string c.in-String.text.now) _ _ (grind arith) (search (rules, the_lemmas))
 
 pub read-returns-in-Bool-clause-ok : goal.read-returns-in-Bool-clause-ok
 read-returns-in-Bool-clause-ok t c =
-    let first : c.args.reader.now ≡ token_of c.in_ok-token.token ∷ c.next.new.self = grind arith in
-    let is : c.args.reader.now ≡ Token.boolean c.in-Bool.boolean ∷ c.next.new.self = grind (arith, first) in
-    let seen : decimal_tree (Bool c.in-Bool.boolean) ≡ boolean c.in-Bool.boolean = search (rules, the_lemmas) in
-    ap (parse_map tree_of) (ap (value c.args.depth) is ∙ value_is c.args.depth _)
-    ∙ ap (λ d. Some (Ok d, c.next.new.self)) (sym seen)
+    leaf_value c.args.depth _ (Token.boolean c.in-Bool.boolean) _ _ (grind arith) (search (rules, the_lemmas))
 
 pub read-returns-in-Null-clause-ok : goal.read-returns-in-Null-clause-ok
 read-returns-in-Null-clause-ok t c =
-    let first : c.args.reader.now ≡ token_of c.in_ok-token.token ∷ c.next.new.self = grind arith in
-    let is : c.args.reader.now ≡ Token.null ∷ c.next.new.self = grind (arith, first) in
-    let seen : decimal_tree (Null) ≡ null = search (rules, the_lemmas) in
-    ap (parse_map tree_of) (ap (value c.args.depth) is ∙ value_is c.args.depth _)
-    ∙ ap (λ d. Some (Ok d, c.next.new.self)) (sym seen)
+    leaf_value c.args.depth _ Token.null _ _ (grind arith) (search (rules, the_lemmas))
 
 pub read-returns-in-Some-clause-ok : goal.read-returns-in-Some-clause-ok
 read-returns-in-Some-clause-ok t c =
-    let first : c.args.reader.now ≡ token_of c.in_ok-token.token ∷ c.next.new.self = grind arith in
-    let is : c.args.reader.now ≡ Token.number c.in-Number.text.now ∷ c.next.new.self = grind (arith, first) in
     let seen : decimal_tree (Number c.in-Some.decimal) ≡ number (number_value c.in-Some.decimal) =
     search (rules, the_lemmas) in
-    ap (parse_map tree_of) (ap (value c.args.depth) is ∙ value_is c.args.depth _) ∙ rw (← c.in-Some.ensures, seen)
+    leaf_value c.args.depth _ (Token.number c.in-Number.text.now) _ _ (grind arith) (rw (← c.in-Some.ensures, seen))
 
 pub read-returns-in-None-clause-err : goal.read-returns-in-None-clause-err
 read-returns-in-None-clause-err t c =
@@ -117,27 +94,17 @@ read-returns-in-EndObject-clause-err t c =
 
 pub read-returns-in_ok-read_items-in-BeginArray-clause-ok : goal.read-returns-in_ok-read_items-in-BeginArray-clause-ok
 read-returns-in_ok-read_items-in-BeginArray-clause-ok t c =
-    let first : c.args.reader.now ≡ token_of c.in_ok-token.token ∷ c.next.new.self = grind arith in
-    let opened =
-    ap (parse_map tree_of) (ap (value c.args.depth)
-    (first ∙ ap (λ k. token_of k ∷ c.next.new.self) c.in-BeginArray.is)
-    ∙ value-begin_array c.args.depth c.next.new.self (omega arith))
-    ∙ parsed_array (items (value (c.args.depth - 1)) (length c.next.new.self) c.next.new.self) in
     let found = c.in_ok-read_items-in-BeginArray in
-    opened ∙ ap (parse_map (on_found array)) found.ensures.ok
+    array_value c.args.depth _ c.next.new.self (grind arith) (omega arith)
+    ∙ ap (parse_map (on_found array)) found.ensures.ok
     ∙ ap (λ d. Some (Ok d, c.read_items.new.reader)) (sym (tree_of_array found.field-0))
 
 pub read-returns-in_ok-read_members-in-BeginObject-clause-ok
     : goal.read-returns-in_ok-read_members-in-BeginObject-clause-ok
 read-returns-in_ok-read_members-in-BeginObject-clause-ok t c =
-    let first : c.args.reader.now ≡ token_of c.in_ok-token.token ∷ c.next.new.self = grind arith in
-    let opened =
-    ap (parse_map tree_of) (ap (value c.args.depth)
-    (first ∙ ap (λ k. token_of k ∷ c.next.new.self) c.in-BeginObject.is)
-    ∙ value-begin_object c.args.depth c.next.new.self (omega arith))
-    ∙ parsed_object (members (value (c.args.depth - 1)) (length c.next.new.self) c.next.new.self) in
     let found = c.in_ok-read_members-in-BeginObject in
-    opened ∙ ap (parse_map (on_found object)) found.ensures.ok
+    object_value c.args.depth _ c.next.new.self (grind arith) (omega arith)
+    ∙ ap (parse_map (on_found object)) found.ensures.ok
     ∙ ap (λ d. Some (Ok d, c.read_members.new.reader)) (sym (tree_of_members found.field-0))
 
 pub read_items-returns-in-Err-clause-err : goal.read_items-returns-in-Err-clause-err
