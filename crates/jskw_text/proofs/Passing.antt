@@ -22,10 +22,6 @@ use Rattle.jskw_text.proofs.Reading.{parsed_some, leaf_value, array_value, objec
 use Rattle.jskw_text.proofs.Reading.{members_over, items_before, one_more_item, length-append_one}
 use Rattle.jskw_text.proofs.Reading.{items_before-no_items, none_before}
 
-pub if_ok : {A E : Type 0} (r : Result A E) {P Q : A → Type 0} → ((a : A) → P a → Q a) → IfOk r P → IfOk r Q
-if_ok (Ok a) f h = f a h
-if_ok (Err e) f h = tt
-
 -- ---- where a value may begin
 
 abbrev is_closing : Token → Bool
@@ -114,6 +110,13 @@ pub read_behind : (depth : ℕ) (old inner : List ℕ) (t : Tree) (new : List �
     → Reads depth inner t new → Reads depth old t new
 read_behind depth old inner t new passes reads p may plain =
     ap (λ l. parse_map tree_of (value depth (punctuate p l))) passes.lexed ∙ reads p may plain
+
+pub leaf_behind : {E : Type 0} (r : Result DecimalTree E) (depth : ℕ) (old inner new : List ℕ) → Passes old [] inner
+    → IfOk r (λ tree. PassesLeaf inner (decimal_tree tree) new)
+    → IfOk r (λ tree. Reads depth old (decimal_tree tree) new)
+leaf_behind (Ok tree) depth old inner new passes leaf =
+    read_behind depth old inner (decimal_tree tree) new passes (leaf_read depth inner (decimal_tree tree) new leaf)
+leaf_behind (Err e) depth old inner new passes leaf = tt
 
 -- ---- arrays and objects
 

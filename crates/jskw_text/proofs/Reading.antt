@@ -1,6 +1,6 @@
 -- The grammar's loops, a turn at a time, under the conversion to trees.
 use Rattle.std.proofs.Common.{◌≡◌, ℕ, zero, suc, ◌-◌, ◌<◌, ◌≤◌, List, [], ◌∷◌, ◌++◌, length, map, Option, Some, None}
-use Rattle.std.proofs.Common.{Result, Ok, Err, IfSome, IfErr, option_map, string_bytes, refl, ap, ◌∙◌, arith}
+use Rattle.std.proofs.Common.{Result, Ok, Err, IfSome, IfErr, option_map, string_bytes, refl, sym, ap, ap₂, ◌∙◌, arith}
 use Rattle.json.specs.Token.{Token}
 use Rattle.json.specs.Json as json
 use Rattle.json.specs.Json.{Parse, parse_map, after_end_array, read_key, items, members, if_last, value}
@@ -88,12 +88,36 @@ pub array_value : (depth : ℕ) (ts rest : List Token) → ts ≡ Token.begin_ar
 array_value depth ts rest first some =
     ap (parse_map tree_of) (ap (value depth) first ∙ value-begin_array depth rest some) ∙ parsed_array _
 
+pub array_too_deep : (depth : ℕ) (ts rest : List Token) → ts ≡ Token.begin_array ∷ rest → depth ≡ 0
+    → parse_map tree_of (value depth ts) ≡ None
+unfolding value
+array_too_deep depth ts rest first none = ap (parse_map tree_of) (ap₂ value none first)
+
 -- and behind a brace
 pub object_value : (depth : ℕ) (ts rest : List Token) → ts ≡ Token.begin_object ∷ rest → 0 < depth
     → parse_map tree_of (value depth ts)
     ≡ parse_map (on_found object) (parse_map (members_of no_members) (members (value (depth - 1)) (length rest) rest))
 object_value depth ts rest first some =
     ap (parse_map tree_of) (ap (value depth) first ∙ value-begin_object depth rest some) ∙ parsed_object _
+
+pub object_too_deep : (depth : ℕ) (ts rest : List Token) → ts ≡ Token.begin_object ∷ rest → depth ≡ 0
+    → parse_map tree_of (value depth ts) ≡ None
+unfolding value
+object_too_deep depth ts rest first none = ap (parse_map tree_of) (ap₂ value none first)
+
+-- what is found behind a bracket or a brace makes the tree
+pub found_behind : {A : Type 0} (make : A → Tree) (a : A) (d : DecimalTree) (new : List Token)
+    (whole : Option (Result Tree Pointer × List Token)) (rest : Option (Result A Pointer × List Token))
+    → whole ≡ parse_map (on_found make) rest → rest ≡ Some (Ok a, new) → decimal_tree d ≡ make a
+    → whole ≡ Some (Ok (decimal_tree d), new)
+found_behind make a d new whole rest is found makes =
+    is ∙ ap (parse_map (on_found make)) found ∙ ap (λ t. Some (Ok t, new)) (sym makes)
+
+-- and a fault there is one of the whole
+pub stopped_behind : {A T : Type 0} (make : A → Tree) (r : Result T Stop) (e : Stop)
+    (whole : Option (Result Tree Pointer × List Token)) (rest : Option (Result A Pointer × List Token))
+    → whole ≡ parse_map (on_found make) rest → r ≡ Err e → Explains e rest → IfErr r (λ g. Explains g whole)
+stopped_behind make r e whole rest is result stopped = returned r e _ _ result is (explained make e rest stopped)
 
 -- ---- one item or member in front
 

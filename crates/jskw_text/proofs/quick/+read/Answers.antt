@@ -9,28 +9,18 @@ use Rattle.jskw_value.proofs.DecimalTrees.{tree_of_array}
 use Rattle.jskw_text.specs.Members.{members_seen}
 use Rattle.jskw_text.specs.Passing.{Passes, Reads, ReadsItems, ReadsMembers}
 use Rattle.jskw_text.proofs.Members.{tree_of_members}
-use Rattle.jskw_text.proofs.Passing.{if_ok, leaf_read, read_behind, array_read, object_read, all_items_left, items_left}
+use Rattle.jskw_text.proofs.Passing.{leaf_behind, read_behind, array_read, object_read, all_items_left, items_left}
 use Rattle.jskw_text.proofs.Passing.{items_read, all_members_left, members_left, members_read, no_items_read}
 use Rattle.jskw_text.proofs.Passing.{no_members_read}
 use Rattle.jskw_text.proofs.quick.+read.Goals as goal
 
 pub read-returns-in-34-clause-ok : goal.read-returns-in-34-clause-ok
 read-returns-in-34-clause-ok t c =
-    let depth = c.args.depth in
-    let inner = c.skip_spaces.new.self in
-    let new = c.read_text.new.cursor in
-    if_ok c.read_text.result
-    (λ tree leaf. read_behind depth c.args.cursor.now inner (decimal_tree tree) new c.skip_spaces.ensures
-    (leaf_read depth inner (decimal_tree tree) new leaf)) c.read_text.ensures
+    leaf_behind c.read_text.result c.args.depth _ c.skip_spaces.new.self _ c.skip_spaces.ensures c.read_text.ensures
 
 pub read-returns-in_default-clause-ok : goal.read-returns-in_default-clause-ok
 read-returns-in_default-clause-ok t c =
-    let depth = c.args.depth in
-    let inner = c.skip_spaces.new.self in
-    let new = c.read_word.new.cursor in
-    if_ok c.read_word.result
-    (λ tree leaf. read_behind depth c.args.cursor.now inner (decimal_tree tree) new c.skip_spaces.ensures
-    (leaf_read depth inner (decimal_tree tree) new leaf)) c.read_word.ensures
+    leaf_behind c.read_word.result c.args.depth _ c.skip_spaces.new.self _ c.skip_spaces.ensures c.read_word.ensures
 
 pub read-returns-in_ok-read_items-in-91-clause-ok : goal.read-returns-in_ok-read_items-in-91-clause-ok
 read-returns-in_ok-read_items-in-91-clause-ok t c =

@@ -1,5 +1,5 @@
 use Rattle.std.proofs.Common.{◌≡◌, suc, ◌-◌, ◌<◌, [], ◌∷◌, length, map, Some, None, Ok, Err, string_bytes, refl, sym}
-use Rattle.std.proofs.Common.{ap, ap₂, ◌∙◌, arith, rules}
+use Rattle.std.proofs.Common.{ap, ◌∙◌, arith, rules}
 use Rattle.json.specs.Token.{Token}
 use Rattle.json.specs.Json.{parse_map, after_end_array, read_key, items, members, value}
 use Rattle.json.specs.Reads.{token_of}
@@ -15,7 +15,7 @@ use Rattle.jskw_text.specs.Stop.{Explains, location_of}
 use Rattle.jskw_text.specs.declared.fault.Stop.TheVariants.{Broken}
 use Rattle.jskw_text.specs.Reading.{on_found, put, tree_of, items_of, members_of}
 use Rattle.jskw_text.proofs.Members.{tree_of_members, last_seen}
-use Rattle.jskw_text.proofs.Reading.{returned, length-append_one, leaf_value, array_value, object_value, explained, item_read}
+use Rattle.jskw_text.proofs.Reading.{returned, length-append_one, leaf_value, array_value, object_value, array_too_deep, object_too_deep, found_behind, stopped_behind, explained, item_read}
 use Rattle.jskw_text.proofs.Reading.{item_faulty, items_over, member_read, member_faulty, key_refused, members_over}
 use Rattle.jskw_text.proofs.Reading.{items_before, items_before-no_items, one_more_item}
 use Rattle.jskw_text.proofs.tree.+read.Goals as goal
@@ -27,36 +27,24 @@ read-returns-in_err-token-clause-err t c =
     returned _ Broken _ _ is (ap (parse_map tree_of) (ap (value c.args.depth) empty ∙ value_is c.args.depth [])) refl
 
 pub read-returns-then-depth-eq0-clause-err : goal.read-returns-then-depth-eq0-clause-err
-unfolding value
 read-returns-then-depth-eq0-clause-err t c =
-    let first : c.args.reader.now ≡ token_of c.in_ok-token.token ∷ c.next.new.self = grind arith in
-    let none : c.args.depth ≡ 0 = omega arith in
-    ap (parse_map tree_of) (ap₂ value none (first ∙ ap (λ k. token_of k ∷ c.next.new.self) c.in-BeginArray.is))
+    array_too_deep c.args.depth _ c.next.new.self (grind arith) (omega arith)
 
 pub read-returns-then-depth-eq0-2-clause-err : goal.read-returns-then-depth-eq0-2-clause-err
-unfolding value
 read-returns-then-depth-eq0-2-clause-err t c =
-    let first : c.args.reader.now ≡ token_of c.in_ok-token.token ∷ c.next.new.self = grind arith in
-    let none : c.args.depth ≡ 0 = omega arith in
-    ap (parse_map tree_of) (ap₂ value none (first ∙ ap (λ k. token_of k ∷ c.next.new.self) c.in-BeginObject.is))
+    object_too_deep c.args.depth _ c.next.new.self (grind arith) (omega arith)
 
 pub read-returns-in_err-read_items-in-BeginArray-clause-err
     : goal.read-returns-in_err-read_items-in-BeginArray-clause-err
 read-returns-in_err-read_items-in-BeginArray-clause-err t c =
-    let fault = c.in_err-read_items-in-BeginArray in
-    let is : c.from_residual-in_err-read_items-in-BeginArray.result ≡ Err fault.field-0.0 = search rules in
-    let first : c.args.reader.now ≡ Token.begin_array ∷ c.next.new.self = grind arith in
-    returned _ fault.field-0.0 _ _ is (array_value c.args.depth _ _ first (omega arith))
-    (explained array fault.field-0.0 _ fault.ensures.err)
+    let opened = array_value c.args.depth c.args.reader.now c.next.new.self (grind arith) (omega arith) in
+    stopped_behind array _ _ _ _ opened (search rules) c.in_err-read_items-in-BeginArray.ensures.err
 
 pub read-returns-in_err-read_members-in-BeginObject-clause-err
     : goal.read-returns-in_err-read_members-in-BeginObject-clause-err
 read-returns-in_err-read_members-in-BeginObject-clause-err t c =
-    let fault = c.in_err-read_members-in-BeginObject in
-    let is : c.from_residual-in_err-read_members-in-BeginObject.result ≡ Err fault.field-0.0 = search rules in
-    let first : c.args.reader.now ≡ Token.begin_object ∷ c.next.new.self = grind arith in
-    returned _ fault.field-0.0 _ _ is (object_value c.args.depth _ _ first (omega arith))
-    (explained object fault.field-0.0 _ fault.ensures.err)
+    let opened = object_value c.args.depth c.args.reader.now c.next.new.self (grind arith) (omega arith) in
+    stopped_behind object _ _ _ _ opened (search rules) c.in_err-read_members-in-BeginObject.ensures.err
 
 pub read-returns-in_ok-from_str-in-String-clause-ok : goal.read-returns-in_ok-from_str-in-String-clause-ok
 read-returns-in_ok-from_str-in-String-clause-ok t c =
@@ -94,18 +82,14 @@ read-returns-in-EndObject-clause-err t c =
 
 pub read-returns-in_ok-read_items-in-BeginArray-clause-ok : goal.read-returns-in_ok-read_items-in-BeginArray-clause-ok
 read-returns-in_ok-read_items-in-BeginArray-clause-ok t c =
-    let found = c.in_ok-read_items-in-BeginArray in
-    array_value c.args.depth _ c.next.new.self (grind arith) (omega arith)
-    ∙ ap (parse_map (on_found array)) found.ensures.ok
-    ∙ ap (λ d. Some (Ok d, c.read_items.new.reader)) (sym (tree_of_array found.field-0))
+    let opened = array_value c.args.depth c.args.reader.now c.next.new.self (grind arith) (omega arith) in
+    found_behind array _ _ _ _ _ opened c.in_ok-read_items-in-BeginArray.ensures.ok (tree_of_array _)
 
 pub read-returns-in_ok-read_members-in-BeginObject-clause-ok
     : goal.read-returns-in_ok-read_members-in-BeginObject-clause-ok
 read-returns-in_ok-read_members-in-BeginObject-clause-ok t c =
-    let found = c.in_ok-read_members-in-BeginObject in
-    object_value c.args.depth _ c.next.new.self (grind arith) (omega arith)
-    ∙ ap (parse_map (on_found object)) found.ensures.ok
-    ∙ ap (λ d. Some (Ok d, c.read_members.new.reader)) (sym (tree_of_members found.field-0))
+    let opened = object_value c.args.depth c.args.reader.now c.next.new.self (grind arith) (omega arith) in
+    found_behind object _ _ _ _ _ opened c.in_ok-read_members-in-BeginObject.ensures.ok (tree_of_members _)
 
 pub read_items-returns-in-Err-clause-err : goal.read_items-returns-in-Err-clause-err
 read_items-returns-in-Err-clause-err t c =
