@@ -81,6 +81,17 @@ leaf_value depth ts k rest t first e =
     ap (λ us. parse_map tree_of (value depth us)) first
     ∙ leaf_first depth k rest t (ap (option_map {U = Result Tree Pointer × List Token} (λ r. (r, rest))) e)
 
+-- no array and no object is read below the last level
+pub array_too_deep : (depth : ℕ) (ts rest : List Token) → ts ≡ Token.begin_array ∷ rest → depth ≡ 0
+    → parse_map tree_of (value depth ts) ≡ None
+unfolding value
+array_too_deep depth ts rest first none = ap (parse_map tree_of) (ap₂ value none first)
+
+pub object_too_deep : (depth : ℕ) (ts rest : List Token) → ts ≡ Token.begin_object ∷ rest → depth ≡ 0
+    → parse_map tree_of (value depth ts) ≡ None
+unfolding value
+object_too_deep depth ts rest first none = ap (parse_map tree_of) (ap₂ value none first)
+
 -- what is read behind a bracket
 pub array_value : (depth : ℕ) (ts rest : List Token) → ts ≡ Token.begin_array ∷ rest → 0 < depth
     → parse_map tree_of (value depth ts)
@@ -88,22 +99,12 @@ pub array_value : (depth : ℕ) (ts rest : List Token) → ts ≡ Token.begin_ar
 array_value depth ts rest first some =
     ap (parse_map tree_of) (ap (value depth) first ∙ value-begin_array depth rest some) ∙ parsed_array _
 
-pub array_too_deep : (depth : ℕ) (ts rest : List Token) → ts ≡ Token.begin_array ∷ rest → depth ≡ 0
-    → parse_map tree_of (value depth ts) ≡ None
-unfolding value
-array_too_deep depth ts rest first none = ap (parse_map tree_of) (ap₂ value none first)
-
 -- and behind a brace
 pub object_value : (depth : ℕ) (ts rest : List Token) → ts ≡ Token.begin_object ∷ rest → 0 < depth
     → parse_map tree_of (value depth ts)
     ≡ parse_map (on_found object) (parse_map (members_of no_members) (members (value (depth - 1)) (length rest) rest))
 object_value depth ts rest first some =
     ap (parse_map tree_of) (ap (value depth) first ∙ value-begin_object depth rest some) ∙ parsed_object _
-
-pub object_too_deep : (depth : ℕ) (ts rest : List Token) → ts ≡ Token.begin_object ∷ rest → depth ≡ 0
-    → parse_map tree_of (value depth ts) ≡ None
-unfolding value
-object_too_deep depth ts rest first none = ap (parse_map tree_of) (ap₂ value none first)
 
 -- what is found behind a bracket or a brace makes the tree
 pub found_behind : {A : Type 0} (make : A → Tree) (a : A) (d : DecimalTree) (new : List Token)

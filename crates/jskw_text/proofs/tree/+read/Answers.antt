@@ -11,7 +11,7 @@ use Rattle.jskw_value.specs.declared.decimal_tree.DecimalTree.{Number, the_lemma
 use Rattle.jskw_value.proofs.DecimalTrees.{tree_of_array}
 use Rattle.jskw_value.specs.Members.{lasts}
 use Rattle.jskw_text.specs.Members.{members_seen}
-use Rattle.jskw_text.specs.Stop.{Explains, location_of}
+use Rattle.jskw_text.specs.Stop.{location_of}
 use Rattle.jskw_text.specs.declared.fault.Stop.TheVariants.{Broken}
 use Rattle.jskw_text.specs.Reading.{on_found, put, tree_of, items_of, members_of}
 use Rattle.jskw_text.proofs.Members.{tree_of_members, last_seen}
@@ -93,15 +93,12 @@ read-returns-in_ok-read_members-in-BeginObject-clause-ok t c =
 
 pub read_items-returns-in-Err-clause-err : goal.read_items-returns-in-Err-clause-err
 read_items-returns-in-Err-clause-err t c =
-    let p = value c.args.depth in
     let l = c.items in
-    let n = l.invariant.0 in
     let going : (after_end_array l.reader ≡ None) × (c.take_end_array.new.self ≡ l.reader) = grind arith in
-    let same : Explains c.in-Err.stop (parse_map tree_of (p l.reader)) = rw (← going.1) c.in-Err.ensures.err in
     let place : c.len.result ≡ length l.found.items = search rules in
     rw l.invariant.2 (explained (items_before l.found.items) c.in_item.result _
-    (item_faulty p (length l.found.items) n l.reader c.in-Err.stop c.in_item.result going.0 same
-    (rw (← place) c.in_item.ensures)))
+    (item_faulty (value c.args.depth) (length l.found.items) l.invariant.0 l.reader c.in-Err.stop c.in_item.result
+    going.0 (rw (← going.1) c.in-Err.ensures.err) (rw (← place) c.in_item.ensures)))
 
 pub read_items-items-preserved : goal.read_items-items-preserved
 read_items-items-preserved t c =
@@ -140,24 +137,17 @@ read_items-returns-clause-ok t c =
 
 pub read_members-returns-in_err-name-clause-err : goal.read_members-returns-in_err-name-clause-err
 read_members-returns-in_err-name-clause-err t c =
-    let p = value c.args.depth in
     let l = c.members in
-    let n = l.invariant.0 in
-    let old = members_seen (lasts l.found.items) in
     let is : c.from_residual.result ≡ Err Broken = search rules in
-    returned _ Broken _ _ is (l.invariant.2 ∙ key_refused p old n l.reader c.in_err-name.ensures.value) refl
+    returned _ Broken _ _ is (l.invariant.2 ∙ key_refused (value c.args.depth) (members_seen (lasts l.found.items))
+    l.invariant.0 l.reader c.in_err-name.ensures.value) refl
 
 pub read_members-returns-in-Err-clause-err : goal.read_members-returns-in-Err-clause-err
 read_members-returns-in-Err-clause-err t c =
-    let p = value c.args.depth in
     let l = c.members in
-    let n = l.invariant.0 in
-    let old = members_seen (lasts l.found.items) in
-    let k = c.in-Some.name.now in
-    let s = c.next_key.new.self in
-    let named : read_key l.reader ≡ Some (Some k, s) = grind arith in
-    let place : c.as_str.result.now ≡ k = search rules in
-    rw l.invariant.2 (member_faulty p old n k l.reader s c.in-Err.stop c.in_member.result named c.in-Err.ensures.err
+    let place : c.as_str.result.now ≡ c.in-Some.name.now = search rules in
+    rw l.invariant.2 (member_faulty (value c.args.depth) (members_seen (lasts l.found.items)) l.invariant.0
+    c.in-Some.name.now l.reader c.next_key.new.self c.in-Err.stop c.in_member.result (grind arith) c.in-Err.ensures.err
     (rw (← place) c.in_member.ensures))
 
 pub read_members-members-preserved : goal.read_members-members-preserved
