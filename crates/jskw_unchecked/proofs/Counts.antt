@@ -334,21 +334,21 @@ module _ (s : Setting) (p : Pointer) (ms : Members) (parts : List ℕ → Option
   only_itself w h r = ap (λ b. if b then 1 else 0) r
 
   -- an exclusive limit is the only one at the name of its part
+  only_limit : (c l part : Bool) → c ≡ true → l ≡ true → part ≡ false
+      → (if c && l then suc (if part then 1 else 0) else (if part then 1 else 0)) ≡ 1
+  only_limit c l part h e r =
+      ap (λ c. if c && l then suc (if part then 1 else 0) else (if part then 1 else 0)) h
+      ∙ ap₂ (λ a b. if a then suc (if b then 1 else 0) else (if b then 1 else 0)) e r
+
   pub only_minimum : is_exclusive s ms (name_of keyword_name.ExclusiveMinimum) ≡ true
       → is_read keyword_name.Minimum ≡ true → is_read keyword_name.ExclusiveMinimum ≡ false
       → named (name_of keyword_name.ExclusiveMinimum) keywords ≡ 1
-  only_minimum h l r =
-      ap (λ c. if c && is_read keyword_name.Minimum then suc (if is_read keyword_name.ExclusiveMinimum then 1 else 0)
-      else (if is_read keyword_name.ExclusiveMinimum then 1 else 0)) h
-      ∙ ap₂ (λ a b. if a then suc (if b then 1 else 0) else (if b then 1 else 0)) l r
+  only_minimum h l r = only_limit _ (is_read keyword_name.Minimum) (is_read keyword_name.ExclusiveMinimum) h l r
 
   pub only_maximum : is_exclusive s ms (name_of keyword_name.ExclusiveMaximum) ≡ true
       → is_read keyword_name.Maximum ≡ true → is_read keyword_name.ExclusiveMaximum ≡ false
       → named (name_of keyword_name.ExclusiveMaximum) keywords ≡ 1
-  only_maximum h l r =
-      ap (λ c. if c && is_read keyword_name.Maximum then suc (if is_read keyword_name.ExclusiveMaximum then 1 else 0)
-      else (if is_read keyword_name.ExclusiveMaximum then 1 else 0)) h
-      ∙ ap₂ (λ a b. if a then suc (if b then 1 else 0) else (if b then 1 else 0)) l r
+  only_maximum h l r = only_limit _ (is_read keyword_name.Maximum) (is_read keyword_name.ExclusiveMaximum) h l r
 
   -- `contains` is the only one at the names of its bounds
   pub only_lower : is_some (bound_beside s ms min_contains) ≡ true → is_read keyword_name.Contains ≡ true
