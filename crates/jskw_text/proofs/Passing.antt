@@ -18,7 +18,8 @@ use Rattle.jskw_value.specs.Tree.{Tree, array, object, Items, no_items, item, Me
 use Rattle.jskw_value.specs.declared.decimal_tree.DecimalTree.{DecimalTree}
 use Rattle.jskw_text.specs.Passing.{Passes, PassesLeaf, PassesName, Reads, ReadsItems, ReadsMembers, token_tree}
 use Rattle.jskw_text.specs.Reading.{on_found, put, tree_of, items_of, members_of, reading, max_depth}
-use Rattle.jskw_text.proofs.Reading.{parsed_some, leaf_value, array_value, object_value, item_read, items_over, member_read}
+use Rattle.jskw_text.proofs.Reading.{parsed_some, leaf_value, array_value, object_value, item_read, items_over}
+use Rattle.jskw_text.proofs.Reading.{member_read}
 use Rattle.jskw_text.proofs.Reading.{members_over, items_before, one_more_item, length-append_one}
 use Rattle.jskw_text.proofs.Reading.{items_before-no_items, none_before}
 
@@ -260,16 +261,18 @@ all_members_left depth old cursor found spaces none =
 
 -- one item more, and fewer left
 items_go_on : (depth : ℕ) (old : List ℕ) (found vs : List DecimalTree) (v : DecimalTree) (cursor inner : List ℕ)
-    (ls : List Lexeme) (left : IsLeft (ItemsLeft depth old found) old cursor) → Reads depth cursor (decimal_tree v) inner
-    → lex between inner ≡ ls → begins_colon ls ≡ false → vs ≡ found ++ v ∷ []
-    → ItemsLeft depth old vs (left.0 - 1) (punctuate after_value ls)
+    (ls : List Lexeme) (left : IsLeft (ItemsLeft depth old found) old cursor)
+    → Reads depth cursor (decimal_tree v) inner → lex between inner ≡ ls → begins_colon ls ≡ false
+    → vs ≡ found ++ v ∷ [] → ItemsLeft depth old vs (left.0 - 1) (punctuate after_value ls)
     × (length (punctuate after_value ls) ≤ left.0 - 1)
 items_go_on depth old found vs v cursor inner ls left reads e plain pushed =
-    let turn = item_turn depth (length found) left.0 left.1 cursor (decimal_tree v) inner ls left.2 left.3 reads e plain in
+    let turn =
+    item_turn depth (length found) left.0 left.1 cursor (decimal_tree v) inner ls left.2 left.3 reads e plain in
     let rest = items (value depth) (left.0 - 1) (punctuate after_value ls) in
     let longer : length vs ≡ suc (length found) = ap length pushed ∙ length-append_one found v in (
       left.4 ∙ ap (parse_map (on_found (items_before found))) turn.one ∙ one_more_item found v _
-          ∙ ap (λ us. parse_map (on_found (items_before us)) (parse_map (items_of (suc (length found))) rest)) (sym pushed)
+          ∙ ap (λ us. parse_map (on_found (items_before us)) (parse_map (items_of (suc (length found))) rest))
+          (sym pushed)
           ∙ ap (λ i. parse_map (on_found (items_before vs)) (parse_map (items_of i) rest)) (sym longer),
       turn.fewer,
     )

@@ -1,5 +1,5 @@
-use Rattle.std.proofs.Common.{◌≡◌, ℕ, ◌+◌, ◌-◌, ◌*◌, ◌^◌, ◌≤◌, List, ◌++◌, length, take, inl, inr, ap, ap₂, sym, ◌∙◌, subst}
-use Rattle.std.proofs.Common.{arith, length-append, mul-le-mul_left}
+use Rattle.std.proofs.Common.{◌≡◌, ℕ, ◌+◌, ◌-◌, ◌*◌, ◌^◌, ◌≤◌, List, ◌++◌, length, take, inl, inr, ap, ap₂, sym, ◌∙◌}
+use Rattle.std.proofs.Common.{subst, arith, length-append, mul-le-mul_left}
 use Rattle.std.proofs.lemmas.Bool.{cases_lt}
 use Rattle.std.specs.Str.Parse.{digits_value, AllDigits}
 use Rattle.core.proofs.dec2flt.ExactLemmas.{ten_to_pos}

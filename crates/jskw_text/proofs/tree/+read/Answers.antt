@@ -15,7 +15,9 @@ use Rattle.jskw_text.specs.Stop.{location_of}
 use Rattle.jskw_text.specs.declared.fault.Stop.TheVariants.{Broken}
 use Rattle.jskw_text.specs.Reading.{on_found, put, tree_of, items_of, members_of}
 use Rattle.jskw_text.proofs.Members.{tree_of_members, last_seen}
-use Rattle.jskw_text.proofs.Reading.{returned, length-append_one, leaf_value, array_value, object_value, array_too_deep, object_too_deep, found_behind, stopped_behind, explained, item_read}
+use Rattle.jskw_text.proofs.Reading.{returned, length-append_one, leaf_value, array_value, object_value}
+use Rattle.jskw_text.proofs.Reading.{array_too_deep, object_too_deep, found_behind, stopped_behind, explained}
+use Rattle.jskw_text.proofs.Reading.{item_read}
 use Rattle.jskw_text.proofs.Reading.{item_faulty, items_over, member_read, member_faulty, key_refused, members_over}
 use Rattle.jskw_text.proofs.Reading.{items_before, items_before-no_items, one_more_item}
 use Rattle.jskw_text.proofs.tree.+read.Goals as goal
