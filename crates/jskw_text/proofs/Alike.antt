@@ -74,10 +74,14 @@ unlawful negative p h =
     cases_of (float_is_finite (nearest binary64 negative p)) (λ e. absurd (true≢false (sym (rw e at h))))
     (λ e. absurd (true≢false (sym (rw e at h))))
 
-positive_alike : (s : List ℕ)
-    → option_map_or (λ n. is_exact (values.num_of n)) (serde.number_from false (scan s)) false ≡ true
-    → (n : known.Num) × (serde.number_from false (scan s) ≡ Some n)
-    × (decimal_from false (scan s) ≡ Some (values.num_of n))
+-- where a number behind its sign has a value, it is read alike
+abbrev IsReadAlike : Bool → List ℕ → Type 0
+IsReadAlike negative s =
+    option_map_or (λ n. is_exact (values.num_of n)) (serde.number_from negative (scan s)) false ≡ true
+    → (n : known.Num) × (serde.number_from negative (scan s) ≡ Some n)
+    × (decimal_from negative (scan s) ≡ Some (values.num_of n))
+
+positive_alike : (s : List ℕ) → IsReadAlike false s
 unfolding at_scale decimal_of
 positive_alike s h =
     let d = digits_of (scan s) in
@@ -86,10 +90,7 @@ positive_alike s h =
     (known.unsigned d, rw e refl, rw (t.0, whole_is s t.0, t.1) refl))
     (λ e. absurd (unlawful false (scan s) (rw e at h)))
 
-negative_alike : (s : List ℕ)
-    → option_map_or (λ n. is_exact (values.num_of n)) (serde.number_from true (scan s)) false ≡ true
-    → (n : known.Num) × (serde.number_from true (scan s) ≡ Some n)
-    × (decimal_from true (scan s) ≡ Some (values.num_of n))
+negative_alike : (s : List ℕ) → IsReadAlike true s
 unfolding at_scale decimal_of
 negative_alike s h =
     let d = digits_of (scan s) in

@@ -89,6 +89,11 @@ scan_is t a point b ends dot more =
     ap (λ i. parts_at t i (get_or t i 0 == 46) (cond (get_or t i 0 == 46) (digits_end t (i + 1)) i)) ends
     ∙ ap (λ c. parts_at t a c (cond c (digits_end t (a + 1)) a)) dot ∙ ap (parts_at t a point) more
 
+-- behind the last byte there is no exponent
+nothing_behind : (t : List ℕ) (a : ℕ) (point : Bool) → scan t ≡ parts_at t a point (length t) → (scan t).exponent ≡ []
+nothing_behind t a point is = ap (λ p. p.exponent) is ∙ chosen (has_exponent t (length t)) _ []
+    (no_exponent t (length t) (omega arith))
+
 -- nothing but digits
 module _ (t : List ℕ) (all : digits_len t ≡ length t) where
   parts : scan t ≡ parts_at t (length t) false (length t)
@@ -103,10 +108,7 @@ module _ (t : List ℕ) (all : digits_len t ≡ length t) where
   no_fraction = ap (λ p. p.fraction) parts
 
   none_behind : (scan t).exponent ≡ []
-  none_behind = ap (λ p. p.exponent) parts
-      ∙ chosen (has_exponent t (length t))
-      (slice_range t (exponent_start t (length t)) (digits_end t (exponent_start t (length t)))) []
-      (no_exponent t (length t) (omega arith))
+  none_behind = nothing_behind t (length t) false parts
 
   pub whole_read : (negative : Bool) (size : ℕ) (r : Option Decimal) → 0 < length t → length t ≤ 19
       → size ≡ digits_value 10 t % 2 ^ 64
@@ -141,10 +143,7 @@ module _ (t : List ℕ) (a : ℕ) (front : digits_len t ≡ a) (point : get_or t
   rest_is = ap (λ p. p.fraction) parts_around
 
   none_after : (scan t).exponent ≡ []
-  none_after = ap (λ p. p.exponent) parts_around
-      ∙ chosen (has_exponent t (length t))
-      (slice_range t (exponent_start t (length t)) (digits_end t (exponent_start t (length t)))) []
-      (no_exponent t (length t) (omega arith))
+  none_after = nothing_behind t a true parts_around
 
   pub fraction_read : (negative : Bool) (whole size : ℕ) (r : Option Decimal) → a + 1 < length t → length t ≤ 19
       → whole ≡ (0 * 10 ^ (a - 0) + digits_value 10 (slice_range t 0 a)) % 2 ^ 64

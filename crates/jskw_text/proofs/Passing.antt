@@ -1,11 +1,10 @@
 -- From what a cursor passes over to the trees that tokens denote.
-use Rattle.std.proofs.Common.{◌≡◌, ℕ, suc, ◌-◌, ◌<◌, ◌≤◌, Bool, true, false, List, [], ◌∷◌, ◌++◌, length, Option}
-use Rattle.std.proofs.Common.{Some, None}
-use Rattle.std.proofs.Common.{Result, Ok, Err, IfOk, option_map, refl, sym, ap, ◌∙◌, arith}
+use Rattle.std.proofs.Common.{◌≡◌, ℕ, suc, ◌-◌, ◌<◌, ◌≤◌, Bool, true, false, List, [], ◌∷◌, ◌++◌, length}
+use Rattle.std.proofs.Common.{Some, None, Result, Ok, Err, IfOk, option_map, map, refl, sym, ap, ◌∙◌, subst, arith}
 use Rattle.std.proofs.lemmas.Bool.{true≢false, false≢true}
 use Rattle.std.specs.Str.{is_utf8}
 use Rattle.json.proofs.Found.{not_found}
-use Rattle.json.proofs.Grammar.{value_is, value-begin_array, value-begin_object, skip_value-shorter}
+use Rattle.json.proofs.Grammar.{value_is, skip_value-shorter}
 use Rattle.json.specs.Json.{parse_map, after_end_array, read_key, items, members, value}
 use Rattle.json.specs.Lex.{Lexeme, comma, colon, token as token_lexeme, begins_colon, between, lex, tokens, Place}
 use Rattle.json.specs.Lex.{fresh}
@@ -13,18 +12,16 @@ use Rattle.json.specs.Lex.{after_value, after_comma, after_key, may_begin, may_c
 use Rattle.json.specs.Lex.{punctuate}
 use Rattle.json.specs.Token as token
 use Rattle.json.specs.Token.{Token}
-use Rattle.jskw_value.specs.DecimalTree.{decimal_tree}
+use Rattle.jskw_value.specs.DecimalTree.{decimal_tree, items_from}
 use Rattle.jskw_value.specs.Pointer.{Pointer}
 use Rattle.jskw_value.specs.Tree.{Tree, array, object, Items, no_items, item, Members, no_members}
 use Rattle.jskw_value.specs.declared.decimal_tree.DecimalTree.{DecimalTree}
 use Rattle.jskw_text.specs.Passing.{Passes, PassesLeaf, PassesName, Reads, ReadsItems, ReadsMembers, token_tree}
 use Rattle.jskw_text.specs.Reading.{on_found, put, tree_of, items_of, members_of, reading, max_depth}
-use Rattle.jskw_text.proofs.Reading.{parsed_some, parsed_array, parsed_object, item_read, items_over, member_read}
+use Rattle.jskw_text.proofs.Reading.{parsed_some, leaf_value, array_value, object_value, item_read, items_over}
+use Rattle.jskw_text.proofs.Reading.{member_read}
 use Rattle.jskw_text.proofs.Reading.{members_over, items_before, one_more_item, length-append_one}
-
-pub if_ok : {A E : Type 0} (r : Result A E) {P Q : A → Type 0} → ((a : A) → P a → Q a) → IfOk r P → IfOk r Q
-if_ok (Ok a) f h = f a h
-if_ok (Err e) f h = tt
+use Rattle.jskw_text.proofs.Reading.{items_before-no_items, none_before}
 
 -- ---- where a value may begin
 
@@ -91,26 +88,22 @@ leaf_token depth token.begin_array ls t e h = not_found (Ok t) e
 leaf_token depth token.end_array ls t e h = not_found (Ok t) e
 leaf_token depth (token.key s) ls t e h = not_found (Ok t) e
 leaf_token depth (token.string s) ls t e h =
-    rw h (ap (parse_map tree_of) (value_is depth (token.string s ∷ punctuate after_value ls))
-    ∙ ap (option_map (λ r. (r, punctuate after_value ls))) e)
-leaf_token depth (token.number s) ls t e h =
-    ap (parse_map tree_of) (value_is depth (token.number s ∷ punctuate after_value ls))
-    ∙ ap (option_map (λ r. (r, punctuate after_value ls))) e
-leaf_token depth (token.boolean b) ls t e h =
-    ap (parse_map tree_of) (value_is depth (token.boolean b ∷ punctuate after_value ls))
-    ∙ ap (option_map (λ r. (r, punctuate after_value ls))) e
-leaf_token depth token.null ls t e h =
-    ap (parse_map tree_of) (value_is depth (token.null ∷ punctuate after_value ls))
-    ∙ ap (option_map (λ r. (r, punctuate after_value ls))) e
+    rw h (leaf_value depth _ (token.string s) (punctuate after_value ls) t refl e)
+leaf_token depth (token.number s) ls t e h = leaf_value depth _ (token.number s) (punctuate after_value ls) t refl e
+leaf_token depth (token.boolean b) ls t e h = leaf_value depth _ (token.boolean b) (punctuate after_value ls) t refl e
+leaf_token depth token.null ls t e h = leaf_value depth _ token.null (punctuate after_value ls) t refl e
 leaf_token depth token.bad ls t e h = not_found (Ok t) e
+
+-- a token comes first that may begin a value, and what is behind it is as at the beginning
+begins : (old new : List ℕ) (k : Token) → Passes old (token_lexeme k ∷ []) new → is_closing k ≡ false → (p : Place)
+    → may_begin p ≡ true → punctuate p (lex between old) ≡ punctuate fresh (token_lexeme k ∷ lex between new)
+begins old new k passes opens p may = ap (punctuate p) passes.lexed ∙ begun p k (lex between new) may opens
 
 pub leaf_read : (depth : ℕ) (old : List ℕ) (t : Tree) (new : List ℕ) → PassesLeaf old t new → Reads depth old t new
 leaf_read depth old t new leaf p may plain =
     let k = leaf.0 in
-    let ls = lex between new in
-    ap (λ l. parse_map tree_of (value depth (punctuate p l))) leaf.1.lexed
-    ∙ ap (λ ts. parse_map tree_of (value depth ts)) (begun p k ls may (leaf_opens k t leaf.2))
-    ∙ leaf_token depth k ls t leaf.2 plain
+    ap (λ ts. parse_map tree_of (value depth ts)) (begins old new k leaf.1 (leaf_opens k t leaf.2) p may)
+    ∙ leaf_token depth k (lex between new) t leaf.2 plain
 
 -- ---- spaces in front
 
@@ -119,6 +112,13 @@ pub read_behind : (depth : ℕ) (old inner : List ℕ) (t : Tree) (new : List �
 read_behind depth old inner t new passes reads p may plain =
     ap (λ l. parse_map tree_of (value depth (punctuate p l))) passes.lexed ∙ reads p may plain
 
+pub leaf_behind : {E : Type 0} (r : Result DecimalTree E) (depth : ℕ) (old inner new : List ℕ) → Passes old [] inner
+    → IfOk r (λ tree. PassesLeaf inner (decimal_tree tree) new)
+    → IfOk r (λ tree. Reads depth old (decimal_tree tree) new)
+leaf_behind (Ok tree) depth old inner new passes leaf =
+    read_behind depth old inner (decimal_tree tree) new passes (leaf_read depth inner (decimal_tree tree) new leaf)
+leaf_behind (Err e) depth old inner new passes leaf = tt
+
 -- ---- arrays and objects
 
 pub array_read : (depth : ℕ) (old inner : List ℕ) (found : Items) (new : List ℕ) → 0 < depth
@@ -126,22 +126,16 @@ pub array_read : (depth : ℕ) (old inner : List ℕ) (found : Items) (new : Lis
     → Reads depth old (array found) new
 unfolding punctuate
 array_read depth old inner found new some passes reads p may plain =
-    let ts = punctuate fresh (lex between inner) in
-    ap (λ l. parse_map tree_of (value depth (punctuate p l))) passes.lexed
-    ∙ ap (λ us. parse_map tree_of (value depth us)) (begun p token.begin_array (lex between inner) may refl)
-    ∙ ap (parse_map tree_of) (value-begin_array depth ts some)
-    ∙ parsed_array (items (value (depth - 1)) (length ts) ts) ∙ ap (parse_map (on_found array)) reads
+    array_value depth _ (punctuate fresh (lex between inner))
+    (begins old inner token.begin_array passes refl p may) some ∙ ap (parse_map (on_found array)) reads
 
 pub object_read : (depth : ℕ) (old inner : List ℕ) (found : Members) (new : List ℕ) → 0 < depth
     → Passes old (token_lexeme token.begin_object ∷ []) inner → ReadsMembers (depth - 1) inner found new
     → Reads depth old (object found) new
 unfolding punctuate
 object_read depth old inner found new some passes reads p may plain =
-    let ts = punctuate fresh (lex between inner) in
-    ap (λ l. parse_map tree_of (value depth (punctuate p l))) passes.lexed
-    ∙ ap (λ us. parse_map tree_of (value depth us)) (begun p token.begin_object (lex between inner) may refl)
-    ∙ ap (parse_map tree_of) (value-begin_object depth ts some)
-    ∙ parsed_object (members (value (depth - 1)) (length ts) ts) ∙ ap (parse_map (on_found object)) reads
+    object_value depth _ (punctuate fresh (lex between inner))
+    (begins old inner token.begin_object passes refl p may) some ∙ ap (parse_map (on_found object)) reads
 
 -- ---- one item or member
 
@@ -218,33 +212,117 @@ member_turn depth n p found old k inner t new ls may enough name reads e plain =
       fewer = omega (arith, less, longer, enough);
     }
 
--- what was found of an array, and the items that are left, are the whole array; so are one item more and fewer left
-pub items_go_on : (depth n : ℕ) (p : Place) (found vs : List DecimalTree) (v : DecimalTree) (old new : List ℕ)
-    (ls : List Lexeme) (whole : Option (Result Items Pointer × List Token)) → may_begin p ≡ true
-    → length (punctuate p (lex between old)) ≤ n → Reads depth old (decimal_tree v) new → lex between new ≡ ls
-    → begins_colon ls ≡ false → vs ≡ found ++ v ∷ []
-    → whole ≡ parse_map (on_found (items_before found))
-    (parse_map (items_of (length found)) (items (value depth) n (punctuate p (lex between old))))
-    → whole ≡ parse_map (on_found (items_before vs))
-    (parse_map (items_of (length vs)) (items (value depth) (n - 1) (punctuate after_value ls)))
-items_go_on depth n p found vs v old new ls whole may enough reads e plain pushed is =
-    let turn = item_turn depth (length found) n p old (decimal_tree v) new ls may enough reads e plain in
-    let rest = items (value depth) (n - 1) (punctuate after_value ls) in
-    let longer : length vs ≡ suc (length found) = ap length pushed ∙ length-append_one found v in
-    is ∙ ap (parse_map (on_found (items_before found))) turn.one ∙ one_more_item found v _
-    ∙ ap (λ us. parse_map (on_found (items_before us)) (parse_map (items_of (suc (length found))) rest)) (sym pushed)
-    ∙ ap (λ i. parse_map (on_found (items_before vs)) (parse_map (items_of i) rest)) (sym longer)
+-- ---- a loop over items or members
 
-pub members_go_on : (depth n : ℕ) (p : Place) (found more : Members) (old k inner : List ℕ) (t : Tree) (new : List ℕ)
-    (ls : List Lexeme) (whole : Option (Result Members Pointer × List Token)) → may_begin p ≡ true
-    → length (punctuate p (lex between old)) ≤ n → PassesName old k inner → Reads depth inner t new
-    → lex between new ≡ ls → begins_colon ls ≡ false → more ≡ put k t found
-    → whole ≡ parse_map (members_of found) (members (value depth) n (punctuate p (lex between old)))
-    → whole ≡ parse_map (members_of more) (members (value depth) (n - 1) (punctuate after_value ls))
-members_go_on depth n p found more old k inner t new ls whole may enough name reads e plain added is =
-    let turn = member_turn depth n p found old k inner t new ls may enough name reads e plain in
-    let rest = members (value depth) (n - 1) (punctuate after_value ls) in
-    is ∙ turn.one ∙ ap (λ ms. parse_map (members_of ms) rest) (sym added)
+-- what is left to read begins where a value may, and is no longer than so many tokens
+abbrev pub IsLeft : (ℕ → List Token → Type 0) → List ℕ → List ℕ → Type 0
+IsLeft Left old cursor =
+    (n : ℕ) × (p : Place) × (may_begin p ≡ true) × (length (punctuate p (lex between cursor)) ≤ n)
+    × Left n (punctuate p (lex between cursor)) × (length cursor ≤ length old)
+
+-- what was found of an array, and the items that are left, are the whole array
+abbrev pub ItemsLeft : ℕ → List ℕ → List DecimalTree → ℕ → List Token → Type 0
+ItemsLeft depth old found n ts =
+    parse_map (items_of 0)
+    (items (value depth) (length (punctuate fresh (lex between old))) (punctuate fresh (lex between old)))
+    ≡ parse_map (on_found (items_before found)) (parse_map (items_of (length found)) (items (value depth) n ts))
+
+-- the same of an object
+abbrev pub MembersLeft : ℕ → List ℕ → Members → ℕ → List Token → Type 0
+MembersLeft depth old found n ts =
+    parse_map (members_of no_members)
+    (members (value depth) (length (punctuate fresh (lex between old))) (punctuate fresh (lex between old)))
+    ≡ parse_map (members_of found) (members (value depth) n ts)
+
+-- behind spaces all is left
+all_left : (Left : ℕ → List Token → Type 0) (old cursor : List ℕ) → Passes old [] cursor
+    → Left (length (punctuate fresh (lex between old))) (punctuate fresh (lex between old)) → IsLeft Left old cursor
+all_left Left old cursor spaces left =
+    let n = length (punctuate fresh (lex between old)) in (
+      n,
+      fresh,
+      refl,
+      omega (arith, ap (λ l. length (punctuate fresh l)) spaces.lexed),
+      subst (λ l. Left n (punctuate fresh l)) spaces.lexed left,
+      omega (arith, spaces.shorter),
+    )
+
+pub all_items_left : (depth : ℕ) (old cursor : List ℕ) (found : List DecimalTree) → Passes old [] cursor → found ≡ []
+    → IsLeft (ItemsLeft depth old found) old cursor
+all_items_left depth old cursor found spaces none =
+    subst (λ vs. IsLeft (ItemsLeft depth old vs) old cursor) (sym none)
+    (all_left (ItemsLeft depth old []) old cursor spaces (none_before _))
+
+pub all_members_left : (depth : ℕ) (old cursor : List ℕ) (found : Members) → Passes old [] cursor → found ≡ no_members
+    → IsLeft (MembersLeft depth old found) old cursor
+all_members_left depth old cursor found spaces none =
+    subst (λ ms. IsLeft (MembersLeft depth old ms) old cursor) (sym none)
+    (all_left (MembersLeft depth old no_members) old cursor spaces refl)
+
+-- one item more, and fewer left
+items_go_on : (depth : ℕ) (old : List ℕ) (found vs : List DecimalTree) (v : DecimalTree) (cursor inner : List ℕ)
+    (ls : List Lexeme) (left : IsLeft (ItemsLeft depth old found) old cursor)
+    → Reads depth cursor (decimal_tree v) inner → lex between inner ≡ ls → begins_colon ls ≡ false
+    → vs ≡ found ++ v ∷ [] → ItemsLeft depth old vs (left.0 - 1) (punctuate after_value ls)
+    × (length (punctuate after_value ls) ≤ left.0 - 1)
+items_go_on depth old found vs v cursor inner ls left reads e plain pushed =
+    let turn =
+    item_turn depth (length found) left.0 left.1 cursor (decimal_tree v) inner ls left.2 left.3 reads e plain in
+    let rest = items (value depth) (left.0 - 1) (punctuate after_value ls) in
+    let longer : length vs ≡ suc (length found) = ap length pushed ∙ length-append_one found v in (
+      left.4 ∙ ap (parse_map (on_found (items_before found))) turn.one ∙ one_more_item found v _
+          ∙ ap (λ us. parse_map (on_found (items_before us)) (parse_map (items_of (suc (length found))) rest))
+          (sym pushed)
+          ∙ ap (λ i. parse_map (on_found (items_before vs)) (parse_map (items_of i) rest)) (sym longer),
+      turn.fewer,
+    )
+
+members_go_on : (depth : ℕ) (old : List ℕ) (found more : Members) (cursor k named : List ℕ) (t : Tree)
+    (inner : List ℕ) (ls : List Lexeme) (left : IsLeft (MembersLeft depth old found) old cursor)
+    → PassesName cursor k named → Reads depth named t inner → lex between inner ≡ ls → begins_colon ls ≡ false
+    → more ≡ put k t found
+    → MembersLeft depth old more (left.0 - 1) (punctuate after_value ls)
+    × (length (punctuate after_value ls) ≤ left.0 - 1)
+members_go_on depth old found more cursor k named t inner ls left name reads e plain added =
+    let turn =
+    member_turn depth left.0 left.1 found cursor k named t inner ls left.2 left.3 name reads e plain in
+    let rest = members (value depth) (left.0 - 1) (punctuate after_value ls) in
+    (left.4 ∙ turn.one ∙ ap (λ ms. parse_map (members_of ms) rest) (sym added), turn.fewer)
+
+-- a comma is passed over
+comma_passed : (ls : List Lexeme) → punctuate after_value (comma ∷ ls) ≡ punctuate after_comma ls
+unfolding punctuate
+comma_passed ls = refl
+
+left_behind : (Left : ℕ → List Token → Type 0) (n : ℕ) (old inner new : List ℕ) → Passes inner (comma ∷ []) new
+    → length inner ≤ length old → length (punctuate after_value (comma ∷ lex between new)) ≤ n
+    → Left n (punctuate after_value (comma ∷ lex between new)) → IsLeft Left old new
+left_behind Left n old inner new taken further fewer left =
+    let passed = comma_passed (lex between new) in (
+      n,
+      after_comma,
+      refl,
+      subst (λ ts. length ts ≤ n) passed fewer,
+      subst (Left n) passed left,
+      omega (arith, taken.shorter, further),
+    )
+
+pub items_left : (depth : ℕ) (old : List ℕ) (found vs : List DecimalTree) (v : DecimalTree) (cursor inner new : List ℕ)
+    → IsLeft (ItemsLeft depth old found) old cursor → Reads depth cursor (decimal_tree v) inner
+    → length inner ≤ length cursor → Passes inner (comma ∷ []) new → vs ≡ found ++ v ∷ []
+    → IsLeft (ItemsLeft depth old vs) old new
+items_left depth old found vs v cursor inner new left reads shorter taken pushed =
+    let turn = items_go_on depth old found vs v cursor inner _ left reads taken.lexed refl pushed in
+    left_behind (ItemsLeft depth old vs) (left.0 - 1) old inner new taken (omega (arith, shorter, left.5)) turn.1 turn.0
+
+pub members_left : (depth : ℕ) (old : List ℕ) (found more : Members) (cursor k named : List ℕ) (t : Tree)
+    (inner new : List ℕ) → IsLeft (MembersLeft depth old found) old cursor → PassesName cursor k named
+    → Reads depth named t inner → length inner ≤ length named → Passes inner (comma ∷ []) new → more ≡ put k t found
+    → IsLeft (MembersLeft depth old more) old new
+members_left depth old found more cursor k named t inner new left name reads shorter taken added =
+    let turn = members_go_on depth old found more cursor k named t inner _ left name reads taken.lexed refl added in
+    left_behind (MembersLeft depth old more) (left.0 - 1) old inner new taken
+    (omega (arith, shorter, name.shorter, left.5)) turn.1 turn.0
 
 -- ---- the ends
 
@@ -290,10 +368,25 @@ no_members_read depth old new passes =
     ∙ members_done depth (length (punctuate fresh (token_lexeme token.end_object ∷ lex between new))) fresh no_members
     (lex between new) refl (omega arith)
 
--- a comma is passed over
-pub comma_passed : (ls : List Lexeme) → punctuate after_value (comma ∷ ls) ≡ punctuate after_comma ls
-unfolding punctuate
-comma_passed ls = refl
+pub items_read : (depth : ℕ) (old : List ℕ) (found vs : List DecimalTree) (v : DecimalTree) (cursor inner new : List ℕ)
+    → IsLeft (ItemsLeft depth old found) old cursor → Reads depth cursor (decimal_tree v) inner
+    → lex between inner ≡ token_lexeme token.end_array ∷ lex between new → vs ≡ found ++ v ∷ []
+    → ReadsItems depth old (items_from (map decimal_tree vs)) new
+items_read depth old found vs v cursor inner new left reads closes pushed =
+    let turn = items_go_on depth old found vs v cursor inner _ left reads closes refl pushed in
+    let rest = lex between new in
+    turn.0
+    ∙ ap (parse_map (on_found (items_before vs)))
+    (items_done depth (length vs) (left.0 - 1) after_value rest refl turn.1)
+    ∙ ap (λ ds. Some (Ok ds, punctuate after_value rest)) (items_before-no_items vs)
+
+pub members_read : (depth : ℕ) (old : List ℕ) (found more : Members) (cursor k named : List ℕ) (t : Tree)
+    (inner new : List ℕ) → IsLeft (MembersLeft depth old found) old cursor → PassesName cursor k named
+    → Reads depth named t inner → lex between inner ≡ token_lexeme token.end_object ∷ lex between new
+    → more ≡ put k t found → ReadsMembers depth old more new
+members_read depth old found more cursor k named t inner new left name reads closes added =
+    let turn = members_go_on depth old found more cursor k named t inner _ left name reads closes refl added in
+    turn.0 ∙ members_done depth (left.0 - 1) after_value more (lex between new) refl turn.1
 
 -- ---- the whole text
 

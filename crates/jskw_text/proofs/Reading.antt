@@ -1,16 +1,18 @@
 -- The grammar's loops, a turn at a time, under the conversion to trees.
 use Rattle.std.proofs.Common.{◌≡◌, ℕ, zero, suc, ◌-◌, ◌<◌, ◌≤◌, List, [], ◌∷◌, ◌++◌, length, map, Option, Some, None}
-use Rattle.std.proofs.Common.{Result, Ok, Err, IfSome, IfErr, string_bytes, refl, ap, ◌∙◌, arith}
+use Rattle.std.proofs.Common.{Result, Ok, Err, IfSome, IfErr, option_map, string_bytes, refl, sym, ap, ap₂, ◌∙◌, arith}
 use Rattle.json.specs.Token.{Token}
 use Rattle.json.specs.Json as json
-use Rattle.json.specs.Json.{Parse, parse_map, after_end_array, read_key, items, members, if_last}
+use Rattle.json.specs.Json.{Parse, parse_map, after_end_array, read_key, items, members, if_last, value}
 use Rattle.json.proofs.Grammar.{items_end, items_fail, items_more, members_end, members_fail, members_no_key}
-use Rattle.json.proofs.Grammar.{members_more}
+use Rattle.json.proofs.Grammar.{members_more, value_is, value-begin_array, value-begin_object}
+use Rattle.json.proofs.Found.{not_found}
 use Rattle.jskw_value.specs.DecimalTree.{decimal_tree, items_from}
 use Rattle.jskw_value.specs.FirstFloat.{below_index, below_name}
 use Rattle.jskw_value.specs.Pointer.{Pointer}
 use Rattle.jskw_value.specs.Tree.{Tree, array, object, Items, no_items, item, Members, no_members}
 use Rattle.jskw_value.specs.declared.decimal_tree.DecimalTree.{DecimalTree}
+use Rattle.jskw_text.specs.Passing.{token_tree}
 use Rattle.jskw_text.specs.Stop.{Explains, IsOutside, location_of}
 use Rattle.jskw_text.specs.Reading.{on_found, put, tree_of, items_of, members_of}
 use Rattle.jskw_text.specs.declared.fault.Stop.{Stop}
@@ -55,6 +57,68 @@ pub parsed_object : (o : Option (json.Members × List Token))
     → parse_map tree_of (parse_map json.object o) ≡ parse_map (on_found object) (parse_map (members_of no_members) o)
 parsed_object None = refl
 parsed_object (Some p) = refl
+
+-- ---- a value, by its first token
+
+leaf_first : (depth : ℕ) (k : Token) (rest : List Token) (t : Tree)
+    → option_map {U = Result Tree Pointer × List Token} (λ r. (r, rest)) (token_tree k) ≡ Some (Ok t, rest)
+    → parse_map tree_of (value depth (k ∷ rest)) ≡ Some (Ok t, rest)
+leaf_first depth Token.begin_object rest t e = not_found (Ok t, rest) e
+leaf_first depth Token.end_object rest t e = not_found (Ok t, rest) e
+leaf_first depth Token.begin_array rest t e = not_found (Ok t, rest) e
+leaf_first depth Token.end_array rest t e = not_found (Ok t, rest) e
+leaf_first depth (Token.key s) rest t e = not_found (Ok t, rest) e
+leaf_first depth (Token.string s) rest t e = ap (parse_map tree_of) (value_is depth (Token.string s ∷ rest)) ∙ e
+leaf_first depth (Token.number s) rest t e = ap (parse_map tree_of) (value_is depth (Token.number s ∷ rest)) ∙ e
+leaf_first depth (Token.boolean b) rest t e = ap (parse_map tree_of) (value_is depth (Token.boolean b ∷ rest)) ∙ e
+leaf_first depth Token.null rest t e = ap (parse_map tree_of) (value_is depth (Token.null ∷ rest)) ∙ e
+leaf_first depth Token.bad rest t e = not_found (Ok t, rest) e
+
+-- a token that is a value by itself
+pub leaf_value : (depth : ℕ) (ts : List Token) (k : Token) (rest : List Token) (t : Tree) → ts ≡ k ∷ rest
+    → token_tree k ≡ Some (Ok t) → parse_map tree_of (value depth ts) ≡ Some (Ok t, rest)
+leaf_value depth ts k rest t first e =
+    ap (λ us. parse_map tree_of (value depth us)) first
+    ∙ leaf_first depth k rest t (ap (option_map {U = Result Tree Pointer × List Token} (λ r. (r, rest))) e)
+
+-- no array and no object is read below the last level
+pub array_too_deep : (depth : ℕ) (ts rest : List Token) → ts ≡ Token.begin_array ∷ rest → depth ≡ 0
+    → parse_map tree_of (value depth ts) ≡ None
+unfolding value
+array_too_deep depth ts rest first none = ap (parse_map tree_of) (ap₂ value none first)
+
+pub object_too_deep : (depth : ℕ) (ts rest : List Token) → ts ≡ Token.begin_object ∷ rest → depth ≡ 0
+    → parse_map tree_of (value depth ts) ≡ None
+unfolding value
+object_too_deep depth ts rest first none = ap (parse_map tree_of) (ap₂ value none first)
+
+-- what is read behind a bracket
+pub array_value : (depth : ℕ) (ts rest : List Token) → ts ≡ Token.begin_array ∷ rest → 0 < depth
+    → parse_map tree_of (value depth ts)
+    ≡ parse_map (on_found array) (parse_map (items_of 0) (items (value (depth - 1)) (length rest) rest))
+array_value depth ts rest first some =
+    ap (parse_map tree_of) (ap (value depth) first ∙ value-begin_array depth rest some) ∙ parsed_array _
+
+-- and behind a brace
+pub object_value : (depth : ℕ) (ts rest : List Token) → ts ≡ Token.begin_object ∷ rest → 0 < depth
+    → parse_map tree_of (value depth ts)
+    ≡ parse_map (on_found object) (parse_map (members_of no_members) (members (value (depth - 1)) (length rest) rest))
+object_value depth ts rest first some =
+    ap (parse_map tree_of) (ap (value depth) first ∙ value-begin_object depth rest some) ∙ parsed_object _
+
+-- what is found behind a bracket or a brace makes the tree
+pub found_behind : {A : Type 0} (make : A → Tree) (a : A) (d : DecimalTree) (new : List Token)
+    (whole : Option (Result Tree Pointer × List Token)) (rest : Option (Result A Pointer × List Token))
+    → whole ≡ parse_map (on_found make) rest → rest ≡ Some (Ok a, new) → decimal_tree d ≡ make a
+    → whole ≡ Some (Ok (decimal_tree d), new)
+found_behind make a d new whole rest is found makes =
+    is ∙ ap (parse_map (on_found make)) found ∙ ap (λ t. Some (Ok t, new)) (sym makes)
+
+-- and a fault there is one of the whole
+pub stopped_behind : {A T : Type 0} (make : A → Tree) (r : Result T Stop) (e : Stop)
+    (whole : Option (Result Tree Pointer × List Token)) (rest : Option (Result A Pointer × List Token))
+    → whole ≡ parse_map (on_found make) rest → r ≡ Err e → Explains e rest → IfErr r (λ g. Explains g whole)
+stopped_behind make r e whole rest is result stopped = returned r e _ _ result is (explained make e rest stopped)
 
 -- ---- one item or member in front
 

@@ -12,7 +12,7 @@ use crate::sorted::put;
 use crate::spare::Spare;
 use crate::tree::MAX_DEPTH;
 use jskw_value::{DecimalTree, Member, Members};
-use std::alloc::{AllocError, AllocFailed, Global};
+use std::alloc::{AllocError, AllocFailed};
 
 // Why a text was not read.
 #[derive(Drop)]
@@ -36,18 +36,14 @@ impl<T: Drop> From<AllocFailed<T>> for Unread {
 }
 
 // Reads the tree that a text denotes, or gives up.
-pub(crate) fn read_quickly(
-    alloc: Global,
-    text: &str,
-    spare: &mut Spare,
-) -> Result<DecimalTree, Unread>
+pub(crate) fn read_quickly(text: &str, spare: &mut Spare) -> Result<DecimalTree, Unread>
     ensures { IfOk result (λ tree. reading text.now ≡ Some (Ok (decimal_tree tree))) }
 {
     if has_backslash(text.as_bytes()) {
         return Err(Unread::Text);
     }
     let mut cursor = Cursor::new(text);
-    let tree = read(alloc, &mut cursor, spare, MAX_DEPTH)?;
+    let tree = read(&mut cursor, spare, MAX_DEPTH)?;
     cursor.skip_spaces();
     if !cursor.is_at_end() {
         return Err(Unread::Text);
@@ -58,31 +54,26 @@ pub(crate) fn read_quickly(
 // Reads the tree of the next value.
 #[cycle(read)]
 #[inline(always)]
-fn read(
-    alloc: Global,
-    cursor: &mut Cursor<'_>,
-    spare: &mut Spare,
-    depth: usize,
-) -> Result<DecimalTree, Unread>
+fn read(cursor: &mut Cursor<'_>, spare: &mut Spare, depth: usize) -> Result<DecimalTree, Unread>
     ensures ok { IfOk result (λ tree. Reads depth cursor.old (decimal_tree tree) cursor.new) }
     ensures shorter { OnOk result (length cursor.new ≤ length cursor.old) }
 {
     cursor.skip_spaces();
     match cursor.peek() {
-        b'"' => read_text(alloc, cursor, spare),
+        b'"' => read_text(cursor, spare),
         b'[' => {
             if depth == 0 {
                 return Err(Unread::Text);
             }
             cursor.advance();
-            Ok(DecimalTree::Array(read_items(alloc, cursor, spare, depth - 1)?))
+            Ok(DecimalTree::Array(read_items(cursor, spare, depth - 1)?))
         }
         b'{' => {
             if depth == 0 {
                 return Err(Unread::Text);
             }
             cursor.advance();
-            Ok(DecimalTree::Object(read_members(alloc, cursor, spare, depth - 1)?))
+            Ok(DecimalTree::Object(read_members(cursor, spare, depth - 1)?))
         }
         _ => read_word(cursor),
     }
@@ -90,16 +81,12 @@ fn read(
 
 // Reads a string.
 #[inline(always)]
-fn read_text(
-    alloc: Global,
-    cursor: &mut Cursor<'_>,
-    spare: &mut Spare,
-) -> Result<DecimalTree, Unread>
+fn read_text(cursor: &mut Cursor<'_>, spare: &mut Spare) -> Result<DecimalTree, Unread>
     requires { head cursor.old ≡ 34 }
     ensures { IfOk result (λ tree. PassesLeaf cursor.old (decimal_tree tree) cursor.new) }
 {
     match cursor.string() {
-        Some(text) => Ok(DecimalTree::Text(spare.text(alloc, text)?)),
+        Some(text) => Ok(DecimalTree::Text(spare.text(text)?)),
         None => Err(Unread::Text),
     }
 }
@@ -126,7 +113,6 @@ fn read_word(cursor: &mut Cursor<'_>) -> Result<DecimalTree, Unread>
 #[cycle(read)]
 #[inline(never)]
 fn read_items(
-    alloc: Global,
     cursor: &mut Cursor<'_>,
     spare: &mut Spare,
     depth: usize,
@@ -136,11 +122,11 @@ fn read_items(
     ensures shorter { OnOk result (length cursor.new ≤ length cursor.old) }
 {
     if cursor.takes(b']') {
-        return Ok(Vec::new(alloc));
+        return Ok(Vec::new(spare.alloc));
     }
-    let mut found = spare.list(alloc)?;
+    let mut found = spare.list()?;
     'items: loop {
-        let item = read(alloc, cursor, spare, depth)?;
+        let item = read(cursor, spare, depth)?;
         found.push(item)?;
         if !cursor.takes(b',') {
             break;
@@ -156,22 +142,17 @@ fn read_items(
 // Reads the members up to the end of an object.
 #[cycle(read)]
 #[inline(never)]
-fn read_members(
-    alloc: Global,
-    cursor: &mut Cursor<'_>,
-    spare: &mut Spare,
-    depth: usize,
-) -> Result<Members, Unread>
+fn read_members(cursor: &mut Cursor<'_>, spare: &mut Spare, depth: usize) -> Result<Members, Unread>
     ensures ok { IfOk result (λ ms. ReadsMembers depth cursor.old (members_seen ms) cursor.new) }
     ensures shorter { OnOk result (length cursor.new ≤ length cursor.old) }
 {
     if cursor.takes(b'}') {
-        return Ok(Members::new(alloc));
+        return Ok(Members::new(spare.alloc));
     }
-    let mut found = spare.pairs(alloc)?;
+    let mut found = spare.pairs()?;
     'members: loop {
-        let name = read_name(alloc, cursor, spare)?;
-        let value = read(alloc, cursor, spare, depth)?;
+        let name = read_name(cursor, spare)?;
+        let value = read(cursor, spare, depth)?;
         put(&mut found, Member { name, value })?;
         if !cursor.takes(b',') {
             break;
@@ -186,7 +167,7 @@ fn read_members(
 
 // Reads a name and its colon.
 #[inline(always)]
-fn read_name(alloc: Global, cursor: &mut Cursor<'_>, spare: &mut Spare) -> Result<String, Unread>
+fn read_name(cursor: &mut Cursor<'_>, spare: &mut Spare) -> Result<String, Unread>
     ensures { IfOk result (λ name. PassesName cursor.old (string_bytes name) cursor.new) }
 {
     cursor.skip_spaces();
@@ -194,7 +175,7 @@ fn read_name(alloc: Global, cursor: &mut Cursor<'_>, spare: &mut Spare) -> Resul
         return Err(Unread::Text);
     }
     match cursor.string() {
-        Some(text) if cursor.takes(b':') => Ok(spare.text(alloc, text)?),
+        Some(text) if cursor.takes(b':') => Ok(spare.text(text)?),
         _ => Err(Unread::Text),
     }
 }

@@ -27,9 +27,29 @@ const MOST_TREES: usize = 65536;
 
 const MOST_PARTS: usize = 4096;
 
+// Returns a list without its items, or, if there is none, a new one with room for so many.
+#[inline(always)]
+fn emptied_or_new<T: Drop>(
+    list: Option<Vec<T>>,
+    alloc: Global,
+    room: usize,
+) -> Result<Vec<T>, AllocError>
+    ensures { IfOk result (λ list. list.items ≡ []) }
+{
+    match list {
+        Some(mut list) => {
+            list.clear();
+            Ok(list)
+        }
+        None => Vec::with_capacity(alloc, room),
+    }
+}
+
 // Room of trees that are no longer needed, up to 4 MB.
 #[derive(Drop)]
 pub(crate) struct Spare {
+    // What trees are allocated by.
+    pub(crate) alloc: Global,
     texts: Vec<String>,
     lists: Vec<Vec<DecimalTree>>,
     objects: Vec<Vec<Member<DecimalTree>>>,
@@ -45,6 +65,7 @@ impl Spare {
     // Creates one that has no room yet.
     pub(crate) fn new(alloc: Global) -> Spare {
         Spare {
+            alloc,
             texts: Vec::new(alloc),
             lists: Vec::new(alloc),
             objects: Vec::new(alloc),
@@ -56,7 +77,7 @@ impl Spare {
 
     // Returns a copy of a text.
     #[inline(always)]
-    pub(crate) fn text(&mut self, alloc: Global, text: &str) -> Result<String, AllocError>
+    pub(crate) fn text(&mut self, text: &str) -> Result<String, AllocError>
         ensures { IfOk result (λ copy. string_bytes copy ≡ text.now) }
     {
         match self.texts.pop() {
@@ -65,36 +86,24 @@ impl Spare {
                 copy.push_str(text)?;
                 Ok(copy)
             }
-            None => String::from_str(alloc, text),
+            None => String::from_str(self.alloc, text),
         }
     }
 
     // Returns an empty list for the items of an array.
     #[inline(always)]
-    pub(crate) fn list(&mut self, alloc: Global) -> Result<Vec<DecimalTree>, AllocError>
+    pub(crate) fn list(&mut self) -> Result<Vec<DecimalTree>, AllocError>
         ensures { IfOk result (λ list. list.items ≡ []) }
     {
-        match self.lists.pop() {
-            Some(mut list) => {
-                list.clear();
-                Ok(list)
-            }
-            None => Vec::with_capacity(alloc, self.items),
-        }
+        emptied_or_new(self.lists.pop(), self.alloc, self.items)
     }
 
     // Returns an empty list for the members of an object.
     #[inline(always)]
-    pub(crate) fn pairs(&mut self, alloc: Global) -> Result<Vec<Member<DecimalTree>>, AllocError>
+    pub(crate) fn pairs(&mut self) -> Result<Vec<Member<DecimalTree>>, AllocError>
         ensures { IfOk result (λ pairs. pairs.items ≡ []) }
     {
-        match self.objects.pop() {
-            Some(mut pairs) => {
-                pairs.clear();
-                Ok(pairs)
-            }
-            None => Vec::with_capacity(alloc, self.members),
-        }
+        emptied_or_new(self.objects.pop(), self.alloc, self.members)
     }
 
     // Says how many items an array had.

@@ -82,7 +82,7 @@ fn read_text(
     ensures tree { IfOk result (λ tree. reading text.now ≡ Some (Ok (decimal_tree tree))) }
     ensures fault { IfErr result (IsFaultOf text.now) }
 {
-    match read_quickly(alloc, text, spare) {
+    match read_quickly(text, spare) {
         Ok(tree) => return Ok(tree),
         Err(Unread::Memory(e)) => return Err(ReadFault::Memory(e)),
         Err(Unread::Text) => {}

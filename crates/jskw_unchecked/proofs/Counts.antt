@@ -30,40 +30,46 @@ or_none : (a : Bool) → (a || false) ≡ a
 or_none true = refl
 or_none false = refl
 
+-- two functions of truth values are one that agree on all of them
+abbrev AreOne : (f g : Bool → Bool → Bool → Bool) → Type 0
+AreOne f g =
+    (f true true true ≡ g true true true) × (f true true false ≡ g true true false)
+    × (f true false true ≡ g true false true) × (f true false false ≡ g true false false)
+    × (f false true true ≡ g false true true) × (f false true false ≡ g false true false)
+    × (f false false true ≡ g false false true) × (f false false false ≡ g false false false)
+
+by_table : (f g : Bool → Bool → Bool → Bool) → AreOne f g → (a b c : Bool) → f a b c ≡ g a b c
+by_table f g h true true true = h.0
+by_table f g h true true false = h.1
+by_table f g h true false true = h.2
+by_table f g h true false false = h.3
+by_table f g h false true true = h.4
+by_table f g h false true false = h.5
+by_table f g h false false true = h.6
+by_table f g h false false false = h.7
+
 -- of a limit that is exclusive, or not
 limit_spoken : (a b c : Bool) → (a || (if c then b else a)) ≡ (a || (b && c))
-limit_spoken true b c = refl
-limit_spoken false true true = refl
-limit_spoken false true false = refl
-limit_spoken false false true = refl
-limit_spoken false false false = refl
+limit_spoken =
+    by_table (λ a b c. a || (if c then b else a)) (λ a b c. a || (b && c))
+    (refl, refl, refl, refl, refl, refl, refl, refl)
 
 -- of `contains` without bounds, with each bound, and with both
-no_bound : (a b c : Bool) → (a || (a || a)) ≡ (a || (b && false) || (c && false))
-no_bound true b c = refl
-no_bound false true true = refl
-no_bound false true false = refl
-no_bound false false true = refl
-no_bound false false false = refl
+abbrev spoken_beside : (l u a b c : Bool) → Bool
+spoken_beside l u a b c = a || ((if l then b else (if u then c else a)) || (if u then c else (if l then b else a)))
 
-lower_bound : (a b c : Bool) → (a || (b || b)) ≡ (a || (b && true) || (c && false))
-lower_bound true b c = refl
-lower_bound false true c = refl
-lower_bound false false true = refl
-lower_bound false false false = refl
+abbrev named_beside : (l u a b c : Bool) → Bool
+named_beside l u a b c = a || (b && l) || (c && u)
 
-upper_bound : (a b c : Bool) → (a || (c || c)) ≡ (a || (b && false) || (c && true))
-upper_bound true b c = refl
-upper_bound false true true = refl
-upper_bound false true false = refl
-upper_bound false false true = refl
-upper_bound false false false = refl
-
-both_bounds : (a b c : Bool) → (a || (b || c)) ≡ (a || (b && true) || (c && true))
-both_bounds true b c = refl
-both_bounds false true c = refl
-both_bounds false false true = refl
-both_bounds false false false = refl
+bounds_spoken : (l u a b c : Bool) → spoken_beside l u a b c ≡ named_beside l u a b c
+bounds_spoken true true =
+    by_table (spoken_beside true true) (named_beside true true) (refl, refl, refl, refl, refl, refl, refl, refl)
+bounds_spoken true false =
+    by_table (spoken_beside true false) (named_beside true false) (refl, refl, refl, refl, refl, refl, refl, refl)
+bounds_spoken false true =
+    by_table (spoken_beside false true) (named_beside false true) (refl, refl, refl, refl, refl, refl, refl, refl)
+bounds_spoken false false =
+    by_table (spoken_beside false false) (named_beside false false) (refl, refl, refl, refl, refl, refl, refl, refl)
 
 -- ---- the members that a keyword asserts
 
@@ -121,25 +127,20 @@ module _ (p : Pointer) (m : Pointer) where
       (name_of keyword_name.Contains) || (is_at min_contains && is_some o) || (is_at max_contains && is_some u)))
       (Some (join_ok (λ b sub. contains sub b) (join_ok (bounds_between p)
       (bound_value (member_location p min_contains) o) (bound_value (member_location p max_contains) u)) r))
-  contains_alike s ms None None r =
-      if_map _ _ r (λ sub e. no_bound (is_at (name_of keyword_name.Contains)) (is_at min_contains) (is_at max_contains))
+  contains_alike s ms None None r = if_map _ _ r (λ sub e. bounds_spoken false false _ _ _)
   contains_alike s ms (Some d) None r = go (size_value (member_location p min_contains) d)
     where
       go : (v : Result ℕ Refusal) → IfAsserts (λ k. asserts_member m (keyword_location p keyword_name.Contains) k
           ≡ (is_at (name_of keyword_name.Contains) || (is_at min_contains && true) || (is_at max_contains && false)))
           (Some (join_ok (λ b sub. contains sub b) (join_ok (bounds_between p) (map_ok Some v) (Ok None)) r))
-      go (Ok n) =
-          if_map _ _ r
-          (λ sub e. lower_bound (is_at (name_of keyword_name.Contains)) (is_at min_contains) (is_at max_contains))
+      go (Ok n) = if_map _ _ r (λ sub e. bounds_spoken true false _ _ _)
       go (Err e) = tt
   contains_alike s ms None (Some d) r = go (size_value (member_location p max_contains) d)
     where
       go : (v : Result ℕ Refusal) → IfAsserts (λ k. asserts_member m (keyword_location p keyword_name.Contains) k
           ≡ (is_at (name_of keyword_name.Contains) || (is_at min_contains && false) || (is_at max_contains && true)))
           (Some (join_ok (λ b sub. contains sub b) (join_ok (bounds_between p) (Ok None) (map_ok Some v)) r))
-      go (Ok n) =
-          if_map _ _ r
-          (λ sub e. upper_bound (is_at (name_of keyword_name.Contains)) (is_at min_contains) (is_at max_contains))
+      go (Ok n) = if_map _ _ r (λ sub e. bounds_spoken false true _ _ _)
       go (Err e) = tt
   contains_alike s ms (Some c) (Some d) r =
       go (size_value (member_location p min_contains) c) (size_value (member_location p max_contains) d)
@@ -147,9 +148,7 @@ module _ (p : Pointer) (m : Pointer) where
       go : (v w : Result ℕ Refusal) → IfAsserts (λ k. asserts_member m (keyword_location p keyword_name.Contains) k
           ≡ (is_at (name_of keyword_name.Contains) || (is_at min_contains && true) || (is_at max_contains && true)))
           (Some (join_ok (λ b sub. contains sub b) (join_ok (bounds_between p) (map_ok Some v) (map_ok Some w)) r))
-      go (Ok n) (Ok l) =
-          if_map _ _ r
-          (λ sub e. both_bounds (is_at (name_of keyword_name.Contains)) (is_at min_contains) (is_at max_contains))
+      go (Ok n) (Ok l) = if_map _ _ r (λ sub e. bounds_spoken true true _ _ _)
       go (Ok n) (Err e) = tt
       go (Err e) w = tt
 
@@ -184,12 +183,9 @@ module _ (p : Pointer) (m : Pointer) where
   asserted_alike : (w : KeywordName) (s : Setting) (ms : Members) (part : ValueReadings)
       → IfAsserts (AssertsAlike w s ms) (asserted w s p ms part)
   unfolding asserted
-  asserted_alike keyword_name.TypeKeyword s ms part =
-      if_map _ _ (type_value (keyword_location p keyword_name.TypeKeyword) part.value) (λ a e. or_same _)
-  asserted_alike keyword_name.MinItems s ms part =
-      if_map _ _ (size_value (keyword_location p keyword_name.MinItems) part.value) (λ a e. or_same _)
-  asserted_alike keyword_name.MaxItems s ms part =
-      if_map _ _ (size_value (keyword_location p keyword_name.MaxItems) part.value) (λ a e. or_same _)
+  asserted_alike keyword_name.TypeKeyword s ms part = if_map _ _ (type_value _ part.value) (λ a e. or_same _)
+  asserted_alike keyword_name.MinItems s ms part = if_map _ _ (size_value _ part.value) (λ a e. or_same _)
+  asserted_alike keyword_name.MaxItems s ms part = if_map _ _ (size_value _ part.value) (λ a e. or_same _)
   asserted_alike keyword_name.Items s ms part = items_alike s ms part part.value
   asserted_alike keyword_name.PrefixItems s ms part = prefix_alike s ms part part.value
   asserted_alike keyword_name.AdditionalItems s ms part =
@@ -198,10 +194,8 @@ module _ (p : Pointer) (m : Pointer) where
       contains_alike s ms (bound_beside s ms min_contains) (bound_beside s ms max_contains)
       (part.schema s (keyword_location p keyword_name.Contains))
   asserted_alike keyword_name.UniqueItems s ms part = if_either _ (is_true part.value) _ None (or_same _) tt
-  asserted_alike keyword_name.Const s ms part =
-      if_map _ _ (const_value (keyword_location p keyword_name.Const) part.value) (λ a e. or_same _)
-  asserted_alike keyword_name.Enum s ms part =
-      if_map _ _ (enum_value (keyword_location p keyword_name.Enum) part.value) (λ a e. or_same _)
+  asserted_alike keyword_name.Const s ms part = if_map _ _ (const_value _ part.value) (λ a e. or_same _)
+  asserted_alike keyword_name.Enum s ms part = if_map _ _ (enum_value _ part.value) (λ a e. or_same _)
   asserted_alike keyword_name.Minimum s ms part =
       let c = is_exclusive s ms (name_of keyword_name.ExclusiveMinimum) in
       if_map _ _ (limit_value (keyword_location p (limit_keyword_name (relation_beside s ms Minimum))) part.value)
@@ -212,16 +206,11 @@ module _ (p : Pointer) (m : Pointer) where
       if_map _ _ (limit_value (keyword_location p (limit_keyword_name (relation_beside s ms Maximum))) part.value)
       (λ a e. limit_alike (name_of keyword_name.Maximum) (name_of keyword_name.ExclusiveMaximum) c Maximum
       ExclusiveMaximum refl refl)
-  asserted_alike keyword_name.ExclusiveMinimum s ms part =
-      if_map _ _ (limit_value (keyword_location p keyword_name.ExclusiveMinimum) part.value) (λ a e. or_same _)
-  asserted_alike keyword_name.ExclusiveMaximum s ms part =
-      if_map _ _ (limit_value (keyword_location p keyword_name.ExclusiveMaximum) part.value) (λ a e. or_same _)
-  asserted_alike keyword_name.MultipleOf s ms part =
-      if_map _ _ (divisor_value (keyword_location p keyword_name.MultipleOf) part.value) (λ a e. or_same _)
-  asserted_alike keyword_name.MinProperties s ms part =
-      if_map _ _ (size_value (keyword_location p keyword_name.MinProperties) part.value) (λ a e. or_same _)
-  asserted_alike keyword_name.MaxProperties s ms part =
-      if_map _ _ (size_value (keyword_location p keyword_name.MaxProperties) part.value) (λ a e. or_same _)
+  asserted_alike keyword_name.ExclusiveMinimum s ms part = if_map _ _ (limit_value _ part.value) (λ a e. or_same _)
+  asserted_alike keyword_name.ExclusiveMaximum s ms part = if_map _ _ (limit_value _ part.value) (λ a e. or_same _)
+  asserted_alike keyword_name.MultipleOf s ms part = if_map _ _ (divisor_value _ part.value) (λ a e. or_same _)
+  asserted_alike keyword_name.MinProperties s ms part = if_map _ _ (size_value _ part.value) (λ a e. or_same _)
+  asserted_alike keyword_name.MaxProperties s ms part = if_map _ _ (size_value _ part.value) (λ a e. or_same _)
   asserted_alike keyword_name.Required s ms part =
       if_either _ (is_handed_on s ms) None _ tt
       (if_map _ _ (required_value (keyword_location p keyword_name.Required) part.value) (λ a e. or_same _))
@@ -345,21 +334,21 @@ module _ (s : Setting) (p : Pointer) (ms : Members) (parts : List ℕ → Option
   only_itself w h r = ap (λ b. if b then 1 else 0) r
 
   -- an exclusive limit is the only one at the name of its part
+  only_limit : (c l part : Bool) → c ≡ true → l ≡ true → part ≡ false
+      → (if c && l then suc (if part then 1 else 0) else (if part then 1 else 0)) ≡ 1
+  only_limit c l part h e r =
+      ap (λ c. if c && l then suc (if part then 1 else 0) else (if part then 1 else 0)) h
+      ∙ ap₂ (λ a b. if a then suc (if b then 1 else 0) else (if b then 1 else 0)) e r
+
   pub only_minimum : is_exclusive s ms (name_of keyword_name.ExclusiveMinimum) ≡ true
       → is_read keyword_name.Minimum ≡ true → is_read keyword_name.ExclusiveMinimum ≡ false
       → named (name_of keyword_name.ExclusiveMinimum) keywords ≡ 1
-  only_minimum h l r =
-      ap (λ c. if c && is_read keyword_name.Minimum then suc (if is_read keyword_name.ExclusiveMinimum then 1 else 0)
-      else (if is_read keyword_name.ExclusiveMinimum then 1 else 0)) h
-      ∙ ap₂ (λ a b. if a then suc (if b then 1 else 0) else (if b then 1 else 0)) l r
+  only_minimum h l r = only_limit _ (is_read keyword_name.Minimum) (is_read keyword_name.ExclusiveMinimum) h l r
 
   pub only_maximum : is_exclusive s ms (name_of keyword_name.ExclusiveMaximum) ≡ true
       → is_read keyword_name.Maximum ≡ true → is_read keyword_name.ExclusiveMaximum ≡ false
       → named (name_of keyword_name.ExclusiveMaximum) keywords ≡ 1
-  only_maximum h l r =
-      ap (λ c. if c && is_read keyword_name.Maximum then suc (if is_read keyword_name.ExclusiveMaximum then 1 else 0)
-      else (if is_read keyword_name.ExclusiveMaximum then 1 else 0)) h
-      ∙ ap₂ (λ a b. if a then suc (if b then 1 else 0) else (if b then 1 else 0)) l r
+  only_maximum h l r = only_limit _ (is_read keyword_name.Maximum) (is_read keyword_name.ExclusiveMaximum) h l r
 
   -- `contains` is the only one at the names of its bounds
   pub only_lower : is_some (bound_beside s ms min_contains) ≡ true → is_read keyword_name.Contains ≡ true

@@ -393,36 +393,27 @@ module _ (s : Setting) (p : Pointer) (ms : Members) (good : MembersCover ms)
   asserted_fit : (w : KeywordName) (d : Data) → get_member (name_of w) ms ≡ Some d
       → IfAsserts Fits (asserted w s p ms (readings d))
   unfolding asserted
-  asserted_fit keyword_name.TypeKeyword d at =
-      if_map Fits _ (type_value (keyword_location p keyword_name.TypeKeyword) d) (λ a e. tt)
-  asserted_fit keyword_name.MinItems d at =
-      if_map Fits _ (size_value (keyword_location p keyword_name.MinItems) d) (λ a e. tt)
-  asserted_fit keyword_name.MaxItems d at =
-      if_map Fits _ (size_value (keyword_location p keyword_name.MaxItems) d) (λ a e. tt)
+  asserted_fit keyword_name.TypeKeyword d at = if_map Fits _ (type_value _ d) (λ a e. tt)
+  asserted_fit keyword_name.MinItems d at = if_map Fits _ (size_value _ d) (λ a e. tt)
+  asserted_fit keyword_name.MaxItems d at = if_map Fits _ (size_value _ d) (λ a e. tt)
   asserted_fit keyword_name.Items d at = items_fit d at
   asserted_fit keyword_name.PrefixItems d at = prefix_fit d at
   asserted_fit keyword_name.AdditionalItems d at = additional_fit (get_member (name_of keyword_name.Items) ms) d at
   asserted_fit keyword_name.Contains d at = contains_fit (read_bounds s p ms) d at
   asserted_fit keyword_name.UniqueItems d at = if_either Fits (is_true d) _ None tt tt
-  asserted_fit keyword_name.Const d at =
-      if_map Fits _ (const_value (keyword_location p keyword_name.Const) d) (λ a e. tt)
-  asserted_fit keyword_name.Enum d at = if_map Fits _ (enum_value (keyword_location p keyword_name.Enum) d) (λ a e. tt)
+  asserted_fit keyword_name.Const d at = if_map Fits _ (const_value _ d) (λ a e. tt)
+  asserted_fit keyword_name.Enum d at = if_map Fits _ (enum_value _ d) (λ a e. tt)
   asserted_fit keyword_name.Minimum d at =
       if_map Fits _ (limit_value (keyword_location p (limit_keyword_name (relation_beside s ms plain.Minimum))) d)
       (λ a e. tt)
   asserted_fit keyword_name.Maximum d at =
       if_map Fits _ (limit_value (keyword_location p (limit_keyword_name (relation_beside s ms plain.Maximum))) d)
       (λ a e. tt)
-  asserted_fit keyword_name.ExclusiveMinimum d at =
-      if_map Fits _ (limit_value (keyword_location p keyword_name.ExclusiveMinimum) d) (λ a e. tt)
-  asserted_fit keyword_name.ExclusiveMaximum d at =
-      if_map Fits _ (limit_value (keyword_location p keyword_name.ExclusiveMaximum) d) (λ a e. tt)
-  asserted_fit keyword_name.MultipleOf d at =
-      if_map Fits _ (divisor_value (keyword_location p keyword_name.MultipleOf) d) (λ a e. tt)
-  asserted_fit keyword_name.MinProperties d at =
-      if_map Fits _ (size_value (keyword_location p keyword_name.MinProperties) d) (λ a e. tt)
-  asserted_fit keyword_name.MaxProperties d at =
-      if_map Fits _ (size_value (keyword_location p keyword_name.MaxProperties) d) (λ a e. tt)
+  asserted_fit keyword_name.ExclusiveMinimum d at = if_map Fits _ (limit_value _ d) (λ a e. tt)
+  asserted_fit keyword_name.ExclusiveMaximum d at = if_map Fits _ (limit_value _ d) (λ a e. tt)
+  asserted_fit keyword_name.MultipleOf d at = if_map Fits _ (divisor_value _ d) (λ a e. tt)
+  asserted_fit keyword_name.MinProperties d at = if_map Fits _ (size_value _ d) (λ a e. tt)
+  asserted_fit keyword_name.MaxProperties d at = if_map Fits _ (size_value _ d) (λ a e. tt)
   asserted_fit keyword_name.Required d at =
       if_either Fits (is_handed_on s ms) None _ tt
       (if_map Fits _ (required_value (keyword_location p keyword_name.Required) d) (λ a e. tt))

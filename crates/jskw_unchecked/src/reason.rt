@@ -58,147 +58,140 @@ pub(crate) fn member_reason<F: Json>(
     ensures { let point = ctx.now in result ≡ member_reason keyword point.setting point.location
         (members_view parent.now.entries) name.now (view value.now) }
 {
+    let schema = Schema { ctx, parent };
     match keyword {
-        Some(keyword) => keyword_reason(ctx, parent, keyword, value),
-        None => name_reason(ctx, parent, name),
+        Some(keyword) => schema.keyword_reason(keyword, value),
+        None => schema.name_reason(name),
     }
 }
 
-// Returns why a keyword of this library is not checked.
-fn keyword_reason<F: Json>(
-    ctx: &Context<'_, F>,
-    parent: &Map<String, Value>,
-    keyword: KeywordName,
-    value: &Value,
-) -> Option<Reason>
-    ensures { let point = ctx.now in result ≡ keyword_reason keyword point.setting point.location
-        (members_view parent.now.entries) (view value.now) }
-{
-    if is_asserted(ctx, parent, keyword, value) || asks_for_nothing(ctx, parent, keyword, value) {
-        return None;
-    }
-    Some(idle_reason(ctx, parent, keyword))
+// A schema: its members, and the context in which they are read.
+#[derive(Drop)]
+struct Schema<'s, 'c, F: Json> {
+    ctx: &'s Context<'c, F>,
+    parent: &'s Map<String, Value>,
 }
 
-// Returns whether the keyword asserts something: it is read, or it makes the limit beside it
-// exclusive.
-fn is_asserted<F: Json>(
-    ctx: &Context<'_, F>,
-    parent: &Map<String, Value>,
-    keyword: KeywordName,
-    value: &Value,
-) -> bool
-    ensures { let point = ctx.now in result ≡ is_asserted keyword point.setting point.location
-        (members_view parent.now.entries) (view value.now) }
-{
-    is_read(ctx, parent, keyword, value)
-        || (is_part_of_limit(ctx, parent, keyword) && is_true(value))
-}
-
-// Returns whether a keyword of the schema is read from this one.
-#[tactic(auto, unfolding(jskw_report::specs::Read::read_keyword))]
-fn is_read<F: Json>(
-    ctx: &Context<'_, F>,
-    parent: &Map<String, Value>,
-    keyword: KeywordName,
-    value: &Value,
-) -> bool
-    ensures { let point = ctx.now in result ≡ is_some (read_keyword keyword point.setting
-        point.location (members_view parent.now.entries) (Some (readings (view value.now)))) }
-{
-    keyword.is_active(ctx) && asserts(ctx, parent, keyword, value)
-}
-
-// Returns whether an active keyword asserts something.
-#[tactic(auto, unfolding(jskw_report::specs::Read::asserted))]
-fn asserts<F: Json>(
-    ctx: &Context<'_, F>,
-    parent: &Map<String, Value>,
-    keyword: KeywordName,
-    value: &Value,
-) -> bool
-    ensures { let point = ctx.now in result ≡ is_some (asserted keyword point.setting
-        point.location (members_view parent.now.entries) (readings (view value.now))) }
-{
-    match keyword {
-        KeywordName::Items => value.is_array() || is_items_schema(value),
-        KeywordName::AdditionalItems => has_array(parent, "items") && !is_true(value),
-        KeywordName::UniqueItems => is_true(value),
-        KeywordName::Required => !required::is_handed_on(ctx, parent),
-        _ => true,
-    }
-}
-
-// Returns whether the keyword is the part of an active limit of Draft 4 that makes it exclusive.
-fn is_part_of_limit<F: Json>(
-    ctx: &Context<'_, F>,
-    parent: &Map<String, Value>,
-    keyword: KeywordName,
-) -> bool
-    ensures { result
-        ≡ is_part_of_limit keyword ctx.now.setting (members_view parent.now.entries) }
-{
-    let limit = match keyword {
-        KeywordName::ExclusiveMinimum => KeywordName::Minimum,
-        KeywordName::ExclusiveMaximum => KeywordName::Maximum,
-        _ => return false,
-    };
-    ctx.draft() == Draft::Draft4 && has_active(ctx, parent, limit)
-}
-
-// Returns whether the keyword of this value accepts everything, by the standard.
-fn asks_for_nothing<F: Json>(
-    ctx: &Context<'_, F>,
-    parent: &Map<String, Value>,
-    keyword: KeywordName,
-    value: &Value,
-) -> bool
-    ensures { result ≡ asks_for_nothing keyword ctx.now.setting
-        (members_view parent.now.entries) (view value.now) }
-{
-    match keyword {
-        KeywordName::UniqueItems => keyword.is_active(ctx) && is_false(value),
-        KeywordName::Items | KeywordName::AdditionalItems => keyword.is_active(ctx)
-            && is_true(value),
-        _ => is_part_of_limit(ctx, parent, keyword) && is_false(value),
-    }
-}
-
-// Returns why a keyword that asserts nothing is not checked.
-fn idle_reason<F: Json>(
-    ctx: &Context<'_, F>,
-    parent: &Map<String, Value>,
-    keyword: KeywordName,
-) -> Reason
-    ensures { result ≡ idle_reason keyword ctx.now.setting (members_view parent.now.entries) }
-{
-    match keyword {
-        KeywordName::Required if required::is_handed_on(ctx, parent) => Reason::Delegated,
-        _ => Reason::Inactive,
-    }
-}
-
-// Returns why a member is not checked whose name is no keyword of this library by itself.
-fn name_reason<F: Json>(
-    ctx: &Context<'_, F>,
-    parent: &Map<String, Value>,
-    name: &str,
-) -> Option<Reason>
-    ensures { result
-        ≡ name_reason ctx.now.setting (members_view parent.now.entries) name.now }
-{
-    if is_bound(name) {
-        if are_bounds_read(ctx, parent) {
-            None
-        } else {
-            Some(Reason::Inactive)
+impl<F: Json> Schema<'_, '_, F> {
+    // Returns why a keyword of this library is not checked.
+    fn keyword_reason(&self, keyword: KeywordName, value: &Value) -> Option<Reason>
+        ensures { let point = self.now.ctx.now in result ≡ keyword_reason keyword point.setting point.location
+            (members_view self.now.parent.now.entries) (view value.now) }
+    {
+        if self.is_asserted(keyword, value) || self.asks_for_nothing(keyword, value) {
+            return None;
         }
-    } else if is_annotation(ctx.draft(), name) {
-        None
-    } else if is_not_implemented(ctx.draft(), name) {
-        Some(Reason::NotImplemented)
-    } else {
-        Some(Reason::Unknown)
+        Some(self.idle_reason(keyword))
+    }
+
+    // Returns whether the keyword asserts something: it is read, or it makes the limit beside it
+    // exclusive.
+    fn is_asserted(&self, keyword: KeywordName, value: &Value) -> bool
+        ensures { let point = self.now.ctx.now in result ≡ is_asserted keyword point.setting point.location
+            (members_view self.now.parent.now.entries) (view value.now) }
+    {
+        self.is_read(keyword, value) || (self.is_part_of_limit(keyword) && is_true(value))
+    }
+
+    // Returns whether a keyword of the schema is read from this one.
+    #[tactic(auto, unfolding(jskw_report::specs::Read::read_keyword))]
+    fn is_read(&self, keyword: KeywordName, value: &Value) -> bool
+        ensures { let point = self.now.ctx.now in result ≡ is_some (read_keyword keyword point.setting
+            point.location (members_view self.now.parent.now.entries) (Some (readings (view value.now)))) }
+    {
+        keyword.is_active(self.ctx) && self.asserts(keyword, value)
+    }
+
+    // Returns whether an active keyword asserts something.
+    #[tactic(auto, unfolding(jskw_report::specs::Read::asserted))]
+    fn asserts(&self, keyword: KeywordName, value: &Value) -> bool
+        ensures { let point = self.now.ctx.now in result ≡ is_some (asserted keyword point.setting
+            point.location (members_view self.now.parent.now.entries) (readings (view value.now))) }
+    {
+        match keyword {
+            KeywordName::Items => value.is_array() || is_items_schema(value),
+            KeywordName::AdditionalItems => has_array(self.parent, "items") && !is_true(value),
+            KeywordName::UniqueItems => is_true(value),
+            KeywordName::Required => !required::is_handed_on(self.ctx, self.parent),
+            _ => true,
+        }
+    }
+
+    // Returns whether the keyword is the part of an active limit of Draft 4 that makes it exclusive.
+    fn is_part_of_limit(&self, keyword: KeywordName) -> bool
+        ensures { result
+            ≡ is_part_of_limit keyword self.now.ctx.now.setting (members_view self.now.parent.now.entries) }
+    {
+        let limit = match keyword {
+            KeywordName::ExclusiveMinimum => KeywordName::Minimum,
+            KeywordName::ExclusiveMaximum => KeywordName::Maximum,
+            _ => return false,
+        };
+        self.ctx.draft() == Draft::Draft4 && self.has_active(limit)
+    }
+
+    // Returns whether the keyword of this value accepts everything, by the standard.
+    fn asks_for_nothing(&self, keyword: KeywordName, value: &Value) -> bool
+        ensures { result ≡ asks_for_nothing keyword self.now.ctx.now.setting
+            (members_view self.now.parent.now.entries) (view value.now) }
+    {
+        match keyword {
+            KeywordName::UniqueItems => keyword.is_active(self.ctx) && is_false(value),
+            KeywordName::Items | KeywordName::AdditionalItems => keyword.is_active(self.ctx)
+                && is_true(value),
+            _ => self.is_part_of_limit(keyword) && is_false(value),
+        }
+    }
+
+    // Returns why a keyword that asserts nothing is not checked.
+    fn idle_reason(&self, keyword: KeywordName) -> Reason
+        ensures { result
+            ≡ idle_reason keyword self.now.ctx.now.setting (members_view self.now.parent.now.entries) }
+    {
+        match keyword {
+            KeywordName::Required if required::is_handed_on(self.ctx, self.parent) => {
+                Reason::Delegated
+            }
+            _ => Reason::Inactive,
+        }
+    }
+
+    // Returns why a member is not checked whose name is no keyword of this library by itself.
+    fn name_reason(&self, name: &str) -> Option<Reason>
+        ensures { result
+            ≡ name_reason self.now.ctx.now.setting (members_view self.now.parent.now.entries) name.now }
+    {
+        if is_bound(name) {
+            if self.are_bounds_read() {
+                None
+            } else {
+                Some(Reason::Inactive)
+            }
+        } else if is_annotation(self.ctx.draft(), name) {
+            None
+        } else if is_not_implemented(self.ctx.draft(), name) {
+            Some(Reason::NotImplemented)
+        } else {
+            Some(Reason::Unknown)
+        }
+    }
+
+    // Returns whether an active `contains` reads the bounds beside it.
+    fn are_bounds_read(&self) -> bool
+        ensures { result
+            ≡ are_bounds_read self.now.ctx.now.setting (members_view self.now.parent.now.entries) }
+    {
+        is_after_draft_7(self.ctx.draft())
+            && self.ctx.has_vocabulary(Vocabulary::Validation)
+            && self.has_active(KeywordName::Contains)
+    }
+
+    // Returns whether the keyword is there and active.
+    fn has_active(&self, keyword: KeywordName) -> bool
+        ensures { result
+            ≡ has_active self.now.ctx.now.setting (members_view self.now.parent.now.entries) keyword }
+    {
+        member_of(self.parent, keyword.as_str()).is_some() && keyword.is_active(self.ctx)
     }
 }
 
@@ -207,26 +200,6 @@ fn is_bound(name: &str) -> bool
     ensures { result ≡ is_bound name.now }
 {
     name == "minContains" || name == "maxContains"
-}
-
-// Returns whether an active `contains` reads the bounds beside it.
-fn are_bounds_read<F: Json>(ctx: &Context<'_, F>, parent: &Map<String, Value>) -> bool
-    ensures { result ≡ are_bounds_read ctx.now.setting (members_view parent.now.entries) }
-{
-    is_after_draft_7(ctx.draft())
-        && ctx.has_vocabulary(Vocabulary::Validation)
-        && has_active(ctx, parent, KeywordName::Contains)
-}
-
-// Returns whether the keyword is there and active.
-fn has_active<F: Json>(
-    ctx: &Context<'_, F>,
-    parent: &Map<String, Value>,
-    keyword: KeywordName,
-) -> bool
-    ensures { result ≡ has_active ctx.now.setting (members_view parent.now.entries) keyword }
-{
-    member_of(parent, keyword.as_str()).is_some() && keyword.is_active(ctx)
 }
 
 // Returns whether the member `name` is an array.

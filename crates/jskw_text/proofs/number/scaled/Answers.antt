@@ -3,7 +3,9 @@ use Rattle.std.proofs.Common.{ap, ◌∙◌, arith, lit<, mul-le-mul_right}
 use native.Mathlib.Nat.{pow-le-pow_right}
 use Rattle.std.specs.Option.{SomeIff}
 use Rattle.core.proofs.dec2flt.ExactLemmas.{ten_to_pos}
-use Rattle.fast_float.specs.Text.{tens_up, tens_down}
+use Rattle.fast_float.specs.Text.{Parts, tens_up, tens_down}
+use Rattle.jskw_text.specs.NumberText.{scaled}
+use Rattle.jskw_text.specs.Tens.{HasSignificand, HasTens}
 use Rattle.jskw_text.proofs.Numbers.{quotient_is, moved_up, moved_down, scaled_is}
 use Rattle.jskw_text.proofs.number.scaled.Goals as goal
 
@@ -18,6 +20,16 @@ many : (f u v up down z k : ℕ) → f < 2 ^ 63 → up ≡ min u (2 ^ 64 - 1) �
     → min u (v - f) ≡ 0 → f ≤ v → z < 2 ^ 63 → k ≤ 18
     → down ≤ up + z + k → (v ≤ z + (u + k)) × (min (z + (u + k) - v) 20 ≡ min (up + z + k - down) 20)
 many f u v up down z k a b c d e g h more = (omega arith, omega arith)
+
+-- where they are no fewer, the number is whole at the scale
+raised : (p : Parts) (up down s z k : ℕ) → HasTens p up down → HasSignificand p s z → k ≤ 18 → down ≤ up + z + k
+    → (scaled p k ≡ Some (s * 10 ^ (z + (tens_up p + k) - tens_down p)))
+    × (min (z + (tens_up p + k) - tens_down p) 20 ≡ min (up + z + k - down) 20)
+raised p up down s z k tens digits scale more =
+    let h =
+    many _ (tens_up p) (tens_down p) up down z k tens.short tens.up_is tens.down_is tens.one tens.behind digits.short
+    scale more in
+    (scaled_is p s z k digits ∙ moved_up s (z + (tens_up p + k)) (tens_down p) h.0, h.1)
 
 none_or_large : (q : Option ℕ) → q ≡ None → IfSome q (λ n. 2 ^ 64 ≤ n)
 none_or_large None e = tt
@@ -59,31 +71,22 @@ returns-then-up-down c =
 pub returns-then-zeros-gt19 : goal.returns-then-zeros-gt19
 returns-then-zeros-gt19 c =
     let p = c.args.numeral.now in
-    let z = c.args.significand.zeros in
-    let s = c.args.significand.size in
-    let a = z + (tens_up p + c.args.scale) in
-    let h = c.tens-up.ensures in
-    let more =
-    many _ (tens_up p) (tens_down p) c.tens-up.result.0 c.tens-up.result.1 z c.args.scale h.short h.up_is h.down_is
-    h.one h.behind c.requires.digits.short c.requires.scale c.if-up-down.false in
-    let some : 1 ≤ s = omega arith in
-    let tens : 10 ^ 20 ≤ 10 ^ (a - tens_down p) =
-    pow-le-pow_right (lit< tt) {i = 20} (omega (arith, more.1, c.if-zeros-gt19.true)) in
-    large _ _ (scaled_is p s z c.args.scale c.requires.digits ∙ moved_up s a (tens_down p) more.0)
-    (omega (arith, tens, mul-le-mul_right (10 ^ (a - tens_down p)) some))
+    let n = c.args.significand in
+    let zeros = n.zeros + (tens_up p + c.args.scale) - tens_down p in
+    let h =
+    raised p _ _ n.size n.zeros c.args.scale c.tens-up.ensures c.requires.digits c.requires.scale c.if-up-down.false in
+    let some : 1 ≤ n.size = omega arith in
+    let tens : 10 ^ 20 ≤ 10 ^ zeros = pow-le-pow_right (lit< tt) {i = 20} (omega (arith, h.1, c.if-zeros-gt19.true)) in
+    large _ _ h.0 (omega (arith, tens, mul-le-mul_right (10 ^ zeros) some))
 
 pub returns : goal.returns
 returns c =
-    let p = c.args.numeral.now in
-    let z = c.args.significand.zeros in
-    let s = c.args.significand.size in
-    let a = z + (tens_up p + c.args.scale) in
-    let h = c.tens-up.ensures in
-    let more =
-    many _ (tens_up p) (tens_down p) c.tens-up.result.0 c.tens-up.result.1 z c.args.scale h.short h.up_is h.down_is
-    h.one h.behind c.requires.digits.short c.requires.scale c.if-up-down.false in
-    let same : c.tens-up.result.0 + z + c.args.scale - c.tens-up.result.1 ≡ a - tens_down p =
-    omega (arith, more.1, c.if-zeros-gt19.false) in
-    let ten : c.ten_to.result ≡ 10 ^ (a - tens_down p) = c.ten_to.ensures ∙ ap (λ n. 10 ^ n) same in
-    found c.checked_mul.result _ (s * c.ten_to.result) (s * 10 ^ (a - tens_down p)) c.checked_mul.ensures
-    (scaled_is p s z c.args.scale c.requires.digits ∙ moved_up s a (tens_down p) more.0) (ap (λ x. s * x) ten)
+    let n = c.args.significand in
+    let h =
+    raised c.args.numeral.now _ _ n.size n.zeros c.args.scale c.tens-up.ensures c.requires.digits c.requires.scale
+    c.if-up-down.false in
+    let zeros = n.zeros + (tens_up c.args.numeral.now + c.args.scale) - tens_down c.args.numeral.now in
+    let same : c.tens-up.result.0 + n.zeros + c.args.scale - c.tens-up.result.1 ≡ zeros =
+    omega (arith, h.1, c.if-zeros-gt19.false) in
+    found c.checked_mul.result _ _ _ c.checked_mul.ensures h.0
+    (ap (λ x. n.size * x) (c.ten_to.ensures ∙ ap (λ n. 10 ^ n) same))

@@ -1,5 +1,5 @@
-use Rattle.std.proofs.Common.{◌≡◌, ℕ, ◌+◌, ◌-◌, ◌*◌, ◌^◌, ◌≤◌, ◌++◌, length, take, inl, inr, ap, ap₂, sym, ◌∙◌, subst}
-use Rattle.std.proofs.Common.{arith, length-append, mul-le-mul_left}
+use Rattle.std.proofs.Common.{◌≡◌, ℕ, ◌+◌, ◌-◌, ◌*◌, ◌^◌, ◌≤◌, List, ◌++◌, length, take, inl, inr, ap, ap₂, sym, ◌∙◌}
+use Rattle.std.proofs.Common.{subst, arith, length-append, mul-le-mul_left}
 use Rattle.std.proofs.lemmas.Bool.{cases_lt}
 use Rattle.std.specs.Str.Parse.{digits_value, AllDigits}
 use Rattle.core.proofs.dec2flt.ExactLemmas.{ten_to_pos}
@@ -10,18 +10,19 @@ use Rattle.jskw_text.proofs.Numbers.{moved_up, moved_down, scaled_is}
 use Rattle.jskw_text.proofs.number.significand_of.Goals as goal
 
 -- the first digits, up to the last that is not 0, are the significand
-significand : (p : Parts) (end : ℕ) → AllDigits 10 (p.whole ++ p.fraction) → IsShort p
-    → EndsDigits (p.whole ++ p.fraction) end
-    → HasSignificand p (digits_value 10 (take end (p.whole ++ p.fraction))) (length p.whole + length p.fraction - end)
-significand p end h fits e =
-    let ds = p.whole ++ p.fraction in
-    let long = length-append p.whole p.fraction in
-    let tens : 10 ^ (length ds - end) ≡ 10 ^ (length p.whole + length p.fraction - end) =
-    ap (λ n. 10 ^ (n - end)) long in
+significand : (p : Parts) (w f : List ℕ) (end : ℕ) → w ≡ p.whole → f ≡ p.fraction → AllDigits 10 (p.whole ++ p.fraction)
+    → IsShort p → EndsDigits (w ++ f) end
+    → HasSignificand p (digits_value 10 (take end (w ++ f))) (length w + length f - end)
+significand p w f end whole fraction h fits e =
+    let ds = w ++ f in
+    let same : ds ≡ p.whole ++ p.fraction = ap₂ (λ x y. x ++ y) whole fraction in
+    let long = length-append w f in
+    let tens : 10 ^ (length ds - end) ≡ 10 ^ (length w + length f - end) = ap (λ n. 10 ^ (n - end)) long in
     record {
-      digits = omega (arith, split ds end, e.zeros, ap (λ x. digits_value 10 (take end ds) * x) tens);
-      cut = no_ten ds end h e;
-      short = omega arith;
+      digits = ap (digits_value 10) (sym same)
+          ∙ omega (arith, split ds end, e.zeros, ap (λ x. digits_value 10 (take end ds) * x) tens);
+      cut = no_ten ds end (subst (AllDigits 10) (sym same) h) e;
+      short = omega (arith, ap length whole, ap length fraction);
     }
 
 large : (p : Parts) (size zeros : ℕ) → HasSignificand p size zeros → 2 ^ 64 ≤ size → IsTooLarge p
@@ -36,34 +37,17 @@ large p size zeros h fits k =
 
 pub returns-in_err-size : goal.returns-in_err-size
 returns-in_err-size c =
-    let p = c.args.numeral.now in
-    let w = c.whole-whole.result.now in
-    let f = c.fraction-fraction.result.now in
-    let same : w ++ f ≡ p.whole ++ p.fraction =
-    ap₂ (λ x y. x ++ y) c.whole-whole.ensures.value c.fraction-fraction.ensures in
     let h =
-    significand p c.last_digit-kept.result c.whole-whole.ensures.digits c.requires
-    (subst (λ ds. EndsDigits ds c.last_digit-kept.result) same c.last_digit-kept.ensures) in
-    let value : digits_value 10 (take c.last_digit-kept.result (w ++ f))
-    ≡ digits_value 10 (take c.last_digit-kept.result (p.whole ++ p.fraction)) =
-    ap (λ ds. digits_value 10 (take c.last_digit-kept.result ds)) same in
-    rw c.from_residual.ensures (large p _ _ h (omega (arith, value, c.in_err-size.ensures)))
+    significand c.args.numeral.now c.whole-whole.result.now c.fraction-fraction.result.now c.last_digit-kept.result
+    c.whole-whole.ensures.value c.fraction-fraction.ensures c.whole-whole.ensures.digits c.requires
+    c.last_digit-kept.ensures in
+    rw c.from_residual.ensures (large _ _ _ h (omega (arith, c.in_err-size.ensures)))
 
 pub returns : goal.returns
 returns c =
-    let p = c.args.numeral.now in
     let w = c.whole-whole.result.now in
     let f = c.fraction-fraction.result.now in
-    let same : w ++ f ≡ p.whole ++ p.fraction =
-    ap₂ (λ x y. x ++ y) c.whole-whole.ensures.value c.fraction-fraction.ensures in
-    let h =
-    significand p c.last_digit-kept.result c.whole-whole.ensures.digits c.requires
-    (subst (λ ds. EndsDigits ds c.last_digit-kept.result) same c.last_digit-kept.ensures) in
-    let value : digits_value 10 (take c.last_digit-kept.result (p.whole ++ p.fraction)) ≡ c.in_ok-size.size =
-    ap (λ ds. digits_value 10 (take c.last_digit-kept.result ds)) (sym same) ∙ sym c.in_ok-size.ensures.1 in
-    let zeros : length p.whole + length p.fraction - c.last_digit-kept.result
-    ≡ length w + length f - c.last_digit-kept.result =
-    ap₂ (λ x y. x + y - c.last_digit-kept.result) (sym (ap length c.whole-whole.ensures.value))
-    (sym (ap length c.fraction-fraction.ensures)) in
-    subst (λ z. HasSignificand p c.in_ok-size.size z) zeros
-    (subst (λ s. HasSignificand p s (length p.whole + length p.fraction - c.last_digit-kept.result)) value h)
+    let end = c.last_digit-kept.result in
+    subst (λ s. HasSignificand c.args.numeral.now s (length w + length f - end)) (sym c.in_ok-size.ensures.1)
+    (significand c.args.numeral.now w f end c.whole-whole.ensures.value c.fraction-fraction.ensures
+    c.whole-whole.ensures.digits c.requires c.last_digit-kept.ensures)

@@ -1,21 +1,23 @@
 use Rattle.std.proofs.Common.{◌≡◌, suc, ◌-◌, ◌<◌, [], ◌∷◌, length, map, Some, None, Ok, Err, string_bytes, refl, sym}
-use Rattle.std.proofs.Common.{ap, ap₂, ◌∙◌, arith, rules}
+use Rattle.std.proofs.Common.{ap, ◌∙◌, arith, rules}
 use Rattle.json.specs.Token.{Token}
 use Rattle.json.specs.Json.{parse_map, after_end_array, read_key, items, members, value}
 use Rattle.json.specs.Reads.{token_of}
-use Rattle.json.proofs.Grammar.{value_is, value-begin_array, value-begin_object, read_key-shorter}
+use Rattle.json.proofs.Grammar.{value_is, read_key-shorter}
 use Rattle.jskw_value.specs.DecimalTree.{decimal_tree}
 use Rattle.jskw_value.specs.Decimal.{value as number_value}
-use Rattle.jskw_value.specs.Tree.{null, boolean, number, string, array, object}
-use Rattle.jskw_value.specs.declared.decimal_tree.DecimalTree.{Text, Number, Bool, Null, the_lemmas}
+use Rattle.jskw_value.specs.Tree.{number, array, object}
+use Rattle.jskw_value.specs.declared.decimal_tree.DecimalTree.{Number, the_lemmas}
 use Rattle.jskw_value.proofs.DecimalTrees.{tree_of_array}
 use Rattle.jskw_value.specs.Members.{lasts}
 use Rattle.jskw_text.specs.Members.{members_seen}
-use Rattle.jskw_text.specs.Stop.{Explains, location_of}
+use Rattle.jskw_text.specs.Stop.{location_of}
 use Rattle.jskw_text.specs.declared.fault.Stop.TheVariants.{Broken}
 use Rattle.jskw_text.specs.Reading.{on_found, put, tree_of, items_of, members_of}
 use Rattle.jskw_text.proofs.Members.{tree_of_members, last_seen}
-use Rattle.jskw_text.proofs.Reading.{returned, length-append_one, parsed_array, parsed_object, explained, item_read}
+use Rattle.jskw_text.proofs.Reading.{returned, length-append_one, leaf_value, array_value, object_value}
+use Rattle.jskw_text.proofs.Reading.{array_too_deep, object_too_deep, found_behind, stopped_behind, explained}
+use Rattle.jskw_text.proofs.Reading.{item_read}
 use Rattle.jskw_text.proofs.Reading.{item_faulty, items_over, member_read, member_faulty, key_refused, members_over}
 use Rattle.jskw_text.proofs.Reading.{items_before, items_before-no_items, one_more_item}
 use Rattle.jskw_text.proofs.tree.+read.Goals as goal
@@ -27,77 +29,42 @@ read-returns-in_err-token-clause-err t c =
     returned _ Broken _ _ is (ap (parse_map tree_of) (ap (value c.args.depth) empty ∙ value_is c.args.depth [])) refl
 
 pub read-returns-then-depth-eq0-clause-err : goal.read-returns-then-depth-eq0-clause-err
-unfolding value
 read-returns-then-depth-eq0-clause-err t c =
-    let first : c.args.reader.now ≡ token_of c.in_ok-token.token ∷ c.next.new.self = grind arith in
-    let none : c.args.depth ≡ 0 = omega arith in
-    ap (parse_map tree_of) (ap₂ value none (first ∙ ap (λ k. token_of k ∷ c.next.new.self) c.in-BeginArray.is))
+    array_too_deep c.args.depth _ c.next.new.self (grind arith) (omega arith)
 
 pub read-returns-then-depth-eq0-2-clause-err : goal.read-returns-then-depth-eq0-2-clause-err
-unfolding value
 read-returns-then-depth-eq0-2-clause-err t c =
-    let first : c.args.reader.now ≡ token_of c.in_ok-token.token ∷ c.next.new.self = grind arith in
-    let none : c.args.depth ≡ 0 = omega arith in
-    ap (parse_map tree_of) (ap₂ value none (first ∙ ap (λ k. token_of k ∷ c.next.new.self) c.in-BeginObject.is))
+    object_too_deep c.args.depth _ c.next.new.self (grind arith) (omega arith)
 
 pub read-returns-in_err-read_items-in-BeginArray-clause-err
     : goal.read-returns-in_err-read_items-in-BeginArray-clause-err
 read-returns-in_err-read_items-in-BeginArray-clause-err t c =
-    let first : c.args.reader.now ≡ token_of c.in_ok-token.token ∷ c.next.new.self = grind arith in
-    let opened =
-    ap (parse_map tree_of) (ap (value c.args.depth)
-    (first ∙ ap (λ k. token_of k ∷ c.next.new.self) c.in-BeginArray.is)
-    ∙ value-begin_array c.args.depth c.next.new.self (omega arith))
-    ∙ parsed_array (items (value (c.args.depth - 1)) (length c.next.new.self) c.next.new.self) in
-    let fault = c.in_err-read_items-in-BeginArray in
-    let is : c.from_residual-in_err-read_items-in-BeginArray.result ≡ Err fault.field-0.0 = search rules in
-    returned _ fault.field-0.0 _ _ is opened (explained array fault.field-0.0 _ fault.ensures.err)
+    let opened = array_value c.args.depth c.args.reader.now c.next.new.self (grind arith) (omega arith) in
+    stopped_behind array _ _ _ _ opened (search rules) c.in_err-read_items-in-BeginArray.ensures.err
 
 pub read-returns-in_err-read_members-in-BeginObject-clause-err
     : goal.read-returns-in_err-read_members-in-BeginObject-clause-err
 read-returns-in_err-read_members-in-BeginObject-clause-err t c =
-    let first : c.args.reader.now ≡ token_of c.in_ok-token.token ∷ c.next.new.self = grind arith in
-    let opened =
-    ap (parse_map tree_of) (ap (value c.args.depth)
-    (first ∙ ap (λ k. token_of k ∷ c.next.new.self) c.in-BeginObject.is)
-    ∙ value-begin_object c.args.depth c.next.new.self (omega arith))
-    ∙ parsed_object (members (value (c.args.depth - 1)) (length c.next.new.self) c.next.new.self) in
-    let fault = c.in_err-read_members-in-BeginObject in
-    let is : c.from_residual-in_err-read_members-in-BeginObject.result ≡ Err fault.field-0.0 = search rules in
-    returned _ fault.field-0.0 _ _ is opened (explained object fault.field-0.0 _ fault.ensures.err)
+    let opened = object_value c.args.depth c.args.reader.now c.next.new.self (grind arith) (omega arith) in
+    stopped_behind object _ _ _ _ opened (search rules) c.in_err-read_members-in-BeginObject.ensures.err
 
 pub read-returns-in_ok-from_str-in-String-clause-ok : goal.read-returns-in_ok-from_str-in-String-clause-ok
 read-returns-in_ok-from_str-in-String-clause-ok t c =
-    let first : c.args.reader.now ≡ token_of c.in_ok-token.token ∷ c.next.new.self = grind arith in
-    let is : c.args.reader.now ≡ Token.string c.in-String.text.now ∷ c.next.new.self = grind (arith, first) in
-    let seen : decimal_tree (Text c.in_ok-from_str-in-String.field-0) ≡ string c.in-String.text.now =
-    search (rules, the_lemmas) in
-    ap (parse_map tree_of) (ap (value c.args.depth) is ∙ value_is c.args.depth _)
-    ∙ ap (λ d. Some (Ok d, c.next.new.self)) (sym seen)
+    leaf_value c.args.depth _ (Token.string c.in-String.text.now) _ _ (grind arith) (search (rules, the_lemmas))
 
 pub read-returns-in-Bool-clause-ok : goal.read-returns-in-Bool-clause-ok
 read-returns-in-Bool-clause-ok t c =
-    let first : c.args.reader.now ≡ token_of c.in_ok-token.token ∷ c.next.new.self = grind arith in
-    let is : c.args.reader.now ≡ Token.boolean c.in-Bool.boolean ∷ c.next.new.self = grind (arith, first) in
-    let seen : decimal_tree (Bool c.in-Bool.boolean) ≡ boolean c.in-Bool.boolean = search (rules, the_lemmas) in
-    ap (parse_map tree_of) (ap (value c.args.depth) is ∙ value_is c.args.depth _)
-    ∙ ap (λ d. Some (Ok d, c.next.new.self)) (sym seen)
+    leaf_value c.args.depth _ (Token.boolean c.in-Bool.boolean) _ _ (grind arith) (search (rules, the_lemmas))
 
 pub read-returns-in-Null-clause-ok : goal.read-returns-in-Null-clause-ok
 read-returns-in-Null-clause-ok t c =
-    let first : c.args.reader.now ≡ token_of c.in_ok-token.token ∷ c.next.new.self = grind arith in
-    let is : c.args.reader.now ≡ Token.null ∷ c.next.new.self = grind (arith, first) in
-    let seen : decimal_tree (Null) ≡ null = search (rules, the_lemmas) in
-    ap (parse_map tree_of) (ap (value c.args.depth) is ∙ value_is c.args.depth _)
-    ∙ ap (λ d. Some (Ok d, c.next.new.self)) (sym seen)
+    leaf_value c.args.depth _ Token.null _ _ (grind arith) (search (rules, the_lemmas))
 
 pub read-returns-in-Some-clause-ok : goal.read-returns-in-Some-clause-ok
 read-returns-in-Some-clause-ok t c =
-    let first : c.args.reader.now ≡ token_of c.in_ok-token.token ∷ c.next.new.self = grind arith in
-    let is : c.args.reader.now ≡ Token.number c.in-Number.text.now ∷ c.next.new.self = grind (arith, first) in
     let seen : decimal_tree (Number c.in-Some.decimal) ≡ number (number_value c.in-Some.decimal) =
     search (rules, the_lemmas) in
-    ap (parse_map tree_of) (ap (value c.args.depth) is ∙ value_is c.args.depth _) ∙ rw (← c.in-Some.ensures, seen)
+    leaf_value c.args.depth _ (Token.number c.in-Number.text.now) _ _ (grind arith) (rw (← c.in-Some.ensures, seen))
 
 pub read-returns-in-None-clause-err : goal.read-returns-in-None-clause-err
 read-returns-in-None-clause-err t c =
@@ -117,40 +84,23 @@ read-returns-in-EndObject-clause-err t c =
 
 pub read-returns-in_ok-read_items-in-BeginArray-clause-ok : goal.read-returns-in_ok-read_items-in-BeginArray-clause-ok
 read-returns-in_ok-read_items-in-BeginArray-clause-ok t c =
-    let first : c.args.reader.now ≡ token_of c.in_ok-token.token ∷ c.next.new.self = grind arith in
-    let opened =
-    ap (parse_map tree_of) (ap (value c.args.depth)
-    (first ∙ ap (λ k. token_of k ∷ c.next.new.self) c.in-BeginArray.is)
-    ∙ value-begin_array c.args.depth c.next.new.self (omega arith))
-    ∙ parsed_array (items (value (c.args.depth - 1)) (length c.next.new.self) c.next.new.self) in
-    let found = c.in_ok-read_items-in-BeginArray in
-    opened ∙ ap (parse_map (on_found array)) found.ensures.ok
-    ∙ ap (λ d. Some (Ok d, c.read_items.new.reader)) (sym (tree_of_array found.field-0))
+    let opened = array_value c.args.depth c.args.reader.now c.next.new.self (grind arith) (omega arith) in
+    found_behind array _ _ _ _ _ opened c.in_ok-read_items-in-BeginArray.ensures.ok (tree_of_array _)
 
 pub read-returns-in_ok-read_members-in-BeginObject-clause-ok
     : goal.read-returns-in_ok-read_members-in-BeginObject-clause-ok
 read-returns-in_ok-read_members-in-BeginObject-clause-ok t c =
-    let first : c.args.reader.now ≡ token_of c.in_ok-token.token ∷ c.next.new.self = grind arith in
-    let opened =
-    ap (parse_map tree_of) (ap (value c.args.depth)
-    (first ∙ ap (λ k. token_of k ∷ c.next.new.self) c.in-BeginObject.is)
-    ∙ value-begin_object c.args.depth c.next.new.self (omega arith))
-    ∙ parsed_object (members (value (c.args.depth - 1)) (length c.next.new.self) c.next.new.self) in
-    let found = c.in_ok-read_members-in-BeginObject in
-    opened ∙ ap (parse_map (on_found object)) found.ensures.ok
-    ∙ ap (λ d. Some (Ok d, c.read_members.new.reader)) (sym (tree_of_members found.field-0))
+    let opened = object_value c.args.depth c.args.reader.now c.next.new.self (grind arith) (omega arith) in
+    found_behind object _ _ _ _ _ opened c.in_ok-read_members-in-BeginObject.ensures.ok (tree_of_members _)
 
 pub read_items-returns-in-Err-clause-err : goal.read_items-returns-in-Err-clause-err
 read_items-returns-in-Err-clause-err t c =
-    let p = value c.args.depth in
     let l = c.items in
-    let n = l.invariant.0 in
     let going : (after_end_array l.reader ≡ None) × (c.take_end_array.new.self ≡ l.reader) = grind arith in
-    let same : Explains c.in-Err.stop (parse_map tree_of (p l.reader)) = rw (← going.1) c.in-Err.ensures.err in
     let place : c.len.result ≡ length l.found.items = search rules in
     rw l.invariant.2 (explained (items_before l.found.items) c.in_item.result _
-    (item_faulty p (length l.found.items) n l.reader c.in-Err.stop c.in_item.result going.0 same
-    (rw (← place) c.in_item.ensures)))
+    (item_faulty (value c.args.depth) (length l.found.items) l.invariant.0 l.reader c.in-Err.stop c.in_item.result
+    going.0 (rw (← going.1) c.in-Err.ensures.err) (rw (← place) c.in_item.ensures)))
 
 pub read_items-items-preserved : goal.read_items-items-preserved
 read_items-items-preserved t c =
@@ -189,24 +139,17 @@ read_items-returns-clause-ok t c =
 
 pub read_members-returns-in_err-name-clause-err : goal.read_members-returns-in_err-name-clause-err
 read_members-returns-in_err-name-clause-err t c =
-    let p = value c.args.depth in
     let l = c.members in
-    let n = l.invariant.0 in
-    let old = members_seen (lasts l.found.items) in
     let is : c.from_residual.result ≡ Err Broken = search rules in
-    returned _ Broken _ _ is (l.invariant.2 ∙ key_refused p old n l.reader c.in_err-name.ensures.value) refl
+    returned _ Broken _ _ is (l.invariant.2 ∙ key_refused (value c.args.depth) (members_seen (lasts l.found.items))
+    l.invariant.0 l.reader c.in_err-name.ensures.value) refl
 
 pub read_members-returns-in-Err-clause-err : goal.read_members-returns-in-Err-clause-err
 read_members-returns-in-Err-clause-err t c =
-    let p = value c.args.depth in
     let l = c.members in
-    let n = l.invariant.0 in
-    let old = members_seen (lasts l.found.items) in
-    let k = c.in-Some.name.now in
-    let s = c.next_key.new.self in
-    let named : read_key l.reader ≡ Some (Some k, s) = grind arith in
-    let place : c.as_str.result.now ≡ k = search rules in
-    rw l.invariant.2 (member_faulty p old n k l.reader s c.in-Err.stop c.in_member.result named c.in-Err.ensures.err
+    let place : c.as_str.result.now ≡ c.in-Some.name.now = search rules in
+    rw l.invariant.2 (member_faulty (value c.args.depth) (members_seen (lasts l.found.items)) l.invariant.0
+    c.in-Some.name.now l.reader c.next_key.new.self c.in-Err.stop c.in_member.result (grind arith) c.in-Err.ensures.err
     (rw (← place) c.in_member.ensures))
 
 pub read_members-members-preserved : goal.read_members-members-preserved
