@@ -122,133 +122,41 @@ module _
     required_few_sync s = required.the_sync T FewNames T' T'' T'3 (few_names.the_sync T T' T'' T'3 g g' g'' s)
 
     pub leaf_send : IsSend T'3 → IsSend (leaf.the_row T T' T'' T'3 g g' g'')
-    leaf_send s = variants_send (leaf.enum T T' T'' T'3 g g' g'') (
-      (false_schema.the_send, tt),
-      (
-        (numbers_send, tt),
-        (
-          (type_keyword.the_send, tt),
-          (
-            (const_send, tt),
-            (
-              (any_send, tt),
-              (
-                (among_send values.the_row not_nullable.the_row values'.ghosts not_nullable'.ghosts values_send, tt),
-                (
-                  (single_send, tt),
-                  (
-                    (
-                      among_send few_strings''.the_row not_nullable.the_row few_strings'.ghosts not_nullable'.ghosts
-                          few_strings.the_send,
-                      tt,
-                    ),
-                    (
-                      (
-                        among_send few_strings''.the_row nullable.the_row few_strings'.ghosts nullable'.ghosts
-                            few_strings.the_send,
-                        tt,
-                      ),
-                      (
-                        (
-                          among_send strings''.the_row not_nullable.the_row strings'.ghosts not_nullable'.ghosts
-                              strings.the_send,
-                          tt,
-                        ),
-                        (
-                          (
-                            among_send strings''.the_row nullable.the_row strings'.ghosts nullable'.ghosts
-                                strings.the_send,
-                            tt,
-                          ),
-                          (
-                            (
-                              among_send integers''.the_row not_nullable.the_row integers'.ghosts not_nullable'.ghosts
-                                  integers.the_send,
-                              tt,
-                            ),
-                            (
-                              (
-                                among_send integers''.the_row nullable.the_row integers'.ghosts nullable'.ghosts
-                                    integers.the_send,
-                                tt,
-                              ),
-                              ((unique.the_send, tt), ((required_send s, tt), ((required_few_send s, tt), tt))),
-                            ),
-                          ),
-                        ),
-                      ),
-                    ),
-                  ),
-                ),
-              ),
-            ),
-          ),
-        ),
-      ),
-    )
+    leaf_send s = variants_send (leaf.enum T T' T'' T'3 g g' g'') (search (
+      false_schema.the_send,
+      numbers_send,
+      type_keyword.the_send,
+      const_send,
+      any_send,
+      single_send,
+      among_send values.the_row not_nullable.the_row values'.ghosts not_nullable'.ghosts values_send,
+      among_send few_strings''.the_row not_nullable.the_row few_strings'.ghosts not_nullable'.ghosts few_strings.the_send,
+      among_send few_strings''.the_row nullable.the_row few_strings'.ghosts nullable'.ghosts few_strings.the_send,
+      among_send strings''.the_row not_nullable.the_row strings'.ghosts not_nullable'.ghosts strings.the_send,
+      among_send strings''.the_row nullable.the_row strings'.ghosts nullable'.ghosts strings.the_send,
+      among_send integers''.the_row not_nullable.the_row integers'.ghosts not_nullable'.ghosts integers.the_send,
+      among_send integers''.the_row nullable.the_row integers'.ghosts nullable'.ghosts integers.the_send,
+      unique.the_send,
+      required_send s,
+      required_few_send s,
+    ))
 
     pub leaf_sync : IsSync T'3 → IsSync (leaf.the_row T T' T'' T'3 g g' g'')
-    leaf_sync s = variants_sync (leaf.enum T T' T'' T'3 g g' g'') (
-      (false_schema.the_sync, tt),
-      (
-        (numbers_sync, tt),
-        (
-          (type_keyword.the_sync, tt),
-          (
-            (const_sync, tt),
-            (
-              (any_sync, tt),
-              (
-                (among_sync values.the_row not_nullable.the_row values'.ghosts not_nullable'.ghosts values_sync, tt),
-                (
-                  (single_sync, tt),
-                  (
-                    (
-                      among_sync few_strings''.the_row not_nullable.the_row few_strings'.ghosts not_nullable'.ghosts
-                          few_strings.the_sync,
-                      tt,
-                    ),
-                    (
-                      (
-                        among_sync few_strings''.the_row nullable.the_row few_strings'.ghosts nullable'.ghosts
-                            few_strings.the_sync,
-                        tt,
-                      ),
-                      (
-                        (
-                          among_sync strings''.the_row not_nullable.the_row strings'.ghosts not_nullable'.ghosts
-                              strings.the_sync,
-                          tt,
-                        ),
-                        (
-                          (
-                            among_sync strings''.the_row nullable.the_row strings'.ghosts nullable'.ghosts
-                                strings.the_sync,
-                            tt,
-                          ),
-                          (
-                            (
-                              among_sync integers''.the_row not_nullable.the_row integers'.ghosts not_nullable'.ghosts
-                                  integers.the_sync,
-                              tt,
-                            ),
-                            (
-                              (
-                                among_sync integers''.the_row nullable.the_row integers'.ghosts nullable'.ghosts
-                                    integers.the_sync,
-                                tt,
-                              ),
-                              ((unique.the_sync, tt), ((required_sync s, tt), ((required_few_sync s, tt), tt))),
-                            ),
-                          ),
-                        ),
-                      ),
-                    ),
-                  ),
-                ),
-              ),
-            ),
-          ),
-        ),
-      ),
-    )
+    leaf_sync s = variants_sync (leaf.enum T T' T'' T'3 g g' g'') (search (
+      false_schema.the_sync,
+      numbers_sync,
+      type_keyword.the_sync,
+      const_sync,
+      any_sync,
+      single_sync,
+      among_sync values.the_row not_nullable.the_row values'.ghosts not_nullable'.ghosts values_sync,
+      among_sync few_strings''.the_row not_nullable.the_row few_strings'.ghosts not_nullable'.ghosts few_strings.the_sync,
+      among_sync few_strings''.the_row nullable.the_row few_strings'.ghosts nullable'.ghosts few_strings.the_sync,
+      among_sync strings''.the_row not_nullable.the_row strings'.ghosts not_nullable'.ghosts strings.the_sync,
+      among_sync strings''.the_row nullable.the_row strings'.ghosts nullable'.ghosts strings.the_sync,
+      among_sync integers''.the_row not_nullable.the_row integers'.ghosts not_nullable'.ghosts integers.the_sync,
+      among_sync integers''.the_row nullable.the_row integers'.ghosts nullable'.ghosts integers.the_sync,
+      unique.the_sync,
+      required_sync s,
+      required_few_sync s,
+    ))
