@@ -23,8 +23,8 @@ use Rattle.jskw_leaf.specs.contracts.enum_.SingleValueEnumValidator as single
 use Rattle.jskw_leaf.specs.contracts.enum_.values.FingerprintedValue as printed
 use Rattle.jskw_leaf.specs.contracts.enum_.values.SortedValues as values
 use Rattle.jskw_leaf.specs.contracts.enum_.values.SortedValuesOptionTable.TheImpl as values'
-use Rattle.jskw_leaf.specs.contracts.enum_.strings.FewStrings as few_strings''
-use Rattle.jskw_leaf.specs.contracts.enum_.strings.FewStringsOptionTable.TheImpl as few_strings'
+use Rattle.jskw_leaf.specs.contracts.enum_.strings.FewStrings as few''
+use Rattle.jskw_leaf.specs.contracts.enum_.strings.FewStringsOptionTable.TheImpl as few'
 use Rattle.jskw_leaf.specs.contracts.enum_.strings.SortedStrings as strings''
 use Rattle.jskw_leaf.specs.contracts.enum_.strings.SortedStringsOptionTable.TheImpl as strings'
 use Rattle.jskw_leaf.specs.contracts.enum_.integers.SortedIntegers as integers''
@@ -36,7 +36,7 @@ use Rattle.jskw_leaf.specs.contracts.leaf.LeafValidator as leaf
 use Rattle.jskw_leaf.proofs.boolean.FalseValidator.TheSendSync as false_schema
 use Rattle.jskw_leaf.proofs.type_.TypeValidator.TheSendSync as type_keyword
 use Rattle.jskw_leaf.proofs.enum_.integers.SortedIntegers.TheSendSync as integers
-use Rattle.jskw_leaf.proofs.enum_.strings.FewStrings.TheSendSync as few_strings
+use Rattle.jskw_leaf.proofs.enum_.strings.FewStrings.TheSendSync as few
 use Rattle.jskw_leaf.proofs.enum_.strings.SortedStrings.TheSendSync as strings
 use Rattle.jskw_leaf.proofs.unique_items.UniqueItemsValidator.TheSendSync as unique
 use Rattle.jskw_leaf.specs.contracts.required.names.NameList as names'
@@ -130,8 +130,8 @@ module _
       any_send,
       single_send,
       among_send values.the_row not_nullable.the_row values'.ghosts not_nullable'.ghosts values_send,
-      among_send few_strings''.the_row not_nullable.the_row few_strings'.ghosts not_nullable'.ghosts few_strings.the_send,
-      among_send few_strings''.the_row nullable.the_row few_strings'.ghosts nullable'.ghosts few_strings.the_send,
+      among_send few''.the_row not_nullable.the_row few'.ghosts not_nullable'.ghosts few.the_send,
+      among_send few''.the_row nullable.the_row few'.ghosts nullable'.ghosts few.the_send,
       among_send strings''.the_row not_nullable.the_row strings'.ghosts not_nullable'.ghosts strings.the_send,
       among_send strings''.the_row nullable.the_row strings'.ghosts nullable'.ghosts strings.the_send,
       among_send integers''.the_row not_nullable.the_row integers'.ghosts not_nullable'.ghosts integers.the_send,
@@ -150,8 +150,8 @@ module _
       any_sync,
       single_sync,
       among_sync values.the_row not_nullable.the_row values'.ghosts not_nullable'.ghosts values_sync,
-      among_sync few_strings''.the_row not_nullable.the_row few_strings'.ghosts not_nullable'.ghosts few_strings.the_sync,
-      among_sync few_strings''.the_row nullable.the_row few_strings'.ghosts nullable'.ghosts few_strings.the_sync,
+      among_sync few''.the_row not_nullable.the_row few'.ghosts not_nullable'.ghosts few.the_sync,
+      among_sync few''.the_row nullable.the_row few'.ghosts nullable'.ghosts few.the_sync,
       among_sync strings''.the_row not_nullable.the_row strings'.ghosts not_nullable'.ghosts strings.the_sync,
       among_sync strings''.the_row nullable.the_row strings'.ghosts nullable'.ghosts strings.the_sync,
       among_sync integers''.the_row not_nullable.the_row integers'.ghosts not_nullable'.ghosts integers.the_sync,
