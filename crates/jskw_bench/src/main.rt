@@ -74,6 +74,13 @@ fn columns_of(line: &str) -> Columns<'_> {
     }
 }
 
+// A case: its schema, the columns of its line, and its instances.
+struct Case<'a> {
+    schema: &'a Value,
+    line: &'a Columns<'a>,
+    instances: &'a [Instance],
+}
+
 // Adds the timings of a case to a row. Returns a word that says why it has none, or an empty one.
 fn time_case(
     rt: &HostRuntime,
@@ -83,22 +90,27 @@ fn time_case(
     row: &mut Row,
 ) -> io::Result<&'static str> {
     match instances(rt.alloc(), line.instance)? {
-        Some(instances) => time_on(rt, state, schema, line, &instances, row),
+        Some(instances) => {
+            let case = Case {
+                schema,
+                line,
+                instances: &instances,
+            };
+            time_on(rt, state, &case, row)
+        }
         None => Ok("no instance"),
     }
 }
 
-// Adds the timings of a case on these instances.
+// Adds the timings of a case, if it compiles.
 fn time_on(
     rt: &HostRuntime,
     state: &State,
-    schema: &Value,
-    line: &Columns<'_>,
-    instances: &[Instance],
+    case: &Case<'_>,
     row: &mut Row,
 ) -> io::Result<&'static str> {
-    match compiled(rt.alloc(), &state.settings, schema) {
-        Some(node) => time_node(rt, state, schema, line, instances, &node, row),
+    match compiled(rt.alloc(), &state.settings, case.schema) {
+        Some(node) => time_node(rt, state, case, &node, row),
         None => Ok("not compiled"),
     }
 }
@@ -107,19 +119,17 @@ fn time_on(
 fn time_node(
     rt: &HostRuntime,
     state: &State,
-    schema: &Value,
-    line: &Columns<'_>,
-    instances: &[Instance],
+    case: &Case<'_>,
     node: &SchemaNode<SerdeJson>,
     row: &mut Row,
 ) -> io::Result<&'static str> {
-    row.add(time_compile(rt, state.span, &state.settings, schema)?)?;
-    row.add_answer(time_is_valid(rt, state.span, instances, node)?)?;
-    if line.last.is_empty() {
+    row.add(time_compile(rt, state.span, &state.settings, case.schema)?)?;
+    row.add_answer(time_is_valid(rt, state.span, case.instances, node)?)?;
+    if case.line.last.is_empty() {
         Ok("")
     } else {
-        time_others(rt, state.span, instances, node, row)?;
-        time_beside(rt, state, schema, line, instances, row)
+        time_others(rt, state.span, case.instances, node, row)?;
+        time_beside(rt, state, case, row)
     }
 }
 
@@ -127,15 +137,14 @@ fn time_node(
 fn time_beside(
     rt: &HostRuntime,
     state: &State,
-    schema: &Value,
-    line: &Columns<'_>,
-    instances: &[Instance],
+    case: &Case<'_>,
     row: &mut Row,
 ) -> io::Result<&'static str> {
-    match time_decimals(rt, state.span, &state.settings, schema, line.instance)? {
+    let line = case.line;
+    match time_decimals(rt, state.span, &state.settings, case.schema, line.instance)? {
         Some(timing) => {
             row.add_answer(timing)?;
-            let by_hand = time_by_hand(rt, state.span, instances, line.last)?;
+            let by_hand = time_by_hand(rt, state.span, case.instances, line.last)?;
             add_loop(by_hand, line.last, row)
         }
         None => Ok("no decimals"),
