@@ -74,8 +74,10 @@ fn columns_of(line: &str) -> Columns<'_> {
     }
 }
 
-// A case: its schema, the columns of its line, and its instances.
+// A case: the state of the run, its schema, the columns of its line, and its instances.
+#[derive(Drop)]
 struct Case<'a> {
+    state: &'a State,
     schema: &'a Value,
     line: &'a Columns<'a>,
     instances: &'a [Instance],
@@ -92,25 +94,21 @@ fn time_case(
     match instances(rt.alloc(), line.instance)? {
         Some(instances) => {
             let case = Case {
+                state,
                 schema,
                 line,
                 instances: &instances,
             };
-            time_on(rt, state, &case, row)
+            time_on(rt, &case, row)
         }
         None => Ok("no instance"),
     }
 }
 
 // Adds the timings of a case, if it compiles.
-fn time_on(
-    rt: &HostRuntime,
-    state: &State,
-    case: &Case<'_>,
-    row: &mut Row,
-) -> io::Result<&'static str> {
-    match compiled(rt.alloc(), &state.settings, case.schema) {
-        Some(node) => time_node(rt, state, case, &node, row),
+fn time_on(rt: &HostRuntime, case: &Case<'_>, row: &mut Row) -> io::Result<&'static str> {
+    match compiled(rt.alloc(), &case.state.settings, case.schema) {
+        Some(node) => time_node(rt, case, &node, row),
         None => Ok("not compiled"),
     }
 }
@@ -118,29 +116,24 @@ fn time_on(
 // Adds the timings of a case that compiles to this node.
 fn time_node(
     rt: &HostRuntime,
-    state: &State,
     case: &Case<'_>,
     node: &SchemaNode<SerdeJson>,
     row: &mut Row,
 ) -> io::Result<&'static str> {
-    row.add(time_compile(rt, state.span, &state.settings, case.schema)?)?;
-    row.add_answer(time_is_valid(rt, state.span, case.instances, node)?)?;
+    let span = case.state.span;
+    row.add(time_compile(rt, span, &case.state.settings, case.schema)?)?;
+    row.add_answer(time_is_valid(rt, span, case.instances, node)?)?;
     if case.line.last.is_empty() {
         Ok("")
     } else {
-        time_others(rt, state.span, case.instances, node, row)?;
-        time_beside(rt, state, case, row)
+        time_others(rt, span, case.instances, node, row)?;
+        time_beside(rt, case, row)
     }
 }
 
 // Adds what `is_valid` over decimals takes, and the loop by hand.
-fn time_beside(
-    rt: &HostRuntime,
-    state: &State,
-    case: &Case<'_>,
-    row: &mut Row,
-) -> io::Result<&'static str> {
-    let line = case.line;
+fn time_beside(rt: &HostRuntime, case: &Case<'_>, row: &mut Row) -> io::Result<&'static str> {
+    let (state, line) = (case.state, case.line);
     match time_decimals(rt, state.span, &state.settings, case.schema, line.instance)? {
         Some(timing) => {
             row.add_answer(timing)?;
