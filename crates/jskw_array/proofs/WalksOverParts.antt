@@ -65,7 +65,7 @@ module _ {F Node Number Key : Type 0} where
 
   first_units : (u : Part F Node Number Key) (us : List (Part F Node Number Key)) (t : Tree) (p : Pointer)
       → units (keywords_of (u ∷ us)) t p ≡ units (absorbed_by u) t p
-      ++ node_at ((own_keyword u).location) p (meaning_unit (part_meaning u) t p) ∷ units (keywords_of us) t p
+      ++ node_at (own_keyword u).location p (meaning_unit (part_meaning u) t p) ∷ units (keywords_of us) t p
   first_units (OfKeyword k) us t p = refl
   first_units (Shape v) us t p =
       let before = units (absorbed_keywords v.value.absorbed) t p in
@@ -143,11 +143,11 @@ module _ {F Node Number Key : Type 0} (us : List (Part F Node Number Key)) (i : 
   -- its nodes were gathered behind those before it
   pub unit_taken : (t : Tree) (p : Pointer) (done settled now all : List Evaluation)
       → settled ≡ done ++ units (absorbed_by u) t p
-      → now ≡ settled ++ node_at ((own_keyword u).location) p (meaning_unit (part_meaning u) t p) ∷ []
+      → now ≡ settled ++ node_at (own_keyword u).location p (meaning_unit (part_meaning u) t p) ∷ []
       → done ++ units (keywords_of (drop i us)) t p ≡ all → now ++ units (keywords_of rest) t p ≡ all
   unit_taken t p done settled now all before is whole =
       let before_it = units (absorbed_by u) t p in
-      let x = node_at ((own_keyword u).location) p (meaning_unit (part_meaning u) t p) in
+      let x = node_at (own_keyword u).location p (meaning_unit (part_meaning u) t p) in
       let behind = units (keywords_of rest) t p in
       ap (λ es. es ++ behind) is ∙ append_assoc settled (x ∷ []) behind ∙ ap (λ es. es ++ x ∷ behind) before
       ∙ append_assoc done before_it (x ∷ behind)

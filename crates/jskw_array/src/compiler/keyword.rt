@@ -1,11 +1,10 @@
 //! A keyword of an object: its validator, if it has no subschemas, and its part of the node.
-ghost use Rattle.std.specs.Prelude.{◌++◌, ◌∷◌, ◌≡◌};
-ghost use Rattle.jskw_array.specs.Words.{[], Asserts, CompilesKeyword, CompilesTo, IfOk, Keyword};
+ghost use Rattle.std.specs.Prelude.{◌≡◌};
+ghost use Rattle.jskw_array.specs.Words.{Asserts, CompilesKeyword, CompilesTo, IfOk, Keyword};
 ghost use Rattle.jskw_array.specs.Words.{Members, Ok, Refusal, Result, after, before, begin_fused};
 ghost use Rattle.jskw_array.specs.Words.{is_handed_on, is_leaf, keyword_location, keyword_reading};
 ghost use Rattle.jskw_array.specs.Words.{keywords_of, leaf_keyword, members_view, no_keywords};
 ghost use Rattle.jskw_array.specs.Words.{true, validator_keyword, view};
-ghost use Rattle.jskw_array.specs.declared.part.Part.TheVariants as part;
 
 use crate::part::{LocatedValidator, Part};
 use crate::validator::Validator;
