@@ -3,7 +3,6 @@ use denote.Builtin as builtin
 use denote.RattleType.{RattleType}
 use denote.Hole.{as_row}
 use denote.Struct.Field.{row_field}
-use denote.Param.{number}
 use denote.Param.Send.{IsSend, IsSync, plain_send, plain_sync, sendable}
 use denote.Param.SendFields.{as_row_send, as_row_sync, declared_send, declared_sync, variants_send, variants_sync}
 use Rattle.std.proofs.Crossing as std
@@ -13,10 +12,6 @@ use Rattle.serde_json.specs.contracts.value.Value as value
 use Rattle.serde_json.proofs.value.Value.TheLaws.TheKnot as value_knot
 use Rattle.jskw_report.proofs.paths.keyword_location.KeywordLocation.TheSendSync as location
 use Rattle.jskw_number.specs.contracts.minmax.Limit as limit
-use Rattle.jskw_number.specs.contracts.minmax.AtLeast as least
-use Rattle.jskw_number.specs.contracts.minmax.AtMost as most
-use Rattle.jskw_number.specs.contracts.minmax.Above as above
-use Rattle.jskw_number.specs.contracts.minmax.Below as below
 use Rattle.jskw_number.specs.contracts.number.NumberValidator as numbers
 use Rattle.jskw_number.proofs.sizes.SizeLimit.TheSendSync as size
 use Rattle.jskw_number.proofs.multiple_of.MultipleOfIntegerValidator.TheSendSync as multiple
