@@ -1,14 +1,19 @@
 -- What a walk over items has left at an item, and what it may pass over.
-use Rattle.std.proofs.Common.{◌≡◌, ℕ, suc, ◌+◌, ◌<◌, List, [], ◌∷◌, ◌++◌, length, get_or, drop, nat_eq, Bool, true}
-use Rattle.std.proofs.Common.{false, Result, Ok, Err, IsErrAnd, ◌&&◌, if◌then◌else◌, refl, ap, subst, sym, ◌∙◌, arith}
+use Rattle.std.proofs.Common.{◌≡◌, ℕ, zero, suc, ◌+◌, ◌<◌, ◌≤◌, ◌%◌, List, [], ◌∷◌, ◌++◌, length, get_or, drop, nat_eq}
+use Rattle.std.proofs.Common.{Bool, true, false, Result, Ok, Err, IsErrAnd, ◌&&◌, if◌then◌else◌, refl, ap, subst, sym}
+use Rattle.std.proofs.Common.{◌∙◌, arith, unsigned_abs}
+use Rattle.std.proofs.Math.Dec.{eqb-suc-zero}
+use Rattle.std.proofs.lemmas.Bool.{and_parts, true≢false}
 use Rattle.std.proofs.lemmas.List.{drop-drop}
 use Rattle.std.specs.List.{list_all}
 use Rattle.jskw_value.specs.Pointer.{Pointer, item_location}
-use Rattle.jskw_value.specs.Tree.{Tree}
+use Rattle.jskw_value.specs.Number.{exact, float}
+use Rattle.jskw_value.specs.Tree.{Tree, array, boolean, null, number, object, string}
 use Rattle.jskw_value.specs.declared.types.JsonType.{JsonType}
+use Rattle.jskw_value.specs.declared.types.JsonType.TheVariants.{Integer}
 use Rattle.jskw_report.specs.Fail.{Failure, each_item, fail, keyword_fail}
-use Rattle.jskw_report.specs.Holds.{assertion_holds}
-use Rattle.jskw_report.specs.Keyword.{Integers, type_is}
+use Rattle.jskw_report.specs.Holds.{assertion_holds, is_integer_by}
+use Rattle.jskw_report.specs.Keyword.{Integers, as_written, by_value, type_is}
 use Rattle.jskw_report.specs.Meaning.{as_keyword}
 use Rattle.jskw_report.specs.Observe.{Reports}
 use Rattle.jskw_report.specs.Paths.{path_of}
@@ -19,9 +24,52 @@ use Rattle.jskw_report.proofs.GatheredNodes.{drop_here}
 use Rattle.jskw_report.proofs.Pointers.{path_of_push}
 use Rattle.jskw_report.proofs.ReportedFailures.{Reported, reported_more, reported_nothing, reported_stopped}
 use Rattle.jskw_number.specs.QuickSet.{leading}
+use Rattle.jskw_number.proofs.QuickSets.{leading_next}
 use Rattle.jskw_leaf.specs.Items.{bare_schema}
 use Rattle.jskw_leaf.specs.Meaning.{type_at}
 use Rattle.jskw_leaf.proofs.BareTypeChecks.{bare_fail, type_fails_not}
+
+-- what is written as an integer is one by each rule
+pub written_is_integer : (k : JsonType) → k ≡ Integer → (rule : Integers) (t : Tree)
+    → is_integer_by as_written t ≡ true → assertion_holds (type_is (Single k) rule) t ≡ true
+written_is_integer k is rule t h = ap (λ j. assertion_holds (type_is (Single j) rule) t) is ∙ go rule t h
+  where
+    go : (rule : Integers) (t : Tree) → is_integer_by as_written t ≡ true
+        → assertion_holds (type_is (Single Integer) rule) t ≡ true
+    go by_value (number (exact c zero)) h = let none : unsigned_abs c % 1 ≡ 0 = omega arith in rw none refl
+    go as_written (number (exact c zero)) h = refl
+    go rule (number (exact c (suc n))) h = absurd (true≢false (sym h ∙ eqb-suc-zero n))
+    go rule (number float) h = absurd (true≢false (sym h))
+    go rule null h = absurd (true≢false (sym h))
+    go rule (boolean b) h = absurd (true≢false (sym h))
+    go rule (string x) h = absurd (true≢false (sym h))
+    go rule (array ts) h = absurd (true≢false (sym h))
+    go rule (object ms) h = absurd (true≢false (sym h))
+
+-- one of the items from the index j on, and four from i on
+module _ (k : JsonType) (is : k ≡ Integer) (rule : Integers) (ts : List Tree) where
+  abbrev check : Tree → Bool
+  check = assertion_holds (type_is (Single k) rule)
+
+  one_more : (j n : ℕ) (t : Tree) → n ≡ j + 1 → j < length ts → t ≡ get_or ts j t
+      → is_integer_by as_written t ≡ true → n + leading check (drop n ts) ≡ j + leading check (drop j ts)
+  one_more j n t next within at h =
+      subst (λ m. m + leading check (drop m ts) ≡ j + leading check (drop j ts)) (sym next)
+      (leading_next check ts j t within (ap check (sym at) ∙ written_is_integer k is rule t h))
+
+  pub four_more : (i : ℕ) (a b c d : Tree) → i + 4 ≤ length ts → a ≡ get_or ts i a → b ≡ get_or ts (i + 1) b
+      → c ≡ get_or ts (i + 2) c → d ≡ get_or ts (i + 3) d
+      → {all : Bool} → all ≡ (is_integer_by as_written a && is_integer_by as_written b && is_integer_by as_written c
+      && is_integer_by as_written d) → all ≡ true → leading check (drop i ts) ≡ 4 + leading check (drop (i + 4) ts)
+  four_more i a b c d within at_a at_b at_c at_d whole h =
+      let three = and_parts _ _ (sym whole ∙ h) in
+      let two = and_parts _ _ three.0 in
+      let one = and_parts _ _ two.0 in
+      let first = one_more i (i + 1) a (omega arith) (omega arith) at_a one.0 in
+      let second = one_more (i + 1) (i + 2) b (omega arith) (omega arith) at_b one.1 in
+      let third = one_more (i + 2) (i + 3) c (omega arith) (omega arith) at_c two.1 in
+      let fourth = one_more (i + 3) (i + 4) d (omega arith) (omega arith) at_d three.1 in
+      omega (arith, first, second, third, fourth)
 
 -- where an item stands that was entered
 pub entered : {new now old : List ℕ} (i : ℕ) → new ≡ now ++ i ∷ [] → now ≡ old

@@ -1,12 +1,12 @@
 //! `items` of a schema that has only `type` (JSON Schema Core 10.3.1.2, Validation 6.1.1): each
 //! item is tested in place, and no subschema is applied.
 ghost use Rattle.std.specs.Prelude.{◌≡◌, ◌≤◌, ◌+◌, if◌then◌else◌};
-ghost use Rattle.std.specs.Prelude.{IfOk, IsTrue, Some, drop, length, nat_lt};
+ghost use Rattle.std.specs.Prelude.{◌&&◌, IfOk, IsTrue, Some, drop, length, nat_lt, true};
 ghost use Rattle.jskw_value.specs.Tree.{is_array, is_lawful, items};
 ghost use Rattle.jskw_report.specs.Evaluation.{flag, of_children, tree, valid_unit};
 ghost use Rattle.jskw_report.specs.EvaluationView.{result_of};
-ghost use Rattle.jskw_report.specs.Holds.{assertion_holds};
-ghost use Rattle.jskw_report.specs.Keyword.{type_is};
+ghost use Rattle.jskw_report.specs.Holds.{assertion_holds, is_integer_by};
+ghost use Rattle.jskw_report.specs.Keyword.{as_written, type_is};
 ghost use Rattle.jskw_report.specs.Meaning.{as_keyword, one_keyword};
 ghost use Rattle.jskw_report.specs.declared.error.TypeKind.TheVariants.{Single};
 ghost use Rattle.jskw_number.specs.QuickSet.{leading};
@@ -24,7 +24,7 @@ use jskw_report::{
     Annotations, Assertion, EvaluationNode, EvaluationResult, KeywordLocation, LazyLocation,
     Location, Report, Stop, TypeKind, Validate, ValidationContext,
 };
-use jskw_value::{Array, Json, JsonType, Node};
+use jskw_value::{Array, Json, JsonNumber, JsonType, Node};
 use std::alloc::{AllocError, Global};
 use std::marker::PhantomData;
 
@@ -195,20 +195,8 @@ fn first_other<T: ItemType, F: Json>(from: usize, count: usize, instance: &F::No
     ensures within { result ≤ count }
 {
     let mut index = from;
-    // Four items a turn, with a return at each: a turn of one item is as long as its test.
-    while count - index >= 4 {
-        if !T::matches::<F>(instance.item(index)) {
-            return index;
-        }
-        if !T::matches::<F>(instance.item(index + 1)) {
-            return index + 1;
-        }
-        if !T::matches::<F>(instance.item(index + 2)) {
-            return index + 2;
-        }
-        if !T::matches::<F>(instance.item(index + 3)) {
-            return index + 3;
-        }
+    // Four items a turn: a turn of one item is as long as its test.
+    while count - index >= 4 && match_four::<T, F>(index, instance) {
         index += 4;
     }
     for rest in index..count {
@@ -217,6 +205,52 @@ fn first_other<T: ItemType, F: Json>(from: usize, count: usize, instance: &F::No
         }
     }
     count
+}
+
+// Returns true only if the four items from `index` on are of the type. Of numbers with a fraction it
+// is not asked whether they are integers, so that four integers take one jump together.
+#[inline(always)]
+fn match_four<T: ItemType, F: Json>(index: usize, instance: &F::Node) -> bool
+    requires lawful { IsTrue (is_lawful (F.Node.tree instance.now)) }
+    requires four { index + 4 ≤ length (items (F.Node.tree instance.now)) }
+    requires word { index + 4 ≤ usize.MAX }
+    ensures { let ts = items (F.Node.tree instance.now) in
+        let matches = assertion_holds (type_is (Single T.json_type) T.rule) in
+        result ≡ true → leading matches (drop index ts) ≡ 4 + leading matches (drop (index + 4) ts) }
+{
+    let (first, second) = (instance.item(index), instance.item(index + 1));
+    let (third, fourth) = (instance.item(index + 2), instance.item(index + 3));
+    if matches!(T::json_type(), JsonType::Integer) {
+        return are_integers(first, second, third, fourth);
+    }
+    T::matches::<F>(first)
+        && T::matches::<F>(second)
+        && T::matches::<F>(third)
+        && T::matches::<F>(fourth)
+}
+
+// Returns whether the four instances are numbers that are written without a fraction.
+#[inline(always)]
+fn are_integers<N: Node>(first: &N, second: &N, third: &N, fourth: &N) -> bool
+    requires { IsTrue (is_lawful (N.tree first.now) && is_lawful (N.tree second.now)
+        && is_lawful (N.tree third.now) && is_lawful (N.tree fourth.now)) }
+    ensures { let is = is_integer_by as_written in result
+        ≡ (is (N.tree first.now) && is (N.tree second.now) && is (N.tree third.now) && is (N.tree fourth.now)) }
+{
+    match (
+        first.as_number(),
+        second.as_number(),
+        third.as_number(),
+        fourth.as_number(),
+    ) {
+        (Some(first), Some(second), Some(third), Some(fourth)) => {
+            first.is_written_as_integer()
+                & second.is_written_as_integer()
+                & third.is_written_as_integer()
+                & fourth.is_written_as_integer()
+        }
+        _ => false,
+    }
 }
 
 /// Returns the evaluation of `items` of one schema (JSON Schema Core 10.3.1.2) for the items from
