@@ -4,7 +4,7 @@ ghost use Rattle.std.specs.Io.KnownBytes.{Appends};
 ghost use Rattle.jskw_service.specs.Run.{status_of_verdict};
 ghost use Rattle.jskw_service.specs.declared.service.Verdict.{Verdict};
 ghost use Rattle.jskw_documents.specs.Files.{AnswersFiles, HasBytes};
-ghost use Rattle.jskw_check.specs.CommandView.{command_view, given_view};
+ghost use Rattle.jskw_check.specs.CommandView.{given_view};
 ghost use Rattle.jskw_check.specs.Commands.{check, command};
 ghost use Rattle.jskw_check.specs.Program.{Runs, Tells, asks_for_lines, is_length_trouble, is_output_trouble};
 
