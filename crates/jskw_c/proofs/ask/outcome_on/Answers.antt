@@ -16,12 +16,15 @@ returns-in_ok-error_lines-in-Errors c =
     let status : c.status_of_errors.result ≡ verdict_status (is_empty (fail s t [])) =
     rw (c.as_slice.ensures.value, c.in_ok-errors-in-Errors.ensures, limited_empty limit (fail s t [])) at
     c.status_of_errors.ensures in
-    let lines : AreErrorLines (limited (limit_numbered limit) (fail s t [])) c.in_ok-error_lines-in-Errors.field-0.items =
-    rw (c.as_slice-in-Errors.ensures.value, c.in_ok-errors-in-Errors.ensures) at c.in_ok-error_lines-in-Errors.ensures in
+    let text = c.in_ok-error_lines-in-Errors.field-0.items in
+    let lines : AreErrorLines (limited (limit_numbered limit) (fail s t [])) text =
+    rw (c.as_slice-in-Errors.ensures.value, c.in_ok-errors-in-Errors.ensures) at
+    c.in_ok-error_lines-in-Errors.ensures in
     rw c.in-Errors.is (reports_errors limit s t _ status lines)
 
 pub returns-in_ok-tree_text-in-Evaluation : goal.returns-in_ok-tree_text-in-Evaluation
 returns-in_ok-tree_text-in-Evaluation c =
+    let tree = c.in_ok-tree-in-Evaluation in
     rw c.in-Evaluation.is
-    (reports_tree c.args.schema.now (decimal_tree c.args.instance.now) _ c.in_ok-tree-in-Evaluation.tree c.in_ok-tree-in-Evaluation.ensures.gives
+    (reports_tree c.args.schema.now (decimal_tree c.args.instance.now) _ tree.tree tree.ensures.gives
     (c.verdict.ensures ∙ ap verdict_status c.valid.ensures) c.in_ok-tree_text-in-Evaluation.ensures)
