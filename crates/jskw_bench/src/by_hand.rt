@@ -3,9 +3,9 @@
 //! have no floats, so that each number is an integer.
 use serde_json::{Map, Value};
 
-// Returns false unless a value is an array whose items all pass a test.
+// Returns whether a value is an array whose items all pass a test.
 macro_rules! each_item {
-    ($value:expr, $test:expr) => {
+    ($value:expr, $test:expr) => {{
         let Value::Array(items) = $value else {
             return false;
         };
@@ -14,25 +14,23 @@ macro_rules! each_item {
                 return false;
             }
         }
-    };
+        true
+    }};
 }
 
 /// Returns whether the value is an array of integers.
 pub(crate) fn integers(value: &Value) -> bool {
-    each_item!(value, Value::is_number);
-    true
+    each_item!(value, Value::is_number)
 }
 
 /// Returns whether the value is an array of strings.
 pub(crate) fn strings(value: &Value) -> bool {
-    each_item!(value, Value::is_string);
-    true
+    each_item!(value, Value::is_string)
 }
 
 /// Returns whether the value is an array of integers of at least 0.
 pub(crate) fn naturals(value: &Value) -> bool {
-    each_item!(value, natural);
-    true
+    each_item!(value, natural)
 }
 
 /// Returns whether the value is an integer of at least 0.
@@ -45,8 +43,7 @@ pub(crate) fn natural(value: &Value) -> bool {
 
 /// Returns whether the value is an array of multiples of 5 from 0 to 100,000.
 pub(crate) fn multiples(value: &Value) -> bool {
-    each_item!(value, is_multiple);
-    true
+    each_item!(value, is_multiple)
 }
 
 // Returns whether the value is a multiple of 5 from 0 to 100,000.
@@ -61,14 +58,12 @@ fn is_multiple(value: &Value) -> bool {
 
 /// Returns whether the value is an array of arrays of integers.
 pub(crate) fn rows(value: &Value) -> bool {
-    each_item!(value, integers);
-    true
+    each_item!(value, integers)
 }
 
 /// Returns whether the value is an array of arrays of arrays of integers.
 pub(crate) fn layers(value: &Value) -> bool {
-    each_item!(value, rows);
-    true
+    each_item!(value, rows)
 }
 
 // Returns whether the value is an array of 1 to 10,000 items.
@@ -90,8 +85,7 @@ pub(crate) fn limited_rows(value: &Value) -> bool {
     if !is_limited(value) {
         return false;
     }
-    each_item!(value, limited_naturals);
-    true
+    each_item!(value, limited_naturals)
 }
 
 // Returns whether the value is an array of 1 to 10,000 integers of at least 0.
@@ -101,8 +95,7 @@ fn limited_naturals(value: &Value) -> bool {
 
 /// Returns whether the value is an array of tuples.
 pub(crate) fn tuples(value: &Value) -> bool {
-    each_item!(value, is_tuple);
-    true
+    each_item!(value, is_tuple)
 }
 
 // Returns whether the value is an array of an integer, a string and a boolean, or a beginning of
@@ -124,8 +117,7 @@ fn is_tuple(value: &Value) -> bool {
 
 /// Returns whether the value is an array of arrays of a string and two limited numbers.
 pub(crate) fn limited_tuples(value: &Value) -> bool {
-    each_item!(value, is_limited_tuple);
-    true
+    each_item!(value, is_limited_tuple)
 }
 
 // Returns whether the value is an array of a string, an integer from 1 to 1,000 and one of at least
@@ -152,8 +144,7 @@ fn is_quantity(value: &Value) -> bool {
 
 /// Returns whether the value is an array of objects with the members `id`, `name` and `email`.
 pub(crate) fn objects(value: &Value) -> bool {
-    each_item!(value, has_names);
-    true
+    each_item!(value, has_names)
 }
 
 // Returns whether the value is an object with the members `id`, `name` and `email`.
@@ -204,8 +195,7 @@ fn occurs(value: &Value, others: &[Value]) -> bool {
 /// Returns whether the value is an array of orders: arrays of a number, a status, 1 to 10,000 lines
 /// and different tags.
 pub(crate) fn orders(value: &Value) -> bool {
-    each_item!(value, is_order);
-    true
+    each_item!(value, is_order)
 }
 
 // Returns whether the value is an order.

@@ -132,45 +132,20 @@ pub(crate) fn time_asking(
     text: &str,
     schema: &str,
 ) -> io::Result<Option<Timing>> {
-    match Value::from_str(rt.alloc(), schema) {
-        Ok(schema) => match call {
-            Call::Ask => time_ask(rt, span, text, compiled(rt.alloc(), settings, &schema)),
-            Call::AskDecimals => {
-                time_ask_decimals(rt, span, text, compiled(rt.alloc(), settings, &schema))
-            }
-            _ => Ok(None),
+    let alloc = rt.alloc();
+    let Ok(schema) = Value::from_str(alloc, schema) else {
+        return Ok(None);
+    };
+    match call {
+        Call::Ask => match &compiled(alloc, settings, &schema) {
+            Some(node) => time(rt, span, || accepts_text(alloc, node, text)),
+            None => Ok(None),
         },
-        Err(_) => Ok(None),
-    }
-}
-
-// Times `ask` of a schema, if that was compiled.
-fn time_ask(
-    rt: &HostRuntime,
-    span: u128,
-    text: &str,
-    node: Option<SchemaNode<SerdeJson>>,
-) -> io::Result<Option<Timing>> {
-    match &node {
-        Some(node) => time(rt, span, || accepts_text(rt.alloc(), node, text)),
-        None => Ok(None),
-    }
-}
-
-// Times `ask_decimals` of a schema, if that was compiled.
-fn time_ask_decimals(
-    rt: &HostRuntime,
-    span: u128,
-    text: &str,
-    node: Option<SchemaNode<DecimalJson>>,
-) -> io::Result<Option<Timing>> {
-    match &node {
-        Some(node) => time(
-            rt,
-            span,
-            || accepts_bytes(rt.alloc(), node, text.as_bytes()),
-        ),
-        None => Ok(None),
+        Call::AskDecimals => match &compiled(alloc, settings, &schema) {
+            Some(node) => time(rt, span, || accepts_bytes(alloc, node, text.as_bytes())),
+            None => Ok(None),
+        },
+        _ => Ok(None),
     }
 }
 

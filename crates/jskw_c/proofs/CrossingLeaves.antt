@@ -41,7 +41,6 @@ use Rattle.jskw_leaf.proofs.enum_.strings.SortedStrings.TheSendSync as strings
 use Rattle.jskw_leaf.proofs.unique_items.UniqueItemsValidator.TheSendSync as unique
 use Rattle.jskw_leaf.specs.contracts.required.names.NameList as names'
 use Rattle.jskw_leaf.specs.contracts.required.names.FewNames as few_names'
-use Rattle.jskw_leaf.specs.contracts.required.RequiredNames as required'
 use Rattle.jskw_leaf.proofs.required.RequiredNames.TheSendSync as required
 use Rattle.jskw_leaf.proofs.required.names.FewNames.TheSendSync as few_names
 use Rattle.jskw_leaf.proofs.required.names.NameList.TheSendSync as names
@@ -109,18 +108,6 @@ module _
     abbrev FewNames : RattleType
     FewNames = few_names'.the_row T T' T'' T'3 g g' g''
 
-    required_send : IsSend T'3 → IsSend (required'.the_row T Names T' T'' T'3)
-    required_send s = required.the_send T Names T' T'' T'3 (names.the_send T T' T'' T'3 g g' g'' s)
-
-    required_sync : IsSync T'3 → IsSync (required'.the_row T Names T' T'' T'3)
-    required_sync s = required.the_sync T Names T' T'' T'3 (names.the_sync T T' T'' T'3 g g' g'' s)
-
-    required_few_send : IsSend T'3 → IsSend (required'.the_row T FewNames T' T'' T'3)
-    required_few_send s = required.the_send T FewNames T' T'' T'3 (few_names.the_send T T' T'' T'3 g g' g'' s)
-
-    required_few_sync : IsSync T'3 → IsSync (required'.the_row T FewNames T' T'' T'3)
-    required_few_sync s = required.the_sync T FewNames T' T'' T'3 (few_names.the_sync T T' T'' T'3 g g' g'' s)
-
     pub leaf_send : IsSend T'3 → IsSend (leaf.the_row T T' T'' T'3 g g' g'')
     leaf_send s = variants_send (leaf.enum T T' T'' T'3 g g' g'') (search (
       false_schema.the_send,
@@ -137,8 +124,8 @@ module _
       among_send integers''.the_row not_nullable.the_row integers'.ghosts not_nullable'.ghosts integers.the_send,
       among_send integers''.the_row nullable.the_row integers'.ghosts nullable'.ghosts integers.the_send,
       unique.the_send,
-      required_send s,
-      required_few_send s,
+      required.the_send T Names T' T'' T'3 (names.the_send T T' T'' T'3 g g' g'' s),
+      required.the_send T FewNames T' T'' T'3 (few_names.the_send T T' T'' T'3 g g' g'' s),
     ))
 
     pub leaf_sync : IsSync T'3 → IsSync (leaf.the_row T T' T'' T'3 g g' g'')
@@ -157,6 +144,6 @@ module _
       among_sync integers''.the_row not_nullable.the_row integers'.ghosts not_nullable'.ghosts integers.the_sync,
       among_sync integers''.the_row nullable.the_row integers'.ghosts nullable'.ghosts integers.the_sync,
       unique.the_sync,
-      required_sync s,
-      required_few_sync s,
+      required.the_sync T Names T' T'' T'3 (names.the_sync T T' T'' T'3 g g' g'' s),
+      required.the_sync T FewNames T' T'' T'3 (few_names.the_sync T T' T'' T'3 g g' g'' s),
     ))

@@ -3,7 +3,6 @@ mod CrossingSchemas
 mod CrossingValues
 mod Handles
 mod Limits
-mod Lines
 mod Texts
 mod OutcomesOfInstances
 mod OutcomesOfRefusals

@@ -1,5 +1,5 @@
 -- Lines of words, with a tab between two words and a line feed at the end.
-use Rattle.std.specs.Prelude.{◌≡◌, ℕ, List, [], ◌∷◌, ◌++◌, codes, decimal, eqb, flat_map, map}
+use Rattle.std.specs.Prelude.{◌≡◌, ℕ, List, [], ◌∷◌, codes, decimal, eqb, flat_map, map}
 use Rattle.std.specs.Prelude.{if◌then◌else◌}
 use Rattle.jskw_text.specs.Position.{line_at, column_at}
 use Rattle.jskw_text.specs.ReadFault.{IsBrokenAt}
@@ -7,6 +7,7 @@ use Rattle.jskw_report.specs.Fail.{Failure}
 use Rattle.jskw_report.specs.KeywordValue.{Refusal}
 use Rattle.jskw_report.specs.Kind.{keyword_of}
 use Rattle.jskw_service.specs.Answer.{line}
+use Rattle.jskw_service.specs.Parts.{HasEach}
 use Rattle.jskw_c.specs.Expected.{IsExpected}
 
 -- a byte of a word: a tab, a line feed or a backslash is two bytes, so that a line has as many words as were written
@@ -42,9 +43,7 @@ IsErrorLine f text = (message : List ℕ) × (expected : List ℕ) × IsExpected
 
 -- the text has the line of each error, in order
 abbrev pub AreErrorLines : List Failure → List ℕ → Type 0
-AreErrorLines [] text = text ≡ []
-AreErrorLines (f ∷ fs) text =
-    (first : List ℕ) × (rest : List ℕ) × (text ≡ first ++ rest) × IsErrorLine f first × AreErrorLines fs rest
+AreErrorLines = HasEach IsErrorLine
 
 -- the text is the line of a refusal: its keyword, keyword location, some message, and what was expected
 abbrev pub IsRefusalLine : Refusal → List ℕ → Type 0

@@ -8,8 +8,7 @@ ghost use Rattle.jskw_text.specs.Reading.{reading};
 ghost use Rattle.jskw_report.specs.Errors.{failures_of};
 ghost use Rattle.jskw_report.specs.Fail.{fail, is_empty};
 ghost use Rattle.jskw_report.specs.Observe.{limited};
-ghost use Rattle.jskw_c.specs.Asked.{Says, SaysErrors, SaysFirst, SaysTree, limit_numbered};
-ghost use Rattle.jskw_c.specs.Asked.{asked_status, verdict_status};
+ghost use Rattle.jskw_c.specs.Asked.{Says, SaysFirst, asked_status, limit_numbered, verdict_status};
 ghost use Rattle.jskw_c.specs.Compiled.{IsPositionOf, compiled_of, setting_numbered};
 ghost use Rattle.jskw_c.specs.Line.{IsPositionLine};
 ghost use Rattle.jskw_c.specs.Replies.{CompilesBytes, IsOutcome, IsOutcomeOnTree, IsOutcomeOnBytes};
@@ -17,7 +16,7 @@ ghost use Rattle.jskw_c.specs.Status as status;
 
 use crate::compiled::CompiledSchema;
 use crate::evaluation::tree_text;
-use crate::line::{error_line, error_lines, position_line, refusal_line, word_line};
+use crate::line::{error_lines, position_line, refusal_line, word_line};
 use crate::settings::settings_numbered;
 use crate::status::{BAD_SCHEMA, BAD_SETTING, INEXACT, INVALID, NOT_JSON, VALID};
 use jskw_array::SchemaNode;
@@ -27,6 +26,7 @@ use jskw_service::read_value;
 use jskw_text::{ReadFault, read_bytes};
 use jskw_value::{DecimalJson, DecimalTree};
 use std::alloc::{AllocError, Global};
+use std::slice;
 
 /// The status and the text of a call.
 #[derive(Drop)]
@@ -172,26 +172,21 @@ fn outcome_on(
 {
     match detail {
         Detail::FirstError => first_error_of(alloc, schema, instance),
-        Detail::Errors(limit) => errors_of(alloc, limit, schema, instance),
-        Detail::Evaluation => evaluation_of(alloc, schema, instance),
+        Detail::Errors(limit) => {
+            let errors = collect(alloc, limit, schema, instance)?;
+            Ok(Outcome {
+                status: status_of_errors(errors.as_slice()),
+                text: error_lines(alloc, errors.as_slice())?,
+            })
+        }
+        Detail::Evaluation => {
+            let tree = schema.evaluate_instance(alloc, instance, &mut ValidationContext::new())?;
+            Ok(Outcome {
+                status: verdict(tree.valid()),
+                text: tree_text(alloc, &tree)?,
+            })
+        }
     }
-}
-
-// Returns a line for each of the first `limit` errors of the instance, or for each error if `limit`
-// is 0.
-fn errors_of(
-    alloc: Global,
-    limit: u64,
-    schema: &SchemaNode<DecimalJson>,
-    instance: &DecimalTree,
-) -> Result<Outcome, AllocError>
-    ensures { IfOk result (IsOutcomeOnTree (SaysErrors limit) schema.now (decimal_tree instance.now)) }
-{
-    let errors = collect(alloc, limit, schema, instance)?;
-    Ok(Outcome {
-        status: status_of_errors(errors.as_slice()),
-        text: error_lines(alloc, errors.as_slice())?,
-    })
 }
 
 // Collects the first `limit` errors of the instance, or all if `limit` is 0.
@@ -229,23 +224,8 @@ fn first_error_of(
         Ok(()) => Ok(status_alone(alloc, VALID)),
         Err(Fault::Invalid(error)) => Ok(Outcome {
             status: INVALID,
-            text: error_line(alloc, &error)?,
+            text: error_lines(alloc, slice::from_ref(&error))?,
         }),
         Err(Fault::Memory(error)) => Err(error),
     }
-}
-
-// Returns the evaluation tree of the instance.
-fn evaluation_of(
-    alloc: Global,
-    schema: &SchemaNode<DecimalJson>,
-    instance: &DecimalTree,
-) -> Result<Outcome, AllocError>
-    ensures { IfOk result (IsOutcomeOnTree SaysTree schema.now (decimal_tree instance.now)) }
-{
-    let tree = schema.evaluate_instance(alloc, instance, &mut ValidationContext::new())?;
-    Ok(Outcome {
-        status: verdict(tree.valid()),
-        text: tree_text(alloc, &tree)?,
-    })
 }

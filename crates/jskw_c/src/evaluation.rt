@@ -7,8 +7,9 @@ ghost use Rattle.jskw_c.specs.Evaluated.{annotation_text};
 ghost use Rattle.jskw_c.specs.Evaluated.{evaluation_text, evaluations_text, numbers_text};
 ghost use Rattle.jskw_c.specs.Evaluated.{errors_text, place_text, strings_text, unit_text, verdict_text};
 
-use crate::json_parts::{push_boolean, push_comma, push_number, push_string, push_text};
+use crate::json_parts::{push_boolean, push_comma, push_number, push_string};
 use jskw_report::{Annotations, ErrorDescription, EvaluationNode};
+use jskw_service::push_bytes;
 use std::alloc::{AllocError, Global};
 
 // Returns the tree as a JSON object.
@@ -26,9 +27,9 @@ fn push_node(alloc: Global, text: &mut Vec<u8>, node: &EvaluationNode) -> Result
     ensures { OnOk result (text.new.items ≡ text.old.items ++ evaluation_text node.now) }
 {
     push_part(alloc, text, node)?;
-    push_text(text, b",\"details\":[")?;
+    push_bytes(text, b",\"details\":[")?;
     push_nodes(alloc, text, node.children())?;
-    push_text(text, b"]}")
+    push_bytes(text, b"]}")
 }
 
 // Appends the items of an array of nodes.
@@ -64,9 +65,9 @@ fn push_verdict(alloc: Global, text: &mut Vec<u8>, node: &EvaluationNode) -> Res
     ensures { OnOk result (text.new.items ≡ text.old.items
         ++ verdict_text (is_valid node.now) (keyword_location_at node.now)) }
 {
-    push_text(text, b"{\"valid\":")?;
+    push_bytes(text, b"{\"valid\":")?;
     push_boolean(text, node.valid())?;
-    push_text(text, b",\"keywordLocation\":")?;
+    push_bytes(text, b",\"keywordLocation\":")?;
     push_string(alloc, text, node.schema_location().as_str())
 }
 
@@ -76,9 +77,9 @@ fn push_place(alloc: Global, text: &mut Vec<u8>, node: &EvaluationNode) -> Resul
     ensures { OnOk result (text.new.items ≡ text.old.items
         ++ place_text (instance_location_at node.now) (annotation_at node.now)) }
 {
-    push_text(text, b",\"instanceLocation\":")?;
+    push_bytes(text, b",\"instanceLocation\":")?;
     push_string(alloc, text, node.instance_location().as_str())?;
-    push_text(text, b",\"annotation\":")?;
+    push_bytes(text, b",\"annotation\":")?;
     push_annotation(alloc, text, node)
 }
 
@@ -87,9 +88,9 @@ fn push_place(alloc: Global, text: &mut Vec<u8>, node: &EvaluationNode) -> Resul
 fn push_errors(alloc: Global, text: &mut Vec<u8>, node: &EvaluationNode) -> Result<(), AllocError>
     ensures { OnOk result (text.new.items ≡ text.old.items ++ errors_text (keywords_at node.now)) }
 {
-    push_text(text, b",\"errors\":[")?;
+    push_bytes(text, b",\"errors\":[")?;
     push_keywords(alloc, text, node.errors())?;
-    push_text(text, b"]")
+    push_bytes(text, b"]")
 }
 
 // Appends the annotation of a node, or `null`.
@@ -102,13 +103,13 @@ fn push_annotation(
         (text.new.items ≡ text.old.items ++ annotation_text (annotation_at node.now)) }
 {
     match node.annotations() {
-        None => push_text(text, b"null"),
+        None => push_bytes(text, b"null"),
         Some(Annotations::Bool(flag)) => push_boolean(text, *flag),
         Some(Annotations::Index(index)) => push_number(alloc, text, *index),
         Some(Annotations::Indices(indices)) => {
-            push_text(text, b"[")?;
+            push_bytes(text, b"[")?;
             push_numbers(alloc, text, indices.as_slice())?;
-            push_text(text, b"]")
+            push_bytes(text, b"]")
         }
     }
 }

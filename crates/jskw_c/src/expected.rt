@@ -7,8 +7,9 @@ ghost use Rattle.json.specs.Print.{quoted};
 ghost use Rattle.jskw_c.specs.Evaluated.{strings_text};
 ghost use Rattle.jskw_c.specs.Expected.{IsOptionsText, IsExpected, all_types, names_text, types_text};
 
-use crate::json_parts::{push_comma, push_string, push_text};
+use crate::json_parts::{push_comma, push_string};
 use jskw_report::{EnumOptions, TypeKind, ValidationErrorKind};
+use jskw_service::push_bytes;
 use jskw_value::types::{JsonType, JsonTypeSet};
 use std::alloc::{AllocError, Global};
 
@@ -103,9 +104,9 @@ fn names_text(alloc: Global, types: JsonTypeSet) -> Result<Vec<u8>, AllocError>
     ensures { IfOk result (λ text. text.items ≡ names_text (filter (contains types) all_types)) }
 {
     let mut text = Vec::new(alloc);
-    push_text(&mut text, b"[")?;
+    push_bytes(&mut text, b"[")?;
     push_names(alloc, &mut text, types)?;
-    push_text(&mut text, b"]")?;
+    push_bytes(&mut text, b"]")?;
     Ok(text)
 }
 

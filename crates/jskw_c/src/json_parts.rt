@@ -3,6 +3,7 @@ ghost use Rattle.std.specs.Prelude.{◌≡◌, ◌++◌, OnOk, decimal};
 ghost use Rattle.json.specs.Print.{quoted};
 ghost use Rattle.jskw_c.specs.Evaluated.{boolean_text, comma_if};
 
+use jskw_service::push_bytes;
 use serde_json::Value;
 use std::alloc::{AllocError, Global};
 
@@ -11,7 +12,7 @@ pub(crate) fn push_comma(text: &mut Vec<u8>, later: bool) -> Result<(), AllocErr
     ensures { OnOk result (text.new.items ≡ text.old.items ++ comma_if later) }
 {
     if later {
-        push_text(text, b",")?;
+        push_bytes(text, b",")?;
     }
     Ok(())
 }
@@ -20,9 +21,9 @@ pub(crate) fn push_boolean(text: &mut Vec<u8>, value: bool) -> Result<(), AllocE
     ensures { OnOk result (text.new.items ≡ text.old.items ++ boolean_text value) }
 {
     if value {
-        push_text(text, b"true")
+        push_bytes(text, b"true")
     } else {
-        push_text(text, b"false")
+        push_bytes(text, b"false")
     }
 }
 
@@ -44,10 +45,4 @@ pub(crate) fn push_string(alloc: Global, text: &mut Vec<u8>, value: &str) -> Res
     let value = Value::String(String::from_str(alloc, value)?);
     let quoted = value.to_string(alloc)?;
     text.extend_from_slice(quoted.as_bytes())
-}
-
-pub(crate) fn push_text(text: &mut Vec<u8>, part: &[u8]) -> Result<(), AllocError>
-    ensures { OnOk result (text.new.items ≡ text.old.items ++ part.now) }
-{
-    text.extend_from_slice(part)
 }

@@ -15,7 +15,7 @@
 //! leaves the handle and the buffer unchanged.
 #![tactic(auto)]
 
-ghost use Rattle.std.specs.Prelude.{◌≡◌, IfOk, None, codes};
+ghost use Rattle.std.specs.Prelude.{◌≡◌, None, codes};
 ghost use Rattle.jskw_service.specs.Answer.{output, verdict};
 ghost use Rattle.jskw_service.specs.Run.{status_of_verdict};
 ghost use Rattle.jskw_c.specs.Asked.{IsDetail, Says, SaysErrors, SaysFirst, SaysTree, asked_status};
@@ -168,23 +168,15 @@ pub extern "C" fn jskw_is_valid(alloc: Global, handle: &mut SchemaHandle, instan
     ensures kept { handle.new.schema ≡ handle.old.schema }
     ensures status { IsStatus (asked_status handle.old.schema instance.now) result }
 {
-    match status_of(alloc, handle, instance) {
-        Ok(status) => status,
-        Err(AllocError) => NO_MEMORY,
-    }
-}
-
-// Returns what `jskw_is_valid` answers. Fails only if memory runs out.
-fn status_of(alloc: Global, handle: &mut SchemaHandle, instance: &[u8]) -> Result<u32, AllocError>
-    ensures kept { handle.new.schema ≡ handle.old.schema }
-    ensures status { IfOk result (λ status. status ≡ asked_status handle.old.schema instance.now) }
-{
     let Some(schema) = handle.take(alloc) else {
-        return Ok(NO_SCHEMA);
+        return NO_SCHEMA;
     };
     let status = validity(alloc, schema.node(), instance);
     handle.put(alloc, schema);
-    status
+    match status {
+        Ok(status) => status,
+        Err(AllocError) => NO_MEMORY,
+    }
 }
 
 // Writes the outcome on the instance.

@@ -121,16 +121,3 @@ pub(crate) fn error_lines(
     }
     Ok(text)
 }
-
-// Returns the line of one error.
-pub(crate) fn error_line(
-    alloc: Global,
-    error: &ValidationError<'_, DecimalJson>,
-) -> Result<Vec<u8>, AllocError>
-    ensures { IfOk result
-        (λ text. AreErrorLines (failure_of decimal_tree error.now ∷ []) text.items) }
-{
-    let mut text = Vec::new(alloc);
-    push_error(alloc, &mut text, error)?;
-    Ok(text)
-}

@@ -2,10 +2,10 @@
 use Rattle.std.proofs.Common.{◌≡◌, ℕ, ◌<◌, ◌≤◌, List, [], ◌∷◌, ◌++◌, ◌∙◌, ap, map, refl, sym, arith, drop, length}
 use Rattle.std.proofs.Common.{true, false}
 use Rattle.std.proofs.Common.{Option, Some, None, subst, get_or, Result, Ok, Err, IfOk}
-use Rattle.std.proofs.lemmas.List.{append-nil, drop_all}
+use Rattle.std.proofs.lemmas.List.{drop_all}
 use Rattle.std.specs.Prelude.{MatchOption, String, option_map, string_bytes}
 use Rattle.std.specs.declared.alloc.Global.{Global}
-use Rattle.jskw_check.specs.Arguments.{Argument, alone, arguments, is_separator, next_value, valued, wrong}
+use Rattle.jskw_check.specs.Arguments.{Argument, alone, arguments, is_separator, next_value, valued}
 use Rattle.jskw_check.specs.CommandView.{TakesWords, command_view, unfinished_view}
 use Rattle.jskw_check.specs.Commands.{Said, command_behind, command_said, ended, said_behind}
 use Rattle.jskw_check.specs.Commands as asked
@@ -21,18 +21,6 @@ Words = List (String Global)
 
 abbrev texts : Words → List (List ℕ)
 texts words = map string_bytes words
-
--- an argument that is wrong is a command by itself, and nothing is said
-pub taken_wrong : (s : Said) (x : Argument) (w why : List ℕ) → x ≡ wrong w → why ≡ w
-    → (Some (asked.wrong why) ≡ ended (x ∷ [])) × (s ≡ said_behind s (x ∷ []))
-taken_wrong s x w why is text =
-    let same : s ≡ said_behind s (wrong w ∷ []) =
-    ap (λ z. record s { how = record s.how { overridden = z } }) (sym (append-nil s.how.overridden))
-    ∙ ap (λ z. record s { how = record s.how { overridden = s.how.overridden ++ [] }; files = z })
-    (sym (append-nil s.files)) in (
-      ap (λ z. Some (asked.wrong z)) text ∙ sym (ap (λ z. ended (z ∷ [])) is),
-      same ∙ sym (ap (λ z. said_behind s (z ∷ [])) is),
-    )
 
 -- an argument of so many words
 pub taken_one : (words : Words) (x : Argument) (count : ℕ) (old new : Unfinished) (taken : Option Command) (step : Step)

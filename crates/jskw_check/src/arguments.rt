@@ -3,10 +3,10 @@ ghost use Rattle.std.specs.Prelude.{◌≡◌, ◌<◌, ◌++◌, [], ◌∷◌,
 ghost use Rattle.std.specs.Prelude.{map, option_map, string_bytes};
 ghost use Rattle.jskw_report.specs.Setting.{no_vocabulary};
 ghost use Rattle.jskw_service.specs.Request.{draft_named};
-ghost use Rattle.jskw_check.specs.Arguments.{alone, draft, is_value, limit_in, max_errors, name_in};
+ghost use Rattle.jskw_check.specs.Arguments.{Argument, alone, draft, is_value, limit_in, max_errors, name_in};
 ghost use Rattle.jskw_check.specs.Arguments.{names_of, next_value, no_draft, no_limit, no_output, option_in, output};
 ghost use Rattle.jskw_check.specs.Arguments.{output_named, some_or, takes_next, takes_value, value_in, valued};
-ghost use Rattle.jskw_check.specs.Arguments.{vocabularies_or, with_names};
+ghost use Rattle.jskw_check.specs.Arguments.{vocabularies_or, with_names, wrong};
 ghost use Rattle.jskw_check.specs.CommandView.{TakesWords, TakesArgument, command_view, unfinished_view};
 ghost use Rattle.jskw_check.specs.Commands.{command, command_said, or_input};
 
@@ -24,6 +24,9 @@ pub(crate) enum Step {
     // Nothing behind them counts.
     End(Command),
 }
+
+// The command that an argument is by itself, if it is one: nothing behind it counts.
+type Ending = Result<Option<Command>, AllocError>;
 
 // Returns what the arguments ask for.
 pub(crate) fn command_of(alloc: Global, words: &[String]) -> Result<Command, AllocError>
@@ -174,11 +177,7 @@ fn takes_value(name: &str) -> bool
 }
 
 // Takes the argument that a word is by itself.
-fn take_alone(
-    alloc: Global,
-    said: &mut Unfinished,
-    word: &str,
-) -> Result<Option<Command>, AllocError>
+fn take_alone(alloc: Global, said: &mut Unfinished, word: &str) -> Ending
     ensures { TakesArgument (alone word.now) said.old said.new result }
 {
     if is_value(word) {
@@ -198,34 +197,28 @@ fn take_alone(
 }
 
 // Takes the option NAME=VALUE.
-fn take_option(
-    alloc: Global,
-    said: &mut Unfinished,
-    word: &str,
-) -> Result<Option<Command>, AllocError>
+fn take_option(alloc: Global, said: &mut Unfinished, word: &str) -> Ending
     ensures { TakesArgument (option_in word.now) said.old said.new result }
 {
     let (name, value) = split_option(word);
     if !takes_value(name) {
-        let why = format!(in alloc; "unrecognized arguments: {word}")?;
-        return Ok(Some(Command::Wrong(why)));
+        return wrong(format!(in alloc; "unrecognized arguments: {word}")?);
     }
     match value {
         Some(value) => set(alloc, said, name, value),
-        None => {
-            let why = format!(in alloc; "argument {word}: expected one argument")?;
-            Ok(Some(Command::Wrong(why)))
-        }
+        None => wrong(format!(in alloc; "argument {word}: expected one argument")?),
     }
 }
 
+// Takes an argument that is wrong, for this reason.
+fn wrong(why: String) -> Ending
+    ensures { (x : Argument) (said : Unfinished) → x ≡ wrong (string_bytes why) → TakesArgument x said said result }
+{
+    Ok(Some(Command::Wrong(why)))
+}
+
 // Sets the value of an option.
-fn set(
-    alloc: Global,
-    said: &mut Unfinished,
-    name: &str,
-    value: &str,
-) -> Result<Option<Command>, AllocError>
+fn set(alloc: Global, said: &mut Unfinished, name: &str, value: &str) -> Ending
     ensures { TakesArgument (valued name.now value.now) said.old said.new result }
 {
     match name {
@@ -245,34 +238,21 @@ fn set(
     }
 }
 
-fn set_draft(
-    alloc: Global,
-    said: &mut Unfinished,
-    value: &str,
-) -> Result<Option<Command>, AllocError>
+fn set_draft(alloc: Global, said: &mut Unfinished, value: &str) -> Ending
     ensures { TakesArgument (some_or draft (no_draft value.now) (draft_named value.now)) said.old said.new
         result }
 {
-    match draft_named(value) {
-        Some(draft) => {
-            said.schema_options.draft = Some(draft);
-            Ok(None)
-        }
-        None => {
-            let why = format!(in alloc;
-                "argument --draft: invalid choice: '{value}' (choose from '4', '6', '7', '2019-09', '2020-12')"
-            )?;
-            Ok(Some(Command::Wrong(why)))
-        }
-    }
+    let Some(draft) = draft_named(value) else {
+        return wrong(format!(in alloc;
+            "argument --draft: invalid choice: '{value}' (choose from '4', '6', '7', '2019-09', '2020-12')"
+        )?);
+    };
+    said.schema_options.draft = Some(draft);
+    Ok(None)
 }
 
 // Sets the vocabularies that a list names, with a comma between two.
-fn set_vocabularies(
-    alloc: Global,
-    said: &mut Unfinished,
-    value: &str,
-) -> Result<Option<Command>, AllocError>
+fn set_vocabularies(alloc: Global, said: &mut Unfinished, value: &str) -> Ending
     ensures { TakesArgument (vocabularies_or (with_names no_vocabulary (names_of value.now))) said.old said.new
         result }
 {
@@ -281,12 +261,9 @@ fn set_vocabularies(
             said.schema_options.vocabularies = vocabularies;
             Ok(None)
         }
-        Err(name) => {
-            let why = format!(in alloc;
-                "argument --vocabularies: '{name}' is not one of 'core', 'applicator', 'validation'"
-            )?;
-            Ok(Some(Command::Wrong(why)))
-        }
+        Err(name) => wrong(format!(in alloc;
+            "argument --vocabularies: '{name}' is not one of 'core', 'applicator', 'validation'"
+        )?),
     }
 }
 
@@ -314,26 +291,17 @@ fn vocabularies_in(list: &str) -> Result<VocabularySet, &str>
     }
 }
 
-fn set_output(
-    alloc: Global,
-    said: &mut Unfinished,
-    value: &str,
-) -> Result<Option<Command>, AllocError>
+fn set_output(alloc: Global, said: &mut Unfinished, value: &str) -> Ending
     ensures { TakesArgument (some_or output (no_output value.now) (output_named value.now)) said.old said.new
         result }
 {
-    match output_named(value) {
-        Some(output) => {
-            said.options.output = output;
-            Ok(None)
-        }
-        None => {
-            let why = format!(in alloc;
-                "argument --output: invalid choice: '{value}' (choose from 'text', 'basic', 'quiet')"
-            )?;
-            Ok(Some(Command::Wrong(why)))
-        }
-    }
+    let Some(output) = output_named(value) else {
+        return wrong(format!(in alloc;
+            "argument --output: invalid choice: '{value}' (choose from 'text', 'basic', 'quiet')"
+        )?);
+    };
+    said.options.output = output;
+    Ok(None)
 }
 
 // Returns the output of this name, or `None` if there is none.
@@ -348,26 +316,17 @@ fn output_named(name: &str) -> Option<Output>
     }
 }
 
-fn set_limit(
-    alloc: Global,
-    said: &mut Unfinished,
-    value: &str,
-) -> Result<Option<Command>, AllocError>
+fn set_limit(alloc: Global, said: &mut Unfinished, value: &str) -> Ending
     ensures { TakesArgument (some_or max_errors (no_limit value.now) (limit_in value.now)) said.old said.new
         result }
 {
-    match limit_in(value) {
-        Some(limit) => {
-            said.options.limit = limit;
-            Ok(None)
-        }
-        None => {
-            let why = format!(in alloc;
-                "argument --max-errors: '{value}' is no number from 1 to 2^64-1"
-            )?;
-            Ok(Some(Command::Wrong(why)))
-        }
-    }
+    let Some(limit) = limit_in(value) else {
+        return wrong(format!(in alloc;
+            "argument --max-errors: '{value}' is no number from 1 to 2^64-1"
+        )?);
+    };
+    said.options.limit = limit;
+    Ok(None)
 }
 
 // Returns the number that a text of digits is, or `None` if it is 0 or above 2^64-1.

@@ -4,10 +4,9 @@ ghost use Rattle.std.specs.Io.KnownBytes.{Appends};
 ghost use Rattle.jskw_service.specs.Run.{status_of_verdict};
 ghost use Rattle.jskw_service.specs.declared.service.Verdict.{Verdict};
 ghost use Rattle.jskw_documents.specs.Files.{AnswersFiles, HasBytes};
-ghost use Rattle.jskw_check.specs.CommandView.{command_view, given_view};
+ghost use Rattle.jskw_check.specs.CommandView.{given_view};
 ghost use Rattle.jskw_check.specs.Commands.{check, command};
 ghost use Rattle.jskw_check.specs.Program.{Runs, Tells, asks_for_lines, is_length_trouble, is_output_trouble};
-ghost use Rattle.jskw_check.specs.Program.{schema_unread, usage_error};
 
 use crate::arguments::command_of;
 use crate::given::{Command, Given};
@@ -44,31 +43,13 @@ pub(crate) fn run<F: Folder, O: Sink, E: Sink, S: Show>(
     ensures failed { O.has_failed out.new ≡ is_output_trouble result }
     ensures short { asks_for_lines (command (map string_bytes words.now)) ≡ false → is_length_trouble result ≡ false }
 {
-    let command = command_of(alloc, words)?;
-    obey(alloc, command, folder, out, errors, show)
-}
-
-// Does what a command asks for.
-fn obey<F: Folder, O: Sink, E: Sink, S: Show>(
-    alloc: Global,
-    command: Command,
-    folder: &F,
-    out: &mut O,
-    errors: &mut E,
-    show: &mut S,
-) -> Result<u8, Trouble>
-    requires out_works { O.has_failed out.old ≡ false }
-    requires errors_work { E.has_failed errors.old ≡ false }
-    ensures runs { IfOk result (λ status. Runs (F.bytes_of folder.now) (command_view command) status
-        (O.contents out.old) (O.contents out.new) (E.has_failed errors.new)
-        (E.contents errors.old) (E.contents errors.new)) }
-    ensures failed { O.has_failed out.new ≡ is_output_trouble result }
-    ensures short { asks_for_lines (command_view command) ≡ false → is_length_trouble result ≡ false }
-{
-    match command {
+    match command_of(alloc, words)? {
         Command::Help => print(out, HELP),
         Command::Version => print(out, VERSION),
-        Command::Wrong(why) => refuse_arguments(alloc, why.as_str(), errors),
+        Command::Wrong(why) => {
+            let text = format!(in alloc; "{USAGE}jskw check: error: {why}\n")?;
+            Ok(tell(errors, text.as_bytes()))
+        }
         Command::Check(given) => check(alloc, given, folder, out, errors, show),
     }
 }
@@ -97,35 +78,6 @@ fn tell<E: Sink>(errors: &mut E, text: &[u8]) -> u8
     NOT_CHECKED
 }
 
-// Writes that the arguments are wrong, and why.
-fn refuse_arguments<E: Sink>(alloc: Global, why: &str, errors: &mut E) -> Result<u8, Trouble>
-    requires { E.has_failed errors.old ≡ false }
-    ensures tells { IfOk result (λ status. (status ≡ 2) × Tells (E.has_failed errors.new)
-        (E.contents errors.old) (E.contents errors.new) (usage_error why.now)) }
-    ensures no_output { is_output_trouble result ≡ false }
-    ensures short { is_length_trouble result ≡ false }
-{
-    let text = format!(in alloc; "{USAGE}jskw check: error: {why}\n")?;
-    Ok(tell(errors, text.as_bytes()))
-}
-
-// Writes why the file of the schema cannot be read.
-fn refuse_schema<E: Sink>(
-    alloc: Global,
-    name: &str,
-    why: &str,
-    errors: &mut E,
-) -> Result<u8, Trouble>
-    requires { E.has_failed errors.old ≡ false }
-    ensures tells { IfOk result (λ status. (status ≡ 2) × Tells (E.has_failed errors.new)
-        (E.contents errors.old) (E.contents errors.new) (schema_unread name.now why.now)) }
-    ensures no_output { is_output_trouble result ≡ false }
-    ensures short { is_length_trouble result ≡ false }
-{
-    let text = format!(in alloc; "{name}: {why}\n")?;
-    Ok(tell(errors, text.as_bytes()))
-}
-
 // Checks the files, if there is a schema.
 fn check<F: Folder, O: Sink, E: Sink, S: Show>(
     alloc: Global,
@@ -143,40 +95,22 @@ fn check<F: Folder, O: Sink, E: Sink, S: Show>(
     ensures failed { O.has_failed out.new ≡ is_output_trouble result }
     ensures short { given.lines ≡ false → is_length_trouble result ≡ false }
 {
-    match read_schema(alloc, folder, given.schema.as_str())? {
-        Ok(text) => check_by(alloc, given, &text, folder, out, errors, show),
-        Err(why) => refuse_schema(alloc, given.schema.as_str(), why, errors),
-    }
-}
-
-// Checks the files by the schema of this text, if it is one.
-fn check_by<F: Folder, O: Sink, E: Sink, S: Show>(
-    alloc: Global,
-    given: Given,
-    text: &[u8],
-    folder: &F,
-    out: &mut O,
-    errors: &mut E,
-    show: &mut S,
-) -> Result<u8, Trouble>
-    requires out_works { O.has_failed out.old ≡ false }
-    requires errors_work { E.has_failed errors.old ≡ false }
-    requires text { HasBytes (F.bytes_of folder.now (string_bytes given.schema)) text.now }
-    ensures runs { IfOk result (λ status. Runs (F.bytes_of folder.now) (check (given_view given)) status
-        (O.contents out.old) (O.contents out.new) (E.has_failed errors.new)
-        (E.contents errors.old) (E.contents errors.new)) }
-    ensures failed { O.has_failed out.new ≡ is_output_trouble result }
-    ensures short { given.lines ≡ false → is_length_trouble result ≡ false }
-{
     let Given {
-        schema,
+        schema: name,
         schema_options,
         options,
         lines,
         progress,
         files,
     } = given;
-    match schema_of(alloc, schema.as_str(), text, schema_options)? {
+    let text = match read_schema(alloc, folder, name.as_str())? {
+        Ok(text) => text,
+        Err(why) => {
+            let text = format!(in alloc; "{name}: {why}\n")?;
+            return Ok(tell(errors, text.as_bytes()));
+        }
+    };
+    match schema_of(alloc, name.as_str(), &text, schema_options)? {
         Ok(schema) => {
             ask_if(show, progress);
             let checker = Checker { schema, options };

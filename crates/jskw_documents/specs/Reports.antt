@@ -1,7 +1,8 @@
 -- What is written of a document that was read, by its errors.
 use Rattle.std.specs.Prelude.{◌≡◌, ℕ, List, [], ◌∷◌, ◌++◌, Bool, codes, eqb, take, if◌then◌else◌, Option, None}
 use Rattle.jskw_report.specs.Fail.{Failure}
-use Rattle.jskw_documents.specs.Shown.{HasEach, IsErrorObject, IsErrorShown, IsLaterObject, objects_text}
+use Rattle.jskw_service.specs.Parts.{HasEach}
+use Rattle.jskw_documents.specs.Shown.{IsErrorObject, IsErrorShown, IsLaterObject, objects_text}
 use Rattle.jskw_documents.specs.Shown.{place_members, place_words}
 use Rattle.jskw_documents.specs.declared.options.Output.{Output}
 use Rattle.jskw_documents.specs.declared.options.Output.TheVariants.{Text, Basic, Quiet}

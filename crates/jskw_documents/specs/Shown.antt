@@ -91,9 +91,3 @@ IsErrorObject f text = (message : List ℕ) × (text ≡ error_object message f)
 -- an object behind another
 abbrev pub IsLaterObject : Failure → List ℕ → Type 0
 IsLaterObject f text = (object : List ℕ) × IsErrorObject f object × (text ≡ codes "," ++ object)
-
--- the text has one part for each error, in order
-abbrev pub HasEach : (Failure → List ℕ → Type 0) → List Failure → List ℕ → Type 0
-HasEach Is [] text = text ≡ []
-HasEach Is (f ∷ fs) text =
-    (first : List ℕ) × (rest : List ℕ) × (text ≡ first ++ rest) × Is f first × HasEach Is fs rest

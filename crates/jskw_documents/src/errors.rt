@@ -1,9 +1,10 @@
 //! The errors of a document, as lines or as JSON.
-ghost use Rattle.std.specs.Prelude.{◌≡◌, ◌++◌, [], ◌∷◌, ℕ, List, OnOk, IfOk, None};
+ghost use Rattle.std.specs.Prelude.{◌≡◌, ◌++◌, ◌∷◌, ℕ, List, OnOk, IfOk, None};
 ghost use Rattle.jskw_value.specs.DecimalTree.{decimal_tree};
 ghost use Rattle.jskw_report.specs.Errors.{failure_of, failures_of};
+ghost use Rattle.jskw_service.specs.Parts.{HasEach};
 ghost use Rattle.jskw_documents.specs.Reports.{IsBasicReport, IsLineReport, IsReportAs};
-ghost use Rattle.jskw_documents.specs.Shown.{HasEach, IsErrorObject, IsErrorShown, IsLaterObject};
+ghost use Rattle.jskw_documents.specs.Shown.{IsErrorObject, IsErrorShown, IsLaterObject};
 ghost use Rattle.jskw_documents.specs.Shown.{error_object, error_words, objects_text, place_members};
 ghost use Rattle.jskw_documents.specs.Shown.{place_words};
 
@@ -45,22 +46,15 @@ fn line_report(
         (failures_of decimal_tree errors.now) text.items) }
 {
     match errors {
-        [] => valid_line(alloc, verbose, place),
+        [] if verbose => {
+            let mut text = Vec::new(alloc);
+            push_place(alloc, &mut text, place)?;
+            push_bytes(&mut text, b": valid\n")?;
+            Ok(text)
+        }
+        [] => Ok(Vec::new(alloc)),
         [_, ..] => error_lines(alloc, place, errors),
     }
-}
-
-// Returns the line of a valid document, or nothing.
-fn valid_line(alloc: Global, verbose: bool, place: &Place<'_>) -> Result<Vec<u8>, AllocError>
-    ensures { IfOk result (λ text. IsLineReport verbose
-        (place_words place.now.file.now place.now.line place.now.column) [] text.items) }
-{
-    let mut text = Vec::new(alloc);
-    if verbose {
-        push_place(alloc, &mut text, place)?;
-        push_bytes(&mut text, b": valid\n")?;
-    }
-    Ok(text)
 }
 
 // Appends the line of an error that has this message.
@@ -125,20 +119,14 @@ fn basic_report(
         (failures_of decimal_tree errors.now) text.items) }
 {
     match errors.split_first() {
-        None => basic_valid(alloc, place),
+        None => {
+            let mut text = Vec::new(alloc);
+            push_place_members(alloc, &mut text, place)?;
+            push_bytes(&mut text, b",\"valid\":true}\n")?;
+            Ok(text)
+        }
         Some((first, others)) => basic_invalid(alloc, place, first, others),
     }
-}
-
-// Returns the basic output of a document without errors.
-fn basic_valid(alloc: Global, place: &Place<'_>) -> Result<Vec<u8>, AllocError>
-    ensures { IfOk result (λ text. IsBasicReport
-        (place_members place.now.file.now place.now.line place.now.column) [] text.items) }
-{
-    let mut text = Vec::new(alloc);
-    push_place_members(alloc, &mut text, place)?;
-    push_bytes(&mut text, b",\"valid\":true}\n")?;
-    Ok(text)
 }
 
 // Returns the basic output of a document that has an error, and these others behind it.

@@ -63,42 +63,19 @@ pub fn refusal(
 {
     let mut text = Vec::new(alloc);
     match output {
-        Output::Basic => push_refusal_object(alloc, &mut text, place, location, why)?,
-        Output::Text | Output::Quiet => push_refusal_line(alloc, &mut text, place, location, why)?,
+        Output::Basic => {
+            push_place_members(alloc, &mut text, place)?;
+            push_quoted_if_some(alloc, &mut text, b",\"instanceLocation\":", location)?;
+            push_quoted_after(alloc, &mut text, b",\"refused\":", why)?;
+            push_bytes(&mut text, b"}\n")?;
+            Ok(text)
+        }
+        Output::Text | Output::Quiet => {
+            push_place(alloc, &mut text, place)?;
+            push_shown_if_some(&mut text, b": ", location)?;
+            push_shown_after(&mut text, b": ", why)?;
+            push_bytes(&mut text, b"\n")?;
+            Ok(text)
+        }
     }
-    Ok(text)
-}
-
-// Appends a refusal as a line of JSON.
-fn push_refusal_object(
-    alloc: Global,
-    text: &mut Vec<u8>,
-    place: &Place<'_>,
-    location: Option<&str>,
-    why: &str,
-) -> Result<(), AllocError>
-    ensures { OnOk result (text.new.items ≡ text.old.items ++ refusal_text Output.Basic
-        place.now.file.now place.now.line place.now.column (option_map (λ l. l.now) location.entry) why.now) }
-{
-    push_place_members(alloc, text, place)?;
-    push_quoted_if_some(alloc, text, b",\"instanceLocation\":", location)?;
-    push_quoted_after(alloc, text, b",\"refused\":", why)?;
-    push_bytes(text, b"}\n")
-}
-
-// Appends a refusal as a line of words.
-fn push_refusal_line(
-    alloc: Global,
-    text: &mut Vec<u8>,
-    place: &Place<'_>,
-    location: Option<&str>,
-    why: &str,
-) -> Result<(), AllocError>
-    ensures { OnOk result (text.new.items ≡ text.old.items ++ refusal_text Output.Text
-        place.now.file.now place.now.line place.now.column (option_map (λ l. l.now) location.entry) why.now) }
-{
-    push_place(alloc, text, place)?;
-    push_shown_if_some(text, b": ", location)?;
-    push_shown_after(text, b": ", why)?;
-    push_bytes(text, b"\n")
 }

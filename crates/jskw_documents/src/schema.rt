@@ -1,9 +1,6 @@
 //! The schema that documents are checked against.
-ghost use Rattle.std.specs.Prelude.{◌≡◌, false, IfOk, None, Ok, Option, option_map};
+ghost use Rattle.std.specs.Prelude.{◌≡◌, false, IfOk, Ok, option_map};
 ghost use Rattle.serde_json.specs.View.{view};
-ghost use Rattle.jskw_report.specs.Compile.{CompilesTo};
-ghost use Rattle.jskw_report.specs.Keyword.{Schema};
-ghost use Rattle.jskw_report.specs.Read.{Reading};
 ghost use Rattle.jskw_report.specs.Setting.{with_object_layer};
 ghost use Rattle.jskw_documents.specs.Schemas.{IsSchemaGiven, covered_schema, draft_chosen};
 ghost use Rattle.jskw_documents.specs.Schemas.{draft_of_meta_schema, draft_of_schema, draft_of_value, how_read};
@@ -15,9 +12,7 @@ use crate::words::push_shown_after;
 use jskw_array::SchemaNode;
 use jskw_array::compiler::compile;
 use jskw_report::context::member_of;
-use jskw_report::{
-    CompilationResult, CompileFault, Context, Draft, Settings, ValidationError, VocabularySet,
-};
+use jskw_report::{CompileFault, Context, Draft, Settings, ValidationError, VocabularySet};
 use jskw_service::{push_bytes, read_value};
 use jskw_text::{ReadFault, position_of, read_bytes};
 use jskw_unchecked::{UncheckedMember, unchecked};
@@ -49,11 +44,11 @@ pub fn schema_of(
     ensures { IfOk result (λ made. IsSchemaGiven made (schema_given (how_read options) text.now)) }
 {
     let Some(value) = read_value(alloc, text)? else {
-        return no_schema(not_json(alloc, file, text));
+        return Ok(Err(not_json(alloc, file, text)?));
     };
     let Some(draft) = draft_chosen(options.draft, &value) else {
         let why = "$schema names no known draft; --draft names one";
-        return no_schema(refuse_schema(alloc, file, why));
+        return Ok(Err(refuse_schema(alloc, file, why)?));
     };
     let settings = Settings::new(draft, options.vocabularies, options.overridden);
     schema_under(alloc, file, options.allow_unchecked, &settings, &value)
@@ -73,23 +68,8 @@ fn schema_under(
     let ctx: Context<'_, DecimalJson> = Context::new(alloc, settings);
     let ctx = ctx.with_object_layer(false);
     let members = unchecked(alloc, &ctx, value)?;
-    let made = compile(alloc, &ctx, value);
-    schema_of_made(alloc, file, allow_unchecked, members.as_slice(), made)
-}
-
-// Returns what was compiled, if that is a schema that documents may be checked against.
-fn schema_of_made(
-    alloc: Global,
-    file: &str,
-    allow_unchecked: bool,
-    members: &[UncheckedMember],
-    made: CompilationResult<'_, SchemaNode<DecimalJson>>,
-) -> Result<Result<SchemaNode<DecimalJson>, Vec<u8>>, AllocError>
-    ensures { (read : Reading) → CompilesTo (λ s. s) made.entry read
-        → IfOk result (λ made. IsSchemaGiven made (covered_schema allow_unchecked members.now read)) }
-{
-    match made {
-        Ok(schema) => covered_schema(alloc, file, allow_unchecked, schema, members),
+    match compile(alloc, &ctx, value) {
+        Ok(schema) => covered_schema(alloc, file, allow_unchecked, schema, members.as_slice()),
         Err(CompileFault::Bad(error)) => Ok(Err(bad_schema(alloc, file, &error)?)),
         Err(CompileFault::Memory(error)) => Err(error),
     }
@@ -109,19 +89,7 @@ fn covered_schema(
     match members {
         [] => Ok(Ok(schema)),
         [_, ..] if allow_unchecked => Ok(Ok(schema)),
-        [_, ..] => no_schema(unchecked_lines(alloc, file, members)),
-    }
-}
-
-// Returns the lines that say why there is no schema.
-fn no_schema(
-    lines: Result<Vec<u8>, AllocError>,
-) -> Result<Result<SchemaNode<DecimalJson>, Vec<u8>>, AllocError>
-    ensures { (given : Option Schema) → given ≡ None → IfOk result (λ made. IsSchemaGiven made given) }
-{
-    match lines {
-        Ok(lines) => Ok(Err(lines)),
-        Err(error) => Err(error),
+        [_, ..] => Ok(Err(unchecked_lines(alloc, file, members)?)),
     }
 }
 

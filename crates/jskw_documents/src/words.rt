@@ -111,20 +111,6 @@ pub(crate) fn push_quoted_if_some(
     }
 }
 
-// Appends bytes as they are, and then a number.
-fn push_number_after(
-    alloc: Global,
-    text: &mut Vec<u8>,
-    before: &[u8],
-    number: usize,
-) -> Result<(), AllocError>
-    ensures { OnOk result (text.new.items ≡ text.old.items ++ number_after before.now number) }
-{
-    let digits = format!(in alloc; "{number}")?;
-    push_bytes(text, before)?;
-    push_bytes(text, digits.as_bytes())
-}
-
 // Appends bytes as they are, and then a number, if there is one.
 pub(crate) fn push_number_if_some(
     alloc: Global,
@@ -137,6 +123,10 @@ pub(crate) fn push_number_if_some(
 {
     match number {
         None => Ok(()),
-        Some(number) => push_number_after(alloc, text, before, number),
+        Some(number) => {
+            let digits = format!(in alloc; "{number}")?;
+            push_bytes(text, before)?;
+            push_bytes(text, digits.as_bytes())
+        }
     }
 }

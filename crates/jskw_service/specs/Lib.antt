@@ -3,3 +3,4 @@ pub mod RequestView
 pub mod Answer
 pub mod Reply
 pub mod Run
+pub mod Parts

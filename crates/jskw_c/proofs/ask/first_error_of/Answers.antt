@@ -23,4 +23,5 @@ returns-in-Err-Invalid c =
     subst (λ fault. IsFirst decimal_tree (fail s t (path_of c.new-location.result)) (Err fault))
     c.in-Err-Invalid.field-0-is c.in-Err-Invalid.ensures.first in
     let all : fail s t [] ≡ f ∷ first.0 = search (rules, first.1) in
-    reports_first s t _ f first.0 all refl c.in_ok-error_line-in-Err-Invalid.ensures
+    reports_first s t _ f first.0 all refl
+    (rw c.from_ref.ensures.value at c.in_ok-error_lines-in-Err-Invalid.ensures)

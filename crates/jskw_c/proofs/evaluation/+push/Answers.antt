@@ -3,7 +3,8 @@ use Rattle.std.specs.Prelude.{codes}
 use Rattle.jskw_report.specs.Evaluation.{annotation_at, evaluations, instance_location_at, is_valid}
 use Rattle.jskw_report.specs.Evaluation.{keyword_location_at, keywords_at}
 use Rattle.jskw_c.specs.Evaluated.{evaluations_text, unit_text}
-use Rattle.jskw_c.proofs.Texts.{four_parts, text_of_node, weight_in, weight_of_node}
+use Rattle.jskw_service.proofs.Parts.{four_parts}
+use Rattle.jskw_c.proofs.Texts.{text_of_node, weight_in, weight_of_node}
 use Rattle.jskw_c.proofs.evaluation.+push.Goals as goal
 
 pub push_node-push_nodes-requires : goal.push_node-push_nodes-requires
@@ -15,8 +16,8 @@ push_node-returns t c =
     let unit =
     unit_text (is_valid n) (keyword_location_at n) (instance_location_at n) (annotation_at n) (keywords_at n) in
     four_parts _ _ _ _ _ _ unit (codes ",\"details\":[") (evaluations_text false (evaluations c.children.result.now))
-    (codes "]}") _ c.in_ok-push_part.ensures c.in_ok-push_text.ensures
-    c.in_ok-push_nodes.ensures c.push_text-2.ensures
+    (codes "]}") _ c.in_ok-push_part.ensures c.in_ok-push_bytes.ensures
+    c.in_ok-push_nodes.ensures c.push_bytes-2.ensures
     (text_of_node n ∙ ap (λ es. unit ++ (codes ",\"details\":[" ++ (evaluations_text false es ++ codes "]}")))
     (sym c.children.ensures.nodes))
 

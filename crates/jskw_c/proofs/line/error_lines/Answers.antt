@@ -1,28 +1,18 @@
-use Rattle.std.proofs.Common.{List, ℕ, ◌+◌, ◌++◌, drop, ap, subst, arith}
-use Rattle.std.proofs.lemmas.List.{drop_all}
-use Rattle.jskw_report.proofs.GatheredNodes.{drop_here}
+use Rattle.std.proofs.Common.{arith}
 use Rattle.jskw_value.specs.DecimalTree.{decimal_tree}
-use Rattle.jskw_report.specs.Errors.{failure_of, failures_of}
-use Rattle.jskw_c.specs.Line.{AreErrorLines}
-use Rattle.jskw_c.proofs.Lines.{last_line, next_line}
+use Rattle.jskw_report.specs.Errors.{failure_of}
+use Rattle.jskw_service.proofs.Parts.{all_written, next_written}
+use Rattle.jskw_c.specs.Line.{IsErrorLine}
 use Rattle.jskw_c.proofs.line.error_lines.Goals as goal
 
 pub loop-error-preserved : goal.loop-error-preserved
 loop-error-preserved c =
     let l = c.loop-error in
-    let errors = c.args.errors.now in
-    let e = c.error-item.result in
-    let all = failures_of decimal_tree errors in
-    let here = drop_here errors l.error-index e c.loop-error-test.true c.error-item.is in
-    next_line all (failures_of decimal_tree (drop (l.error-index + 1) errors)) (failure_of decimal_tree e) l.text.items
-    c.push_error.new.text.items c.in_ok-push_error.ensures.0
-    (subst (λ es. (rest : List ℕ) → AreErrorLines (failures_of decimal_tree es) rest
-    → AreErrorLines all (l.text.items ++ rest)) here l.invariant)
-    c.in_ok-push_error.ensures.1 c.in_ok-push_error.ensures.2
+    next_written IsErrorLine (failure_of decimal_tree) c.args.errors.now l.error-index c.error-item.result l.text.items
+    c.push_error.new.text.items c.loop-error-test.true c.error-item.is l.invariant c.in_ok-push_error.ensures
 
 pub returns : goal.returns
 returns c =
     let l = c.loop-error in
-    let errors = c.args.errors.now in
-    last_line (failures_of decimal_tree errors) (failures_of decimal_tree (drop l.error-index errors)) l.text.items
-    (ap (failures_of decimal_tree) (drop_all l.error-index errors (omega arith))) l.invariant
+    all_written IsErrorLine (failure_of decimal_tree) c.args.errors.now l.error-index l.text.items (omega arith)
+    l.invariant

@@ -2,7 +2,7 @@ use Rattle.std.proofs.Common.{arith}
 use Rattle.jskw_value.specs.DecimalTree.{decimal_tree}
 use Rattle.jskw_report.specs.Errors.{failure_of}
 use Rattle.jskw_documents.specs.Shown.{IsLaterObject}
-use Rattle.jskw_documents.proofs.Parts.{all_written, next_written}
+use Rattle.jskw_service.proofs.Parts.{all_written, next_written}
 use Rattle.jskw_documents.proofs.errors.later_objects.Goals as goal
 
 pub loop-error-preserved : goal.loop-error-preserved

@@ -1,7 +1,7 @@
 use Rattle.jskw_value.specs.DecimalTree.{decimal_tree}
 use Rattle.jskw_report.specs.Errors.{failure_of}
 use Rattle.jskw_documents.specs.Shown.{IsLaterObject}
-use Rattle.jskw_documents.proofs.Parts.{IsWritten}
+use Rattle.jskw_service.proofs.Parts.{IsWritten}
 use Rattle.jskw_documents.proofs.errors.later_objects.Given as goal
 
 -- what is written, with what is left to write

@@ -3,7 +3,7 @@ use Rattle.std.specs.Prelude.{codes}
 use Rattle.jskw_value.specs.DecimalTree.{decimal_tree}
 use Rattle.jskw_report.specs.Errors.{failure_of}
 use Rattle.jskw_documents.specs.Shown.{quoted_after}
-use Rattle.jskw_documents.proofs.Parts.{four_parts}
+use Rattle.jskw_service.proofs.Parts.{four_parts}
 use Rattle.jskw_documents.proofs.errors.push_object_of.Goals as goal
 
 pub returns : goal.returns
