@@ -25,8 +25,9 @@
  * end of each line and a tab between two words; in a word a tab, a line feed and a backslash are written \t, \n and
  * \\. Locations are JSON pointers.
  *
- * Numbers of an instance are exact: c / 10^k with c from -2^63 to 2^64-1 and k from 0 to 18 (docs/USE.md). Numbers in
- * the keywords of a schema are whole, from -2^63 to 2^64-1.
+ * Numbers of an instance are exact: c / 10^k with c from -2^63 to 2^64-1 and k from 0 to 18, or from 1 to 18 if it is
+ * written with a point or an exponent (docs/USE.md, "Decimals"). Numbers in the keywords of a schema are whole, from
+ * -2^63 to 2^64-1.
  *
  * Versions. Within a minor version (0.2.*) no function, number or word of a line is changed or taken away, so that a
  * program need not be compiled again; words may be added at the end of a line. */
@@ -50,7 +51,8 @@ enum {
                            * jskw_unchecked: nothing is unchecked */
     JSKW_INVALID = 1,     /* the instance has errors; of jskw_unchecked: the schema has unchecked members */
     JSKW_REFUSED = 2,     /* of jskw_answer: no verdict, and the text says why */
-    JSKW_NOT_JSON = 3,    /* the schema or the instance is not JSON in UTF-8, or nests more than 127 levels */
+    JSKW_NOT_JSON = 3,    /* the schema or the instance is not JSON in UTF-8, or nests more than 127 levels, or has the
+                           * escape of a lone surrogate; or the schema has a number that is too large for a double */
     JSKW_INEXACT = 4,     /* the instance contains a number that is not exact; the text is a line with its location */
     JSKW_BAD_SCHEMA = 5,  /* the schema does not compile; the text is the line of the refusal */
     JSKW_BAD_SETTING = 6, /* no such draft or set of vocabularies, or `overridden` is no JSON array of strings */
@@ -68,7 +70,7 @@ static inline const char *jskw_status_name(uint32_t status) {
     return status < sizeof names / sizeof *names ? names[status] : "?";
 }
 
-/* Vocabularies, to be added up. Drafts 4, 6 and 7 have none; any set will do there. */
+/* Vocabularies, to be added up. Drafts 4, 6 and 7 have all three, whatever set is given. */
 enum { JSKW_CORE = 1, JSKW_APPLICATOR = 2, JSKW_VALIDATION = 4, JSKW_ALL = 7 };
 
 /* A handle: a compiled schema, or none. */
@@ -130,11 +132,11 @@ uint32_t jskw_is_valid(jskw_schema *schema, const uint8_t *bytes, size_t size);
  *     enum              the array of the options (of a refusal: of the names of the seven types)
  *     type              the name of the type, as "string", or an array of names in alphabetical order
  *     required          the name that is missing, as "age"
- *     contains, uniqueItems, falseSchema (the schema `false`), compileError (of a refusal)       empty: no word
+ *     contains, uniqueItems, falseSchema (the schema `false`), compileError (of a refusal)       an empty word
  * Members of an object in a constant or an option are in the order of their names.
  *
- * If the instance is not JSON, the text is a line of three numbers: the offset in bytes at which it stops being JSON,
- * and the line and the column there, from 1 on; a column counts characters. */
+ * If the status is JSKW_NOT_JSON, the text is a line of three numbers: the offset in bytes at which the instance stops
+ * being JSON (docs/USE.md, "Decimals"), and the line and the column there, from 1 on; a column counts characters. */
 uint32_t jskw_first_error(jskw_schema *schema, const uint8_t *bytes, size_t size, uint8_t *buffer, size_t buffer_size,
                           size_t *length);
 

@@ -20,6 +20,7 @@ FILES = {
     "number.json": b"7",
     "range.json": b'{"minimum": 1e400}',
     "other.json": b'{"$schema": "https://example.com/mine"}',
+    "two_marks.json": b'{"$schema": "http://json-schema.org/draft-07/schema##"}',
     # documents
     "valid.json": b"[1, 2]",
     "invalid.json": b'[1, -2, "a"]',
@@ -189,6 +190,8 @@ SCHEMAS = [
          "-: : [1,2,3,4] has more than 3 items [/maxItems]\n"),
     Case("an unknown $schema", "--schema other.json valid.json", "", 2, "",
          "other.json: $schema names no known draft; --draft names one\n"),
+    Case("a $schema with two #", "--schema two_marks.json valid.json", "", 2, "",
+         "two_marks.json: $schema names no known draft; --draft names one\n"),
     Case("an unknown $schema and a draft", "--schema other.json --draft 7 --verbose valid.json", "", 0,
          "valid.json: valid\n"),
     Case("the draft of $schema", "--schema draft4.json", "1", 1,

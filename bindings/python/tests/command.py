@@ -45,6 +45,7 @@ def run() -> None:
             "deep": "[" * 128 + "]" * 128,
             "escape": '["\\u001b[2J"]',
             "other": '{"$schema": "https://example.com/mine"}',
+            "two_marks": '{"$schema": "http://json-schema.org/draft-07/schema##"}',
         }.items():
             pathlib.Path(f"{name}.json").write_text(text, encoding="utf-8")
         pathlib.Path("latin.json").write_bytes(b'["\xe9"]')
@@ -103,8 +104,9 @@ def files() -> None:
     check("the schema is a folder", asked("--schema", "."), (2, "", ".: it is a folder\n"))
     check("no such schema", asked("--schema", "none.json"), (2, "", "none.json: there is no such file\n"))
     check("a broken schema", asked("--schema", "broken.json"), (2, "", "broken.json:2:3: the schema is not JSON\n"))
-    told = "other.json: $schema names no known draft; --draft names one\n"
-    check("another draft", asked("--schema", "other.json", "valid.json"), (2, "", told))
+    for name in "other.json", "two_marks.json":
+        told = f"{name}: $schema names no known draft; --draft names one\n"
+        check(f"another draft: {name}", asked("--schema", name, "valid.json"), (2, "", told))
     check("help", asked("--help")[0], 0)
     check("version", asked("--version")[1].startswith(f"jskw {jskw.__version__} (jskw "), True)
 

@@ -82,6 +82,7 @@ def after_close() -> None:
     }
     for name, call in calls.items():
         check(f"{name} after close", repr(raised(call)), repr(ValueError(CLOSED)))
+    check("schema and unchecked after close", (validator.schema, validator.unchecked), (True, []))
     validator.close()
     check("its repr", repr(validator), "<Validator draft='2020-12' schema=true, closed>")
 
@@ -94,6 +95,11 @@ def names_that_are_no_strings() -> None:
 def the_path_of_a_schema_error() -> None:
     error: Any = raised(lambda: jskw.Validator({"items": {"items": {"type": "foo"}}}))
     check("path", (list(error.path), error.instance), (["items", "items", "type"], "foo"))
+    error = raised(lambda: jskw.Validator({"required": ["a", 1]}))
+    told = list(error.path), error.instance, error.message
+    check("the keyword's value", told, (["required"], ["a", 1], '1 is not of type "string"'))
+    error = raised(lambda: jskw.Validator({"items": {"prefixItems": [True, 1]}}))
+    check("a subschema", (list(error.path), error.instance), (["items", "prefixItems", 1], 1))
     check("no ValidationError", isinstance(error, jskw.ValidationError), False)
 
 

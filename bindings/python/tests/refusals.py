@@ -75,6 +75,9 @@ def texts() -> None:
     check("1e400 in a schema", (type(error), getattr(error, "reason", "")), (jskw.NotJson, wanted))
     error = raised(jskw.Validator(True).is_valid, b'{"a": [1, 1e400]}')
     check("1e400 in an instance", (type(error), list(getattr(error, "path", ""))), (jskw.InexactNumber, ["a", 1]))
+    error = raised(jskw.Validator(True).is_valid, b"[1e18, 2e18]")
+    wanted = "of at most 18 decimals, at least one if it has a point or an exponent, and without its point from"
+    check("2e18", str(error), f"the number at '/1' is not exact: {wanted} -2^63 to 2^64-1")
     error = raised(jskw.Validator(True).is_valid, b'{"a": [1, ' + b"1" * 5000 + b"]}")
     check("5,000 digits", (type(error), list(getattr(error, "path", ""))), (jskw.InexactNumber, ["a", 1]))
     check("no JSON behind it", type(raised(jskw.Validator(True).is_valid, b"[1e400,")), jskw.NotJson)
@@ -124,6 +127,8 @@ def drafts() -> None:
     check("a boolean", jskw.validator_for(b"true", jskw.Draft7Validator), jskw.Draft7Validator)
     check("a default", jskw.validator_for({"$schema": "x"}, jskw.Draft7Validator), jskw.Draft7Validator)
     check("another $schema", type(raised(jskw.validator_for, {"$schema": "x"})), jskw.BadSetting)
+    twice = {"$schema": "http://json-schema.org/draft-07/schema##"}
+    check("two #", type(raised(jskw.validator_for, twice)), jskw.BadSetting)
     check("another type", type(raised(jskw.validator_for, {"$schema": 1})), jskw.BadSetting)
     check("no JSON", type(raised(jskw.validator_for, b"{")), jskw.NotJson)
     check("too deep", type(raised(jskw.validator_for, b"[" * 100_000)), jskw.NotJson)

@@ -2,6 +2,7 @@
 
 use crate::json::{read, Kind, Value};
 use crate::library::{lines, BAD_SCHEMA, INEXACT, NOT_JSON, NO_MEMORY};
+use crate::not_json::{reason_at, NotJsonReason};
 use crate::unchecked::UncheckedMember;
 use std::fmt;
 use std::ops::Range;
@@ -157,7 +158,9 @@ impl ValidationError {
         &self.kind
     }
 
-    /// Returns the location of the value at fault. (Of [`Error::Schema`]: in the schema.)
+    /// Returns the location of the value at fault. (Of [`Error::Schema`]: in the schema, that of the keyword's value or
+    /// of the subschema that is no schema. Of `required`, `type`, `enum` and `const` it may be an item of it, or a
+    /// value in it, that is at fault.)
     pub fn instance_path(&self) -> &Location {
         &self.instance_path
     }
@@ -167,7 +170,7 @@ impl ValidationError {
         &self.schema_path
     }
 
-    /// Returns the JSON text of the value at fault.
+    /// Returns the JSON text of the value at [`ValidationError::instance_path`].
     pub fn instance(&self) -> &str {
         &self.text[self.range.clone()]
     }
@@ -222,11 +225,11 @@ pub enum Error {
     /// The schema has these members, which are not checked. Only [`crate::ValidationOptions::build`] of strict options
     /// returns it.
     Unchecked(Vec<UncheckedMember>),
-    /// The text is not JSON in UTF-8, or nests more than 127 levels, or has an escape of a lone surrogate. Without a
-    /// position it is a schema with a number that is too large for a double.
-    NotJson { text: Text, position: Option<Position> },
-    /// The instance has a number that is no exact decimal c / 10^k with c from -2^63 to 2^64-1 and k from 0 to 18,
-    /// first at this location.
+    /// The text is not JSON in UTF-8, or is refused though JSON allows it; the reason says which. A schema with a
+    /// number that is too large for a double has no position.
+    NotJson { text: Text, reason: NotJsonReason, position: Option<Position> },
+    /// The instance has a number that is not exact, first at this location: it is no c / 10^k with c from -2^63 to
+    /// 2^64-1 and k from 0 to 18, or from 1 to 18 if it is written with a point or an exponent.
     Inexact(Location),
     /// Memory ran out.
     NoMemory,
@@ -249,13 +252,12 @@ impl fmt::Display for Error {
                     Ok(())
                 }
             }
-            Error::NotJson { text, position } => {
+            Error::NotJson { text, reason, position } => {
                 let name = if *text == Text::Schema { "schema" } else { "instance" };
+                write!(f, "the {name} {reason}")?;
                 match position {
-                    Some(Position { line, column, .. }) => {
-                        write!(f, "the {name} is not JSON at line {line}, column {column}")
-                    }
-                    None => write!(f, "the {name} has a number that is too large for a double"),
+                    Some(Position { line, column, .. }) => write!(f, " at line {line}, column {column}"),
+                    None => Ok(()),
                 }
             }
             Error::Inexact(location) => write!(f, "the number at {:?} is not exact", location.to_string()),
@@ -303,7 +305,8 @@ pub(crate) fn refusal(text: Text, status: u32, told: &str, given: &[u8]) -> Erro
                 (Some(offset), Some(line), Some(column)) => Some(Position { offset, line, column }),
                 _ => None,
             };
-            Error::NotJson { text, position }
+            let reason = position.map_or(NotJsonReason::TooLarge, |position| reason_at(given, position.offset));
+            Error::NotJson { text, reason, position }
         }
         INEXACT => Error::Inexact(Document::new(given).find(word(0)).0),
         NO_MEMORY => Error::NoMemory,

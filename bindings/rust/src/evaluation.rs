@@ -12,7 +12,7 @@ pub struct EvaluationNode {
     pub schema_location: String,
     /// The location of the value, as a JSON pointer.
     pub instance_location: String,
-    /// The annotation, which an invalid node keeps too.
+    /// The annotation. Nodes of `items` and `prefixItems` keep it if they are invalid, those of `contains` do not.
     pub annotation: Option<Annotation>,
     /// The keywords of its own errors.
     pub errors: Vec<String>,

@@ -15,7 +15,7 @@
 //! # Ok::<(), jskw::Error>(())
 //! ```
 //!
-//! Numbers of an instance are exact: `0.1` is a tenth, and a number of more than 18 decimals or 64 bits is
+//! Numbers of an instance are exact: `0.1` is a tenth. If one cannot be, as `1e400`, the call returns
 //! [`Error::Inexact`].
 //!
 //! ```
@@ -47,11 +47,13 @@ mod evaluation;
 mod handles;
 mod json;
 mod library;
+mod not_json;
 mod settings;
 mod unchecked;
 
 pub use error::{Error, JsonType, Location, PathSegment, Position, Text, ValidationError, ValidationErrorKind};
 pub use evaluation::{Annotation, EvaluationNode};
+pub use not_json::NotJsonReason;
 pub use settings::{Draft, ValidationOptions, Vocabulary};
 pub use unchecked::{UncheckedMember, UncheckedReason};
 

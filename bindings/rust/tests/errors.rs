@@ -1,7 +1,7 @@
 //! Errors and evaluation trees as data.
 use jskw::{
-    Annotation, Draft, Error, JsonType, PathSegment, Position, Text, UncheckedMember, UncheckedReason, ValidationError,
-    ValidationErrorKind, Validator,
+    Annotation, Draft, Error, JsonType, NotJsonReason, PathSegment, Position, Text, UncheckedMember, UncheckedReason,
+    ValidationError, ValidationErrorKind, Validator,
 };
 use ValidationErrorKind as Kind;
 
@@ -84,11 +84,13 @@ fn places() {
 fn refusals() {
     let all = Validator::new("true").expect("a schema");
     let position = Some(Position { offset: 6, line: 2, column: 3 });
-    assert_eq!(all.is_valid("[1,\n  ?]"), Err(Error::NotJson { text: Text::Instance, position }));
-    assert_eq!(all.validate("[1,\n  ?]"), Err(Error::NotJson { text: Text::Instance, position }));
-    assert_eq!(Validator::new("[1,\n  ?]").err(), Some(Error::NotJson { text: Text::Schema, position }));
+    let not_json = |text| Error::NotJson { text, reason: NotJsonReason::NotJson, position };
+    assert_eq!(all.is_valid("[1,\n  ?]"), Err(not_json(Text::Instance)));
+    assert_eq!(all.validate("[1,\n  ?]"), Err(not_json(Text::Instance)));
+    assert_eq!(Validator::new("[1,\n  ?]").err(), Some(not_json(Text::Schema)));
     let too_large = Validator::new(r#"{"minimum":1e999}"#).err();
-    assert_eq!(too_large, Some(Error::NotJson { text: Text::Schema, position: None }));
+    let reason = NotJsonReason::TooLarge;
+    assert_eq!(too_large, Some(Error::NotJson { text: Text::Schema, reason, position: None }));
     match Validator::new(r#"{"items":{"minItems":-1}}"#).unwrap_err() {
         Error::Schema(error) => {
             assert_eq!(*error.kind(), Kind::Minimum { limit: 0 });
@@ -100,8 +102,51 @@ fn refusals() {
         Error::Schema(error) => assert_eq!((error.kind().keyword(), error.instance()), ("compileError", "\"foo\"")),
         other => panic!("{other:?}"),
     }
+    match Validator::new(r#"{"required":["a",1]}"#).unwrap_err() {
+        Error::Schema(error) => {
+            assert_eq!((error.instance_path().to_string(), error.instance()), ("/required".into(), r#"["a",1]"#));
+        }
+        other => panic!("{other:?}"),
+    }
     let error: Box<dyn std::error::Error + Send + Sync> = Box::new(all.is_valid("").unwrap_err());
-    assert_eq!(error.to_string(), "the instance is not JSON at line 1, column 1");
+    assert_eq!(error.to_string(), "the instance is not JSON in UTF-8 at line 1, column 1");
+}
+
+#[test]
+fn reasons() {
+    let all = Validator::new("true").expect("a schema");
+    let arrays = |depth| format!("{}{}", "[".repeat(depth), "]".repeat(depth));
+    assert_eq!(all.is_valid(arrays(127)), Ok(true));
+    let members = format!("\n{}[]{}", r#"{"[\"{":"#.repeat(127), "}".repeat(127));
+    let deep = "nests more than 127 levels, which JSON allows and jskw does not";
+    let lone = "has the escape of a lone surrogate, which JSON allows and jskw does not";
+    let rows = [
+        (arrays(128), deep, "line 1, column 128"),
+        (members, deep, "line 2, column 1017"),
+        (r#"["\ud800"]"#.into(), lone, "line 1, column 2"),
+        ("[\"ok\",\n \"\\uDC00x\"]".into(), lone, "line 2, column 2"),
+        (r#"{"\ud83d\ude00\n":"\ud800\u0061"}"#.into(), lone, "line 1, column 19"),
+        (r#"{"\ud83d\ud83d\ude00":1}"#.into(), lone, "line 1, column 2"),
+        (r#"["\ud83d\ude00\x"]"#.into(), "is not JSON in UTF-8", "line 1, column 2"),
+        (r#"["\ud800"#.into(), "is not JSON in UTF-8", "line 1, column 2"),
+        (r#"["\ud8"]"#.into(), "is not JSON in UTF-8", "line 1, column 2"),
+        (format!("\"{}", "[".repeat(200)), "is not JSON in UTF-8", "line 1, column 1"),
+        (format!("{}x", "[".repeat(127)), "is not JSON in UTF-8", "line 1, column 128"),
+    ];
+    for (text, reason, place) in rows {
+        let error = all.is_valid(&text).unwrap_err();
+        assert_eq!(error.to_string(), format!("the instance {reason} at {place}"), "{text}");
+        let error = Validator::new(&text).unwrap_err();
+        assert_eq!(error.to_string(), format!("the schema {reason} at {place}"), "{text}");
+    }
+    let error = Validator::new(r#"{"minimum":1e999}"#).unwrap_err();
+    let reason = "has a number that is too large for a double, which JSON allows and jskw does not";
+    assert_eq!(error.to_string(), format!("the schema {reason}"));
+    let not_utf8 = all.is_valid(b"\"\xff\"").unwrap_err();
+    assert_eq!(not_utf8.to_string(), "the instance is not JSON in UTF-8 at line 1, column 2");
+    for text in ["[1e18, 2e18]", "[1, 5000000000000000000.0]"] {
+        assert!(matches!(all.is_valid(text), Err(Error::Inexact(at)) if at.to_string() == "/1"), "{text}");
+    }
 }
 
 #[test]
@@ -126,7 +171,8 @@ fn unchecked() {
     let reasons: Vec<_> = overridden.expect("JSON").iter().map(|member| member.reason().clone()).collect();
     assert_eq!(reasons, [UncheckedReason::NotImplemented, UncheckedReason::Inactive]);
     let position = Some(Position { offset: 6, line: 2, column: 3 });
-    assert_eq!(strict.unchecked("[1,\n  ?]"), Err(Error::NotJson { text: Text::Schema, position }));
+    let reason = NotJsonReason::NotJson;
+    assert_eq!(strict.unchecked("[1,\n  ?]"), Err(Error::NotJson { text: Text::Schema, reason, position }));
     assert!(matches!(strict.build(r#"{"a":1,"type":5}"#), Err(Error::Schema(_))));
 }
 

@@ -13,7 +13,7 @@ INVALID = 1
 abbrev pub NOT_JSON : ℕ
 NOT_JSON = 3
 
--- the instance contains a number that no decimal equals
+-- the instance contains a number that is not exact
 abbrev pub INEXACT : ℕ
 INEXACT = 4
 

@@ -8,7 +8,7 @@
 //!
 //! An instance is JSON text, whose numbers are exact decimals. If it is not JSON, the status is
 //! `NOT_JSON`, and the text is the line of the place where it breaks: offset, line and column. If it
-//! contains a number that no decimal equals, the status is `INEXACT`, and the text is the line of its
+//! contains a number that is not exact, the status is `INEXACT`, and the text is the line of its
 //! location.
 //!
 //! If memory runs out, every function but `jskw_version` and `jskw_free` returns `NO_MEMORY` and

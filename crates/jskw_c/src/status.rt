@@ -8,7 +8,7 @@ pub(crate) const INVALID: u32 = 1;
 pub(crate) const REFUSED: u32 = 2;
 /// The schema or the instance is not JSON.
 pub(crate) const NOT_JSON: u32 = 3;
-/// The instance contains a number that no decimal equals.
+/// The instance contains a number that is not exact.
 pub(crate) const INEXACT: u32 = 4;
 /// The schema does not compile.
 pub(crate) const BAD_SCHEMA: u32 = 5;

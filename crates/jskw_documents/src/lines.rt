@@ -39,7 +39,8 @@ pub(crate) struct Lines {
 }
 
 /// Reads a stream to its end, writes the answer to each line and nothing else, and returns the worst
-/// verdict. The last line needs no line feed. Neither device may have failed before the call.
+/// verdict. The last line needs no line feed, and an empty line is not JSON. Neither device may have
+/// failed before the call.
 ///
 /// The answers to the lines that end in a block of the reader are written before the next block is
 /// read, and the counts are shown to the watcher. Memory is kept for one line, besides the block, its

@@ -157,7 +157,9 @@ pub fn reply_to(alloc: Global, input: &[u8]) -> Result<Reply, AllocError>
     reply_to_request(alloc, &request)
 }
 
-/// Parses the bytes as JSON. Returns `None` if they are not JSON.
+/// Parses the bytes as JSON. Returns `None` if they are not JSON, or if `serde_json` refuses them: a
+/// number is too large for a double, arrays and objects nest deeper than 127 levels, or a string has
+/// the escape of a lone surrogate.
 pub fn read_value(alloc: Global, bytes: &[u8]) -> Result<Option<Value>, AllocError>
     ensures { IfOk result (λ value. option_map view value ≡ value_of bytes.now) }
 {

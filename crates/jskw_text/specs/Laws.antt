@@ -57,7 +57,7 @@ pub record Denotes (negative : Bool) (p : Parts) (c : ℤ) (k : ℕ) : Type 0 wh
   pub sign : c ≡ with_sign negative (unsigned_abs c)
   pub size : unsigned_abs c * 10 ^ tens_down p ≡ digits_of p * 10 ^ tens_up p * 10 ^ k
 
--- the decimal that a text denotes has the very value of the text, and is missing only where no decimal has it
+-- the decimal that a text denotes has the very value of the text, and is missing only where the text is not exact
 pub record DecimalsAreExact : Type 0 where
   pub same_value : (s : List ℕ) (c : ℤ) (k : ℕ) → number_of s ≡ Some (exact c k)
       → Denotes (is_negative s) (parts_of s) c k

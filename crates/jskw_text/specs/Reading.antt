@@ -30,13 +30,12 @@ put k t no_members = member k t no_members
 put k t (member l u ms) =
     match_ordering (slice_cmp nat_cmp k l) (member k t (member l u ms)) (member l t ms) (member l u (put k t ms))
 
--- the tree of a number, or its location where no decimal has its value
+-- the tree of a number, or its location where it is not exact
 abbrev pub number_tree : Option Num → Result Tree Pointer
 number_tree (Some n) = Ok (number n)
 number_tree None = Err []
 
--- The tree of a JSON value, or the location of the first number, as the text goes, whose value no decimal has. Of a
--- name
+-- The tree of a JSON value, or the location of the first number, as the text goes, that is not exact. Of a name
 -- that comes twice the last value stays, and the numbers of each are looked at.
 abbrev mutual
   pub tree_of : json.Json → Result Tree Pointer
@@ -65,7 +64,7 @@ max_depth = 127
 abbrev pub document : List ℕ → Option json.Json
 document text = option_and_then (λ p. json.if_last p.0 p.1) (json.value max_depth (tokens text))
 
--- The tree of bytes, or the location of the first number whose value no decimal has; nothing where the bytes are not
+-- The tree of bytes, or the location of the first number that is not exact; nothing where the bytes are not
 -- UTF-8
 -- or no JSON.
 abbrev pub reading : List ℕ → Option (Result Tree Pointer)

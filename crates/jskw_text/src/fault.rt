@@ -8,17 +8,19 @@ use std::alloc::{AllocError, AllocFailed};
 /// Why bytes could not be read.
 #[derive(Debug, Drop)]
 pub enum ReadFault {
-    /// The bytes are not UTF-8, not JSON, or JSON whose arrays and objects nest deeper than 127
-    /// levels.
+    /// The bytes are not UTF-8, not JSON, or JSON that is refused: with arrays and objects that nest
+    /// deeper than 127 levels, or with the escape of a lone surrogate.
     ///
     /// The offset, in bytes, of what breaks the text. If the bytes are not UTF-8, it is the number
     /// of bytes of the longest beginning that is. Otherwise it is where the first string, number,
-    /// word, bracket, comma or colon begins that no JSON text has there, or the length, if the text
-    /// ends too early. It is at most the length. [`position_of`](crate::position_of) returns its
-    /// line and column.
+    /// word, bracket, comma or colon begins that no JSON text has there. A name without its colon is
+    /// such, and so is a string, number or word that the end of the text cuts off. If the text ends
+    /// too early between two of them, it is the length. It is at most the length.
+    /// [`position_of`](crate::position_of) returns its line and column.
     NotJson(usize),
-    /// A number has a value that no decimal has. The location of the first such number, in the order
-    /// of the text, as a JSON pointer.
+    /// A number is not exact: it is no `c / 10^k` with `c` from -2^63 to 2^64-1 and `k` from 0 to 18,
+    /// or from 1 to 18 if it is written with a point or an exponent. The location of the first such
+    /// number, in the order of the text, as a JSON pointer.
     Inexact(String),
     /// Memory ran out. This says nothing about the bytes.
     Memory(AllocError),
@@ -29,8 +31,8 @@ pub enum ReadFault {
 pub(crate) enum Stop {
     // What was read begins no JSON text.
     Broken,
-    // A number has a value that no decimal has. The steps of its location, the innermost first, so
-    // that each level adds one and copies none.
+    // A number is not exact. The steps of its location, the innermost first, so that each level adds
+    // one and copies none.
     Inexact(Vec<String>),
     // Memory ran out.
     Memory(AllocError),

@@ -30,7 +30,7 @@ pub(crate) const MAX_DEPTH: usize = 127;
 /// # Errors
 ///
 /// [`ReadFault::NotJson`] if the bytes are not JSON, [`ReadFault::Inexact`] if they are and a number
-/// has a value that no decimal has. The numbers of a member whose name comes again count, too.
+/// is not exact. The numbers of a member whose name comes again count, too.
 pub fn read_bytes(alloc: Global, bytes: &[u8]) -> Result<DecimalTree, ReadFault>
     ensures tree { IfOk result (λ tree. reading bytes.now ≡ Some (Ok (decimal_tree tree))) }
     ensures fault { IfErr result (IsFaultOf bytes.now) }

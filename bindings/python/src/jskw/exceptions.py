@@ -109,9 +109,10 @@ class ValidationError(_Error):
 
 
 class SchemaError(_Error):
-    """A schema that does not compile: a keyword has a value that it does not take. `path` leads to that value and
-    `instance` is the value; `validator` and `validator_value` say what it does not keep to. No meta-schema is read,
-    so `schema_path` is empty."""
+    """A schema that does not compile: a keyword has a value that it does not take. `path` leads to the keyword's value,
+    or to the subschema that is no schema, and `instance` is what stands there: of `required`, `type`, `enum` and
+    `const` it may be an item of it, or a value in it, that is at fault. `validator` and `validator_value` say what that
+    does not keep to. No meta-schema is read, so `schema_path` is empty."""
 
     def __str__(self) -> str:
         return f"{self.message} (schema {self.instance_location!r})"
@@ -138,8 +139,9 @@ class BadSetting(ValueError):
 
 
 class InexactNumber(ValueError):
-    """The instance has a number that is no exact decimal of 64 bits: c / 10^k with c from -2^63 to 2^64-1 and k from 0
-    to 18. `instance_location` is the location of the first, and `path` the same as a deque."""
+    """The instance has a number that is not exact: it is no c / 10^k with c from -2^63 to 2^64-1 and k from 0 to 18, or
+    from 1 to 18 if it is written with a point or an exponent. `instance_location` is the location of the first, and
+    `path` the same as a deque."""
 
     def __init__(self, instance_location: str, path: Iterable[str | int] = ()) -> None:
         super().__init__(instance_location, deque(path))
@@ -147,8 +149,8 @@ class InexactNumber(ValueError):
 
     def __str__(self) -> str:
         return (
-            f"the number at {self.instance_location!r} is not exact: of at most 18 decimals, and without its point "
-            "from -2^63 to 2^64-1"
+            f"the number at {self.instance_location!r} is not exact: of at most 18 decimals, at least one if it "
+            "has a point or an exponent, and without its point from -2^63 to 2^64-1"
         )
 
 

@@ -213,7 +213,8 @@ class Validator:
         return told
 
     def close(self) -> None:
-        """Frees the schema, once the calls of other threads have ended. Each later call raises ValueError."""
+        """Frees the schema, once the calls of other threads have ended. From then on checks, copies and pickles raise
+        ValueError; `schema` and `unchecked` still answer."""
         self._shared = None
 
     def __enter__(self: _Self) -> _Self:
@@ -281,8 +282,8 @@ _META_SCHEMAS: dict[str, type[Validator]] = {
 
 
 def validator_for(schema: Any, default: type[Validator] | None = None) -> type[Validator]:
-    """Returns the class for the draft that `$schema` names; without `$schema` the default, which is that of Draft
-    2020-12. Raises BadSetting for another `$schema`, unless there is a default."""
+    """Returns the class for the draft that `$schema` names, with or without a `#` at its end; without `$schema` the
+    default, which is that of Draft 2020-12. Raises BadSetting for another `$schema`, unless there is a default."""
     try:
         value = json.loads(text_of(schema, "schema")) if is_text(schema) else schema
     except (ValueError, RecursionError) as error:
@@ -290,14 +291,15 @@ def validator_for(schema: Any, default: type[Validator] | None = None) -> type[V
     if not isinstance(value, dict) or "$schema" not in value:
         return default or Draft202012Validator
     name = value["$schema"]
-    found = _META_SCHEMAS.get(name.rstrip("#") if isinstance(name, str) else "", default)
+    found = _META_SCHEMAS.get(name.removesuffix("#") if isinstance(name, str) else "", default)
     if found is None:
         raise BadSetting(f"$schema={name!r} is not one of {', '.join(_META_SCHEMAS)}")
     return found
 
 
 def validate(instance: Any, schema: Any, cls: type[Validator] | None = None, **settings: Any) -> None:
-    """Raises the first error of the instance, under the draft that `$schema` names, or SchemaError."""
+    """Raises the first error of the instance, or SchemaError. The class `cls` says the draft, as Draft7Validator does,
+    or Validator with a `draft` among the settings; without it the draft is that which `$schema` names, or 2020-12."""
     with (cls or validator_for(schema))(schema, **settings) as validator:
         validator.validate(instance)
 
