@@ -36,7 +36,7 @@ pub enum Vocabulary {
     Validation,
 }
 
-/// A set of vocabularies. Drafts 4, 6 and 7 have no vocabularies, and ignore it.
+/// A set of vocabularies. Drafts 4, 6 and 7 have all of them, whatever the set.
 #[derive(Clone, Copy, PartialEq, Eq, Debug)]
 pub struct VocabularySet {
     core: bool,
