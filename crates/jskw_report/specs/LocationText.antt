@@ -1,5 +1,5 @@
 -- The texts of locations, and of keyword locations in two parts.
-use Rattle.std.specs.Prelude.{◌++◌, string_bytes}
+use Rattle.std.specs.Prelude.{string_bytes}
 use Rattle.std.specs.Arc.{arc_str_bytes}
 use Rattle.jskw_value.specs.Pointer.{Pointer}
 use Rattle.jskw_report.specs.declared.paths.text.LocationText.{LocationText}
