@@ -3,12 +3,13 @@
 ghost use Rattle.std.specs.Prelude.{IsTrue};
 ghost use Rattle.jskw_value.specs.Tree.{is_lawful};
 
-use crate::members::{has, number};
-use crate::{Lines, Made, Members, Row, Text};
+use crate::Row;
 use jskw_array::SchemaNode;
 use jskw_array::compiler::compile;
 use jskw_array::items::array_shape_fusion;
 use jskw_leaf::is_leaf;
+use jskw_lines::members::{has, number};
+use jskw_lines::{Lines, Made, Members, Recorder, Text};
 use jskw_report::{
     CompileFault, Context, EvaluationNode, KeywordName, LazyLocation, Location, LocationSegment,
     Validate, ValidationContext, ValidationError,
@@ -16,22 +17,6 @@ use jskw_report::{
 use jskw_value::{Json, Node};
 use serde_json::Value;
 use std::alloc::{AllocError, Global};
-
-/// What takes down the answers of what was compiled, or why nothing was.
-pub(crate) trait Recorder {
-    /// Takes down why a schema or a keyword does not compile, or that it asserts nothing.
-    fn push_refused(&mut self, fault: Option<&CompileFault<'_>>);
-}
-
-impl Recorder for Lines {
-    fn push_refused(&mut self, fault: Option<&CompileFault<'_>>) {
-        match fault {
-            None => self.text.push("nothing"),
-            Some(CompileFault::Bad(error)) => self.push_refusal(error),
-            Some(CompileFault::Memory(_)) => self.text.keep(Err(AllocError)),
-        }
-    }
-}
 
 /// What asks the keywords of a schema one by one.
 pub(crate) trait AsksKeywords: Recorder {

@@ -1,6 +1,8 @@
 //! Groups of rows: a schema under a setting, and tests of it; or requests.
-use crate::members::{array_of, check_members, has, items, push_lines, settings_of, text};
-use crate::{Row, Tally, Text, row};
+use crate::row::settings_of;
+use crate::{Row, row};
+use jskw_lines::members::{array_of, check_members, has, items, push_lines, text};
+use jskw_lines::{Tally, Text};
 use serde_json::Value;
 
 // The members of a group, and of a test.

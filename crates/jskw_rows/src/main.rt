@@ -6,18 +6,13 @@ mod answer;
 mod asked;
 mod calls;
 mod group;
-mod lines;
-mod members;
 mod row;
-mod tally;
 
-use lines::{Lines, Made, Text};
-use members::Members;
+use jskw_lines::{Tally, Text};
 use row::Row;
 use serde_json::Value;
 use std::process::ExitCode;
 use std::{env, fs, io};
-use tally::Tally;
 
 // The names of the files of rows in a folder, sorted.
 fn file_names(rt: &HostRuntime, folder: &str) -> io::Result<Vec<String>> {

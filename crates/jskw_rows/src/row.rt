@@ -1,10 +1,11 @@
 //! A row, what it wants, and how it is asked.
 use crate::answer::{push_float, push_keywords, push_whole};
-use crate::members::{AllKeys, Keys, decimals_of, has, items, push_lines, text};
-use crate::{Lines, Members, Tally, Text, asked};
+use crate::asked;
 use jskw_leaf::is_leaf;
+use jskw_lines::members::{AllKeys, Keys, decimals_of, has, items, push_lines, text};
+use jskw_lines::{Lines, Members, Tally, Text};
 use jskw_report::{Context, KeywordName, Settings};
-use jskw_service::{StdSink, StdSource, run, status};
+use jskw_service::{StdSink, StdSource, draft_named, overridden_of, run, status, vocabularies_of};
 use jskw_text::read_bytes;
 use jskw_unchecked::{UncheckedMember, unchecked};
 use jskw_value::{DecimalJson, DecimalTree, Json, SerdeJson};
@@ -54,6 +55,16 @@ impl<'r> Row<'r> {
         write!(request, ",\"schema\":{}", self.schema);
         write!(request, ",\"instance\":{instance}}}");
         request
+    }
+}
+
+/// The settings of a group in the draft of this name, if it and what the group says of them is right.
+pub(crate) fn settings_of(alloc: Global, group: &Value, draft: &str) -> Option<Settings> {
+    let draft = draft_named(draft)?;
+    let vocabularies = vocabularies_of(group.get("vocabularies"))?;
+    match overridden_of(alloc, group.get("overridden")) {
+        Ok(Some(overridden)) => Some(Settings::new(draft, vocabularies, overridden)),
+        _ => None,
     }
 }
 

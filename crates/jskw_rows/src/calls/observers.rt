@@ -2,12 +2,11 @@
 ghost use Rattle.std.specs.Prelude.{IsTrue};
 ghost use Rattle.jskw_value.specs.Tree.{is_lawful};
 
-use super::Printer;
-use crate::answer::{AsksKeywords, Recorder, ask_keywords, collect_first};
-use crate::members::settings_of;
-use crate::row::push_unchecked;
+use crate::answer::{AsksKeywords, ask_keywords, collect_first};
+use crate::row::{push_unchecked, settings_of};
 use jskw_array::SchemaNode;
 use jskw_array::compiler::compile;
+use jskw_lines::{Printer, Recorder};
 use jskw_report::{
     Context, EvaluationResult, Fault, Location, LocationSegment, Settings, Validate,
     ValidationContext, ValidationError, ValidationErrorKind,

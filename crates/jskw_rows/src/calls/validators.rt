@@ -1,10 +1,7 @@
 //! Calls of settings, of contexts, of keywords by themselves, and of validators that are made by hand.
 #![tactic(auto, using(jskw_value::proofs::DecimalTrees::lawful_tree))]
 
-use super::{tree, value};
-use crate::answer::Recorder;
-use crate::members::{array_of, settings_of, text};
-use crate::{Lines, Members, Text};
+use crate::row::settings_of;
 use jskw_array::additional_items;
 use jskw_array::compiler::compile;
 use jskw_array::items::{
@@ -18,6 +15,9 @@ use jskw_leaf::type_::{
     ArrayTypeValidator, BooleanTypeValidator, IntegerTypeValidator, NullTypeValidator,
     NumberTypeValidator, ObjectTypeValidator, StringTypeValidator,
 };
+use jskw_lines::members::{array_of, text};
+use jskw_lines::printer::{tree, value};
+use jskw_lines::{Lines, Members, Recorder, Text};
 use jskw_number::helpers::map_get_u64;
 use jskw_number::minmax::{Above, AtLeast, AtMost, Below, Limit, LimitTest, Whole};
 use jskw_report::Vocabulary::{Applicator, Core, Validation};

@@ -14,7 +14,7 @@ use serde_json::Value;
 use std::alloc::{AllocError, Global};
 
 // The location of steps, and whether it is equal to that of others, as a copy of it is.
-pub(super) fn push_locations(lines: &mut Lines, case: &Value) {
+pub fn push_locations(lines: &mut Lines, case: &Value) {
     let left = joined(lines.alloc, items(case, 0));
     let right = joined(lines.alloc, items(case, 1));
     if let (Ok(left), Ok(right)) = (&left, &right) {
@@ -38,7 +38,7 @@ fn joined(alloc: Global, steps: &[Value]) -> Made<Location> {
 }
 
 // The location of numbers, which are pushed, and texts, each of which pops one.
-pub(super) fn push_stack(lines: &mut Lines, steps: &[Value]) {
+pub fn push_stack(lines: &mut Lines, steps: &[Value]) {
     let mut location = LazyLocation::new(lines.alloc);
     for step in steps {
         match step.as_u64() {
@@ -52,7 +52,7 @@ pub(super) fn push_stack(lines: &mut Lines, steps: &[Value]) {
 }
 
 // The messages of errors about null: a limit, options that are no array, sets of one type and of all.
-pub(super) fn push_messages(lines: &mut Lines, options: &Value) {
+pub fn push_messages(lines: &mut Lines, options: &Value) {
     let mut all = JsonTypeSet::empty();
     for (_, json_type) in &TYPES {
         all = all.insert(*json_type);
@@ -73,7 +73,7 @@ pub(super) fn push_messages(lines: &mut Lines, options: &Value) {
 }
 
 // Whether a lack of memory is a fault of its own; constants of representations and nullabilities.
-pub(super) fn push_constants(lines: &mut Lines) {
+pub fn push_constants(lines: &mut Lines) {
     let is_fault = matches!(Fault::<SerdeJson>::from(AllocError), Fault::Memory(_));
     let is_compile_fault = matches!(CompileFault::from(AllocError), CompileFault::Memory(_));
     write!(lines.text, "{is_fault} {is_compile_fault}");
@@ -83,7 +83,7 @@ pub(super) fn push_constants(lines: &mut Lines) {
 }
 
 // The lines of a node that is made by hand; and the counts of a context from 0 on.
-pub(super) fn push_unit(lines: &mut Lines) {
+pub fn push_unit(lines: &mut Lines) {
     lines.push_described(&node_by_hand(lines.alloc));
     let mut ctx = ValidationContext::new();
     for _ in 0..3 {

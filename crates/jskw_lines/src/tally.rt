@@ -5,8 +5,8 @@ use std::collections::BTreeSet;
 
 /// The rows that were asked, and what is to be printed of them.
 #[derive(Drop)]
-pub(crate) struct Tally {
-    pub(crate) alloc: Global,
+pub struct Tally {
+    pub alloc: Global,
     // the file and the group that are read or asked, as far as one has begun
     group: Text,
     // behind them the test, if one has begun
@@ -14,21 +14,21 @@ pub(crate) struct Tally {
     // what the row asks
     question: Text,
     /// Whether the way is with an object layer, if it has one.
-    pub(crate) layer: Option<bool>,
+    pub layer: Option<bool>,
     // how many answers of the row were not the wanted ones
     differing_of_row: u64,
-    pub(crate) told: Text,
-    pub(crate) rows: u64,
+    pub told: Text,
+    pub rows: u64,
     /// How many answers were not the wanted ones.
-    pub(crate) differing: u64,
+    pub differing: u64,
     /// How many mistakes there are in rows.
-    pub(crate) mistakes: u64,
+    pub mistakes: u64,
     // the names of the tests with their files, and what the rows ask
     taken: BTreeSet<String>,
 }
 
 impl Tally {
-    pub(crate) fn new(alloc: Global) -> Tally {
+    pub fn new(alloc: Global) -> Tally {
         Tally {
             alloc,
             group: Text::new(alloc),
@@ -44,20 +44,20 @@ impl Tally {
         }
     }
 
-    pub(crate) fn begin_file(&mut self, name: &str) {
+    pub fn begin_file(&mut self, name: &str) {
         self.group.set(name);
         self.end_tests();
         self.told.set("");
     }
 
-    pub(crate) fn begin_group(&mut self, file: &str, name: &str) {
+    pub fn begin_group(&mut self, file: &str, name: &str) {
         self.group.set(file);
         write!(self.group, ": {name}");
         self.end_tests();
     }
 
     /// Begins a test in a part of the group. No other of the file may have its name there.
-    pub(crate) fn begin_test(&mut self, part: &str, name: &str) {
+    pub fn begin_test(&mut self, part: &str, name: &str) {
         let mut all = Text::new(self.alloc);
         write!(all, "{}: {part}: {name}", self.group.as_str());
         self.end_tests();
@@ -66,19 +66,19 @@ impl Tally {
     }
 
     /// Ends the tests of a group: a mistake that is recorded next is in the group.
-    pub(crate) fn end_tests(&mut self) {
+    pub fn end_tests(&mut self) {
         self.test.set("");
     }
 
     /// Counts a row, and takes what it asks, which no other row of any file may ask.
-    pub(crate) fn begin_row(&mut self, question: &str) {
+    pub fn begin_row(&mut self, question: &str) {
         self.rows = self.rows.saturating_add(1);
         self.question.set(question);
         self.take(question, "a row that stands elsewhere too");
     }
 
     /// Tells how many answers of the row differ beside the one that is printed.
-    pub(crate) fn end_row(&mut self) {
+    pub fn end_row(&mut self) {
         let others = self.differing_of_row.saturating_sub(1);
         if others > 0 {
             write!(self.told, "  so do {others} answers");
@@ -89,7 +89,7 @@ impl Tally {
     }
 
     /// Tells if no row was asked since there were so many.
-    pub(crate) fn check_rows(&mut self, before: u64) {
+    pub fn check_rows(&mut self, before: u64) {
         if self.rows == before {
             self.tell_wrong("no row is asked of", "it");
         }
@@ -105,7 +105,7 @@ impl Tally {
     }
 
     /// Records a mistake in what is read or asked, and the member or text that has it.
-    pub(crate) fn tell_wrong(&mut self, what: &str, with: &str) {
+    pub fn tell_wrong(&mut self, what: &str, with: &str) {
         self.mistakes = self.mistakes.saturating_add(1);
         self.told.push(self.group.as_str());
         self.told.push(self.test.as_str());
@@ -113,7 +113,7 @@ impl Tally {
     }
 
     /// Records the answer of a row to a way of asking, unless it is the wanted one. The first is printed.
-    pub(crate) fn compare(&mut self, way: &str, wanted: &str, found: &str) {
+    pub fn compare(&mut self, way: &str, wanted: &str, found: &str) {
         if wanted != found {
             self.differing = self.differing.saturating_add(1);
             self.differing_of_row = self.differing_of_row.saturating_add(1);

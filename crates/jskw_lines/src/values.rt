@@ -1,7 +1,7 @@
 //! Calls of values: their trees and texts, decimals, nodes, objects, their members, and names.
-use super::{Printer, tree, value};
 use crate::members::{array_of, decimal_of, items, number, text};
-use crate::{Lines, Made, Text};
+use crate::printer::{tree, value};
+use crate::{Lines, Made, Printer, Text};
 use jskw_value::fingerprint::of_whole;
 use jskw_value::laws::equal_values_have_one_fingerprint;
 use jskw_value::seed::seed_of;
@@ -13,7 +13,7 @@ use serde_json::Value;
 use std::alloc::Global;
 
 /// Asks a value for its first float, its tree of decimals and its text, which goes behind an old one.
-pub(super) fn ask(to: &mut Printer, arguments: &[Value]) {
+pub fn ask(to: &mut Printer, arguments: &[Value]) {
     let [value] = arguments else {
         return to.check(false);
     };
@@ -38,7 +38,7 @@ pub(super) fn ask(to: &mut Printer, arguments: &[Value]) {
 }
 
 // The coefficient and the scale of the decimal that is made of them, if there is one.
-pub(super) fn push_new(lines: &mut Lines, case: &Value) {
+pub fn push_new(lines: &mut Lines, case: &Value) {
     let (Ok(coefficient), Ok(scale)) = (text(case, 0).parse(), number(case, 1).try_into()) else {
         return lines.text.push("no integers");
     };
@@ -49,7 +49,7 @@ pub(super) fn push_new(lines: &mut Lines, case: &Value) {
 }
 
 // What a decimal says of itself, against a whole number, and of another one.
-pub(super) fn push_decimal(lines: &mut Lines, case: &Value) {
+pub fn push_decimal(lines: &mut Lines, case: &Value) {
     let decimal = decimal_of(lines.alloc, text(case, 0));
     let other = decimal_of(lines.alloc, text(case, 2));
     let (Some(decimal), Some(other)) = (decimal, other) else {
@@ -72,7 +72,7 @@ pub(super) fn push_decimal(lines: &mut Lines, case: &Value) {
 }
 
 // The text of a tree behind another text, and whether it is equal to a value.
-pub(super) fn push_equality(lines: &mut Lines, case: &Value) {
+pub fn push_equality(lines: &mut Lines, case: &Value) {
     let tree = tree(lines.alloc, case, 0);
     lines.text.push("old ");
     lines.text.push_json(&tree);
@@ -80,7 +80,7 @@ pub(super) fn push_equality(lines: &mut Lines, case: &Value) {
 }
 
 // The members of an object by names, and as the walks over it give them.
-pub(super) fn push_object(lines: &mut Lines, case: &Value) {
+pub fn push_object(lines: &mut Lines, case: &Value) {
     let object = value(case, 0);
     if let Ok(Some(DecimalTree::Object(members))) = &DecimalTree::from_value(lines.alloc, object) {
         write!(lines.text, "{} {}", members.is_empty(), members.len());
@@ -109,7 +109,7 @@ fn push_walk(text: &mut Text, members: Walk<Value>) {
 }
 
 // For each name, how it stands to each: `=` if it matches it, `~` if their heads alone are equal.
-pub(super) fn push_names(lines: &mut Lines, names: &[Value]) {
+pub fn push_names(lines: &mut Lines, names: &[Value]) {
     for name in names {
         let name = PropertyName::new(lines.alloc, name.as_str().unwrap_or(""));
         if let Some(name) = &lines.text.made(name) {
@@ -132,7 +132,7 @@ fn sign_of(name: &PropertyName, other: &str) -> &'static str {
 }
 
 // How many items of a made array are like the first under seeds, and whether another has another seed.
-pub(super) fn push_prints(lines: &mut Lines, case: &Value) {
+pub fn push_prints(lines: &mut Lines, case: &Value) {
     equal_values_have_one_fingerprint();
     let array = array_of(lines.alloc, value(case, 0));
     let other = array_of(lines.alloc, value(case, 1));
@@ -160,7 +160,7 @@ fn count_like_first(array: &Value, seed: u64) -> usize {
 
 /// Inserts a member with the last name behind those of the others, each with its place as its value, and
 /// prints the pair and the members before and afterwards. A name that is there takes no memory.
-pub(super) fn insert(to: &mut Printer, names: &[Value]) {
+pub fn insert(to: &mut Printer, names: &[Value]) {
     let [names @ .., Value::String(name)] = names else {
         return to.check(false);
     };
@@ -191,7 +191,7 @@ fn tell_inserted(to: &mut Printer, inserted: Result<(), InsertFault<DecimalTree>
 }
 
 /// Makes members of pairs of a name and its text, and prints them, or the pairs and the place of a name.
-pub(super) fn from_pairs(to: &mut Printer, names: &[Value]) {
+pub fn from_pairs(to: &mut Printer, names: &[Value]) {
     if let Ok(pairs) = pairs_of(to.lines.alloc, names) {
         to.announce("from_pairs", false);
         let made = Members::from_pairs(pairs);
@@ -209,7 +209,7 @@ pub(super) fn from_pairs(to: &mut Printer, names: &[Value]) {
 }
 
 /// Makes members of such pairs, of one name the last. Few pairs are sorted without memory.
-pub(super) fn from_last_pairs(to: &mut Printer, names: &[Value]) {
+pub fn from_last_pairs(to: &mut Printer, names: &[Value]) {
     if let Ok(pairs) = pairs_of(to.lines.alloc, names) {
         to.announce("from_last_pairs", names.len() > 20);
         let made = Members::from_last_pairs(pairs);

@@ -1,18 +1,16 @@
-//! The members of rows, and what they say: settings, trees of decimals, arrays that are too long to be
-//! written out. What is of another kind is read as if it were empty, so that the answers differ.
+//! The members of rows, and what they say: texts, numbers, trees of decimals, arrays that are too long to
+//! be written out. What is of another kind is read as if it were empty, so that the answers differ.
 use crate::{Made, Tally, Text};
-use jskw_report::Settings;
-use jskw_service::{draft_named, overridden_of, vocabularies_of};
 use jskw_value::fingerprint::of_whole;
 use jskw_value::{Decimal, DecimalJson, DecimalTree, Json, Member, Node};
 use serde_json::{Index, Map, Value};
 use std::alloc::Global;
 
-pub(crate) type Members = Map<String, Value>;
+pub type Members = Map<String, Value>;
 
 /// Tells unless a value is an object with the members of these words: a name, one of several names
 /// with strokes between them, and either with a question mark if it may be missing.
-pub(crate) fn check_members(tally: &mut Tally, value: &Value, words: &str) {
+pub fn check_members(tally: &mut Tally, value: &Value, words: &str) {
     let mut known = 0usize;
     for word in words.split(' ') {
         known = known.saturating_add(check_word(tally, value, word));
@@ -35,12 +33,12 @@ fn check_word(tally: &mut Tally, value: &Value, word: &str) -> usize {
     found
 }
 
-pub(crate) fn has(of: &Value, name: &str) -> bool {
+pub fn has(of: &Value, name: &str) -> bool {
     of.get(name).is_some()
 }
 
 /// The text of a member by its name, or of an item by its index; empty if there is none.
-pub(crate) fn text<I: Index + Drop>(of: &Value, at: I) -> &str {
+pub fn text<I: Index + Drop>(of: &Value, at: I) -> &str {
     match of.get(at) {
         Some(Value::String(text)) => text.as_str(),
         _ => "",
@@ -48,7 +46,7 @@ pub(crate) fn text<I: Index + Drop>(of: &Value, at: I) -> &str {
 }
 
 /// The number of one; 0 if there is none.
-pub(crate) fn number<I: Index + Drop>(of: &Value, at: I) -> u64 {
+pub fn number<I: Index + Drop>(of: &Value, at: I) -> u64 {
     match of.get(at) {
         Some(Value::Number(number)) => number.as_u64().unwrap_or(0),
         _ => 0,
@@ -56,7 +54,7 @@ pub(crate) fn number<I: Index + Drop>(of: &Value, at: I) -> u64 {
 }
 
 /// The items of one; none if it is no array.
-pub(crate) fn items<I: Index + Drop>(of: &Value, at: I) -> &[Value] {
+pub fn items<I: Index + Drop>(of: &Value, at: I) -> &[Value] {
     match of.get(at) {
         Some(Value::Array(items)) => items.as_slice(),
         _ => &[],
@@ -64,28 +62,18 @@ pub(crate) fn items<I: Index + Drop>(of: &Value, at: I) -> &[Value] {
 }
 
 /// Appends the texts of the member of a name, each in a line.
-pub(crate) fn push_lines(to: &mut Text, of: &Value, name: &'static str) {
+pub fn push_lines(to: &mut Text, of: &Value, name: &'static str) {
     for line in items(of, name) {
         to.push(line.as_str().unwrap_or("?"));
         to.push("\n");
     }
 }
 
-/// The settings of a group in the draft of this name, if it and what the group says of them is right.
-pub(crate) fn settings_of(alloc: Global, group: &Value, draft: &str) -> Option<Settings> {
-    let draft = draft_named(draft)?;
-    let vocabularies = vocabularies_of(group.get("vocabularies"))?;
-    match overridden_of(alloc, group.get("overridden")) {
-        Ok(Some(overridden)) => Some(Settings::new(draft, vocabularies, overridden)),
-        _ => None,
-    }
-}
-
 /// Trees of decimals of which `N` members are visited in the time of a lookup: with 0 every
 /// required name is looked up, with the greatest all names are walked for.
-pub(crate) struct Keys<const N: usize>;
+pub struct Keys<const N: usize>;
 
-pub(crate) type AllKeys = Keys<0xffff_ffff_ffff_ffff>;
+pub type AllKeys = Keys<0xffff_ffff_ffff_ffff>;
 
 impl<const N: usize> Json for Keys<N> {
     type Node = DecimalTree;
@@ -98,7 +86,7 @@ impl<const N: usize> Json for Keys<N> {
 }
 
 /// Returns the tree of a value in which each decimal is written as a text, or `None` if the value has a float.
-pub(crate) fn decimals_of(alloc: Global, value: &Value) -> Made<Option<DecimalTree>> {
+pub fn decimals_of(alloc: Global, value: &Value) -> Made<Option<DecimalTree>> {
     match value.is_lawful() {
         true => Ok(Some(tree_of(alloc, value)?)),
         false => Ok(None),
@@ -131,7 +119,7 @@ fn tree_of(alloc: Global, value: &Value) -> Made<DecimalTree> {
 }
 
 /// Returns the decimal that is written as a text, if one is: `-0.50` is -50 with the scale 2.
-pub(crate) fn decimal_of(alloc: Global, text: &str) -> Option<Decimal> {
+pub fn decimal_of(alloc: Global, text: &str) -> Option<Decimal> {
     let (whole, fraction) = text.split_once('.').unwrap_or((text, ""));
     let mut digits = Text::new(alloc);
     write!(digits, "{whole}{fraction}");
@@ -142,7 +130,7 @@ pub(crate) fn decimal_of(alloc: Global, text: &str) -> Option<Decimal> {
 }
 
 /// Returns the array that a value describes, as `README.md` beside `src/` says; `None` if it is no JSON.
-pub(crate) fn array_of(alloc: Global, maker: &Value) -> Option<Value> {
+pub fn array_of(alloc: Global, maker: &Value) -> Option<Value> {
     let is_inside = has(maker, "inside");
     let mut array = Text::new(alloc);
     array.push_if(is_inside, "[");

@@ -1,7 +1,7 @@
 //! Texts that grow, and the lines of errors and evaluations.
 use jskw_report::{
-    Annotations, EnumOptions, EvaluationNode, Fault, Location, TypeKind, ValidationError,
-    ValidationErrorKind as Kind,
+    Annotations, CompileFault, EnumOptions, EvaluationNode, Fault, Location, TypeKind,
+    ValidationError, ValidationErrorKind as Kind,
 };
 use jskw_value::{Json, JsonType, JsonTypeSet, Node, SerdeJson};
 use serde_json::Value;
@@ -9,56 +9,56 @@ use std::alloc::{AllocError, Global};
 use std::fmt::Display;
 
 /// A result that is an error only if memory runs out.
-pub(crate) type Made<T> = Result<T, AllocError>;
+pub type Made<T> = Result<T, AllocError>;
 
 /// A text that grows, and whether memory ran out: it says so in the end, so that nobody asks at each step.
 #[derive(Drop)]
-pub(crate) struct Text(String, bool);
+pub struct Text(String, bool);
 
 impl Text {
-    pub(crate) fn new(alloc: Global) -> Text {
+    pub fn new(alloc: Global) -> Text {
         Text(String::new(alloc), false)
     }
 
     /// The text, or that memory ran out, which no row wants.
-    pub(crate) fn as_str(&self) -> &str {
+    pub fn as_str(&self) -> &str {
         match self.1 {
             true => "out of memory",
             false => self.0.as_str(),
         }
     }
 
-    pub(crate) fn push(&mut self, part: &str) {
+    pub fn push(&mut self, part: &str) {
         self.1 |= self.0.push_str(part).is_err();
     }
 
-    pub(crate) fn push_if(&mut self, is_so: bool, part: &str) {
+    pub fn push_if(&mut self, is_so: bool, part: &str) {
         if is_so {
             self.push(part);
         }
     }
 
-    pub(crate) fn set(&mut self, text: &str) {
+    pub fn set(&mut self, text: &str) {
         self.0.clear();
         self.1 = false;
         self.push(text);
     }
 
-    pub(crate) fn write_fmt<D: Display + Drop>(&mut self, part: D) {
+    pub fn write_fmt<D: Display + Drop>(&mut self, part: D) {
         self.1 |= self.0.write_fmt(part).is_err();
     }
 
-    pub(crate) fn push_json<N: Node>(&mut self, node: &N) {
+    pub fn push_json<N: Node>(&mut self, node: &N) {
         self.1 |= node.write_json(&mut self.0).is_err();
     }
 
     /// Notes whether memory ran out in what belongs to this text.
-    pub(crate) fn keep(&mut self, made: Made<()>) {
+    pub fn keep(&mut self, made: Made<()>) {
         self.1 |= made.is_err();
     }
 
     /// Returns what was made. If memory ran out, notes that and returns `None`.
-    pub(crate) fn made<T>(&mut self, made: Made<T>) -> Option<T> {
+    pub fn made<T>(&mut self, made: Made<T>) -> Option<T> {
         self.1 |= made.is_err();
         made.ok()
     }
@@ -66,18 +66,34 @@ impl Text {
 
 /// The lines of errors, each with its payload, both locations and the value at fault, or of an evaluation.
 #[derive(Drop)]
-pub(crate) struct Lines {
-    pub(crate) alloc: Global,
+pub struct Lines {
+    pub alloc: Global,
     /// Whether they are of a schema of `items` and of the item of the index 7, which is left out.
-    pub(crate) are_of_item: bool,
-    pub(crate) has_messages: bool,
-    pub(crate) text: Text,
+    pub are_of_item: bool,
+    pub has_messages: bool,
+    pub text: Text,
     /// The keyword and the message of each error, as an evaluation describes it.
-    pub(crate) described: Text,
+    pub described: Text,
+}
+
+/// What takes down the answers of what was compiled, or why nothing was.
+pub trait Recorder {
+    /// Takes down why a schema or a keyword does not compile, or that it asserts nothing.
+    fn push_refused(&mut self, fault: Option<&CompileFault<'_>>);
+}
+
+impl Recorder for Lines {
+    fn push_refused(&mut self, fault: Option<&CompileFault<'_>>) {
+        match fault {
+            None => self.text.push("nothing"),
+            Some(CompileFault::Bad(error)) => self.push_refusal(error),
+            Some(CompileFault::Memory(_)) => self.text.keep(Err(AllocError)),
+        }
+    }
 }
 
 /// The types in the order of their names.
-pub(crate) const TYPES: [(&str, JsonType); 7] = [
+pub const TYPES: [(&str, JsonType); 7] = [
     ("array", JsonType::Array),
     ("boolean", JsonType::Boolean),
     ("integer", JsonType::Integer),
@@ -89,7 +105,7 @@ pub(crate) const TYPES: [(&str, JsonType); 7] = [
 
 impl Lines {
     /// No lines. The last argument says whether an error has its message.
-    pub(crate) fn new(alloc: Global, are_of_item: bool, has_messages: bool) -> Lines {
+    pub fn new(alloc: Global, are_of_item: bool, has_messages: bool) -> Lines {
         Lines {
             alloc,
             are_of_item,
@@ -100,7 +116,7 @@ impl Lines {
     }
 
     /// No lines, which are written in the same way.
-    pub(crate) fn others(&self) -> Lines {
+    pub fn others(&self) -> Lines {
         Lines::new(self.alloc, self.are_of_item, self.has_messages)
     }
 
@@ -111,7 +127,7 @@ impl Lines {
     }
 
     /// Appends the line of the error that `validate` returned, if any, unless there is one before it.
-    pub(crate) fn push_first<F: Json>(&mut self, answer: &Result<(), Fault<F>>) {
+    pub fn push_first<F: Json>(&mut self, answer: &Result<(), Fault<F>>) {
         match answer {
             Err(Fault::Invalid(it)) if self.described.as_str().is_empty() => self.push_error(it),
             Err(Fault::Memory(_)) => self.text.keep(Err(AllocError)),
@@ -119,7 +135,7 @@ impl Lines {
         }
     }
 
-    pub(crate) fn push_errors<F: Json>(&mut self, made: Made<()>, errors: &[ValidationError<F>]) {
+    pub fn push_errors<F: Json>(&mut self, made: Made<()>, errors: &[ValidationError<F>]) {
         self.text.keep(made);
         for error in errors {
             self.push_error(error);
@@ -127,7 +143,7 @@ impl Lines {
     }
 
     /// Appends the line of an error of an instance.
-    pub(crate) fn push_error<F: Json>(&mut self, error: &ValidationError<F>) {
+    pub fn push_error<F: Json>(&mut self, error: &ValidationError<F>) {
         let mut value = Text::new(self.alloc);
         value.push_json(error.instance());
         let at = self.behind("/7", error.instance_path());
@@ -135,7 +151,7 @@ impl Lines {
     }
 
     /// Appends the line of why a schema does not compile. The value at fault has its floats.
-    pub(crate) fn push_refusal(&mut self, error: &ValidationError<SerdeJson>) {
+    pub fn push_refusal(&mut self, error: &ValidationError<SerdeJson>) {
         let mut value = Text::new(self.alloc);
         write!(value, "{}", error.instance());
         self.text.push("refused: ");
@@ -185,7 +201,7 @@ impl Lines {
     }
 
     /// Appends the lines of an evaluation that was made, and of the errors that it describes.
-    pub(crate) fn push_described(&mut self, tree: &Made<EvaluationNode>) {
+    pub fn push_described(&mut self, tree: &Made<EvaluationNode>) {
         if let Ok(tree) = tree {
             self.push_nodes(0, tree);
             self.text.push(self.described.as_str());
@@ -193,14 +209,14 @@ impl Lines {
     }
 
     /// Appends the lines of an evaluation. `depth` is how many nodes are above it.
-    pub(crate) fn push_tree(&mut self, depth: usize, node: Made<EvaluationNode>) {
+    pub fn push_tree(&mut self, depth: usize, node: Made<EvaluationNode>) {
         if let Some(node) = &self.text.made(node) {
             self.push_nodes(depth, node);
         }
     }
 
     /// Appends the lines of a node and of those below it.
-    pub(crate) fn push_nodes(&mut self, depth: usize, node: &EvaluationNode) {
+    pub fn push_nodes(&mut self, depth: usize, node: &EvaluationNode) {
         self.push_node(depth, node);
         for child in node.children() {
             self.push_nodes(depth.saturating_add(1), child);
