@@ -1,5 +1,5 @@
 -- What a validator with subschemas says, whichever keyword it is of.
-use Rattle.std.proofs.Common.{◌≡◌, ◌∙◌, Bool, true, false, None, if◌then◌else◌, refl, ap, length, drop, sum_by}
+use Rattle.std.proofs.Common.{◌≡◌, ◌∙◌, Bool, true, false, if◌then◌else◌, refl, ap, length, drop, sum_by}
 use Rattle.jskw_array.specs.Words.{Each, Pointer, Rest, Tree, each_fails, schemas_delegate, each_holds, each_item}
 use Rattle.jskw_array.specs.Words.{each_keyword, each_needed, each_of, each_pairs, evaluate_pairs, fail}
 use Rattle.jskw_array.specs.Words.{hands_on_required, holds, is_assertion, items, keyword_fail, keyword_delegates}
@@ -38,11 +38,7 @@ module _ {F Node Number Key : Type 0} (v : Each F Node Number Key) where
   pub each_delegates : keyword_delegates (each_keyword v) ≡ schemas_delegate (schemas_of v.nodes.items)
   each_delegates = either keyword_delegates (schemas_delegate (schemas_of v.nodes.items)) v.is_prefix _ _ refl refl
 
-  -- its unit: that of `items`, or of `prefixItems`
-  pub items_unit_is : v.is_prefix ≡ false → (t : Tree) (p : Pointer)
-      → unit (each_keyword v) t p ≡ of_children None (evaluate_pairs (schemas_of v.nodes.items) 0 (items t) p)
-  items_unit_is e t p = ap (λ b. unit (each_of b (schemas_of v.nodes.items)) t p) e
-
+  -- the unit of `prefixItems`
   pub prefix_unit_is : v.is_prefix ≡ true → (t : Tree) (p : Pointer)
       → unit (each_keyword v) t p ≡ of_children (prefix_annotation (length v.nodes.items) (length (items t)))
       (evaluate_pairs (schemas_of v.nodes.items) 0 (items t) p)

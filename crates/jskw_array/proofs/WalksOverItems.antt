@@ -4,7 +4,8 @@ use Rattle.std.proofs.Common.{Bool, true, if◌then◌else◌, refl, ap, ap₂, 
 use Rattle.std.proofs.Math.Seq.{drop-nil}
 use Rattle.std.proofs.lemmas.List.Sums.{sum_by-cons}
 use Rattle.jskw_array.specs.Words.{Each, Pointer, Schema, Schemas, Tree, each_fails, each_height, each_holds}
-use Rattle.jskw_array.specs.Words.{each_keyword, each_needed, each_pairs, evaluate_pairs, fail, height, holds}
+use Rattle.jskw_array.specs.Words.{each_keyword, each_needed, each_pairs, evaluate_each, evaluate_pairs, fail, height}
+use Rattle.jskw_array.specs.Words.{holds, tree}
 use Rattle.jskw_array.specs.Words.{item_location, keyword_height, needed, no_schemas, pairs, schema, schemas_of}
 use Rattle.jskw_array.specs.Words.{sum_to_failure}
 use Rattle.jskw_array.specs.Heights.{each_is_as_high}
@@ -20,6 +21,11 @@ module _ (ts : List Tree) (i : ℕ) (t : Tree) (within : i < length ts) (is : t 
   pub until_at : (p : Tree → Bool) (f : Tree → ℕ)
       → sum_to_failure p f (drop i ts) ≡ f t + (if p t then sum_to_failure p f (drop (i + 1) ts) else 0)
   until_at p f = ap (sum_to_failure p f) (drop_here ts i t within is)
+
+  pub units_at : (s : Schema) (p : Pointer) → evaluate_each (tree s) i (drop i ts) p
+      ≡ tree s t (item_location p i) ∷ evaluate_each (tree s) (i + 1) (drop (i + 1) ts) p
+  units_at s p = ap (λ us. evaluate_each (tree s) i us p) (drop_here ts i t within is)
+      ∙ ap (λ j. tree s t (item_location p i) ∷ evaluate_each (tree s) j (drop (i + 1) ts) p) (omega arith)
 
 -- ---- a schema for each item
 
@@ -37,6 +43,11 @@ module _ (ss : List Schema) (ts : List Tree) (i : ℕ) (s : Schema) (t : Tree)
   pub each_pairs_at : each_pairs (schemas_of (drop i ss)) (drop i ts)
       ≡ pairs s t + each_pairs (schemas_of (drop (i + 1) ss)) (drop (i + 1) ts)
   each_pairs_at = at_both (λ rs us. each_pairs (schemas_of rs) us)
+
+  pub each_units_at : (p : Pointer) → evaluate_pairs (schemas_of (drop i ss)) i (drop i ts) p
+      ≡ tree s t (item_location p i) ∷ evaluate_pairs (schemas_of (drop (i + 1) ss)) (i + 1) (drop (i + 1) ts) p
+  each_units_at p = at_both (λ rs us. evaluate_pairs (schemas_of rs) i us p) ∙ ap (λ j. tree s t (item_location p i)
+      ∷ evaluate_pairs (schemas_of (drop (i + 1) ss)) j (drop (i + 1) ts) p) (omega arith)
 
   pub each_fails_at : (p : Pointer) → each_fails (schemas_of (drop i ss)) i (drop i ts) p
       ≡ fail s t (item_location p i) ++ each_fails (schemas_of (drop (i + 1) ss)) (i + 1) (drop (i + 1) ts) p

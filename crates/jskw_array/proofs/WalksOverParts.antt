@@ -1,16 +1,15 @@
 -- What a walk over a node's units has left at a unit, and at the end.
 use Rattle.std.proofs.Common.{◌≡◌, ℕ, zero, suc, ◌+◌, ◌<◌, ◌≤◌, List, [], ◌∷◌, ◌++◌, length, get_or, drop, max, true}
-use Rattle.std.proofs.Common.{false, ◌&&◌, ◌||◌, None, Some, refl, sym, subst, if◌then◌else◌, ap, ◌∙◌, append_assoc}
+use Rattle.std.proofs.Common.{false, ◌&&◌, ◌||◌, refl, sym, subst, if◌then◌else◌, ap, ◌∙◌, append_assoc}
 use Rattle.std.proofs.Common.{Box, Global, arith}
 use Rattle.std.proofs.lemmas.List.{drop_all}
-use Rattle.std.specs.Borrow.{Bor}
-use Rattle.jskw_array.specs.Words.{ArrayShapeValidator, CountsUpTo, Evaluation, HasParts, Keywords, OfKeyword}
+use Rattle.jskw_array.specs.Words.{ArrayShapeValidator, CountsUpTo, Evaluation, Keywords, OfKeyword}
 use Rattle.jskw_array.specs.Words.{Pointer, Schema}
 use Rattle.jskw_array.specs.Words.{Shape, Part, Tree, absorbed_by, absorbed_keywords, all_fail, keywords_delegate}
-use Rattle.jskw_array.specs.Words.{all_height, all_hold, all_needed, all_pairs, fail, false_schema, height, is_empty}
+use Rattle.jskw_array.specs.Words.{all_height, all_hold, all_needed, all_pairs, fail, false_schema, is_empty}
 use Rattle.jskw_array.specs.Words.{keyword, keyword_height, keywords_of, meaning_fail, meaning_holds, meaning_needed}
-use Rattle.jskw_array.specs.Words.{meaning_pairs, meaning_unit, no_keywords, node_at, of_children, of_errors, pairs}
-use Rattle.jskw_array.specs.Words.{schema_location, schema_object, shape_keywords, tree, part_delegates, own_keyword}
+use Rattle.jskw_array.specs.Words.{meaning_pairs, meaning_unit, no_keywords, node_at, of_errors, pairs}
+use Rattle.jskw_array.specs.Words.{schema_object, shape_keywords, tree, part_delegates, own_keyword}
 use Rattle.jskw_array.specs.Words.{part_meaning, units, validator_keyword, keyword_pairs, one_keyword}
 use Rattle.jskw_array.specs.declared.part.LocatedValidator.{LocatedValidator}
 use Rattle.jskw_report.proofs.AppendedKeywords.{fail_appended, delegates_appended, height_appended, hold_appended}
@@ -125,13 +124,6 @@ module _ {F Node Number Key : Type 0} (us : List (Part F Node Number Key)) (i : 
       → all_pairs (keywords_of (drop i us)) t ≡ meaning_pairs (part_meaning u) t + all_pairs (keywords_of rest) t
   pairs_at t = ap (λ ks. all_pairs ks t) here ∙ first_meets u rest t
 
-  -- the applications for it are among those for it and for those behind it
-  pub pairs_within : (t : Tree) {before ctx next bound : ℕ} → before ≤ ctx
-      → ctx + all_pairs (keywords_of (drop i us)) t ≤ before + bound
-      → CountsUpTo ctx next (meaning_pairs (part_meaning u) t) → CountsUpTo before next bound
-  pairs_within t from to counted =
-      record { from = omega (arith, from, counted.from); to = omega (arith, pairs_at t, to, counted.to) }
-
   pub fail_at : (t : Tree) (p : Pointer)
       → all_fail (keywords_of (drop i us)) t p ≡ meaning_fail (part_meaning u) t p ++ all_fail (keywords_of rest) t p
   fail_at t p = ap (λ ks. all_fail ks t p) here ∙ first_fails u rest t p
@@ -211,31 +203,7 @@ module _ {F Node Number Key : Type 0} where
         → meaning_unit (one_keyword (validator_keyword k.validator)) t p ≡ meaning_unit (part_meaning u) t p
     own_gives t p = ap (λ x. meaning_unit (one_keyword (validator_keyword x.validator)) t p) is ∙ own_unit u t p
 
--- ---- a schema by its units
-
-module _ {F Node Number Key : Type 0} (s : Schema) (us : Bor (List (Part F Node Number Key)))
-    (has : HasParts s (Some us)) where
-  pub schema_pairs : (t : Tree) → pairs s t ≡ 1 + all_pairs (keywords_of us.now) t
-  schema_pairs t = ap (λ r. pairs r t) has.1
-
-  -- it is one pair, and those of its units
-  pub schema_within : (t : Tree) {before ctx next : ℕ} → CountsUpTo before ctx 1
-      → CountsUpTo ctx next (all_pairs (keywords_of us.now) t) → CountsUpTo before next (pairs s t)
-  schema_within t one counted =
-      record { from = omega (arith, one.from, counted.from); to = omega (arith, schema_pairs t, one.to, counted.to) }
-
-  pub schema_tree : (t : Tree) (p : Pointer)
-      → tree s t p ≡ node_at (schema_location s) p (of_children None (units (keywords_of us.now) t p))
-  schema_tree t p = ap (λ r. tree r t p) has.1
-
-  pub schema_height : height s ≡ 1 + all_height (keywords_of us.now)
-  schema_height = ap height has.1
-
 -- ---- `false`, and any schema
-
-module _ (s : Schema) (is : s ≡ false_schema (schema_location s)) where
-  pub false_tree : (t : Tree) (p : Pointer) → tree s t p ≡ tree (false_schema (schema_location s)) t p
-  false_tree t p = ap (λ r. tree r t p) is
 
 -- the node of `false` tells its error
 pub refused_tree : (q : Pointer) (t : Tree) (p : Pointer)
@@ -247,6 +215,3 @@ refused_tree q t p = refl
 pub one_pair : (s : Schema) (t : Tree) → 1 ≤ pairs s t
 one_pair (false_schema q) t = omega arith
 one_pair (schema_object q delegates ks) t = omega arith
-
-pub one_within : (s : Schema) (t : Tree) {before ctx : ℕ} → CountsUpTo before ctx 1 → CountsUpTo before ctx (pairs s t)
-one_within s t counted = record { from = counted.from; to = omega (arith, one_pair s t, counted.to) }

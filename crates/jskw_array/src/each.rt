@@ -4,13 +4,16 @@ ghost use Rattle.std.specs.Prelude.{◌≡◌};
 ghost use Rattle.jskw_array.specs.Words.{CountsUpTo, IfSome, IsTrue, CompilesTo, Refusal, Result, Schemas};
 ghost use Rattle.jskw_array.specs.Words.{drop, each_holds, each_needed, is_lawful, items, length, min, true};
 ghost use Rattle.jskw_array.specs.Words.{each_keyword, each_of, keyword_holds, map_ok, one_keyword, schemas_of};
-ghost use Rattle.jskw_array.specs.Words.{validator_keyword, PassesOverPairs, CountsBetween};
+ghost use Rattle.jskw_array.specs.Words.{validator_keyword, PassesOverPairs, CountsBetween, Pointer};
+ghost use Rattle.jskw_array.specs.Words.{evaluate_pairs, result_of, unit};
 
+use crate::evaluation::push_item;
 use crate::node::Subschema;
 use crate::prefix_items::prefix_unit;
 use crate::validator::Validator;
 use jskw_report::{
-    CompilationResult, EvaluationResult, LazyLocation, Report, Stop, Validate, ValidationContext,
+    CompilationResult, EvaluationNode, EvaluationResult, LazyLocation, Report, Stop, Validate,
+    ValidationContext,
 };
 use jskw_value::{Array, Json, Node};
 use std::alloc::{AllocError, Global};
@@ -76,6 +79,24 @@ impl<F: Json> Each<F> {
         index
     }
 
+    // Returns the unit for an instance whose items that have a schema have these nodes.
+    fn unit(
+        &self,
+        alloc: Global,
+        children: Vec<EvaluationNode>,
+        instance: &F::Node,
+    ) -> EvaluationResult
+        ensures { let t = F.Node.tree instance.now in (p : Pointer) → children.items
+            ≡ evaluate_pairs (schemas_of self.now.nodes.items) 0 (items t) p
+            → result_of result ≡ unit (each_keyword self.now) t p }
+    {
+        if self.is_prefix {
+            prefix_unit(alloc, self.nodes.len(), children, instance)
+        } else {
+            EvaluationResult::from_children(alloc, children)
+        }
+    }
+
     // Returns `is_valid` for the items from `first` on.
     #[inline(never)]
     #[cycle(is_valid)]
@@ -136,17 +157,14 @@ impl<F: Json> Validate<F> for Each<F> {
         location: &mut LazyLocation,
         ctx: &mut ValidationContext,
     ) -> Result<EvaluationResult, AllocError> {
-        let schemas = self.nodes.len();
-        let count = instance.item_count().min(schemas);
+        let count = instance.item_count().min(self.nodes.len());
         let mut children = Vec::with_capacity(alloc, count)?;
         for index in 0..count {
             let item = instance.item(index);
-            children.push(self.nodes[index].evaluate_item(alloc, index, item, location, ctx)?)?;
+            let made = self.nodes[index].evaluate_item(alloc, index, item, location, ctx);
+            push_item(made, &mut children)?;
         }
-        if !self.is_prefix {
-            return Ok(EvaluationResult::from_children(alloc, children));
-        }
-        Ok(prefix_unit(alloc, schemas, children, instance))
+        Ok(self.unit(alloc, children, instance))
     }
 }
 

@@ -13,6 +13,7 @@ pub mod additional_items;
 pub mod compiler;
 pub mod contains;
 pub mod each;
+mod evaluation;
 pub mod items;
 pub mod laws;
 pub mod matching;

@@ -6,6 +6,7 @@ ghost use Rattle.jskw_array.specs.Words.{deciding_count, failing_bound, failing_
 ghost use Rattle.jskw_array.specs.Words.{is_lawful, items, length, locations_of, matching_keyword};
 ghost use Rattle.jskw_array.specs.Words.{matching_result, needed, one_keyword, result_of, sum_by};
 
+use crate::evaluation::push_match;
 use crate::node::Subschema;
 use jskw_report::validator::report_error;
 use jskw_report::{
@@ -169,12 +170,8 @@ impl<F: Json> Validate<F> for Matching<F> {
         let mut matches = Vec::new(alloc);
         for index in 0..instance.item_count() {
             let item = instance.item(index);
-            let child = self.node.evaluate_item(alloc, index, item, location, ctx)?;
-            if !child.valid() {
-                continue;
-            }
-            children.push(child)?;
-            matches.push(index)?;
+            let made = self.node.evaluate_item(alloc, index, item, location, ctx);
+            push_match(made, index, &mut children, &mut matches)?;
         }
         self.unit(alloc, children, matches, instance, location)
     }

@@ -2,13 +2,14 @@
 ghost use Rattle.std.specs.Prelude.{◌≡◌, ◌+◌, ◌-◌, ◌≤◌, if◌then◌else◌};
 ghost use Rattle.jskw_array.specs.Words.{[], Appends, IsBeginning, CountsUpTo, HasParts, IfOk, IfSome, IsFirst};
 ghost use Rattle.jskw_array.specs.Words.{IsTrue, LeftParts, Reports, applications, boolean_schema};
-ghost use Rattle.jskw_array.specs.Words.{schemas_delegate, fail, false_schema, hands_on_required, keeps_list};
+ghost use Rattle.jskw_array.specs.Words.{schemas_delegate, fail, hands_on_required, keeps_list};
 ghost use Rattle.jskw_array.specs.Words.{holds, is_fused_schema, is_lawful, is_some, Tree, items, length};
 ghost use Rattle.jskw_array.specs.Words.{limited, meaning_holds, shape_meaning, item_location, keywords_in};
 ghost use Rattle.jskw_array.specs.Words.{keywords_of, marked, min, needed, pairs, path_of, schema_location};
 ghost use Rattle.jskw_array.specs.Words.{schema_object, ArraysAreValid, schemas_of, shape_keywords, sum_by};
 ghost use Rattle.jskw_array.specs.Words.{tree, true, PassesOver, CountsBetween, items_between};
 
+use crate::evaluation::{begin_node, end_node, evaluate_refusal};
 use crate::items::ArrayShapeValidator;
 use crate::part::{
     Part, SettledParts, evaluate_parts, parts_are_valid, quick_set_of, report_parts, settled_parts,
@@ -18,9 +19,9 @@ use crate::quick_arrays::QuickArrays;
 pub use crate::schema::SchemaNode;
 pub use crate::validator::Validator;
 use jskw_number::QuickSet;
-use jskw_report::validator::{evaluate_first, report_error};
+use jskw_report::validator::report_error;
 use jskw_report::{
-    EvaluationNode, EvaluationResult, Fault, KeywordLocation, LazyLocation, Report, Stop, Validate,
+    EvaluationNode, Fault, KeywordLocation, LazyLocation, Report, Stop, Validate,
     ValidationContext, ValidationError, ValidationErrorKind,
 };
 use jskw_value::{Json, Node};
@@ -439,11 +440,9 @@ impl<F: Json> Subschema<F> {
         let Some(parts) = self.parts() else {
             return evaluate_refusal::<F>(alloc, self.location(), instance, location);
         };
-        let path = location.render()?;
-        let mut children = Vec::with_capacity(alloc, parts.len())?;
-        evaluate_parts(alloc, parts, instance, location, &path, ctx, &mut children)?;
-        let result = EvaluationResult::from_children(alloc, children);
-        EvaluationNode::at_keyword(alloc, result, self.location(), &path)
+        let (path, mut children) = begin_node(alloc, location, parts.len())?;
+        let made = evaluate_parts(alloc, parts, instance, location, &path, ctx, &mut children);
+        end_node(alloc, made, children, self.location(), &path)
     }
 
     // Returns the evaluation tree of the item at `index` of the instance at `location`.
@@ -467,24 +466,6 @@ impl<F: Json> Subschema<F> {
         location.pop();
         answer
     }
-}
-
-// Returns the evaluation tree of the schema `false`.
-fn evaluate_refusal<'i, F: Json>(
-    alloc: Global,
-    schema_path: &'i KeywordLocation,
-    instance: &'i F::Node,
-    location: &LazyLocation,
-) -> Result<EvaluationNode, AllocError>
-    ensures { IfOk result (λ node. node ≡ tree (false_schema schema_path.now)
-        (F.Node.tree instance.now) (path_of location.now)) }
-{
-    let path = location.render()?;
-    let kind = ValidationErrorKind::FalseSchema;
-    let mut report: Report<F> = Report::First(None);
-    let reported = report_error(kind, schema_path, instance, location, &mut report);
-    let result = evaluate_first(alloc, report.first_result(reported))?;
-    EvaluationNode::at_keyword(alloc, result, schema_path, &path)
 }
 
 // Returns whether the `required` of some schema, or of a subschema of it, is delegated.

@@ -4,12 +4,13 @@ ghost use Rattle.std.specs.Prelude.{◌≡◌, ◌++◌};
 ghost use Rattle.jskw_array.specs.Words.{AreSettled, CountsUpTo, IfOk, IfSome, IsShape};
 ghost use Rattle.jskw_array.specs.Words.{IsTrue, Reports, Tree, all_applications};
 ghost use Rattle.jskw_array.specs.Words.{all_fail, keywords_delegate, all_hold, all_needed, all_pairs};
-ghost use Rattle.jskw_array.specs.Words.{in_outline, is_in};
+ghost use Rattle.jskw_array.specs.Words.{absorbed_by, in_outline, is_in};
 ghost use Rattle.jskw_array.specs.Words.{is_lawful, is_shape, is_some, keeps_list, keywords_of};
 ghost use Rattle.jskw_array.specs.Words.{meaning_applications, meaning_fail, meaning_holds, meaning_needed};
 ghost use Rattle.jskw_array.specs.Words.{own_keyword, part_delegates, part_meaning, path_of, true};
 ghost use Rattle.jskw_array.specs.Words.{units as units_of};
 
+use crate::evaluation::push_unit;
 use crate::items::ArrayShapeValidator;
 use crate::outline::Outline;
 use crate::validator::Validator;
@@ -103,6 +104,26 @@ impl<F: Json> Part<F> {
         }
     }
 
+    // Appends the evaluation nodes of the keywords that a fused shape checks beside `items`.
+    #[inline(always)]
+    fn push_absorbed(
+        &self,
+        alloc: Global,
+        instance: &F::Node,
+        path: &Location,
+        children: &mut Vec<EvaluationNode>,
+    ) -> Result<(), AllocError>
+        ensures { IfOk result (λ _. children.new.items ≡ children.old.items
+            ++ units_of (absorbed_by self.now) (F.Node.tree instance.now) path.now) }
+    {
+        match self {
+            Part::Keyword(_) => Ok(()),
+            Part::Shape(shape) => shape
+                .absorbed
+                .evaluate::<F>(alloc, instance, path, children),
+        }
+    }
+
     // Returns arrays and objects of which the part holds, whatever their items and members are.
     fn outline(&self) -> Outline
         ensures { (t : Tree) → in_outline result t ≡ true
@@ -188,15 +209,10 @@ pub(crate) fn evaluate_parts<F: Json>(
         (all_pairs (keywords_of parts.now) (F.Node.tree instance.now)) }
 {
     for part in parts {
-        match part {
-            Part::Keyword(_) => {}
-            Part::Shape(shape) => shape
-                .absorbed
-                .evaluate::<F>(alloc, instance, path, children)?,
-        }
+        part.push_absorbed(alloc, instance, path, children)?;
         let own = part.own();
-        let result = own.validator.evaluate(alloc, instance, location, ctx)?;
-        children.push(EvaluationNode::at_keyword(alloc, result, &own.location, path)?)?;
+        let made = own.validator.evaluate(alloc, instance, location, ctx);
+        push_unit(alloc, made, &own.location, path, children)?;
     }
     Ok(())
 }

@@ -1,10 +1,11 @@
 //! One schema for the items from an index on: `items` (JSON Schema Core 10.3.1.2), and
 //! `additionalItems` (Draft 7 Validation 6.4.2). A non-array has no items.
 ghost use Rattle.std.specs.Prelude.{◌≡◌, ◌-◌};
-ghost use Rattle.jskw_array.specs.Words.{CompilesTo, IfSome, IsTrue, Reading, is_lawful, items, keyword_holds};
+ghost use Rattle.jskw_array.specs.Words.{CompilesTo, IfOk, IfSome, IsTrue, Reading, is_lawful, items, keyword_holds};
 ghost use Rattle.jskw_array.specs.Words.{length, map_ok, one_keyword, rest_keyword, rest_of, true};
-ghost use Rattle.jskw_array.specs.Words.{validator_keyword};
+ghost use Rattle.jskw_array.specs.Words.{CountsUpTo, keyword_pairs, path_of, result_of, unit, validator_keyword};
 
+use crate::evaluation::push_item;
 use crate::node::Subschema;
 use crate::validator::Validator;
 use jskw_leaf::items::item_type::items_unit;
@@ -46,6 +47,27 @@ impl<F: Json> Rest<F> {
         } else {
             None
         }
+    }
+
+    // Returns the unit of `additionalItems`, which has the errors and no nodes below.
+    fn evaluate_additional(
+        &self,
+        alloc: Global,
+        instance: &F::Node,
+        location: &mut LazyLocation,
+        ctx: &mut ValidationContext,
+    ) -> Result<EvaluationResult, AllocError>
+        requires lawful { IsTrue (is_lawful (F.Node.tree instance.now)) }
+        requires additional { self.now.is_additional ≡ true }
+        ensures gives { IfOk result (λ r. result_of r
+            ≡ unit (rest_keyword self.now) (F.Node.tree instance.now) (path_of location.old)) }
+        ensures location { location.new ≡ location.old }
+        ensures counted { CountsUpTo ctx.old ctx.new
+            (keyword_pairs (rest_keyword self.now) (F.Node.tree instance.now)) }
+    {
+        let mut errors = Vec::new(alloc);
+        self.collect_errors(instance, location, ctx, &mut errors)?;
+        evaluate_errors(alloc, errors.as_slice())
     }
 }
 
@@ -91,15 +113,14 @@ impl<F: Json> Validate<F> for Rest<F> {
         ctx: &mut ValidationContext,
     ) -> Result<EvaluationResult, AllocError> {
         if self.is_additional {
-            let mut errors = Vec::new(alloc);
-            self.collect_errors(instance, location, ctx, &mut errors)?;
-            return evaluate_errors(alloc, errors.as_slice());
+            return self.evaluate_additional(alloc, instance, location, ctx);
         }
         let count = instance.item_count();
         let mut children = Vec::with_capacity(alloc, count.saturating_sub(self.start))?;
         for index in self.start..count {
             let item = instance.item(index);
-            children.push(self.node.evaluate_item(alloc, index, item, location, ctx)?)?;
+            let made = self.node.evaluate_item(alloc, index, item, location, ctx);
+            push_item(made, &mut children)?;
         }
         Ok(items_unit(alloc, self.start, children, instance))
     }

@@ -14,9 +14,11 @@ appended : {A : Type 0} (more left rest done now all : List A)
 appended more left rest done now all split is whole =
     ap (λ xs. xs ++ rest) is ∙ append_assoc done more rest ∙ ap (λ xs. done ++ xs) (sym split) ∙ whole
 
--- nothing was appended
-passed : {A : Type 0} (left rest done all : List A) → left ≡ rest → done ++ left ≡ all → done ++ rest ≡ all
-passed left rest done all same whole = ap (λ xs. done ++ xs) (sym same) ∙ whole
+-- the first of a list, if there is one
+first_if : {A : Type 0} (b : Bool) (x : A) (xs : List A)
+    → (if b then x ∷ xs else xs) ≡ (if b then x ∷ [] else []) ++ xs
+first_if true x xs = refl
+first_if false x xs = refl
 
 -- nothing is left
 pub gathered_all : {A : Type 0} (left done all : List A) → left ≡ [] → done ++ left ≡ all → done ≡ all
@@ -39,43 +41,28 @@ module _ (ts : List Tree) (i : ℕ) (t : Tree) (within : i < length ts) (is : t 
       ap (g i) (drop_here ts i t within is) ∙ step (drop (i + 1) ts)
       ∙ ap (λ j. before (g j (drop (i + 1) ts))) (omega arith)
 
-  -- and where it gives x of an item that matches
-  at_matching : {A : Type 0} (g : ℕ → List Tree → List A) (x : A) (matches b : Bool)
-      → ((us : List Tree) → g i (t ∷ us) ≡ (if matches then x ∷ g (suc i) us else g (suc i) us)) → matches ≡ b
-      → g i (drop i ts) ≡ (if b then x ∷ g (i + 1) (drop (i + 1) ts) else g (i + 1) (drop (i + 1) ts))
-  at_matching g x matches b step e =
+  -- where it gives x of the item if that matches, and so much was gathered
+  at_matching : {A : Type 0} (g : ℕ → List Tree → List A) (x : A) (matches : Bool)
+      → ((us : List Tree) → g i (t ∷ us) ≡ (if matches then x ∷ g (suc i) us else g (suc i) us))
+      → (done now all : List A) → now ≡ done ++ (if matches then x ∷ [] else [])
+      → done ++ g i (drop i ts) ≡ all → now ++ g (i + 1) (drop (i + 1) ts) ≡ all
+  at_matching g x matches step done now all is whole =
       let rest = g (i + 1) (drop (i + 1) ts) in
-      at g (λ xs. if matches then x ∷ xs else xs) step ∙ ap (λ c. if c then x ∷ rest else rest) e
+      appended (if matches then x ∷ [] else []) _ rest done now all
+      (at g (λ xs. if matches then x ∷ xs else xs) step ∙ first_if matches x rest) is whole
 
   -- the nodes of the items that match
-  module _ (m : Tree → Bool) (f : Tree → Pointer → Evaluation) (p : Pointer) where
-    at_node : (b : Bool) → m t ≡ b → evaluate_matching m f i (drop i ts) p
-        ≡ (if b then f t (item_location p i) ∷ evaluate_matching m f (i + 1) (drop (i + 1) ts) p
-        else evaluate_matching m f (i + 1) (drop (i + 1) ts) p)
-    at_node b e = at_matching (λ j us. evaluate_matching m f j us p) (f t (item_location p i)) (m t) b (λ us. refl) e
-
-    pub node_passed : m t ≡ false → (done all : List Evaluation) → done ++ evaluate_matching m f i (drop i ts) p ≡ all
-        → done ++ evaluate_matching m f (i + 1) (drop (i + 1) ts) p ≡ all
-    node_passed e done all = passed _ _ done all (at_node false e)
-
-    pub node_taken : m t ≡ true → (done now all : List Evaluation) → now ≡ done ++ f t (item_location p i) ∷ []
-        → done ++ evaluate_matching m f i (drop i ts) p ≡ all
-        → now ++ evaluate_matching m f (i + 1) (drop (i + 1) ts) p ≡ all
-    node_taken e done now all = appended (f t (item_location p i) ∷ []) _ _ done now all (at_node true e)
+  pub node_met : (m : Tree → Bool) (f : Tree → Pointer → Evaluation) (p : Pointer) (done now all : List Evaluation)
+      → now ≡ done ++ (if m t then f t (item_location p i) ∷ [] else [])
+      → done ++ evaluate_matching m f i (drop i ts) p ≡ all
+      → now ++ evaluate_matching m f (i + 1) (drop (i + 1) ts) p ≡ all
+  node_met m f p =
+      at_matching (λ j us. evaluate_matching m f j us p) (f t (item_location p i)) (m t) (λ us. refl)
 
   -- the indices of the items that match
-  module _ (m : Tree → Bool) where
-    at_index : (b : Bool) → m t ≡ b → matching_indices m i (drop i ts)
-        ≡ (if b then i ∷ matching_indices m (i + 1) (drop (i + 1) ts) else matching_indices m (i + 1) (drop (i + 1) ts))
-    at_index b e = at_matching (matching_indices m) i (m t) b (λ us. refl) e
-
-    pub index_passed : m t ≡ false → (done all : List ℕ) → done ++ matching_indices m i (drop i ts) ≡ all
-        → done ++ matching_indices m (i + 1) (drop (i + 1) ts) ≡ all
-    index_passed e done all = passed _ _ done all (at_index false e)
-
-    pub index_taken : m t ≡ true → (done now all : List ℕ) → now ≡ done ++ i ∷ []
-        → done ++ matching_indices m i (drop i ts) ≡ all → now ++ matching_indices m (i + 1) (drop (i + 1) ts) ≡ all
-    index_taken e done now all = appended (i ∷ []) _ _ done now all (at_index true e)
+  pub index_met : (m : Tree → Bool) (done now all : List ℕ) → now ≡ done ++ (if m t then i ∷ [] else [])
+      → done ++ matching_indices m i (drop i ts) ≡ all → now ++ matching_indices m (i + 1) (drop (i + 1) ts) ≡ all
+  index_met m = at_matching (matching_indices m) i (m t) (λ us. refl)
 
 -- ---- at the end
 

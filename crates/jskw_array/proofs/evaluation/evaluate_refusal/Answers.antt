@@ -1,7 +1,7 @@
 use Rattle.std.proofs.Common.{◌≡◌, ◌∙◌, ap₂, subst, IfOk, arith}
 use Rattle.jskw_array.specs.Words.{fail, false_schema, node_at, path_of}
 use Rattle.jskw_array.proofs.WalksOverParts.{refused_tree}
-use Rattle.jskw_array.proofs.node.evaluate_refusal.Goals as goal
+use Rattle.jskw_array.proofs.evaluation.evaluate_refusal.Goals as goal
 
 pub returns : goal.returns
 returns g c =
