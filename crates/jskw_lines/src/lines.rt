@@ -16,6 +16,7 @@ pub type Made<T> = Result<T, AllocError>;
 pub struct Text(String, bool);
 
 impl Text {
+    /// Returns an empty text.
     pub fn new(alloc: Global) -> Text {
         Text(String::new(alloc), false)
     }
@@ -28,26 +29,31 @@ impl Text {
         }
     }
 
+    /// Appends a text.
     pub fn push(&mut self, part: &str) {
         self.1 |= self.0.push_str(part).is_err();
     }
 
+    /// Appends a text if this is so.
     pub fn push_if(&mut self, is_so: bool, part: &str) {
         if is_so {
             self.push(part);
         }
     }
 
+    /// Replaces the text, and forgets that memory ran out.
     pub fn set(&mut self, text: &str) {
         self.0.clear();
         self.1 = false;
         self.push(text);
     }
 
+    /// What `write!` calls.
     pub fn write_fmt<D: Display + Drop>(&mut self, part: D) {
         self.1 |= self.0.write_fmt(part).is_err();
     }
 
+    /// Appends a node as JSON.
     pub fn push_json<N: Node>(&mut self, node: &N) {
         self.1 |= node.write_json(&mut self.0).is_err();
     }
@@ -135,6 +141,7 @@ impl Lines {
         }
     }
 
+    /// Appends the lines of errors, and notes whether memory ran out as they were collected.
     pub fn push_errors<F: Json>(&mut self, made: Made<()>, errors: &[ValidationError<F>]) {
         self.text.keep(made);
         for error in errors {

@@ -6,6 +6,7 @@ use jskw_value::{Decimal, DecimalJson, DecimalTree, Json, Member, Node};
 use serde_json::{Index, Map, Value};
 use std::alloc::Global;
 
+/// The members of an object.
 pub type Members = Map<String, Value>;
 
 /// Tells unless a value is an object with the members of these words: a name, one of several names
@@ -33,6 +34,7 @@ fn check_word(tally: &mut Tally, value: &Value, word: &str) -> usize {
     found
 }
 
+/// Whether a value has a member of this name.
 pub fn has(of: &Value, name: &str) -> bool {
     of.get(name).is_some()
 }
@@ -73,6 +75,7 @@ pub fn push_lines(to: &mut Text, of: &Value, name: &'static str) {
 /// required name is looked up, with the greatest all names are walked for.
 pub struct Keys<const N: usize>;
 
+/// Those whose required names are found by walks alone.
 pub type AllKeys = Keys<0xffff_ffff_ffff_ffff>;
 
 impl<const N: usize> Json for Keys<N> {

@@ -65,6 +65,7 @@ impl Printer<'_> {
         self.lines.described.set("");
     }
 
+    /// Appends a node as JSON, in a line.
     pub fn push_node<N: Node>(&mut self, node: &N) {
         self.lines.text.push_json(node);
         self.lines.text.push("\n");

@@ -13,7 +13,7 @@ use jskw_value::{
 use serde_json::Value;
 use std::alloc::{AllocError, Global};
 
-// The location of steps, and whether it is equal to that of others, as a copy of it is.
+/// The location of steps, and whether it is equal to that of others, as a copy of it is.
 pub fn push_locations(lines: &mut Lines, case: &Value) {
     let left = joined(lines.alloc, items(case, 0));
     let right = joined(lines.alloc, items(case, 1));
@@ -37,7 +37,7 @@ fn joined(alloc: Global, steps: &[Value]) -> Made<Location> {
     Ok(location)
 }
 
-// The location of numbers, which are pushed, and texts, each of which pops one.
+/// The location of numbers, which are pushed, and texts, each of which pops one.
 pub fn push_stack(lines: &mut Lines, steps: &[Value]) {
     let mut location = LazyLocation::new(lines.alloc);
     for step in steps {
@@ -51,7 +51,7 @@ pub fn push_stack(lines: &mut Lines, steps: &[Value]) {
     }
 }
 
-// The messages of errors about null: a limit, options that are no array, sets of one type and of all.
+/// The messages of errors about null: a limit, options that are no array, sets of one type and of all.
 pub fn push_messages(lines: &mut Lines, options: &Value) {
     let mut all = JsonTypeSet::empty();
     for (_, json_type) in &TYPES {
@@ -72,7 +72,7 @@ pub fn push_messages(lines: &mut Lines, options: &Value) {
     }
 }
 
-// Whether a lack of memory is a fault of its own; constants of representations and nullabilities.
+/// Whether a lack of memory is a fault of its own; constants of representations and nullabilities.
 pub fn push_constants(lines: &mut Lines) {
     let is_fault = matches!(Fault::<SerdeJson>::from(AllocError), Fault::Memory(_));
     let is_compile_fault = matches!(CompileFault::from(AllocError), CompileFault::Memory(_));
@@ -82,7 +82,7 @@ pub fn push_constants(lines: &mut Lines) {
     write!(lines.text, ", {serde} {decimals}, {with_null} {without}");
 }
 
-// The lines of a node that is made by hand; and the counts of a context from 0 on.
+/// The lines of a node that is made by hand; and the counts of a context from 0 on.
 pub fn push_unit(lines: &mut Lines) {
     lines.push_described(&node_by_hand(lines.alloc));
     let mut ctx = ValidationContext::new();

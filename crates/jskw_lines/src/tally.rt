@@ -28,6 +28,7 @@ pub struct Tally {
 }
 
 impl Tally {
+    /// Nothing was asked so far.
     pub fn new(alloc: Global) -> Tally {
         Tally {
             alloc,
@@ -44,12 +45,14 @@ impl Tally {
         }
     }
 
+    /// Begins a file: what is to be printed is emptied.
     pub fn begin_file(&mut self, name: &str) {
         self.group.set(name);
         self.end_tests();
         self.told.set("");
     }
 
+    /// Begins a group of a file.
     pub fn begin_group(&mut self, file: &str, name: &str) {
         self.group.set(file);
         write!(self.group, ": {name}");

@@ -37,7 +37,7 @@ pub fn ask(to: &mut Printer, arguments: &[Value]) {
     to.lines.text.push(text.as_str());
 }
 
-// The coefficient and the scale of the decimal that is made of them, if there is one.
+/// The coefficient and the scale of the decimal that is made of them, if there is one.
 pub fn push_new(lines: &mut Lines, case: &Value) {
     let (Ok(coefficient), Ok(scale)) = (text(case, 0).parse(), number(case, 1).try_into()) else {
         return lines.text.push("no integers");
@@ -48,7 +48,7 @@ pub fn push_new(lines: &mut Lines, case: &Value) {
     }
 }
 
-// What a decimal says of itself, against a whole number, and of another one.
+/// What a decimal says of itself, against a whole number, and of another one.
 pub fn push_decimal(lines: &mut Lines, case: &Value) {
     let decimal = decimal_of(lines.alloc, text(case, 0));
     let other = decimal_of(lines.alloc, text(case, 2));
@@ -71,7 +71,7 @@ pub fn push_decimal(lines: &mut Lines, case: &Value) {
     write!(lines.text, ", {is_equal} {equals}");
 }
 
-// The text of a tree behind another text, and whether it is equal to a value.
+/// The text of a tree behind another text, and whether it is equal to a value.
 pub fn push_equality(lines: &mut Lines, case: &Value) {
     let tree = tree(lines.alloc, case, 0);
     lines.text.push("old ");
@@ -79,7 +79,7 @@ pub fn push_equality(lines: &mut Lines, case: &Value) {
     write!(lines.text, " {}", tree.equals_value(value(case, 1)));
 }
 
-// The members of an object by names, and as the walks over it give them.
+/// The members of an object by names, and as the walks over it give them.
 pub fn push_object(lines: &mut Lines, case: &Value) {
     let object = value(case, 0);
     if let Ok(Some(DecimalTree::Object(members))) = &DecimalTree::from_value(lines.alloc, object) {
@@ -108,7 +108,7 @@ fn push_walk(text: &mut Text, members: Walk<Value>) {
     }
 }
 
-// For each name, how it stands to each: `=` if it matches it, `~` if their heads alone are equal.
+/// For each name, how it stands to each: `=` if it matches it, `~` if their heads alone are equal.
 pub fn push_names(lines: &mut Lines, names: &[Value]) {
     for name in names {
         let name = PropertyName::new(lines.alloc, name.as_str().unwrap_or(""));
@@ -131,7 +131,7 @@ fn sign_of(name: &PropertyName, other: &str) -> &'static str {
     }
 }
 
-// How many items of a made array are like the first under seeds, and whether another has another seed.
+/// How many items of a made array are like the first under seeds, and whether another has another seed.
 pub fn push_prints(lines: &mut Lines, case: &Value) {
     equal_values_have_one_fingerprint();
     let array = array_of(lines.alloc, value(case, 0));
