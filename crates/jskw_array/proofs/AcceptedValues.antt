@@ -29,12 +29,7 @@ about_arrays (validator.Leaf x) h = absurd (h x refl)
 about_arrays (validator.Each v) h = each_about v
 about_arrays (validator.Rest v) h = rest_about v
 about_arrays (validator.Matching v) h = refl
-about_arrays (validator.ItemsNumber v) h = refl
-about_arrays (validator.ItemsString v) h = refl
-about_arrays (validator.ItemsBoolean v) h = refl
-about_arrays (validator.ItemsInteger v) h = refl
-about_arrays (validator.ItemsIntegerDraft4 v) h = refl
-about_arrays (validator.AdditionalItemsBoolean v) h = refl
+about_arrays (validator.Bare v) h = refl
 
 -- ---- the values that all units accept
 

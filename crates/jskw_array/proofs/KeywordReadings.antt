@@ -1,13 +1,13 @@
 -- What is read of the keywords with subschemas, by the forms of their values.
-use Rattle.std.proofs.Common.{◌≡◌, ℕ, Bool, true, false, not, ◌&&◌, if◌then◌else◌, Option, Some, None, Ok, refl, ap}
+use Rattle.std.proofs.Common.{◌≡◌, ℕ, Bool, true, false, Option, Some, None, Ok, refl, ap}
 use Rattle.std.proofs.Common.{◌∙◌, rules}
 use Rattle.jskw_array.specs.Words.{Array, Bounds, CompilePoint, Data, Items, KeywordName, Members, Pointer, Setting}
 use Rattle.jskw_array.specs.Words.{additional_items, additional_keyword, array, as_array, as_bool, asserted, assertion}
-use Rattle.jskw_array.specs.Words.{asserts, at_most, boolean, boolean_schema, contains, get_member, is_2020_12, is_bare}
-use Rattle.jskw_array.specs.Words.{is_items_schema, is_leaf, is_list as is_array, is_only_type, item_count, items_from}
-use Rattle.jskw_array.specs.Words.{items_len, items_list, items_start, join_ok, keyword_location, member_passes}
+use Rattle.jskw_array.specs.Words.{asserts, at_most, boolean, boolean_schema, contains, get_member, is_bare}
+use Rattle.jskw_array.specs.Words.{is_items_schema, is_leaf, items_from}
+use Rattle.jskw_array.specs.Words.{items_len, items_list, items_start, join_ok, keyword_location}
 use Rattle.jskw_array.specs.Words.{name_of, object, of_type, option_map_or, readings, prefix_items, read, read_bounds}
-use Rattle.jskw_array.specs.Words.{read_each, keyword_reading, array_schema_count, is_active, view, wrong}
+use Rattle.jskw_array.specs.Words.{read_each, keyword_reading, array_schema_count, view, wrong}
 use Rattle.serde_json.specs.declared.value.Value.{the_lemmas}
 use Rattle.serde_json.specs.declared.value.Value.TheVariants as value
 use Rattle.jskw_report.specs.declared.keyword.KeywordName.TheVariants as keyword_name
@@ -45,36 +45,6 @@ items_of_one point ms (object ns) h = refl
 items_of_one point ms (boolean false) h = refl
 items_of_one point ms (boolean true) h = cc
 items_of_one point ms _ h = cc
-
-start_of : (b : Bool) (o : Option Data) → not (b && option_map_or is_array o false) ≡ true
-    → (if b then option_map_or item_count o 0 else 0) ≡ 0
-start_of false o h = refl
-start_of true None h = refl
-start_of true (Some (array ds)) h = cc
-start_of true (Some _) h = refl
-
--- a bare type check begins at the first item
-module _ (s : Setting) (ms : Members) (d : Data) (bare : is_bare s ms d ≡ true) where
-  both : (a b c : Bool) → (a && b && c) ≡ true → (a ≡ true) × (b ≡ true) × (c ≡ true)
-  both true true true e = (refl, refl, refl)
-  both true true false e = cc
-  both true false c e = cc
-  both false b c e = cc
-
-  parts : (is_only_type d ≡ true) × (is_active s keyword_name.TypeKeyword ≡ true)
-      × (not (is_2020_12 s.draft && member_passes is_array (name_of keyword_name.PrefixItems) ms) ≡ true)
-  parts =
-      both (is_only_type d) (is_active s keyword_name.TypeKeyword)
-      (not (is_2020_12 s.draft && member_passes is_array (name_of keyword_name.PrefixItems) ms)) bare
-
-  pub bare_is_type : is_only_type d ≡ true
-  bare_is_type = parts.0
-
-  pub bare_stands : is_active s keyword_name.TypeKeyword ≡ true
-  bare_stands = parts.1
-
-  pub bare_start : items_start s ms ≡ 0
-  bare_start = start_of (is_2020_12 s.draft) (get_member (name_of keyword_name.PrefixItems) ms) parts.2
 
 -- ---- `prefixItems`
 

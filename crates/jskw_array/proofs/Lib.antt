@@ -1,6 +1,4 @@
 pub mod AcceptedValues
-pub mod BareReading
-pub mod BareTypes
 pub mod CompiledKeywords
 pub mod CompiledSchemas
 pub mod Depths

@@ -1,38 +1,20 @@
--- Units that are known to hold, and those that are left behind them.
+-- Parts that are known to hold, and those that are left behind them.
 use Rattle.std.proofs.Common.{◌≡◌, ℕ, zero, suc, ◌+◌, ◌<◌, ◌≤◌, List, [], ◌∷◌, ◌++◌, length, get_or, take, drop, Bool}
 use Rattle.std.proofs.Common.{true, false, ◌&&◌, if◌then◌else◌, refl, sym, subst, ap, ap₂, ◌∙◌, arith, Global, Vec}
-use Rattle.std.proofs.lemmas.Bool.{and_parts, true≢false}
-use Rattle.jskw_value.specs.Tree.{Items, Members, array, object}
-use Rattle.jskw_number.specs.declared.quick_set.QuickSet.{QuickSet}
+use Rattle.std.proofs.lemmas.Bool.{and_parts}
 use Rattle.jskw_array.specs.Words.{AreSettled, CountsUpTo, IsLeft, Pointer, Schema, Part, Tree, all_applications}
 use Rattle.jskw_array.specs.Words.{all_fail, all_height}
 use Rattle.jskw_array.specs.Words.{all_hold, all_needed, all_pairs, applications, fail, height, holds, in_outline}
-use Rattle.jskw_array.specs.Words.{is_in, keywords_of, marked, meaning_holds, meaning_needed, schema_object}
+use Rattle.jskw_array.specs.Words.{keywords_of, marked, meaning_holds, meaning_needed, schema_object}
 use Rattle.jskw_array.specs.Words.{part_meaning, schema_of}
 use Rattle.jskw_array.specs.Node.{SchemaSettles}
 use Rattle.jskw_array.specs.declared.node.Assertions.{Assertions}
 use Rattle.jskw_array.specs.declared.node.Assertions.TheVariants.{Keywords}
 use Rattle.jskw_array.specs.declared.part.SettledParts.{SettledParts}
-use Rattle.jskw_array.specs.declared.outline.Outline.{Outline}
+use Rattle.jskw_number.specs.declared.outline.Outline.{Outline}
 use Rattle.jskw_report.proofs.HoldsIsNoFailure.{no_element}
 use Rattle.jskw_array.proofs.WalksOverParts.{first_fails, first_height, first_holds, first_meets, first_needs}
 use Rattle.jskw_array.proofs.WalksOverParts.{part_empty, part_tall}
-
--- ---- the arrays and objects of a set
-
-pub outline_with_arrays : (o : Outline) (q : QuickSet) → ((ts : Items) → is_in q (array ts) ≡ true)
-    → ((ms : Members) → is_in q (object ms) ≡ o.objects)
-    → (t : Tree) → in_outline o t ≡ true → is_in q t ≡ true
-outline_with_arrays o q arrays objects (array ts) h = arrays ts
-outline_with_arrays o q arrays objects (object ms) h = objects ms ∙ h
-outline_with_arrays o q arrays objects t h = cc
-
-pub outline_without_arrays : (o : Outline) (q : QuickSet) → ((ts : Items) → in_outline o (array ts) ≡ false)
-    → ((ms : Members) → is_in q (object ms) ≡ o.objects)
-    → (t : Tree) → in_outline o t ≡ true → is_in q t ≡ true
-outline_without_arrays o q none objects (array ts) h = absurd (true≢false (sym h ∙ none ts))
-outline_without_arrays o q none objects (object ms) h = objects ms ∙ h
-outline_without_arrays o q none objects t h = cc
 
 module _ {F Node Number Key : Type 0} where
   -- ---- the first units

@@ -6,7 +6,7 @@ use Rattle.std.proofs.lemmas.Bool.{and_parts}
 use Rattle.std.proofs.lemmas.List.{length-drop}
 use Rattle.std.proofs.lemmas.List.Sums.{sum_by-cons}
 use Rattle.jskw_report.proofs.AppendedKeywords.{hold_appended}
-use Rattle.jskw_leaf.specs.declared.items.absorbed.AbsorbedKeywords.{AbsorbedKeywords}
+use Rattle.jskw_leaf.specs.declared.in_place.absorbed.AbsorbedKeywords.{AbsorbedKeywords}
 use Rattle.jskw_array.specs.Words.{AddsKeywords, ArraysAreValid, AreSettled, IfSome, Pointer, marked, schema_object}
 use Rattle.jskw_array.specs.Words.{absorbed_hold, front_holds, ArrayShapeValidator, Each, Keyword, Part, Rest, Schema}
 use Rattle.jskw_array.specs.Words.{Tree, absorbed_keywords, all_hold, all_needed, arrays_cost, each_holds, each_keyword}
@@ -14,7 +14,7 @@ use Rattle.jskw_array.specs.Words.{each_needed, front_cost, holds, in_arrays, in
 use Rattle.jskw_array.specs.Words.{keyword_holds, keyword_needed, keywords_of, list_all, meaning_holds, meaning_needed}
 use Rattle.jskw_array.specs.Words.{needed, part_meaning, rest_cost, rest_holds, rest_keyword, schemas_of, shape_meaning}
 use Rattle.jskw_array.specs.Words.{sum_to_failure, validator_keyword}
-use Rattle.jskw_array.specs.declared.outline.Outline.{Outline}
+use Rattle.jskw_number.specs.declared.outline.Outline.{Outline}
 use Rattle.jskw_array.specs.declared.quick_arrays.QuickArrays.{QuickArrays}
 use Rattle.jskw_array.specs.declared.part.SettledParts.{SettledParts}
 use Rattle.jskw_array.proofs.AcceptedValues.{one_needed}

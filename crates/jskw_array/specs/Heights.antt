@@ -56,12 +56,7 @@ module _ {F Node Number Key : Type 0} (r : rooted.Ghosts Node) (o : object.Ghost
   keyword_falls (validator.Each v) = omega (arith, each_falls v.nodes.items, each_is_as_high v)
   keyword_falls (validator.Rest v) = omega (arith, rest_is_as_high v)
   keyword_falls (validator.Matching v) = omega arith
-  keyword_falls (validator.ItemsNumber v) = omega arith
-  keyword_falls (validator.ItemsString v) = omega arith
-  keyword_falls (validator.ItemsBoolean v) = omega arith
-  keyword_falls (validator.ItemsInteger v) = omega arith
-  keyword_falls (validator.ItemsIntegerDraft4 v) = omega arith
-  keyword_falls (validator.AdditionalItemsBoolean v) = omega arith
+  keyword_falls (validator.Bare v) = omega arith
 
   shape_falls : (v : ArrayShapeValidator F Node Number Key)
       → deep-ArrayShapeValidator F Node Number Key r o j v ≤ all_height (shape_keywords v) + 1

@@ -3,7 +3,6 @@ pub mod Meaning
 pub mod Parts
 pub mod Fused
 pub mod Node
-pub mod Outline
 pub mod QuickArrays
 pub mod Passed
 pub mod Heights

@@ -1,13 +1,10 @@
 -- What each validator stands for. A node is seen as the schema that it stands for.
 use Rattle.std.specs.Prelude.{ℕ, List, [], ◌∷◌, Bool, Box, false, if◌then◌else◌, unwrap_or}
 use Rattle.std.specs.declared.alloc.Global.{Global}
-use Rattle.jskw_value.specs.declared.types.JsonType.TheVariants as json_type
-use Rattle.jskw_report.specs.Keyword.{Schema, Keyword, additional_items, at_most, contains, items_list, items_from}
-use Rattle.jskw_report.specs.Keyword.{prefix_items, Schemas, no_schemas, schema, Bounds, by_value, as_written}
-use Rattle.jskw_report.specs.Meaning.{LocatedAssertion, as_keyword}
-use Rattle.jskw_leaf.specs.Items.{items_type}
+use Rattle.jskw_report.specs.Keyword.{Schema, Keyword, additional_items, contains, items_list, items_from}
+use Rattle.jskw_report.specs.Keyword.{prefix_items, Schemas, no_schemas, schema, Bounds}
+use Rattle.jskw_leaf.specs.Items.{bare_keyword}
 use Rattle.jskw_leaf.specs.Meaning.{leaf_keyword}
-use Rattle.jskw_array.specs.declared.additional_items.AdditionalItemsBooleanValidator.{AdditionalItemsBooleanValidator}
 use Rattle.jskw_array.specs.declared.each.Each.{Each}
 use Rattle.jskw_array.specs.declared.matching.ItemBounds.{ItemBounds}
 use Rattle.jskw_array.specs.declared.matching.Matching.{Matching}
@@ -37,9 +34,6 @@ each_of is_prefix ss = if is_prefix then prefix_items ss else items_list ss
 abbrev pub rest_of : Bool → ℕ → Schema → Keyword
 rest_of is_additional n s = if is_additional then additional_items n s else items_from n s false
 
-abbrev pub no_additional_items : AdditionalItemsBooleanValidator → LocatedAssertion
-no_additional_items v = record { location = v.location; assertion = at_most v.items_count }
-
 module _ {F Node Number Key : Type 0} where
   abbrev pub each_keyword : Each F Node Number Key → Keyword
   each_keyword v = each_of v.is_prefix (schemas_of v.nodes.items)
@@ -57,9 +51,4 @@ module _ {F Node Number Key : Type 0} where
   validator_keyword (validator.Each v) = each_keyword v
   validator_keyword (validator.Rest v) = rest_keyword v
   validator_keyword (validator.Matching v) = matching_keyword v
-  validator_keyword (validator.ItemsNumber v) = items_type json_type.Number by_value v
-  validator_keyword (validator.ItemsString v) = items_type json_type.String by_value v
-  validator_keyword (validator.ItemsBoolean v) = items_type json_type.Boolean by_value v
-  validator_keyword (validator.ItemsInteger v) = items_type json_type.Integer by_value v
-  validator_keyword (validator.ItemsIntegerDraft4 v) = items_type json_type.Integer as_written v
-  validator_keyword (validator.AdditionalItemsBoolean v) = as_keyword (no_additional_items v)
+  validator_keyword (validator.Bare v) = bare_keyword v

@@ -10,7 +10,7 @@ use Rattle.jskw_report.specs.Keyword.{Schema, false_schema, schema_location, sch
 use Rattle.jskw_report.specs.Keyword.{no_keywords}
 use Rattle.jskw_number.specs.QuickSet.{is_in}
 use Rattle.jskw_number.specs.declared.quick_set.QuickSet.{QuickSet}
-use Rattle.jskw_array.specs.Outline.{in_outline}
+use Rattle.jskw_number.specs.Outline.{in_outline}
 use Rattle.jskw_array.specs.Parts.{begin_fused, keywords_of}
 use Rattle.jskw_array.specs.declared.node.Assertions.{Assertions}
 use Rattle.jskw_array.specs.declared.node.Assertions.TheVariants.{Never, Keywords}

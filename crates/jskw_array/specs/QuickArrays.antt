@@ -6,9 +6,9 @@ use Rattle.jskw_report.specs.Applications.{needed}
 use Rattle.jskw_report.specs.Holds.{all_hold, holds, keyword_holds}
 use Rattle.jskw_report.specs.Keyword.{Schema}
 use Rattle.jskw_leaf.specs.Items.{absorbed_keywords}
-use Rattle.jskw_leaf.specs.declared.items.absorbed.AbsorbedKeywords.{AbsorbedKeywords}
+use Rattle.jskw_leaf.specs.declared.in_place.absorbed.AbsorbedKeywords.{AbsorbedKeywords}
 use Rattle.jskw_array.specs.Meaning.{each_keyword, rest_keyword}
-use Rattle.jskw_array.specs.Outline.{in_outline}
+use Rattle.jskw_number.specs.Outline.{in_outline}
 use Rattle.jskw_array.specs.declared.each.Each.{Each}
 use Rattle.jskw_array.specs.declared.quick_arrays.QuickArrays.{QuickArrays}
 use Rattle.jskw_array.specs.declared.rest.Rest.{Rest}

@@ -57,19 +57,19 @@ pub use Rattle.jskw_report.specs.Observe.{Appends, CountsUpTo, IsFirst, Reports,
 pub use Rattle.jskw_report.specs.Errors.{failures_of}
 pub use Rattle.jskw_report.specs.EvaluationParts.{annotation_of}
 pub use Rattle.jskw_report.specs.EvaluationView.{result_of}
+pub use Rattle.jskw_number.specs.Outline.{AcceptsOutline, in_outline}
 pub use Rattle.jskw_number.specs.QuickSet.{Accepts, is_in}
-pub use Rattle.jskw_leaf.specs.Items.{absorbed_keywords, bare_items, bare_schema}
+pub use Rattle.jskw_leaf.specs.Items.{absorbed_keywords, bare_keyword}
 pub use Rattle.jskw_leaf.specs.Meaning.{leaf_keyword, type_at}
 pub use Rattle.jskw_leaf.specs.Names.{is_leaf}
 -- the same of this crate
 pub use Rattle.jskw_array.specs.Meaning.{bounds_of, boxed_bounds, each_keyword, each_of, matching_keyword}
-pub use Rattle.jskw_array.specs.Meaning.{no_additional_items, rest_keyword, rest_of, schemas_of, validator_keyword}
+pub use Rattle.jskw_array.specs.Meaning.{rest_keyword, rest_of, schemas_of, validator_keyword}
 pub use Rattle.jskw_array.specs.Limits.{deciding_count, failing_locations, locations_of, matching_result}
 pub use Rattle.jskw_array.specs.Fused.{IsBeginning, fused_keywords, shape_keywords, shape_meaning}
 pub use Rattle.jskw_array.specs.Parts.{IsShape, absorbed_by, after, begin_fused, is_shape, keywords_of, part_delegates}
 pub use Rattle.jskw_array.specs.Parts.{keywords_read, own_keyword, part_meaning}
 pub use Rattle.jskw_array.specs.Node.{AreSettled, HasParts, IsLeft, LeftParts, boolean_schema, marked, schema_of}
-pub use Rattle.jskw_array.specs.Outline.{in_outline}
 pub use Rattle.jskw_array.specs.QuickArrays.{AddsKeywords, AreTuples, ArraysAreValid, absorbed_hold, arrays_cost}
 pub use Rattle.jskw_array.specs.QuickArrays.{front_cost, front_holds, in_arrays, rest_cost, rest_holds}
 pub use Rattle.jskw_array.specs.Passed.{CountsBetween, PassesOver, PassesOverPairs, items_between}

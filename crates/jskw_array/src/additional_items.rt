@@ -1,51 +1,19 @@
 //! `additionalItems` (Draft 7 Validation 6.4.2): the schema of the items for which `items` has no
 //! schema.
-ghost use Rattle.jskw_array.specs.Words.{AdditionalItems, CompilesKeyword, Ok, assertion, at_most};
-ghost use Rattle.jskw_array.specs.Words.{keyword_location, members_view, no_additional_items};
-ghost use Rattle.jskw_array.specs.Words.{keyword_reading, refl, validator_keyword, view};
+ghost use Rattle.jskw_array.specs.Words.{CompilesKeyword, Ok, assertion, at_most, keyword_location};
+ghost use Rattle.jskw_array.specs.Words.{keyword_reading, members_view, validator_keyword, view};
 
 use crate::compiler::compile_at;
 use crate::compiler::members::schema_count;
 use crate::rest::of_schema;
 pub use crate::upstream::AdditionalItemsObjectValidator;
 use crate::validator::Validator;
-use jskw_report::{
-    Assertion, CompilationResult, CompileFault, Context, KeywordLocation, KeywordName,
-    ValidationErrorKind,
-};
-use jskw_value::{Json, Node};
+use jskw_leaf::LeafValidator;
+pub use jskw_leaf::in_place::AdditionalItemsBooleanValidator;
+use jskw_report::{CompilationResult, CompileFault, Context, KeywordName};
+use jskw_value::Json;
 use serde_json::{Map, Value};
 use std::alloc::Global;
-
-/// The validator of `additionalItems` of `false`. It accepts an array with no more items than
-/// `items` has schemas, and every non-array.
-#[derive(Debug, Drop)]
-pub struct AdditionalItemsBooleanValidator {
-    pub(crate) items_count: usize,
-    pub(crate) location: KeywordLocation,
-}
-
-impl Assertion for AdditionalItemsBooleanValidator {
-    ghost asserts = { no_additional_items };
-
-    ghost error = { λ v. AdditionalItems v.items_count };
-
-    ghost fails_once = { λ _ _. refl };
-
-    fn holds<F: Json>(&self, instance: &F::Node) -> bool {
-        instance.item_count() <= self.items_count
-    }
-
-    fn kind(&self) -> ValidationErrorKind<'_> {
-        ValidationErrorKind::AdditionalItems {
-            limit: self.items_count,
-        }
-    }
-
-    fn location(&self) -> &KeywordLocation {
-        &self.location
-    }
-}
 
 /// Compiles `additionalItems`, whose value is a schema for the items behind those that `items` has
 /// schemas for. Returns `None` if it asserts nothing: if `items` of `parent` is not an array (the
@@ -89,13 +57,10 @@ fn no_more<'a, F: Json>(
     ensures { CompilesKeyword validator_keyword result (Some (Ok (assertion
         (keyword_location ctx.now.location KeywordName.AdditionalItems) (at_most items_count)))) }
 {
-    match ctx.keyword_location(alloc, KeywordName::AdditionalItems) {
-        Ok(location) => Some(Ok(Validator::AdditionalItemsBoolean(
-            AdditionalItemsBooleanValidator {
-                items_count,
-                location,
-            },
-        ))),
-        Err(error) => Some(Err(CompileFault::Memory(error))),
-    }
+    let location = match ctx.keyword_location(alloc, KeywordName::AdditionalItems) {
+        Ok(location) => location,
+        Err(error) => return Some(Err(CompileFault::Memory(error))),
+    };
+    let validator = AdditionalItemsBooleanValidator::new(items_count, location);
+    Some(Ok(Validator::Leaf(LeafValidator::AdditionalItems(validator))))
 }

@@ -5,7 +5,7 @@ ghost use Rattle.jskw_array.specs.Words.{CountsUpTo, IfSome, IsTrue, CompilesTo,
 ghost use Rattle.jskw_array.specs.Words.{drop, each_holds, each_needed, is_lawful, items, length, min, true};
 ghost use Rattle.jskw_array.specs.Words.{each_keyword, each_of, keyword_holds, map_ok, one_keyword, schemas_of};
 ghost use Rattle.jskw_array.specs.Words.{validator_keyword, PassesOverPairs, CountsBetween, Pointer};
-ghost use Rattle.jskw_array.specs.Words.{evaluate_pairs, result_of, unit};
+ghost use Rattle.jskw_array.specs.Words.{evaluate_pairs, result_of, schemas_delegate, unit};
 
 use crate::evaluation::push_item;
 use crate::node::Subschema;
@@ -22,6 +22,7 @@ use std::alloc::{AllocError, Global};
 /// each item that has a schema is valid, and every non-array.
 #[cycle(schema)]
 #[derive(Drop)]
+#[derive_where(Debug)]
 pub struct Each<F: Json> {
     pub(crate) nodes: Vec<Subschema<F>>,
     // the keyword is `prefixItems`, whose unit has an annotation; otherwise it is `items`
@@ -182,4 +183,17 @@ pub(crate) fn of_schemas<'a, F: Json>(
         nodes: compiled?,
         is_prefix,
     }))
+}
+
+// Returns whether the `required` of some schema, or of a subschema of it, is delegated.
+#[tactic(auto, using(crate::proofs::KeywordsOfParts::schemas_delegate_at, crate::proofs::KeywordsOfParts::schemas_delegate_end))]
+pub(crate) fn some_schema_delegates<F: Json>(nodes: &[Subschema<F>]) -> bool
+    ensures { result ≡ schemas_delegate (schemas_of nodes.now) }
+{
+    for node in nodes {
+        if node.hands_on_required() {
+            return true;
+        }
+    }
+    false
 }

@@ -1,13 +1,12 @@
 //! `items`: one schema, for every item that `prefixItems` has no schema for (JSON Schema Core
 //! 10.3.1.2), or an array of schemas, each for the item at its index (Draft 7 Validation 6.4.1).
 ghost use Rattle.std.specs.Prelude.{◌≡◌};
-ghost use Rattle.jskw_array.specs.Words.{CompilesKeyword, IsTrue, CompilesTo, is_bare, is_inlined_type};
-ghost use Rattle.jskw_array.specs.Words.{is_items_schema, is_list, is_only_type, items_from};
-ghost use Rattle.jskw_array.specs.Words.{items_start, keyword_location, map_ok, member_passes};
-ghost use Rattle.jskw_array.specs.Words.{members_view, read, keyword_reading, validator_keyword, view};
+ghost use Rattle.jskw_array.specs.Words.{CompilesKeyword, CompilesTo, IsTrue, Keyword, Refusal, Result};
+ghost use Rattle.jskw_array.specs.Words.{bare_keyword, is_bare, is_items_schema, items_from, items_start};
+ghost use Rattle.jskw_array.specs.Words.{keyword_location, keyword_reading, map_ok, members_view, read};
+ghost use Rattle.jskw_array.specs.Words.{validator_keyword, view};
 
 mod array_shape;
-mod inline;
 
 use crate::compiler::members::schema_count;
 use crate::compiler::{compile_at, compile_list};
@@ -17,13 +16,12 @@ pub use crate::upstream::{
 };
 use crate::validator::Validator;
 pub use array_shape::ArrayShapeValidator;
-use inline::compile_inline;
-use jskw_leaf::items::fusion::is_items_schema;
-pub use jskw_leaf::items::{
-    AbsorbedKeywords, BooleanItems, IntegerItems, IntegerItemsDraft4, ItemType, ItemsTypeValidator,
-    NumberItems, StringItems, array_shape_fusion,
+use jskw_leaf::in_place::bare::{self, is_bare};
+use jskw_leaf::in_place::fusion::is_items_schema;
+pub use jskw_leaf::in_place::{
+    AbsorbedKeywords, BareItems, BooleanItems, IntegerItems, IntegerItemsDraft4, ItemType,
+    ItemsTypeValidator, NumberItems, StringItems, array_shape_fusion,
 };
-use jskw_report::context::member_of;
 use jskw_report::{CompilationResult, Context, Draft, KeywordName};
 use jskw_value::Json;
 use serde_json::{Map, Value};
@@ -75,7 +73,7 @@ pub(crate) fn compile_schema<'a, F: Json>(
         (keyword_location ctx.now.location KeywordName.Items))) }
 {
     if is_bare(ctx, parent, schema) {
-        return compile_inline(alloc, ctx, schema);
+        return of_bare(bare::compile(alloc, ctx, parent, schema));
     }
     let start = items_start(ctx, parent);
     of_schema(
@@ -85,51 +83,14 @@ pub(crate) fn compile_schema<'a, F: Json>(
     )
 }
 
-// Returns whether the items are tested in place: the value of `items` has only an active `type`,
-// which names a number, an integer, a string or a boolean, and no array `prefixItems` comes before
-// it.
-fn is_bare<F: Json>(ctx: &Context<'_, F>, parent: &Map<String, Value>, schema: &Value) -> bool
-    ensures { result
-        ≡ is_bare ctx.now.setting (members_view parent.now.entries) (view schema.now) }
+// Returns the validator of a bare type check, if that was compiled.
+fn of_bare<'a, F: Json>(
+    compiled: CompilationResult<'a, BareItems<F>>,
+) -> CompilationResult<'a, Validator<F>>
+    ensures { (read : Result Keyword Refusal) → CompilesTo bare_keyword compiled.entry read
+        → CompilesTo validator_keyword result read }
 {
-    is_only_type(schema)
-        && KeywordName::TypeKeyword.is_active(ctx)
-        && !(ctx.draft() == Draft::Draft202012 && has_array(parent, "prefixItems"))
-}
-
-// Returns whether the value is an object whose only member is `type`, with the name of a type that
-// items are tested for in place.
-fn is_only_type(value: &Value) -> bool
-    ensures { result ≡ is_only_type (view value.now) }
-{
-    let Value::Object(members) = value else {
-        return false;
-    };
-    if members.len() != 1 {
-        return false;
-    }
-    match member_of(members, "type") {
-        Some(name) => is_inlined_type(name),
-        None => false,
-    }
-}
-
-// Returns whether the value is the name of a type that items are tested for in place.
-#[tactic(auto, using(crate::proofs::BareTypes::no_text, crate::proofs::BareTypes::of_text))]
-fn is_inlined_type(value: &Value) -> bool
-    ensures { result ≡ is_inlined_type (view value.now) }
-{
-    matches!(
-        value.as_str(),
-        Some("number" | "string" | "boolean" | "integer")
-    )
-}
-
-// Returns whether the member `name` of `parent` is an array.
-fn has_array(parent: &Map<String, Value>, name: &str) -> bool
-    ensures { result ≡ member_passes is_list name.now (members_view parent.now.entries) }
-{
-    matches!(member_of(parent, name), Some(Value::Array(_)))
+    Ok(Validator::Bare(compiled?))
 }
 
 // Returns the index from which `items` of one schema applies: in 2020-12 the number of schemas in

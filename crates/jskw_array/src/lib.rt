@@ -18,7 +18,6 @@ pub mod items;
 pub mod laws;
 pub mod matching;
 pub mod node;
-mod outline;
 mod part;
 pub mod prefix_items;
 mod quick_arrays;

@@ -57,6 +57,7 @@ impl ItemBounds {
 /// which that many items do, and every non-array.
 #[cycle(schema)]
 #[derive(Drop)]
+#[derive_where(Debug)]
 pub struct Matching<F: Json> {
     pub(crate) node: Subschema<F>,
     // in a box: else every keyword would take room for them

@@ -1,21 +1,20 @@
 //! A compiled schema: the validators of its keywords, in the order in which a schema is read.
 ghost use Rattle.std.specs.Prelude.{◌≡◌, ◌+◌, ◌-◌, ◌≤◌, if◌then◌else◌};
-ghost use Rattle.jskw_array.specs.Words.{[], Appends, IsBeginning, CountsUpTo, HasParts, IfOk, IfSome, IsFirst};
-ghost use Rattle.jskw_array.specs.Words.{IsTrue, LeftParts, Reports, applications, boolean_schema};
-ghost use Rattle.jskw_array.specs.Words.{schemas_delegate, fail, hands_on_required, keeps_list};
-ghost use Rattle.jskw_array.specs.Words.{holds, is_fused_schema, is_lawful, is_some, Tree, items, length};
-ghost use Rattle.jskw_array.specs.Words.{limited, meaning_holds, shape_meaning, item_location, keywords_in};
-ghost use Rattle.jskw_array.specs.Words.{keywords_of, marked, min, needed, pairs, path_of, schema_location};
-ghost use Rattle.jskw_array.specs.Words.{schema_object, ArraysAreValid, schemas_of, shape_keywords, sum_by};
-ghost use Rattle.jskw_array.specs.Words.{tree, true, PassesOver, CountsBetween, items_between};
+ghost use Rattle.jskw_array.specs.Words.{[], Appends, IsBeginning, CountsUpTo, HasParts, IfOk};
+ghost use Rattle.jskw_array.specs.Words.{IfSome, IsFirst, IsTrue, LeftParts, Reports, applications};
+ghost use Rattle.jskw_array.specs.Words.{fail, hands_on_required, keeps_list};
+ghost use Rattle.jskw_array.specs.Words.{holds, is_fused_schema, is_lawful, is_some, items, length};
+ghost use Rattle.jskw_array.specs.Words.{limited, item_location, keywords_in, min, needed, pairs};
+ghost use Rattle.jskw_array.specs.Words.{path_of, schema_location, shape_keywords};
+ghost use Rattle.jskw_array.specs.Words.{sum_by, tree, true, PassesOver, CountsBetween};
+ghost use Rattle.jskw_array.specs.Words.{items_between};
+
+mod making;
+mod skipping;
 
 use crate::evaluation::{begin_node, end_node, evaluate_refusal};
 use crate::items::ArrayShapeValidator;
-use crate::part::{
-    Part, SettledParts, evaluate_parts, parts_are_valid, quick_set_of, report_parts, settled_parts,
-    some_part_delegates,
-};
-use crate::quick_arrays::QuickArrays;
+use crate::part::{Part, SettledParts, evaluate_parts, parts_are_valid, report_parts};
 pub use crate::schema::SchemaNode;
 pub use crate::validator::Validator;
 use jskw_number::QuickSet;
@@ -26,6 +25,7 @@ use jskw_report::{
 };
 use jskw_value::{Json, Node};
 use std::alloc::{AllocError, Global};
+use std::fmt;
 use std::marker::Model;
 
 // A schema or a subschema, compiled over the representation `F`: what a `SchemaNode` holds. Each of
@@ -43,6 +43,14 @@ pub(crate) struct Subschema<F: Json> {
     // the parts that hold of arrays and objects whose items and members are not looked at
     settled: SettledParts,
     assertions: Assertions<F>,
+}
+
+impl<F: Json> fmt::Debug for Subschema<F> {
+    fn fmt<W: fmt::Write>(&self, f: &mut fmt::Formatter<W>) -> fmt::Result {
+        f.debug_struct("Subschema")
+            .field("location", &self.location)
+            .finish_non_exhaustive()
+    }
 }
 
 // What a schema asserts.
@@ -87,52 +95,6 @@ impl<F: Json> Model for Subschema<F> {
 }
 
 impl<F: Json> Subschema<F> {
-    // Creates the node of a boolean schema. That of `true` has no keywords.
-    pub(crate) fn of_boolean(
-        alloc: Global,
-        location: KeywordLocation,
-        accepts: bool,
-    ) -> Subschema<F>
-        ensures { result ≡ boolean_schema location accepts }
-    {
-        let (accepted, assertions) = if accepts {
-            (QuickSet::all(), Assertions::Keywords(Vec::new(alloc)))
-        } else {
-            (QuickSet::none(), Assertions::Never)
-        };
-        Subschema {
-            location,
-            delegates: false,
-            delegates_any: false,
-            accepted,
-            settled: SettledParts::none(),
-            assertions,
-        }
-    }
-
-    // Creates the node of a schema with these keywords. `delegates` is whether its own `required` is
-    // delegated.
-    pub(crate) fn of_keywords(
-        location: KeywordLocation,
-        delegates: bool,
-        parts: Vec<Part<F>>,
-    ) -> Subschema<F>
-        ensures { result ≡ schema_object location (marked delegates parts.items)
-            (keywords_of parts.items) }
-    {
-        let delegates_any = delegates || some_part_delegates(parts.as_slice());
-        let accepted = quick_set_of(parts.as_slice());
-        let settled = settled_parts(parts.as_slice());
-        Subschema {
-            location,
-            delegates,
-            delegates_any,
-            accepted,
-            settled,
-            assertions: Assertions::Keywords(parts),
-        }
-    }
-
     // Returns the keyword location of the schema.
     pub(crate) fn location(&self) -> &KeywordLocation
         ensures { result.now ≡ schema_location self.now }
@@ -207,49 +169,6 @@ impl<F: Json> Subschema<F> {
         ensures { PassesOver (holds self.now) (F.Node.tree instance.now) start result }
     {
         self.accepted.first_outside(start, count, instance)
-    }
-
-    // Returns arrays that are known to be valid by their length and the quick sets of their items, or
-    // `None` if the schema asks for more.
-    fn quick_arrays(&self) -> Option<QuickArrays<'_, F>>
-        ensures { IfSome result (λ q. ArraysAreValid self.now q) }
-    {
-        let parts = match &self.assertions {
-            Assertions::Never => return None,
-            Assertions::Keywords(parts) => parts.as_slice(),
-        };
-        QuickArrays::of_parts(self.settled.outline, &parts[self.settled.count..])
-    }
-
-    // Returns the fused shape, if the schema has no other keyword and tests the items for a type alone.
-    fn typed_shape(&self) -> Option<&ArrayShapeValidator<F>>
-        ensures { IfSome result (λ v. (t : Tree)
-            → holds self.now t ≡ meaning_holds (shape_meaning v.now) t) }
-    {
-        match self.parts()? {
-            [Part::Shape(shape)] if shape.items.validator.is_typed() => Some(shape),
-            _ => None,
-        }
-    }
-
-    // Applies the schema to the items from `start` on, as far as they are arrays whose items are in
-    // quick sets or of a type. Returns the index of the first that is not, or the number of items.
-    fn skip_arrays(&self, start: usize, instance: &F::Node, ctx: &mut ValidationContext) -> usize
-        requires lawful { IsTrue (is_lawful (F.Node.tree instance.now)) }
-        requires start { start ≤ length (items (F.Node.tree instance.now)) }
-        ensures passed { PassesOver (holds self.now) (F.Node.tree instance.now) start result }
-        ensures counted { CountsBetween ctx.old ctx.new (result - start)
-            (sum_by (needed self.now) (items_between start result (F.Node.tree instance.now))) }
-    {
-        if let Some(shape) = self.typed_shape() {
-            let end = shape.typed_end(start, instance, ctx);
-            ctx.count_more(end - start);
-            return end;
-        }
-        match self.quick_arrays() {
-            Some(arrays) => arrays.skip(start, instance, ctx),
-            None => start,
-        }
     }
 
     // Applies the schema to the items from `start` on, as far as they are in the quick set, and then
@@ -466,17 +385,4 @@ impl<F: Json> Subschema<F> {
         location.pop();
         answer
     }
-}
-
-// Returns whether the `required` of some schema, or of a subschema of it, is delegated.
-#[tactic(auto, using(crate::proofs::KeywordsOfParts::schemas_delegate_at, crate::proofs::KeywordsOfParts::schemas_delegate_end))]
-pub(crate) fn some_schema_delegates<F: Json>(nodes: &[Subschema<F>]) -> bool
-    ensures { result ≡ schemas_delegate (schemas_of nodes.now) }
-{
-    for node in nodes {
-        if node.hands_on_required() {
-            return true;
-        }
-    }
-    false
 }

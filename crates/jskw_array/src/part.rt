@@ -12,9 +12,8 @@ ghost use Rattle.jskw_array.specs.Words.{units as units_of};
 
 use crate::evaluation::push_unit;
 use crate::items::ArrayShapeValidator;
-use crate::outline::Outline;
 use crate::validator::Validator;
-use jskw_number::QuickSet;
+use jskw_number::{Outline, QuickSet};
 use jskw_report::{
     EvaluationNode, KeywordLocation, LazyLocation, Location, Report, Stop, Validate,
     ValidationContext,
@@ -35,6 +34,7 @@ pub(crate) enum Part<F: Json> {
 // A keyword's validator, with its keyword location.
 #[cycle(schema)]
 #[derive(Drop)]
+#[derive_where(Debug)]
 pub(crate) struct LocatedValidator<F: Json> {
     pub(crate) validator: Validator<F>,
     pub(crate) location: KeywordLocation,

@@ -70,7 +70,6 @@ pub fn compile<'a, F: Json>(
         (keyword_reading KeywordName.PrefixItems ctx.now (members_view parent.now.entries)
         (view schema.now)) }
 {
-    let _ = parent;
     let Some(schemas) = schema.as_array() else {
         return Some(Err(no_array(alloc, ctx, schema)));
     };

@@ -10,10 +10,11 @@ ghost use Rattle.jskw_array.specs.Words.{CountsBetween, items_between};
 
 use crate::each::Each;
 use crate::items::AbsorbedKeywords;
-use crate::outline::Outline;
 use crate::part::Part;
 use crate::rest::Rest;
 use crate::validator::Validator;
+use jskw_leaf::LeafValidator;
+use jskw_number::Outline;
 use jskw_report::ValidationContext;
 use jskw_value::{Array, Json, Node};
 
@@ -78,7 +79,7 @@ impl<'s, F: Json> QuickArrays<'s, F> {
                 rest: Some(rest),
                 ..self
             }),
-            Validator::AdditionalItemsBoolean(_) => Some(QuickArrays {
+            Validator::Leaf(LeafValidator::AdditionalItems(_)) => Some(QuickArrays {
                 lengths: self.lengths.and(validator.outline()),
                 ..self
             }),

@@ -8,7 +8,7 @@ ghost use Rattle.jskw_array.specs.Words.{CountsUpTo, keyword_pairs, path_of, res
 use crate::evaluation::push_item;
 use crate::node::Subschema;
 use crate::validator::Validator;
-use jskw_leaf::items::item_type::items_unit;
+use jskw_leaf::in_place::item_type::items_unit;
 use jskw_report::validator::evaluate_errors;
 use jskw_report::{
     CompilationResult, EvaluationResult, LazyLocation, Report, Stop, Validate, ValidationContext,
@@ -20,6 +20,7 @@ use std::alloc::{AllocError, Global};
 /// these items is valid, and every non-array.
 #[cycle(schema)]
 #[derive(Drop)]
+#[derive_where(Debug)]
 pub struct Rest<F: Json> {
     pub(crate) start: usize,
     pub(crate) node: Subschema<F>,

@@ -12,6 +12,7 @@ use jskw_report::{
 };
 use jskw_value::Json;
 use std::alloc::{AllocError, Global};
+use std::fmt;
 use std::marker::Model;
 
 /// A compiled schema over the representation `F`. It keeps no reference to the schema's value, the
@@ -20,11 +21,19 @@ use std::marker::Model;
 ///
 /// Each of its observers has one condition: the instance is lawful, that is, it contains no float;
 /// `Node::is_lawful` returns whether it is. In contracts a node is the schema that it was compiled
-/// from, keyword by keyword.
+/// from, keyword by keyword. `Debug` shows its keyword location alone.
 pub struct SchemaNode<F: Json> {
     // that of the schema, as a text
     location: Location,
     schema: Subschema<F>,
+}
+
+impl<F: Json> fmt::Debug for SchemaNode<F> {
+    fn fmt<W: fmt::Write>(&self, f: &mut fmt::Formatter<W>) -> fmt::Result {
+        f.debug_struct("SchemaNode")
+            .field("location", &self.location)
+            .finish_non_exhaustive()
+    }
 }
 
 // Written out: a derived one is proved again, with those of all validators, in each crate that drops

@@ -1,19 +1,14 @@
 //! The validators of all keywords as one type.
 ghost use Rattle.std.specs.Prelude.{◌≡◌};
-ghost use Rattle.jskw_array.specs.Words.{Accepts, IsTrue, Tree, in_outline, is_lawful, keyword_delegates};
+ghost use Rattle.jskw_array.specs.Words.{Accepts, AcceptsOutline, IsTrue, is_lawful, keyword_delegates};
 ghost use Rattle.jskw_array.specs.Words.{keyword_holds, one_keyword, true, validator_keyword};
 
-use crate::additional_items::AdditionalItemsBooleanValidator;
-use crate::each::Each;
-use crate::items::{
-    BooleanItems, IntegerItems, IntegerItemsDraft4, ItemsTypeValidator, NumberItems, StringItems,
-};
+use crate::each::{Each, some_schema_delegates};
 use crate::matching::Matching;
-use crate::node::some_schema_delegates;
-use crate::outline::Outline;
 use crate::rest::Rest;
 use jskw_leaf::LeafValidator;
-use jskw_number::{NumberValidator, QuickSet};
+use jskw_leaf::in_place::BareItems;
+use jskw_number::{Outline, QuickSet};
 use jskw_report::{EvaluationResult, LazyLocation, Report, Stop, Validate, ValidationContext};
 use jskw_value::Json;
 use std::alloc::{AllocError, Global};
@@ -21,6 +16,7 @@ use std::alloc::{AllocError, Global};
 /// The validator of one keyword, over the representation `F`.
 #[cycle(schema)]
 #[derive(Drop)]
+#[derive_where(Debug)]
 pub enum Validator<F: Json> {
     /// A keyword without subschemas.
     Leaf(LeafValidator<F>),
@@ -30,31 +26,19 @@ pub enum Validator<F: Json> {
     Rest(Rest<F>),
     /// `contains`, with `minContains` and `maxContains`.
     Matching(Matching<F>),
-    /// `items` of `{"type": "number"}`.
-    ItemsNumber(ItemsTypeValidator<NumberItems, F>),
-    /// `items` of `{"type": "string"}`.
-    ItemsString(ItemsTypeValidator<StringItems, F>),
-    /// `items` of `{"type": "boolean"}`.
-    ItemsBoolean(ItemsTypeValidator<BooleanItems, F>),
-    /// `items` of `{"type": "integer"}`, from Draft 6 on.
-    ItemsInteger(ItemsTypeValidator<IntegerItems, F>),
-    /// `items` of `{"type": "integer"}` in Draft 4.
-    ItemsIntegerDraft4(ItemsTypeValidator<IntegerItemsDraft4, F>),
-    /// `additionalItems` of `false`.
-    AdditionalItemsBoolean(AdditionalItemsBooleanValidator),
+    /// `items` of a schema that has only `type`.
+    Bare(BareItems<F>),
 }
 
 // Matches on the validator, with the same expression for each variant.
 macro_rules! dispatch {
     ($any:expr, $validator:ident => $answer:expr) => {
-        dispatch!(@arms $any, $validator => $answer;
-            Leaf Each Rest Matching ItemsNumber ItemsString ItemsBoolean ItemsInteger
-            ItemsIntegerDraft4 AdditionalItemsBoolean
-        )
-    };
-    (@arms $any:expr, $validator:ident => $answer:expr; $($variant:ident)+) => {
         match $any {
-            $(Validator::$variant($validator) => $answer,)+
+            Validator::Leaf($validator) => $answer,
+            Validator::Each($validator) => $answer,
+            Validator::Rest($validator) => $answer,
+            Validator::Matching($validator) => $answer,
+            Validator::Bare($validator) => $answer,
         }
     };
 }
@@ -105,32 +89,18 @@ impl<F: Json> Validator<F> {
 
     // Returns arrays and objects that the keyword accepts, whatever their items and members are.
     pub(crate) fn outline(&self) -> Outline
-        ensures { (t : Tree) → in_outline result t ≡ true
-            → keyword_holds (validator_keyword self.now) t ≡ true }
+        ensures { AcceptsOutline result (validator_keyword self.now) }
     {
         match self {
-            Validator::Leaf(LeafValidator::Number(NumberValidator::MinItems(v))) => {
-                Outline::between(v.limit(), u64::MAX)
-            }
-            Validator::Leaf(LeafValidator::Number(NumberValidator::MaxItems(v))) => {
-                Outline::between(0, v.limit())
-            }
+            Validator::Leaf(v) => v.outline(),
             Validator::Rest(v) => Outline::between(0, v.start as u64),
-            Validator::AdditionalItemsBoolean(v) => Outline::between(0, v.items_count as u64),
             _ => Outline::of(self.quick_set()),
         }
     }
 
     // Returns whether the keyword tests the items for a type alone.
     pub(crate) fn is_typed(&self) -> bool {
-        match self {
-            Validator::ItemsNumber(_) => true,
-            Validator::ItemsString(_) => true,
-            Validator::ItemsBoolean(_) => true,
-            Validator::ItemsInteger(_) => true,
-            Validator::ItemsIntegerDraft4(_) => true,
-            _ => false,
-        }
+        matches!(self, Validator::Bare(_))
     }
 
     // Returns whether the keyword tests the items for a type alone and accepts the instance. Applies
@@ -143,11 +113,7 @@ impl<F: Json> Validator<F> {
         ensures counted { ctx.new ≡ ctx.old }
     {
         match self {
-            Validator::ItemsNumber(v) => v.is_valid(instance, ctx),
-            Validator::ItemsString(v) => v.is_valid(instance, ctx),
-            Validator::ItemsBoolean(v) => v.is_valid(instance, ctx),
-            Validator::ItemsInteger(v) => v.is_valid(instance, ctx),
-            Validator::ItemsIntegerDraft4(v) => v.is_valid(instance, ctx),
+            Validator::Bare(v) => v.is_valid(instance, ctx),
             _ => false,
         }
     }
@@ -161,13 +127,7 @@ impl<F: Json> Validator<F> {
             Validator::Each(v) => some_schema_delegates(v.nodes.as_slice()),
             Validator::Rest(v) => v.node.hands_on_required(),
             Validator::Matching(v) => v.node.hands_on_required(),
-            Validator::Leaf(_) => false,
-            Validator::ItemsNumber(_) => false,
-            Validator::ItemsString(_) => false,
-            Validator::ItemsBoolean(_) => false,
-            Validator::ItemsInteger(_) => false,
-            Validator::ItemsIntegerDraft4(_) => false,
-            Validator::AdditionalItemsBoolean(_) => false,
+            Validator::Leaf(_) | Validator::Bare(_) => false,
         }
     }
 }

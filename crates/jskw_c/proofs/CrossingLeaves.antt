@@ -34,6 +34,7 @@ use Rattle.jskw_leaf.specs.contracts.enum_.table.Listed.TheInside as listed_insi
 use Rattle.jskw_leaf.specs.contracts.enum_.table.TableEnumValidator as among
 use Rattle.jskw_leaf.specs.contracts.leaf.LeafValidator as leaf
 use Rattle.jskw_leaf.proofs.boolean.FalseValidator.TheSendSync as false_schema
+use Rattle.jskw_leaf.proofs.in_place.no_more.AdditionalItemsBooleanValidator.TheSendSync as additional
 use Rattle.jskw_leaf.proofs.type_.TypeValidator.TheSendSync as type_keyword
 use Rattle.jskw_leaf.proofs.enum_.integers.SortedIntegers.TheSendSync as integers
 use Rattle.jskw_leaf.proofs.enum_.strings.FewStrings.TheSendSync as few
@@ -126,6 +127,7 @@ module _
       unique.the_send,
       required.the_send T Names T' T'' T'3 (names.the_send T T' T'' T'3 g g' g'' s),
       required.the_send T FewNames T' T'' T'3 (few_names.the_send T T' T'' T'3 g g' g'' s),
+      additional.the_send,
     ))
 
     pub leaf_sync : IsSync T'3 → IsSync (leaf.the_row T T' T'' T'3 g g' g'')
@@ -146,4 +148,5 @@ module _
       unique.the_sync,
       required.the_sync T Names T' T'' T'3 (names.the_sync T T' T'' T'3 g g' g'' s),
       required.the_sync T FewNames T' T'' T'3 (few_names.the_sync T T' T'' T'3 g g' g'' s),
+      additional.the_sync,
     ))

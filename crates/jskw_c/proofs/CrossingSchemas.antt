@@ -18,19 +18,13 @@ use Rattle.jskw_value.specs.contracts.decimal.DecimalJsonNumber.TheImpl as numbe
 use Rattle.jskw_report.proofs.paths.keyword_location.KeywordLocation.TheSendSync as location
 use Rattle.jskw_report.proofs.paths.Location.TheSendSync as text
 use Rattle.jskw_number.proofs.quick_set.QuickSet.TheSendSync as quick
-use Rattle.jskw_leaf.specs.contracts.type_.single.NumberType as of_number
-use Rattle.jskw_leaf.specs.contracts.type_.single.StringType as of_string
-use Rattle.jskw_leaf.specs.contracts.type_.single.BooleanType as of_boolean
-use Rattle.jskw_leaf.specs.contracts.type_.single.IntegerType as of_integer
-use Rattle.jskw_leaf.specs.contracts.legacy.type_draft_4.IntegerType as of_integer_4
-use Rattle.jskw_leaf.proofs.items.item_type.ItemsTypeValidator.TheSendSync as item_type
-use Rattle.jskw_leaf.proofs.items.absorbed.AbsorbedKeywords.TheSendSync as absorbed
+use Rattle.jskw_leaf.proofs.in_place.bare.BareItems.TheSendSync as bare
+use Rattle.jskw_leaf.proofs.in_place.absorbed.AbsorbedKeywords.TheSendSync as absorbed
 use Rattle.jskw_array.specs.contracts.node.Subschema as node
 use Rattle.jskw_array.proofs.node.Subschema.TheLaws.TheKnot as knot
 use Rattle.jskw_array.specs.contracts.schema.SchemaNode as whole
 use Rattle.jskw_array.specs.contracts.schema.SchemaNode.TheInside as inside
 use Rattle.jskw_array.proofs.part.SettledParts.TheSendSync as begun
-use Rattle.jskw_array.proofs.additional_items.AdditionalItemsBooleanValidator.TheSendSync as additional
 use Rattle.jskw_array.specs.contracts.matching.ItemBounds as item_bounds
 use Rattle.jskw_array.proofs.matching.ItemBounds.TheSendSync as bounds
 use Rattle.jskw_c.proofs.CrossingValues.{row_send, row_sync}
@@ -64,10 +58,7 @@ subschema_send = knot.send-Subschema S V N K rooted.ghosts object.ghosts numbere
     (row_send location.the_send) (as_row_send bool-field (plain_send _ _ _ _ _)) quick.the_send begun.the_send
     std.Vec-send std.Box-send
     (leaf_send S V N K rooted.ghosts object.ghosts numbered.ghosts name_send)
-    (item_type.the_send of_number.the_row S V N K) (item_type.the_send of_string.the_row S V N K)
-    (item_type.the_send of_boolean.the_row S V N K) (item_type.the_send of_integer.the_row S V N K)
-    (item_type.the_send of_integer_4.the_row S V N K)
-    additional.the_send absorbed.the_send (std.Box-send item_bounds.the_row bounds.the_send)
+    (bare.the_send S V N K) absorbed.the_send (std.Box-send item_bounds.the_row bounds.the_send)
     (as_row_send usize-field (plain_send _ _ _ _ _))
 
 subschema_sync : IsSync subschema_row
@@ -75,10 +66,7 @@ subschema_sync = knot.sync-Subschema S V N K rooted.ghosts object.ghosts numbere
     (row_sync location.the_sync) (as_row_sync bool-field (plain_sync _ _ _ _ _)) quick.the_sync begun.the_sync
     std.Vec-sync std.Box-sync
     (leaf_sync S V N K rooted.ghosts object.ghosts numbered.ghosts name_sync)
-    (item_type.the_sync of_number.the_row S V N K) (item_type.the_sync of_string.the_row S V N K)
-    (item_type.the_sync of_boolean.the_row S V N K) (item_type.the_sync of_integer.the_row S V N K)
-    (item_type.the_sync of_integer_4.the_row S V N K)
-    additional.the_sync absorbed.the_sync (std.Box-sync item_bounds.the_row bounds.the_sync)
+    (bare.the_sync S V N K) absorbed.the_sync (std.Box-sync item_bounds.the_row bounds.the_sync)
     (as_row_sync usize-field (plain_sync _ _ _ _ _))
 
 abbrev pub schema_row : RattleType

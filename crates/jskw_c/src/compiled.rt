@@ -10,7 +10,7 @@ use std::sync::Arc;
 /// An owner of a compiled schema over exact decimals. A schema has any number of
 /// owners, in any threads, and is freed with the last. Contracts see an owner as the node of its
 /// schema.
-#[derive(Drop)]
+#[derive(Debug, Drop)]
 pub struct CompiledSchema {
     node: Arc<SchemaNode<DecimalJson>>,
 }

@@ -9,8 +9,8 @@ ghost use Rattle.jskw_c.specs.contracts.compiled.CompiledSchema.{the_row};
 use crate::compiled::CompiledSchema;
 use std::alloc::Global;
 use std::marker::Model;
-use std::mem;
 use std::ptr::null_mut;
+use std::{fmt, mem};
 
 /// An owner of a compiled schema, or none if the pointer is null. A caller in C keeps it, and
 /// neither follows nor copies the pointer. It may pass the handle to another thread.
@@ -22,6 +22,12 @@ use std::ptr::null_mut;
 pub struct SchemaHandle {
     at: *mut u8,
     pub ghost schema: { Option Schema } by { coded_option schema_code },
+}
+
+impl fmt::Debug for SchemaHandle {
+    fn fmt<W: fmt::Write>(&self, f: &mut fmt::Formatter<W>) -> fmt::Result {
+        f.debug_struct("SchemaHandle").finish_non_exhaustive()
+    }
 }
 
 impl Model for SchemaHandle {

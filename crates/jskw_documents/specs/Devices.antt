@@ -1,11 +1,11 @@
 -- What checking a document does to a reader and a writer.
-use Rattle.std.specs.Prelude.{◌≡◌, ℕ, List, Bool, true, false, Option, None, Result, Err}
+use Rattle.std.specs.Prelude.{◌≡◌, ℕ, List, Bool, true, false, Option, None, Result, Err, codes}
 use Rattle.std.specs.Io.KnownBytes.{Appends, Consumes, IsAtEnd}
 use Rattle.jskw_service.specs.declared.service.Verdict.{Verdict}
 use Rattle.jskw_documents.specs.Documents.{IsAnswer, verdict_on}
 use Rattle.jskw_documents.specs.declared.checker.Checker.{Checker}
 use Rattle.jskw_documents.specs.declared.fault.CheckFault.{CheckFault}
-use Rattle.jskw_documents.specs.declared.fault.CheckFault.TheVariants.{Read, TooLong, Write}
+use Rattle.jskw_documents.specs.declared.fault.CheckFault.TheVariants.{Memory, Read, TooLong, Write}
 
 -- the reader failed
 abbrev pub is_read_fault : {A : Type 0} → Result A CheckFault → Bool
@@ -21,6 +21,13 @@ is_write_fault r = false
 abbrev pub is_too_long : {A : Type 0} → Result A CheckFault → Bool
 is_too_long (Err TooLong) = true
 is_too_long r = false
+
+-- the text that displays a fault
+abbrev pub check_fault_text : CheckFault → List ℕ
+check_fault_text Read = codes "the reader failed"
+check_fault_text Write = codes "the writer failed"
+check_fault_text Memory = codes "memory ran out"
+check_fault_text TooLong = codes "the reader gave 2^64 blocks or lines"
 
 -- all was read, what was to be read having gone from r to s, and the answer to it was written, what was written going
 -- from v to w; this is the verdict

@@ -4,6 +4,7 @@ use jskw_array::SchemaNode;
 use jskw_value::DecimalJson;
 
 /// What documents are checked against, and how they are answered.
+#[derive(Debug)]
 pub struct Checker {
     /// The compiled schema.
     pub schema: SchemaNode<DecimalJson>,

@@ -4,7 +4,7 @@ ghost use Rattle.std.specs.Prelude.{◌≡◌, ℕ, List, Option, false, IfOk};
 use jskw_service::Source;
 
 /// A file that was opened.
-#[derive(Drop)]
+#[derive(Debug, Drop)]
 pub struct Opened<R> {
     /// What gives its bytes.
     pub reader: R,

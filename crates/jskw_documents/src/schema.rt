@@ -21,7 +21,7 @@ use serde_json::Value;
 use std::alloc::{AllocError, Global};
 
 /// How a schema is read.
-#[derive(Drop)]
+#[derive(Debug, Drop)]
 pub struct SchemaOptions {
     /// The draft, or `None` for the one that `$schema` names; without `$schema`, that is 2020-12.
     pub draft: Option<Draft>,

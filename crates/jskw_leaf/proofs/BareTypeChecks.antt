@@ -1,5 +1,6 @@
--- What the schema of a bare type check says: what its assertion says.
-use Rattle.std.proofs.Common.{◌≡◌, List, [], ◌∷◌, true, false, ◌&&◌, refl, ap, ◌∙◌, append-nil, map}
+-- What a bare type check says: the schema of its items what its assertion says, and the whole what its variant says.
+use Rattle.std.proofs.Common.{◌≡◌, List, [], ◌∷◌, IfOk, Result, true, false, ◌&&◌, refl, ap, subst, sym, ◌∙◌}
+use Rattle.std.proofs.Common.{append-nil, map}
 use Rattle.jskw_report.specs.Keyword.{Integers, type_is}
 use Rattle.jskw_value.specs.declared.types.JsonType.{JsonType}
 use Rattle.jskw_report.specs.Meaning.{LocatedAssertion, as_keyword}
@@ -8,7 +9,11 @@ use Rattle.jskw_report.specs.declared.error.TypeKind.TheVariants.{Single}
 use Rattle.jskw_value.specs.Tree.{Tree}
 use Rattle.jskw_report.specs.Kind.{WrongType}
 use Rattle.jskw_report.specs.Holds.{assertion_holds, holds}
-use Rattle.jskw_leaf.specs.Items.{bare_schema}
+use Rattle.jskw_report.specs.Evaluation.{unit}
+use Rattle.jskw_report.specs.EvaluationView.{result_of}
+use Rattle.jskw_report.specs.declared.evaluation.EvaluationResult.{EvaluationResult}
+use Rattle.jskw_leaf.specs.Items.{bare_keyword, bare_schema}
+use Rattle.jskw_leaf.specs.declared.in_place.bare.BareItems.{BareItems}
 use Rattle.jskw_report.specs.Fail.{fail, keyword_fail, unless}
 use Rattle.std.specs.List.{list_all}
 use Rattle.jskw_leaf.specs.Meaning.{type_at}
@@ -37,3 +42,11 @@ pub type_fails_not : (j : JsonType) (rule : Integers) (q r : Pointer) (t : Tree)
 type_fails_not j rule q r t p h = bare_fail q (type_at j rule r) t p
     ∙ ap (λ b. map (λ k. record { kind = k; instance_location = p; keyword_location = r; tree = t })
     (unless b (WrongType (Single j)))) h
+
+-- ---- whichever type it is
+
+-- the unit of one is that of all
+pub unit_of : {F Node Number Key E : Type 0} {v w : BareItems F Node Number Key} (made : Result EvaluationResult E)
+    (t : Tree) (p : Pointer) → v ≡ w → IfOk made (λ r. result_of r ≡ unit (bare_keyword w) t p)
+    → IfOk made (λ r. result_of r ≡ unit (bare_keyword v) t p)
+unit_of made t p is = subst (λ k. IfOk made (λ r. result_of r ≡ unit (bare_keyword k) t p)) (sym is)

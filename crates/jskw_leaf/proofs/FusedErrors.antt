@@ -11,7 +11,7 @@ use Rattle.jskw_report.proofs.AppendedKeywords.{fail_appended}
 use Rattle.jskw_report.proofs.ReportedFailures.{reports_begun, reports_behind}
 use Rattle.jskw_number.specs.Meaning.{max_items, min_items}
 use Rattle.jskw_leaf.specs.Items.{AppendsItems, absorbed_bounds, absorbed_keywords, absorbed_type, optional}
-use Rattle.jskw_leaf.specs.declared.items.absorbed.AbsorbedKeywords.{AbsorbedKeywords}
+use Rattle.jskw_leaf.specs.declared.in_place.absorbed.AbsorbedKeywords.{AbsorbedKeywords}
 
 -- ---- the errors of `type`, and those of the bounds behind them
 

@@ -15,7 +15,7 @@ use Rattle.jskw_value.specs.Equality.{equal}
 use Rattle.jskw_value.specs.Number.{Num, exact, float, i64_of, num_equal, written_integer}
 use Rattle.jskw_value.specs.Serde.{tree_of}
 use Rattle.jskw_value.specs.Tree.{Tree, as_number, number}
-use Rattle.jskw_number.specs.declared.quick_set.IntegerRange.{IntegerRange}
+use Rattle.jskw_number.specs.declared.quick_set.integer_range.IntegerRange.{IntegerRange}
 use Rattle.jskw_number.specs.declared.quick_set.QuickSet.{QuickSet}
 use Rattle.jskw_number.specs.QuickSet.{has_number, in_range, is_in}
 use Rattle.jskw_number.proofs.QuickSets.{accepted_integers}

@@ -1,4 +1,6 @@
+pub mod BareReading
 pub mod BareTypeChecks
+pub mod BareTypes
 pub mod FoundNames
 pub mod FusedErrors
 pub mod FusedReading

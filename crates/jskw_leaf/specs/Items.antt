@@ -1,18 +1,20 @@
 -- What the validators of `items` that apply no subschema stand for: bare type checks, and the keywords that the fused
--- shape of
--- an array has beside `items`.
+-- shape of an array has beside `items`.
 use Rattle.std.specs.Prelude.{◌≡◌, ℕ, List, ◌++◌, length, true, Option, Some, None, Result, Ok, Err, if◌then◌else◌}
 use Rattle.jskw_value.specs.Pointer.{Pointer}
 use Rattle.jskw_value.specs.Tree.{Tree, is_array, items}
 use Rattle.jskw_value.specs.declared.types.JsonType.{JsonType}
+use Rattle.jskw_value.specs.declared.types.JsonType.TheVariants as json_type
 use Rattle.jskw_value.specs.declared.types.JsonType.TheVariants.{Array}
 use Rattle.jskw_report.specs.Keyword.{Schema, schema_object, no_marks, Keyword, Keywords, no_keywords, keyword}
-use Rattle.jskw_report.specs.Keyword.{append_keywords, items_from, Integers, by_value}
+use Rattle.jskw_report.specs.Keyword.{append_keywords, items_from, Integers, as_written, by_value}
 use Rattle.jskw_report.specs.Meaning.{LocatedAssertion, as_keyword}
 use Rattle.jskw_number.specs.Meaning.{min_items, max_items}
 use Rattle.jskw_leaf.specs.Meaning.{single_type}
-use Rattle.jskw_leaf.specs.declared.items.absorbed.AbsorbedKeywords.{AbsorbedKeywords}
-use Rattle.jskw_leaf.specs.declared.items.item_type.ItemsTypeValidator.{ItemsTypeValidator}
+use Rattle.jskw_leaf.specs.declared.in_place.absorbed.AbsorbedKeywords.{AbsorbedKeywords}
+use Rattle.jskw_leaf.specs.declared.in_place.bare.BareItems.{BareItems}
+use Rattle.jskw_leaf.specs.declared.in_place.bare.BareItems.TheVariants as bare
+use Rattle.jskw_leaf.specs.declared.in_place.item_type.ItemsTypeValidator.{ItemsTypeValidator}
 
 -- ---- bare type checks
 
@@ -28,6 +30,27 @@ bare_items q a = items_from 0 (bare_schema q a) true
 abbrev pub items_type : {T F Node Number Key : Type 0} → JsonType → Integers → ItemsTypeValidator T F Node Number Key
     → Keyword
 items_type j rule v = bare_items v.location (single_type j rule v.validator)
+
+module _ {F Node Number Key : Type 0} where
+  -- where `items` is
+  abbrev pub bare_place : BareItems F Node Number Key → Pointer
+  bare_place (bare.Number v) = v.location
+  bare_place (bare.String v) = v.location
+  bare_place (bare.Boolean v) = v.location
+  bare_place (bare.Integer v) = v.location
+  bare_place (bare.IntegerDraft4 v) = v.location
+
+  -- what the schema of the items asserts
+  abbrev pub bare_type : BareItems F Node Number Key → LocatedAssertion
+  bare_type (bare.Number v) = single_type json_type.Number by_value v.validator
+  bare_type (bare.String v) = single_type json_type.String by_value v.validator
+  bare_type (bare.Boolean v) = single_type json_type.Boolean by_value v.validator
+  bare_type (bare.Integer v) = single_type json_type.Integer by_value v.validator
+  bare_type (bare.IntegerDraft4 v) = single_type json_type.Integer as_written v.validator
+
+  -- the keyword that it stands for
+  abbrev pub bare_keyword : BareItems F Node Number Key → Keyword
+  bare_keyword v = bare_items (bare_place v) (bare_type v)
 
 -- ---- the keywords beside `items`
 

@@ -7,9 +7,10 @@ use Rattle.jskw_value.specs.declared.types.JsonType.{JsonType}
 use Rattle.jskw_report.specs.declared.error.TypeKind.{TypeKind}
 use Rattle.jskw_report.specs.declared.error.TypeKind.TheVariants.{Single}
 use Rattle.jskw_report.specs.Keyword.{Keyword, constant, among, unique, never, type_is, Integers, by_value, as_written}
-use Rattle.jskw_report.specs.Keyword.{required}
+use Rattle.jskw_report.specs.Keyword.{at_most, required}
 use Rattle.jskw_report.specs.Meaning.{LocatedAssertion, as_keyword}
 use Rattle.jskw_number.specs.Meaning.{number_assertion}
+use Rattle.jskw_leaf.specs.declared.in_place.no_more.AdditionalItemsBooleanValidator.{AdditionalItemsBooleanValidator}
 use Rattle.jskw_leaf.specs.declared.boolean.FalseValidator.{FalseValidator}
 use Rattle.jskw_leaf.specs.declared.type_.IntegerRule.{IntegerRule}
 use Rattle.jskw_leaf.specs.declared.type_.IntegerRule.TheVariants.{ByValue, AsWritten}
@@ -27,7 +28,7 @@ use Rattle.jskw_leaf.specs.declared.leaf.LeafValidator.TheVariants.{BigEnum, Sin
 use Rattle.jskw_leaf.specs.declared.leaf.LeafValidator.TheVariants.{NullableSmallStringEnum, BigStringEnum}
 use Rattle.jskw_leaf.specs.declared.leaf.LeafValidator.TheVariants.{NullableBigStringEnum, IntegerEnum}
 use Rattle.jskw_leaf.specs.declared.leaf.LeafValidator.TheVariants.{NullableIntegerEnum, UniqueItems, Required}
-use Rattle.jskw_leaf.specs.declared.leaf.LeafValidator.TheVariants.{RequiredFew}
+use Rattle.jskw_leaf.specs.declared.leaf.LeafValidator.TheVariants.{AdditionalItems, RequiredFew}
 use Rattle.jskw_leaf.specs.declared.required.RequiredNames.{RequiredNames}
 
 abbrev pub false_at : Pointer → LocatedAssertion
@@ -95,6 +96,15 @@ abbrev pub required_names : {F Node Number Key L : Type 0} → (L → List (List
     → LocatedAssertion
 required_names names v = required_at v.location (names v.names)
 
+-- ---- `additionalItems` of `false`
+
+-- no more items than that, failing at the location
+abbrev pub at_most_at : Pointer → ℕ → LocatedAssertion
+at_most_at q n = record { location = q; assertion = at_most n }
+
+abbrev pub no_additional_items : AdditionalItemsBooleanValidator → LocatedAssertion
+no_additional_items v = at_most_at v.location v.items_count
+
 -- ---- any of them
 
 abbrev pub leaf_assertion : {F Node Number Key : Type 0} → LeafValidator F Node Number Key → LocatedAssertion
@@ -114,6 +124,7 @@ leaf_assertion (NullableIntegerEnum v) = enum_table v
 leaf_assertion (UniqueItems v) = unique_items v
 leaf_assertion (Required v) = required_names (λ names. names) v
 leaf_assertion (RequiredFew v) = required_names (λ names. names) v
+leaf_assertion (AdditionalItems v) = no_additional_items v
 
 -- the keyword that it stands for
 abbrev pub leaf_keyword : {F Node Number Key : Type 0} → LeafValidator F Node Number Key → Keyword

@@ -32,7 +32,7 @@ pub use values::BigEnumValidator;
 
 /// The validator of at most 8 options of any types. Compares an instance with each option, unless
 /// no option has its type.
-#[derive(Drop)]
+#[derive(Debug, Drop)]
 pub struct EnumValidator {
     options: Value,
     types: JsonTypeSet,
@@ -64,7 +64,7 @@ impl Assertion for EnumValidator {
 }
 
 /// The validator of one option.
-#[derive(Drop)]
+#[derive(Debug, Drop)]
 pub struct SingleValueEnumValidator {
     options: Value,
     value: Value,

@@ -1,6 +1,7 @@
 //! The validators of the keywords without subschemas as one type.
 ghost use Rattle.std.specs.Prelude.{◌≡◌};
 ghost use Rattle.jskw_report.specs.Meaning.{one_keyword};
+ghost use Rattle.jskw_number.specs.Outline.{AcceptsOutline};
 ghost use Rattle.jskw_number.specs.QuickSet.{Accepts};
 ghost use Rattle.jskw_leaf.specs.Meaning.{leaf_assertion, leaf_keyword};
 
@@ -10,10 +11,11 @@ use crate::enum_::{
     BigEnumValidator, BigStringEnumValidator, EnumValidator, IntegerEnumValidator,
     SingleValueEnumValidator, SmallStringEnumValidator,
 };
+use crate::in_place::AdditionalItemsBooleanValidator;
 use crate::required::{Required3Validator, RequiredValidator};
 use crate::type_::TypeValidator;
 use crate::unique_items::UniqueItemsValidator;
-use jskw_number::{NumberValidator, QuickSet};
+use jskw_number::{NumberValidator, Outline, QuickSet};
 use jskw_report::{
     Assertion, EvaluationResult, KeywordLocation, LazyLocation, Report, Stop, Validate,
     ValidationContext,
@@ -23,9 +25,11 @@ use std::alloc::{AllocError, Global};
 
 /// The validator of one keyword without subschemas, over the representation `F`.
 ///
-/// [`compile`] returns every variant but `False`, which is for the schema `false`.
+/// [`compile`] returns every variant but two: `False` is for the schema `false`, and `AdditionalItems`
+/// for a keyword that has a subschema if its value is another one.
 ///
 /// [`compile`]: crate::compile
+#[derive_where(Debug)]
 pub enum LeafValidator<F: Json> {
     /// The schema `false` (JSON Schema Core 4.3.2).
     False(FalseValidator),
@@ -59,6 +63,8 @@ pub enum LeafValidator<F: Json> {
     Required(RequiredValidator<F>),
     /// `required` with one, two or three names.
     RequiredFew(Required3Validator<F>),
+    /// `additionalItems` of `false` (JSON Schema Draft 7 Validation 6.4.2).
+    AdditionalItems(AdditionalItemsBooleanValidator),
 }
 
 // Evaluates `$answer` with `$validator` as the validator in the variant, whichever it is.
@@ -67,7 +73,7 @@ macro_rules! dispatch {
         dispatch!(@ $leaf, $validator => $answer;
             False Number Types Const Enum BigEnum SingleValueEnum SmallStringEnum
             NullableSmallStringEnum BigStringEnum NullableBigStringEnum IntegerEnum
-            NullableIntegerEnum UniqueItems Required RequiredFew
+            NullableIntegerEnum UniqueItems Required RequiredFew AdditionalItems
         )
     };
     (@ $leaf:expr, $validator:ident => $answer:expr; $($variant:ident)+) => {
@@ -95,6 +101,7 @@ impl<F: Json> LeafValidator<F> {
             LeafValidator::Number(v) => v.quick_set(),
             LeafValidator::Types(v) => v.quick_set(),
             LeafValidator::UniqueItems(_) => QuickSet::but_arrays(),
+            LeafValidator::AdditionalItems(_) => QuickSet::but_arrays(),
             LeafValidator::Required(_) => QuickSet::but_objects(),
             LeafValidator::RequiredFew(_) => QuickSet::but_objects(),
             LeafValidator::Const(v) => v.quick_set(),
@@ -102,6 +109,17 @@ impl<F: Json> LeafValidator<F> {
             LeafValidator::IntegerEnum(v) => v.quick_set(),
             LeafValidator::NullableIntegerEnum(v) => v.quick_set(),
             _ => QuickSet::none(),
+        }
+    }
+
+    /// Returns arrays and objects that the keyword accepts, whatever their items and members are.
+    pub fn outline(&self) -> Outline
+        ensures { AcceptsOutline result (leaf_keyword self.now) }
+    {
+        match self {
+            LeafValidator::Number(v) => v.outline(),
+            LeafValidator::AdditionalItems(v) => Outline::between(0, v.items_count as u64),
+            _ => Outline::of(self.quick_set()),
         }
     }
 }

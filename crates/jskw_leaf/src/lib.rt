@@ -1,6 +1,6 @@
 //! Validators for the keywords without subschemas (JSON Schema Core 7.6, Validation 6), and the
 //! enum [`LeafValidator`] of them all. The validators of the keywords on numbers and sizes come
-//! from `jskw_number`. The module [`items`] has what `items` needs that applies no subschema.
+//! from `jskw_number`. The module [`in_place`] has what `items` needs that applies no subschema.
 //!
 //! [`compile`](crate::compile) turns such a keyword of a schema into a `LeafValidator`, whose four
 //! observers are those of [`Validate`](jskw_report::Validate). They require a lawful instance: one
@@ -39,7 +39,7 @@ pub mod boolean;
 pub mod const_;
 pub mod enum_;
 mod floats;
-pub mod items;
+pub mod in_place;
 mod keywords;
 pub mod leaf;
 pub mod legacy;

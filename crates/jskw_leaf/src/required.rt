@@ -28,6 +28,7 @@ use std::marker::PhantomData;
 /// accepts an object with all of them, and every non-object; otherwise it gives an error for each
 /// name that is missing.
 #[derive(Drop)]
+#[derive_where(Debug; L)]
 pub struct RequiredNames<F: Json, L> {
     names: L,
     location: KeywordLocation,

@@ -60,7 +60,6 @@ pub fn compile<'a, F: Json>(
     ensures { CompilesKeyword leaf_keyword result
         (keyword_reading UniqueItems ctx.now (members_view parent.now.entries) (view schema.now)) }
 {
-    let _ = parent;
     if !matches!(schema, Value::Bool(true)) {
         return None;
     }

@@ -1,3 +1,4 @@
 pub mod Divisors
 pub mod Limits
+pub mod Outlines
 pub mod QuickSets

@@ -21,7 +21,7 @@ use Rattle.jskw_value.specs.declared.types.JsonType.TheVariants.{Array, Boolean,
 use Rattle.jskw_report.specs.Holds.{is_integer_by, is_of, limit_holds, multiple_holds, stands_in}
 use Rattle.jskw_report.specs.Keyword.{Keyword, Integers, by_value, as_written, Relation, Minimum, Maximum}
 use Rattle.jskw_report.specs.Keyword.{ExclusiveMinimum, ExclusiveMaximum}
-use Rattle.jskw_number.specs.declared.quick_set.IntegerRange.{IntegerRange}
+use Rattle.jskw_number.specs.declared.quick_set.integer_range.IntegerRange.{IntegerRange}
 use Rattle.jskw_number.specs.declared.quick_set.QuickSet.{QuickSet}
 use Rattle.std.specs.Int.NonZero.{non_zero_u64_get}
 use Rattle.std.specs.declared.num.NonZeroU64.{NonZeroU64}

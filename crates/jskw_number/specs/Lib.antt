@@ -1,5 +1,6 @@
 pub mod Limit
 pub mod Meaning
 pub mod Names
+pub mod Outline
 pub mod QuickSet
 pub mod Size

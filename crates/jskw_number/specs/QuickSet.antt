@@ -12,8 +12,8 @@ use Rattle.jskw_value.specs.declared.types.JsonType.{JsonType}
 use Rattle.jskw_value.specs.declared.types.JsonType.TheVariants.{Array, Boolean, Integer, Null, Number, Object, String}
 use Rattle.jskw_report.specs.Holds.{keyword_holds}
 use Rattle.jskw_report.specs.Keyword.{Keyword}
-use Rattle.jskw_number.specs.declared.quick_set.IntegerRange.{IntegerRange}
-use Rattle.jskw_number.specs.declared.quick_set.Naturals.{Naturals}
+use Rattle.jskw_number.specs.declared.quick_set.integer_range.IntegerRange.{IntegerRange}
+use Rattle.jskw_number.specs.declared.quick_set.number_test.Naturals.{Naturals}
 use Rattle.jskw_number.specs.declared.quick_set.QuickSet.{QuickSet}
 
 -- z divided by the divisor is an integer

@@ -43,6 +43,7 @@ pub mod legacy;
 pub mod minmax;
 pub mod multiple_of;
 pub mod number;
+pub mod outline;
 pub mod quick_set;
 pub mod sizes;
 
@@ -68,4 +69,5 @@ pub mod min_properties {
 
 pub use keywords::compile;
 pub use number::NumberValidator;
+pub use outline::Outline;
 pub use quick_set::QuickSet;

@@ -124,6 +124,7 @@ pub trait LimitTest {
 /// The validator of a limit. It accepts a number that is in the relation `R` to the limit, and
 /// every non-number.
 #[derive(Drop)]
+#[derive_where(Debug; T)]
 pub struct Limit<T, R> {
     limit: T,
     limit_value: Value,
@@ -204,7 +205,7 @@ impl<T: Whole, R: LimitTest> Assertion for Limit<T, R> {
 }
 
 /// The relation of `minimum`: the number is at least the limit.
-#[derive(Debug, Drop)]
+#[derive(Clone, Copy, Debug)]
 pub struct AtLeast;
 
 impl LimitTest for AtLeast {
@@ -241,7 +242,7 @@ impl LimitTest for AtLeast {
 pub type Minimum<T> = Limit<T, AtLeast>;
 
 /// The relation of `maximum`: the number is at most the limit.
-#[derive(Debug, Drop)]
+#[derive(Clone, Copy, Debug)]
 pub struct AtMost;
 
 impl LimitTest for AtMost {
@@ -278,7 +279,7 @@ impl LimitTest for AtMost {
 pub type Maximum<T> = Limit<T, AtMost>;
 
 /// The relation of `exclusiveMinimum`: the number is above the limit.
-#[derive(Debug, Drop)]
+#[derive(Clone, Copy, Debug)]
 pub struct Above;
 
 impl LimitTest for Above {
@@ -315,7 +316,7 @@ impl LimitTest for Above {
 pub type ExclusiveMinimum<T> = Limit<T, Above>;
 
 /// The relation of `exclusiveMaximum`: the number is below the limit.
-#[derive(Debug, Drop)]
+#[derive(Clone, Copy, Debug)]
 pub struct Below;
 
 impl LimitTest for Below {

@@ -111,7 +111,6 @@ pub fn compile<'a, F: Json>(
     ensures { CompilesKeyword number_keyword result
         (keyword_reading keyword_name.MultipleOf ctx.now (members_view parent.now.entries) (view schema.now)) }
 {
-    let _ = parent;
     match MultipleOfIntegerValidator::compile(alloc, ctx, schema) {
         Ok(validator) => Some(Ok(NumberValidator::MultipleOfInteger(validator))),
         Err(fault) => Some(Err(fault)),

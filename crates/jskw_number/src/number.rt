@@ -1,10 +1,12 @@
 //! The validators of this crate as one type.
 ghost use Rattle.jskw_number.specs.Meaning.{number_assertion, number_error, number_fails_once};
 ghost use Rattle.jskw_number.specs.Meaning.{number_keyword};
+ghost use Rattle.jskw_number.specs.Outline.{AcceptsOutline};
 ghost use Rattle.jskw_number.specs.QuickSet.{Accepts};
 
 use crate::minmax::{ExclusiveMaximum, ExclusiveMinimum, Maximum, Minimum};
 use crate::multiple_of::MultipleOfIntegerValidator;
+use crate::outline::Outline;
 use crate::quick_set::QuickSet;
 use crate::sizes::{
     MaxItemsValidator, MaxPropertiesValidator, MinItemsValidator, MinPropertiesValidator,
@@ -13,6 +15,7 @@ use jskw_report::{Assertion, KeywordLocation, ValidationErrorKind};
 use jskw_value::Json;
 
 /// The validator of one keyword on numbers or sizes.
+#[derive(Debug)]
 pub enum NumberValidator {
     /// `minItems` (JSON Schema Validation 6.4.2).
     MinItems(MinItemsValidator),
@@ -89,6 +92,17 @@ impl NumberValidator {
             NumberValidator::ExclusiveMaximumU64(v) => v.quick_set(),
             NumberValidator::ExclusiveMaximumI64(v) => v.quick_set(),
             NumberValidator::MultipleOfInteger(v) => v.quick_set(),
+        }
+    }
+
+    /// Returns arrays and objects that the keyword accepts, whatever their items and members are.
+    pub fn outline(&self) -> Outline
+        ensures { AcceptsOutline result (number_keyword self.now) }
+    {
+        match self {
+            NumberValidator::MinItems(v) => Outline::between(v.limit(), u64::MAX),
+            NumberValidator::MaxItems(v) => Outline::between(0, v.limit()),
+            _ => Outline::of(self.quick_set()),
         }
     }
 }

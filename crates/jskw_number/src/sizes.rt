@@ -152,7 +152,6 @@ pub fn compile_min_items<'a, F: Json>(
     ensures { CompilesKeyword number_keyword result
         (keyword_reading keyword_name.MinItems ctx.now (members_view parent.now.entries) (view schema.now)) }
 {
-    let _ = parent;
     match MinItemsValidator::compile(alloc, ctx, schema) {
         Ok(validator) => Some(Ok(NumberValidator::MinItems(validator))),
         Err(fault) => Some(Err(fault)),
@@ -173,7 +172,6 @@ pub fn compile_max_items<'a, F: Json>(
     ensures { CompilesKeyword number_keyword result
         (keyword_reading keyword_name.MaxItems ctx.now (members_view parent.now.entries) (view schema.now)) }
 {
-    let _ = parent;
     match MaxItemsValidator::compile(alloc, ctx, schema) {
         Ok(validator) => Some(Ok(NumberValidator::MaxItems(validator))),
         Err(fault) => Some(Err(fault)),
@@ -194,7 +192,6 @@ pub fn compile_min_properties<'a, F: Json>(
     ensures { CompilesKeyword number_keyword result
         (keyword_reading keyword_name.MinProperties ctx.now (members_view parent.now.entries) (view schema.now)) }
 {
-    let _ = parent;
     match MinPropertiesValidator::compile(alloc, ctx, schema) {
         Ok(validator) => Some(Ok(NumberValidator::MinProperties(validator))),
         Err(fault) => Some(Err(fault)),
@@ -215,7 +212,6 @@ pub fn compile_max_properties<'a, F: Json>(
     ensures { CompilesKeyword number_keyword result
         (keyword_reading keyword_name.MaxProperties ctx.now (members_view parent.now.entries) (view schema.now)) }
 {
-    let _ = parent;
     match MaxPropertiesValidator::compile(alloc, ctx, schema) {
         Ok(validator) => Some(Ok(NumberValidator::MaxProperties(validator))),
         Err(fault) => Some(Err(fault)),

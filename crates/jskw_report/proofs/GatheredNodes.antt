@@ -9,7 +9,7 @@ use Rattle.jskw_report.specs.Evaluation.{Evaluation, evaluate_matching, matching
 -- ---- what is left, and what was gathered before
 
 -- something was appended
-appended : {A : Type 0} (more left rest done now all : List A)
+pub appended : {A : Type 0} (more left rest done now all : List A)
     → left ≡ more ++ rest → now ≡ done ++ more → done ++ left ≡ all → now ++ rest ≡ all
 appended more left rest done now all split is whole =
     ap (λ xs. xs ++ rest) is ∙ append_assoc done more rest ∙ ap (λ xs. done ++ xs) (sym split) ∙ whole

@@ -19,6 +19,7 @@ use std::marker::{Model, PhantomData};
 /// The settings and the keyword location under which a schema or a keyword is compiled. `F` is the
 /// representation of the instances that the compiled validators take.
 #[derive(Drop)]
+#[derive_where(Debug)]
 pub struct Context<'s, F: Json> {
     settings: &'s Settings,
     object_layer: bool,

@@ -9,7 +9,7 @@ ghost use Rattle.jskw_report.specs.declared.report.Report.TheVariants.{First, Li
 use crate::error::{Fault, Stop, ValidationError};
 use jskw_value::Json;
 use std::alloc::AllocError;
-use std::mem;
+use std::{fmt, mem};
 
 /// The errors of an instance that were found, and how many more are wanted.
 #[derive(Drop)]
@@ -20,12 +20,30 @@ pub enum Report<'i, F: Json> {
     Listed(ErrorList<'i, F>),
 }
 
+impl<F: Json> fmt::Debug for Report<'_, F> {
+    fn fmt<W: fmt::Write>(&self, f: &mut fmt::Formatter<W>) -> fmt::Result {
+        let name = match self {
+            Report::First(_) => "First",
+            Report::Listed(_) => "Listed",
+        };
+        f.debug_struct(name).finish_non_exhaustive()
+    }
+}
+
 /// A list of errors, in order, and how many more it takes.
 #[derive(Drop)]
 pub struct ErrorList<'i, F: Json> {
     errors: Vec<ValidationError<'i, F>>,
     // all of them if `None`
     room: Option<usize>,
+}
+
+impl<F: Json> fmt::Debug for ErrorList<'_, F> {
+    fn fmt<W: fmt::Write>(&self, f: &mut fmt::Formatter<W>) -> fmt::Result {
+        f.debug_struct("ErrorList")
+            .field("room", &self.room)
+            .finish_non_exhaustive()
+    }
 }
 
 impl<'i, F: Json> Report<'i, F> {

@@ -5,7 +5,7 @@ use crate::device::{DeviceFault, Sink, Source};
 use std::io::{Read, Write};
 
 /// A reader or a writer of `std`, and whether it has failed.
-#[derive(Drop)]
+#[derive(Debug, Drop)]
 pub struct StdDevice<T> {
     device: T,
     failed: bool,

@@ -1,13 +1,12 @@
--- What a fault says of the bytes.
-use Rattle.std.specs.Prelude.{◌≡◌, ◌≤◌, ℕ, List, length, None, Some, Err, false, string_bytes, ⊤}
+-- What a fault says of the bytes, and how it is displayed.
+use Rattle.std.specs.Prelude.{◌≡◌, ◌≤◌, ◌++◌, ℕ, List, length, None, Some, Err, codes, decimal, false, string_bytes, ⊤}
 use Rattle.std.specs.Str.{is_utf8, IsValidUpTo}
 use Rattle.jskw_text.specs.Reading.{reading}
 use Rattle.jskw_text.specs.declared.fault.ReadFault.{ReadFault}
 use Rattle.jskw_text.specs.declared.fault.ReadFault.TheVariants.{NotJson, Inexact, Memory}
 
 -- the bytes are no JSON text, and the offset is none behind them; if they are not UTF-8, it is the length of the
--- longest
--- beginning that is
+-- longest beginning that is
 pub record IsBrokenAt (bytes : List ℕ) (offset : ℕ) : Type 0 where
   pub unread : reading bytes ≡ None
   pub within : offset ≤ length bytes
@@ -18,3 +17,9 @@ abbrev pub IsFaultOf : List ℕ → ReadFault → Type 0
 IsFaultOf bytes (NotJson offset) = IsBrokenAt bytes offset
 IsFaultOf bytes (Inexact l) = reading bytes ≡ Some (Err (string_bytes l))
 IsFaultOf bytes (Memory e) = ⊤
+
+-- the text that displays a fault
+abbrev pub fault_text : ReadFault → List ℕ
+fault_text (NotJson offset) = codes "not JSON at offset " ++ decimal offset
+fault_text (Inexact l) = codes "the number at \"" ++ string_bytes l ++ codes "\" is not exact"
+fault_text (Memory e) = codes "memory ran out"

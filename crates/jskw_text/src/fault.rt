@@ -4,8 +4,11 @@ ghost use Rattle.jskw_text.specs.declared.fault.ReadFault.TheVariants as read_fa
 ghost use Rattle.jskw_text.specs.declared.fault.Stop.TheVariants as stop;
 
 use std::alloc::{AllocError, AllocFailed};
+use std::error::Error;
+use std::fmt;
 
-/// Why bytes could not be read.
+/// Why bytes could not be read. It is displayed with its offset or its location, in one sentence
+/// without a full stop.
 #[derive(Debug, Drop)]
 pub enum ReadFault {
     /// The bytes are not UTF-8, not JSON, or JSON that is refused: with arrays and objects that nest
@@ -25,6 +28,25 @@ pub enum ReadFault {
     /// Memory ran out. This says nothing about the bytes.
     Memory(AllocError),
 }
+
+impl fmt::Display for ReadFault {
+    ghost use Rattle.std.specs.Prelude.{Some};
+    ghost use Rattle.jskw_text.specs.ReadFault.{fault_text};
+
+    ghost output = { λ f. Some (fault_text f) };
+
+    fn fmt<W: fmt::Write>(&self, f: &mut fmt::Formatter<W>) -> fmt::Result {
+        match self {
+            ReadFault::NotJson(offset) => write!(f, "not JSON at offset {offset}"),
+            ReadFault::Inexact(location) => {
+                write!(f, "the number at \"{location}\" is not exact")
+            }
+            ReadFault::Memory(_) => f.write_str("memory ran out"),
+        }
+    }
+}
+
+impl Error for ReadFault {}
 
 // Why a text was not read to its end.
 #[derive(Drop)]

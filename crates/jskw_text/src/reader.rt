@@ -10,6 +10,7 @@ use crate::tree::read_with;
 use jskw_value::DecimalTree;
 use json::Scratch;
 use std::alloc::Global;
+use std::fmt;
 
 /// Reads texts one after another. It keeps the room that reading needs, and up to 4 MB of the room
 /// of trees that are no longer needed.
@@ -18,6 +19,12 @@ pub struct TreeReader {
     alloc: Global,
     scratch: Scratch,
     spare: Spare,
+}
+
+impl fmt::Debug for TreeReader {
+    fn fmt<W: fmt::Write>(&self, f: &mut fmt::Formatter<W>) -> fmt::Result {
+        f.debug_struct("TreeReader").finish_non_exhaustive()
+    }
 }
 
 impl TreeReader {

@@ -9,7 +9,7 @@ ghost use Rattle.jskw_unchecked.specs.Reason.{keyword_reason, member_reason, nam
 ghost use Rattle.jskw_unchecked.specs.Reason.{reason_name};
 
 use crate::names::{is_after_draft_7, is_annotation, is_not_implemented};
-use jskw_leaf::items::fusion::is_items_schema;
+use jskw_leaf::in_place::fusion::is_items_schema;
 use jskw_leaf::required;
 use jskw_report::context::member_of;
 use jskw_report::{Context, Draft, KeywordName, Vocabulary};

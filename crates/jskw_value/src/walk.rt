@@ -9,13 +9,19 @@ ghost use Rattle.jskw_value.specs.Walk.{left, seen};
 use crate::json::{Node, Object, Rooted};
 use crate::members::Member;
 use std::collections::{BTreeMap, btree_map};
-use std::slice;
+use std::{fmt, slice};
 
 /// An iterator over the names and values of the members of an object, in the order of their places.
 /// [`Object::walk`](crate::json::Object::walk) creates it.
 #[derive(Drop)]
 pub struct Walk<'a, V> {
     rest: Rest<'a, V>,
+}
+
+impl<V> fmt::Debug for Walk<'_, V> {
+    fn fmt<W: fmt::Write>(&self, f: &mut fmt::Formatter<W>) -> fmt::Result {
+        f.debug_struct("Walk").finish_non_exhaustive()
+    }
 }
 
 // The members that are left.

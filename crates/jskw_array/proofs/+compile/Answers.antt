@@ -3,6 +3,7 @@ use Rattle.std.proofs.Common.{ap, ap₂, subst, ◌∙◌, arith}
 use Rattle.jskw_array.specs.Words.{Array, Keyword, CompilesTo, Refusal, Schema, absorbed_keywords, active_member, after}
 use Rattle.jskw_array.specs.Words.{append_keywords, as_array, before, begin_fused, boxed_bounds, contains}
 use Rattle.jskw_array.specs.Words.{fused_keywords, get_member, is_fused, is_items_schema, items_depth, items_from}
+use Rattle.jskw_array.specs.Words.{items_start}
 use Rattle.jskw_array.specs.Words.{items_view, join_ok, keyword, keyword_location, keywords, keywords_of, map_ok}
 use Rattle.jskw_array.specs.Words.{members_view, name_of, no_keywords, of_type, readings_named, read, read_bounds}
 use Rattle.jskw_array.specs.Words.{read_each, read_keywords, array_schema_count, shape_keywords, validator_keyword}
@@ -15,7 +16,7 @@ use Rattle.jskw_leaf.proofs.PassedFaults.{compiles_as, passed_by_try, refused_wh
 use Rattle.jskw_leaf.proofs.FusedReading.{fused_items, is_there}
 use Rattle.jskw_array.proofs.FusedReading.{fused_behind, fused_refused, is_one, items_value, shape_reads}
 use Rattle.jskw_array.proofs.KeywordReadings.{additional_absent, additional_false, additional_of_schema}
-use Rattle.jskw_array.proofs.KeywordReadings.{additional_true, bare_is_type, bare_stands, bare_start}
+use Rattle.jskw_array.proofs.KeywordReadings.{additional_true}
 use Rattle.jskw_array.proofs.KeywordReadings.{contains_of_schema, contains_read, items_of_array, items_of_one}
 use Rattle.jskw_array.proofs.KeywordReadings.{items_silent, prefix_of_array, prefix_refused, read_boolean, view-Bool}
 use Rattle.jskw_array.proofs.CompiledKeywords.{active_depth, active_reads, after_empty, inactive_reads, keyword_same}
@@ -316,28 +317,16 @@ items::compile-returns g t c =
     (items_of_one c.args.ctx.now ms d (sym c.is_items_schema.ensures ∙ c.if-not-is_items_schema.false))
     c.compile_schema.ensures
 
-pub items::compile_schema-compile_inline-requires : goal.items::compile_schema-compile_inline-requires
-items::compile_schema-compile_inline-requires g t c =
-    let s = c.args.ctx.now.setting in
-    let ms = members_view c.args.parent.now.entries in
-    let d = view c.args.schema.now in
-    let bare = sym c.is_bare.ensures ∙ c.if-is_bare.true in
-    let type_alone = bare_is_type s ms d bare in
-    let there = bare_stands s ms d bare in
-    record { only_type = search (rules, type_alone); active = search (rules, there) }
-
 pub items::compile_schema-returns-then-is_bare : goal.items::compile_schema-returns-then-is_bare
 items::compile_schema-returns-then-is_bare g t c =
     let s = c.args.ctx.now.setting in
     let ms = members_view c.args.parent.now.entries in
-    let d = view c.args.schema.now in
-    let bare = sym c.is_bare.ensures ∙ c.if-is_bare.true in
-    let value : ℕ → Bool → Result Keyword Refusal =
-    λ n b. map_ok (λ sub. items_from n sub b)
-    (read d s (keyword_location c.args.ctx.now.location keyword_name.Items)) in
+    let value : Bool → Result Keyword Refusal =
+    λ b. map_ok (λ sub. items_from (items_start s ms) sub b)
+    (read (view c.args.schema.now) s (keyword_location c.args.ctx.now.location keyword_name.Items)) in
     subst (CompilesTo (validator_keyword {F = g.row.F.Denot} {Node = g.row.F-Node.Denot}
-    {Number = g.row.F-Node-Number.Denot} {Key = g.row.F-Node-PreparedKey.Denot}) c.compile_inline.result)
-    (sym (ap₂ value (bare_start s ms d bare) bare)) c.compile_inline.ensures
+    {Number = g.row.F-Node-Number.Denot} {Key = g.row.F-Node-PreparedKey.Denot}) c.of_bare.result)
+    (sym (ap value (sym c.is_bare.ensures ∙ c.if-is_bare.true))) (c.of_bare.ensures _ c.compile.ensures)
 
 pub items::compile_schema-returns : goal.items::compile_schema-returns
 items::compile_schema-returns g t c =

@@ -1,11 +1,11 @@
-use Rattle.std.proofs.Common.{rules, ◌≡◌, ◌∙◌, ◌+◌, ◌++◌, [], ◌∷◌, length, drop, ap, ap₂, subst, sym, refl, IfOk, arith}
-use Rattle.std.proofs.Common.{if◌then◌else◌, append_assoc}
+use Rattle.std.proofs.Common.{rules, ◌≡◌, ◌∙◌, ◌+◌, ◌++◌, [], ◌∷◌, length, drop, ap, ap₂, subst, refl, IfOk, arith}
+use Rattle.std.proofs.Common.{if◌then◌else◌}
 use Rattle.std.proofs.lemmas.Grind.{common_steps}
 use Rattle.jskw_array.specs.Words.{absorbed_by, boxed_bounds, evaluate_each, evaluate_pairs, failing_locations, holds}
 use Rattle.jskw_array.specs.Words.{item_location, items, matching_result, meaning_unit, node_at, one_keyword}
 use Rattle.jskw_array.specs.Words.{own_keyword, pairs, part_meaning, path_of, result_of, schemas_of, tree, units}
 use Rattle.jskw_array.specs.Words.{validator_keyword}
-use Rattle.jskw_report.proofs.GatheredNodes.{gathered_all, index_end, index_met, node_end, node_met}
+use Rattle.jskw_report.proofs.GatheredNodes.{appended, gathered_all, index_end, index_met, node_end, node_met}
 use Rattle.jskw_report.proofs.EvaluationValidity.{tree_valid}
 use Rattle.jskw_array.specs.Heights.{rest_is_as_high}
 use Rattle.jskw_array.proofs.WalksOverParts.{keywords_end, own_counted, own_gives, own_lower, pairs_at, unit_height}
@@ -55,10 +55,7 @@ each::EachValidate::evaluate-loop-index-preserved g t c =
     each_units_at ss ts l.index s u (omega arith) (omega arith) within c.item-item.ensures.value p in
     record {
       last = l.invariant.last;
-      gathered =
-          ap (λ es. es ++ behind) made
-          ∙ append_assoc l.children.items (tree s u (item_location p l.index) ∷ []) behind
-          ∙ ap (λ es. l.children.items ++ es) (sym next) ∙ l.invariant.gathered;
+      gathered = appended (tree s u (item_location p l.index) ∷ []) _ behind _ _ _ next made l.invariant.gathered;
       location = c.evaluate_item-made.ensures.location ∙ l.invariant.location;
       counted_from = grind (arith, common_steps);
       counted_to = grind (arith, common_steps);
@@ -95,10 +92,7 @@ rest::RestValidate::evaluate-loop-index-preserved g t c =
     let next = units_at ts l.index u (omega arith) c.item-item.ensures.value s p in
     record {
       last = l.invariant.last;
-      gathered =
-          ap (λ es. es ++ behind) made
-          ∙ append_assoc l.children.items (tree s u (item_location p l.index) ∷ []) behind
-          ∙ ap (λ es. l.children.items ++ es) (sym next) ∙ l.invariant.gathered;
+      gathered = appended (tree s u (item_location p l.index) ∷ []) _ behind _ _ _ next made l.invariant.gathered;
       location = c.evaluate_item-made.ensures.location ∙ l.invariant.location;
       counted_from = grind (arith, common_steps);
       counted_to = grind (arith, common_steps);

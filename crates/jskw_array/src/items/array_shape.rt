@@ -24,6 +24,7 @@ use std::alloc::{AllocError, Global};
 /// [`absorbed`](ArrayShapeValidator::absorbed) gives the others theirs.
 #[cycle(schema)]
 #[derive(Drop)]
+#[derive_where(Debug)]
 pub struct ArrayShapeValidator<F: Json> {
     pub(crate) absorbed: AbsorbedKeywords,
     pub(crate) items: LocatedValidator<F>,

@@ -29,7 +29,6 @@ pub fn compile<'a, F: Json>(
     ensures { CompilesKeyword leaf_keyword result
         (keyword_reading Const ctx.now (members_view parent.now.entries) (view schema.now)) }
 {
-    let _ = parent;
     Some(const_validator(alloc, ctx, schema))
 }
 

@@ -49,7 +49,6 @@ pub fn compile<'a, F: Json>(
     ensures { CompilesKeyword leaf_keyword result
         (keyword_reading Enum ctx.now (members_view parent.now.entries) (view schema.now)) }
 {
-    let _ = parent;
     Some(enum_validator(alloc, ctx, schema))
 }
 

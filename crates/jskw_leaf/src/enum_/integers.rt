@@ -19,7 +19,7 @@ use std::cmp::Ordering;
 
 /// A table of integers from -2^63 to 2^63-1, sorted for a binary search. Looks a number up by its
 /// value: 1.0 is 1.
-#[derive(Drop)]
+#[derive(Debug, Drop)]
 pub struct SortedIntegers {
     integers: Vec<i64>,
     ghost sorted: { IsSorted int_cmp integers.items },

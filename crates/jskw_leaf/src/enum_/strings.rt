@@ -13,7 +13,7 @@ use serde_json::Value;
 use std::alloc::{AllocError, Global};
 
 /// A table of at most 10 strings. Compares an instance with each.
-#[derive(Drop)]
+#[derive(Debug, Drop)]
 pub struct FewStrings {
     names: Vec<PropertyName>,
 }
@@ -52,7 +52,7 @@ impl OptionTable for FewStrings {
 }
 
 /// A table of more than 10 strings, sorted by their bytes for a binary search.
-#[derive(Drop)]
+#[derive(Debug, Drop)]
 pub struct SortedStrings {
     texts: Vec<String>,
     ghost sorted: { IsSorted string_cmp texts.items },

@@ -53,6 +53,7 @@ pub trait OptionTable: Sized {
 // The value of `enum`, with a table of its items. If `N` is `Nullable`, null is an option that the
 // table leaves out. In contracts it is the value.
 #[derive(Drop)]
+#[derive_where(Debug; T)]
 pub(crate) struct Listed<T: OptionTable, N: Nullability> {
     options: Value,
     table: T,
@@ -109,6 +110,7 @@ impl<T: OptionTable, N: Nullability> Listed<T, N> {
 /// The validator of the options in a table `T`. If `N` is [`Nullable`](jskw_value::Nullable), null
 /// is an option too.
 #[derive(Drop)]
+#[derive_where(Debug; T)]
 pub struct TableEnumValidator<T: OptionTable, N: Nullability> {
     listed: Listed<T, N>,
     location: KeywordLocation,

@@ -18,7 +18,7 @@ use serde_json::Value;
 use std::alloc::{AllocError, Global};
 
 /// An option with its fingerprint.
-#[derive(Drop)]
+#[derive(Debug, Drop)]
 pub struct FingerprintedValue {
     fingerprint: u64,
     value: Value,
@@ -29,7 +29,7 @@ pub struct FingerprintedValue {
 /// the fingerprints comes from the whole list. A lookup takes the fingerprint of the
 /// instance, a binary search, and a comparison with each option of that fingerprint: in most cases
 /// one or none.
-#[derive(Drop)]
+#[derive(Debug, Drop)]
 pub struct SortedValues {
     types: JsonTypeSet,
     seed: u64,

@@ -10,7 +10,7 @@ use crate::type_::{SingleTypeValidator, TypeTest};
 use jskw_value::{Json, JsonNumber, JsonType, Node};
 
 /// The type `integer`: a number that is written without a fraction.
-#[derive(Debug, Drop)]
+#[derive(Clone, Copy, Debug)]
 pub struct IntegerType;
 
 impl TypeTest for IntegerType {

@@ -44,6 +44,7 @@ pub trait Names<F: Json> {
 
 /// A list of names with a sorted copy for lookups. In contracts it is the list.
 #[derive(Drop)]
+#[derive_where(Debug)]
 pub struct NameList<F: Json> {
     names: Vec<PreparedName<F>>,
     table: Vec<String>,
@@ -114,6 +115,7 @@ impl<F: Json> Names<F> for NameList<F> {
 
 /// One to three names, without a table. In contracts it is the list.
 #[derive(Drop)]
+#[derive_where(Debug)]
 pub struct FewNames<F: Json> {
     names: Vec<PreparedName<F>>,
 }

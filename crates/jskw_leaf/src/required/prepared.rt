@@ -9,8 +9,10 @@ use std::marker::Model;
 
 /// A required name with the key for its lookup. In contracts it is the name.
 #[derive(Drop)]
+#[derive_where(Debug)]
 pub struct PreparedName<F: Json> {
     name: String,
+    #[derive_where(skip)]
     key: <F::Node as Object>::PreparedKey,
 }
 

@@ -45,7 +45,6 @@ pub fn compile<'a, F: Json>(
     ensures { CompilesKeyword leaf_keyword result
         (keyword_reading TypeKeyword ctx.now (members_view parent.now.entries) (view schema.now)) }
 {
-    let _ = parent;
     Some(type_validator(alloc, ctx, schema))
 }
 

@@ -92,7 +92,7 @@ impl<T: TypeTest> Assertion for SingleTypeValidator<T> {
 }
 
 /// The type `null`.
-#[derive(Debug, Drop)]
+#[derive(Clone, Copy, Debug)]
 pub struct NullType;
 
 impl TypeTest for NullType {
@@ -113,7 +113,7 @@ impl TypeTest for NullType {
 pub type NullTypeValidator = SingleTypeValidator<NullType>;
 
 /// The type `boolean`.
-#[derive(Debug, Drop)]
+#[derive(Clone, Copy, Debug)]
 pub struct BooleanType;
 
 impl TypeTest for BooleanType {
@@ -134,7 +134,7 @@ impl TypeTest for BooleanType {
 pub type BooleanTypeValidator = SingleTypeValidator<BooleanType>;
 
 /// The type `integer`: a number whose fractional part is zero, such as `1` and `1.0`.
-#[derive(Debug, Drop)]
+#[derive(Clone, Copy, Debug)]
 pub struct IntegerType;
 
 impl TypeTest for IntegerType {
@@ -158,7 +158,7 @@ impl TypeTest for IntegerType {
 pub type IntegerTypeValidator = SingleTypeValidator<IntegerType>;
 
 /// The type `number`.
-#[derive(Debug, Drop)]
+#[derive(Clone, Copy, Debug)]
 pub struct NumberType;
 
 impl TypeTest for NumberType {
@@ -179,7 +179,7 @@ impl TypeTest for NumberType {
 pub type NumberTypeValidator = SingleTypeValidator<NumberType>;
 
 /// The type `string`.
-#[derive(Debug, Drop)]
+#[derive(Clone, Copy, Debug)]
 pub struct StringType;
 
 impl TypeTest for StringType {
@@ -200,7 +200,7 @@ impl TypeTest for StringType {
 pub type StringTypeValidator = SingleTypeValidator<StringType>;
 
 /// The type `array`.
-#[derive(Debug, Drop)]
+#[derive(Clone, Copy, Debug)]
 pub struct ArrayType;
 
 impl TypeTest for ArrayType {
@@ -221,7 +221,7 @@ impl TypeTest for ArrayType {
 pub type ArrayTypeValidator = SingleTypeValidator<ArrayType>;
 
 /// The type `object`.
-#[derive(Debug, Drop)]
+#[derive(Clone, Copy, Debug)]
 pub struct ObjectType;
 
 impl TypeTest for ObjectType {

@@ -56,7 +56,6 @@ pub fn compile_minimum<'a, F: Json>(
         (keyword_reading keyword_name.Minimum ctx.now (members_view parent.now.entries) (view schema.now)) }
     ensures value { IfSome result (λ r. IfOk r (λ v. limit_of v ≡ Some (view schema.now))) }
 {
-    let _ = parent;
     Some(compile_limit::<F, AtLeast>(alloc, ctx, schema))
 }
 
@@ -79,7 +78,6 @@ pub fn compile_maximum<'a, F: Json>(
         (keyword_reading keyword_name.Maximum ctx.now (members_view parent.now.entries) (view schema.now)) }
     ensures value { IfSome result (λ r. IfOk r (λ v. limit_of v ≡ Some (view schema.now))) }
 {
-    let _ = parent;
     Some(compile_limit::<F, AtMost>(alloc, ctx, schema))
 }
 
@@ -101,7 +99,6 @@ pub fn compile_exclusive_minimum<'a, F: Json>(
         (view schema.now)) }
     ensures value { IfSome result (λ r. IfOk r (λ v. limit_of v ≡ Some (view schema.now))) }
 {
-    let _ = parent;
     Some(compile_limit::<F, Above>(alloc, ctx, schema))
 }
 
@@ -123,6 +120,5 @@ pub fn compile_exclusive_maximum<'a, F: Json>(
         (view schema.now)) }
     ensures value { IfSome result (λ r. IfOk r (λ v. limit_of v ≡ Some (view schema.now))) }
 {
-    let _ = parent;
     Some(compile_limit::<F, Below>(alloc, ctx, schema))
 }
