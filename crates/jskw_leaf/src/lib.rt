@@ -1,6 +1,6 @@
 //! Validators for the keywords without subschemas (JSON Schema Core 7.6, Validation 6), and the
 //! enum [`LeafValidator`] of them all. The validators of the keywords on numbers and sizes come
-//! from `jskw_number`. The module [`in_place`] has what `items` needs that applies no subschema.
+//! from `jskw_number`. The module [`in_place`] has the checks of items that apply no subschema.
 //!
 //! [`compile`](crate::compile) turns such a keyword of a schema into a `LeafValidator`, whose four
 //! observers are those of [`Validate`](jskw_report::Validate). They require a lawful instance: one
