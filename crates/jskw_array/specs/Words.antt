@@ -2,39 +2,34 @@
 
 -- std
 pub use Rattle.std.specs.Prelude.{[], true, Some, Ok, Err, Result, IfOk, IfSome, IsTrue, count_by, drop, is_some}
-pub use Rattle.std.specs.Prelude.{length, min, option_map, refl, sum_by, take}
+pub use Rattle.std.specs.Prelude.{length, min, option_map, sum_by, take}
 pub use Rattle.std.specs.List.{list_all}
 pub use Rattle.std.specs.Option.{option_map_or}
 -- values of schemas, and their members
 pub use Rattle.serde_json.specs.Data.{Data, Items, Members, array, boolean, depth, items_depth, member, members_depth}
-pub use Rattle.serde_json.specs.Data.{no_members, object, string}
-pub use Rattle.serde_json.specs.Events.{items_len, members_len}
-pub use Rattle.serde_json.specs.Find.{as_array, as_bool, as_str, get, get_member}
+pub use Rattle.serde_json.specs.Data.{no_members, object}
+pub use Rattle.serde_json.specs.Events.{items_len}
+pub use Rattle.serde_json.specs.Find.{as_array, as_bool, get_member}
 pub use Rattle.serde_json.specs.View.{items_view, members_view, view}
 -- instances, locations and types
 pub use Rattle.jskw_value.specs.Tree.{Tree, is_array, is_lawful, items}
 pub use Rattle.jskw_value.specs.Pointer.{Pointer, item_location, member_location}
-pub use Rattle.jskw_value.specs.Types.{type_name, type_named}
-pub use Rattle.jskw_value.specs.declared.types.JsonType.{JsonType}
-pub use Rattle.jskw_value.specs.declared.types.JsonType.TheVariants.{Array, Boolean, Integer, Number, Object, String}
+pub use Rattle.jskw_value.specs.declared.types.JsonType.TheVariants.{Array, Boolean, Object}
 pub use Rattle.jskw_report.specs.Paths.{path_of}
-pub use Rattle.jskw_report.specs.declared.error.TypeKind.TheVariants.{Single}
 -- what a schema says: its keywords, and how they are read with settings
-pub use Rattle.jskw_report.specs.Keyword.{Bounds, Integers, Keyword, Keywords, Schema, Schemas, additional_items}
-pub use Rattle.jskw_report.specs.Keyword.{keywords_delegate, append_keywords, as_written, assertion, at_most, by_value}
+pub use Rattle.jskw_report.specs.Keyword.{Bounds, Keyword, Keywords, Schema, Schemas, additional_items}
+pub use Rattle.jskw_report.specs.Keyword.{keywords_delegate, append_keywords, assertion, at_most}
 pub use Rattle.jskw_report.specs.Keyword.{contains, schemas_delegate, false_schema, hands_on_required, is_fused_schema}
 pub use Rattle.jskw_report.specs.Keyword.{items_from, items_list, keyword, keyword_delegates, keywords_in, no_keywords}
 pub use Rattle.jskw_report.specs.Keyword.{no_schemas, prefix_items, schema, schema_location, schema_object}
 pub use Rattle.jskw_report.specs.KeywordValue.{Refusal, join_ok, map_ok, of_type, of_types, wrong}
 pub use Rattle.jskw_report.specs.Read.{Asserts, ValueReadings, Reading, additional_keyword, asserts, before}
-pub use Rattle.jskw_report.specs.Read.{bound_beside, bound_value, bounds_between, integers_of, items_start}
+pub use Rattle.jskw_report.specs.Read.{bound_beside, bound_value, bounds_between, items_start}
 pub use Rattle.jskw_report.specs.Read.{keyword_location, marks_of, readings, readings_named, read, read_bounds}
 pub use Rattle.jskw_report.specs.Read.{read_each, read_keywords, object_schema}
 unfoldable pub use Rattle.jskw_report.specs.Read.{asserted, read_keyword}
-pub use Rattle.jskw_report.specs.Setting.{CompilePoint, Setting, is_2020_12, keywords, name_of, is_active}
-pub use Rattle.jskw_report.specs.Sibling.{has_keyword, is_absent, is_array_value as is_list, is_bare, is_inlined_type}
-pub use Rattle.jskw_report.specs.Sibling.{is_items_schema, is_only_type, is_string, item_count, member_passes}
-pub use Rattle.jskw_report.specs.Sibling.{takes_size, unfused_names}
+pub use Rattle.jskw_report.specs.Setting.{CompilePoint, Setting, keywords, name_of, is_active}
+pub use Rattle.jskw_report.specs.Sibling.{is_bare, is_items_schema}
 unfoldable pub use Rattle.jskw_report.specs.Sibling.{is_fused, is_handed_on}
 pub use Rattle.jskw_report.specs.Compile.{CompilesKeyword, CompilesTo, keyword_reading}
 pub use Rattle.jskw_report.specs.declared.keyword.KeywordName.{KeywordName}
@@ -42,7 +37,6 @@ pub use Rattle.jskw_report.specs.declared.keyword.KeywordName.{KeywordName}
 pub use Rattle.jskw_report.specs.Holds.{all_hold, each_holds, holds, keyword_holds}
 pub use Rattle.jskw_report.specs.Fail.{Failure, all_fail, each_fails, each_item, fail, failing_bound, is_empty}
 pub use Rattle.jskw_report.specs.Fail.{keyword_fail, passes}
-pub use Rattle.jskw_report.specs.Kind.{AdditionalItems}
 pub use Rattle.jskw_report.specs.Evaluation.{Evaluation, evaluate_each, evaluate_matching, evaluate_pairs, indices}
 pub use Rattle.jskw_report.specs.Evaluation.{matching_indices, node_at, of_children, prefix_annotation, tree, unit}
 pub use Rattle.jskw_report.specs.Evaluation.{units}
@@ -60,7 +54,7 @@ pub use Rattle.jskw_report.specs.EvaluationView.{result_of}
 pub use Rattle.jskw_number.specs.Outline.{AcceptsOutline, in_outline}
 pub use Rattle.jskw_number.specs.QuickSet.{Accepts, is_in}
 pub use Rattle.jskw_leaf.specs.Items.{absorbed_keywords, bare_keyword}
-pub use Rattle.jskw_leaf.specs.Meaning.{leaf_keyword, type_at}
+pub use Rattle.jskw_leaf.specs.Meaning.{leaf_keyword}
 pub use Rattle.jskw_leaf.specs.Names.{is_leaf}
 -- the same of this crate
 pub use Rattle.jskw_array.specs.Meaning.{bounds_of, boxed_bounds, each_keyword, each_of, matching_keyword}
