@@ -4,7 +4,9 @@
     unchecked.py COUNT SEED > FOLDER/random.json     # then ask them: out/jskw_rows FOLDER
 """
 import json
+import pathlib
 import random
+import re
 import sys
 
 # The keywords of each draft, from its documents and its meta-schema: those that say nothing of validity, and all others.
@@ -38,10 +40,9 @@ OTHERS = {
     " dependentSchemas dependencies propertyNames const enum type format if then else allOf anyOf oneOf not",
 }
 APPLICATORS = {"items", "prefixItems", "additionalItems", "contains"}
-OURS = APPLICATORS | set(
-    "type minItems maxItems uniqueItems const enum minimum maximum exclusiveMinimum exclusiveMaximum multipleOf minProperties"
-    " maxProperties required minContains maxContains".split()
-)
+# as the code has them, with the bounds of `contains`
+KEYWORDS = pathlib.Path(__file__).resolve().parent.parent / "jskw_report" / "src" / "keyword.rt"
+OURS = {"minContains", "maxContains"}.union(re.findall(r'=> "/(\w+)"', KEYWORDS.read_text(encoding="utf-8")))
 NAMES = sorted(OURS.union(*(words.split() for table in (SILENT, OTHERS) for words in table.values()))) + [
     "minimun", "Type", "x-y", "a/b", "c~d", "", "é",
 ]

@@ -9,7 +9,6 @@ use Rattle.jskw_report.proofs.HoldsElsewhere.{subject}
 use Rattle.jskw_report.proofs.HoldsIsNoFailure.{holds_empty, no_element}
 use Rattle.jskw_number.specs.declared.quick_set.QuickSet.{QuickSet}
 use Rattle.jskw_array.proofs.WalksOverParts.{hold_at, keywords_end}
-use Rattle.jskw_array.proofs.ValidatorMeanings.{either}
 use Rattle.jskw_leaf.specs.declared.leaf.LeafValidator.{LeafValidator}
 use Rattle.jskw_array.specs.declared.validator.Validator.{Validator}
 use Rattle.jskw_array.specs.declared.validator.Validator.TheVariants as validator
@@ -17,10 +16,10 @@ use Rattle.jskw_array.specs.declared.validator.Validator.TheVariants as validato
 -- ---- keywords with subschemas are about arrays
 
 pub each_about : {F Node Number Key : Type 0} (v : Each F Node Number Key) → subject (each_keyword v) ≡ Some Array
-each_about v = either subject (Some Array) v.is_prefix _ _ refl refl
+each_about v = refl
 
 pub rest_about : {F Node Number Key : Type 0} (v : Rest F Node Number Key) → subject (rest_keyword v) ≡ Some Array
-rest_about v = either subject (Some Array) v.is_additional _ _ refl refl
+rest_about v = refl
 
 -- any validator but a leaf
 pub about_arrays : {F Node Number Key : Type 0} (v : Validator F Node Number Key)

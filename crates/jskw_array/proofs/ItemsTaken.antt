@@ -1,15 +1,14 @@
 -- What a walk over items has left behind the first ones, if these are valid.
-use Rattle.std.proofs.Common.{◌≡◌, ℕ, zero, suc, ◌+◌, ◌-◌, ◌<◌, ◌≤◌, List, [], ◌∷◌, ◌++◌, length, get_or, take, drop}
-use Rattle.std.proofs.Common.{sum_by, Bool, true, false, ◌&&◌, if◌then◌else◌, refl, sym, subst, ap, ap₂, ◌∙◌, arith}
+use Rattle.std.proofs.Common.{◌≡◌, ℕ, zero, suc, ◌+◌, ◌-◌, ◌≤◌, List, [], ◌∷◌, ◌++◌, length, take, drop}
+use Rattle.std.proofs.Common.{sum_by, Bool, true, false, ◌&&◌, if◌then◌else◌, refl, ap, ap₂, ◌∙◌, arith}
 use Rattle.std.proofs.lemmas.Bool.{and_parts}
 use Rattle.std.proofs.lemmas.List.{drop-drop}
 use Rattle.std.proofs.lemmas.List.Sums.{sum_by-cons}
 use Rattle.jskw_report.proofs.Pairs.{needed-le}
-use Rattle.jskw_array.specs.Words.{Pointer, Schema, Tree, each_fails, each_holds, each_item, each_needed, each_pairs}
-use Rattle.jskw_array.specs.Words.{fail, holds, item_location, list_all, needed, pairs, schemas_of, sum_to_failure}
+use Rattle.jskw_array.specs.Words.{Pointer, Schema, Tree, each_item}
+use Rattle.jskw_array.specs.Words.{fail, holds, item_location, list_all, needed, pairs, sum_to_failure}
 use Rattle.jskw_number.specs.QuickSet.{leading}
 use Rattle.jskw_array.proofs.AcceptedValues.{no_errors, one_needed}
-use Rattle.jskw_array.proofs.WalksOverParts.{one_pair}
 
 -- the items from an index on, as those behind some of the items from an earlier one on
 pub drop_behind : {A : Type 0} (start i : ℕ) (xs : List A) → start ≤ i → drop (i - start) (drop start xs) ≡ drop i xs
@@ -81,79 +80,3 @@ module _ (s : Schema) where
       let taken = sum_by-cons (needed s) t (take n ts) in
       let one = one_needed s t in
       omega (arith, rest, taken, one)
-
--- ---- a schema for each item
-
--- one item more
-each_taken_more : (ss : List Schema) (ts : List Tree) (i : ℕ) (s : Schema) (t : Tree) → i < length ss → i < length ts
-    → s ≡ get_or ss i s → t ≡ get_or ts i t
-    → each_holds (schemas_of (take i ss)) ts ≡ true → holds s t ≡ true
-    → each_holds (schemas_of (take (suc i) ss)) ts ≡ true
-each_taken_more [] ts i s t schema_within within schema_is is before here = absurd (omega arith)
-each_taken_more (r ∷ ss) [] i s t schema_within within schema_is is before here = absurd (omega arith)
-each_taken_more (r ∷ ss) (u ∷ ts) zero s t schema_within within schema_is is before here =
-    ap (λ b. b && true) (ap₂ holds (sym schema_is) (sym is) ∙ here)
-each_taken_more (r ∷ ss) (u ∷ ts) (suc i) s t schema_within within schema_is is before here =
-    let first = and_parts (holds r u) (each_holds (schemas_of (take i ss)) ts) before in
-    ap₂ (λ a b. a && b) first.0 (each_taken_more ss ts i s t (omega arith) (omega arith) schema_is is first.1 here)
-
-pub each_taken_next : (ss : List Schema) (ts : List Tree) (i : ℕ) (s : Schema) (t : Tree) → i < length ss
-    → i < length ts → s ≡ get_or ss i s → t ≡ get_or ts i t
-    → each_holds (schemas_of (take i ss)) ts ≡ true → holds s t ≡ true
-    → each_holds (schemas_of (take (i + 1) ss)) ts ≡ true
-each_taken_next ss ts i s t schema_within within schema_is is before here =
-    subst (λ n. each_holds (schemas_of (take n ss)) ts ≡ true) {x = suc i} {y = i + 1} (omega arith)
-    (each_taken_more ss ts i s t schema_within within schema_is is before here)
-
-pub each_taken_holds : (n : ℕ) (ss : List Schema) (ts : List Tree) → n ≤ length ss → n ≤ length ts
-    → each_holds (schemas_of (take n ss)) ts ≡ true
-    → each_holds (schemas_of ss) ts ≡ each_holds (schemas_of (drop n ss)) (drop n ts)
-each_taken_holds zero ss ts schemas within all = refl
-each_taken_holds (suc n) [] ts schemas within all = absurd (omega arith)
-each_taken_holds (suc n) (s ∷ ss) [] schemas within all = absurd (omega arith)
-each_taken_holds (suc n) (s ∷ ss) (t ∷ ts) schemas within all =
-    let here = and_parts (holds s t) (each_holds (schemas_of (take n ss)) ts) all in
-    ap (λ b. b && each_holds (schemas_of ss) ts) here.0 ∙ each_taken_holds n ss ts (omega arith) (omega arith) here.1
-
-each_taken_from : (n : ℕ) (ss : List Schema) (ts : List Tree) (i : ℕ) (p : Pointer) → n ≤ length ss → n ≤ length ts
-    → each_holds (schemas_of (take n ss)) ts ≡ true
-    → each_fails (schemas_of ss) i ts p ≡ each_fails (schemas_of (drop n ss)) (i + n) (drop n ts) p
-each_taken_from zero ss ts i p schemas within all =
-    ap (λ j. each_fails (schemas_of ss) j ts p) {x = i} {y = i + 0} (omega arith)
-each_taken_from (suc n) [] ts i p schemas within all = absurd (omega arith)
-each_taken_from (suc n) (s ∷ ss) [] i p schemas within all = absurd (omega arith)
-each_taken_from (suc n) (s ∷ ss) (t ∷ ts) i p schemas within all =
-    let here = and_parts (holds s t) (each_holds (schemas_of (take n ss)) ts) all in
-    ap (λ fs. fs ++ each_fails (schemas_of ss) (suc i) ts p) (no_errors s t (item_location p i) here.0)
-    ∙ each_taken_from n ss ts (suc i) p (omega arith) (omega arith) here.1
-    ∙ ap (λ j. each_fails (schemas_of (drop n ss)) j (drop n ts) p) {x = suc i + n} {y = i + suc n} (omega arith)
-
-pub each_taken_fails : (n : ℕ) (ss : List Schema) (ts : List Tree) (p : Pointer) → n ≤ length ss → n ≤ length ts
-    → each_holds (schemas_of (take n ss)) ts ≡ true
-    → each_fails (schemas_of ss) 0 ts p ≡ each_fails (schemas_of (drop n ss)) n (drop n ts) p
-each_taken_fails n ss ts p schemas within all =
-    each_taken_from n ss ts 0 p schemas within all
-    ∙ ap (λ j. each_fails (schemas_of (drop n ss)) j (drop n ts) p) {x = 0 + n} {y = n} (omega arith)
-
-pub each_taken_needed : (n : ℕ) (ss : List Schema) (ts : List Tree) → n ≤ length ss → n ≤ length ts
-    → each_holds (schemas_of (take n ss)) ts ≡ true
-    → n + each_needed (schemas_of (drop n ss)) (drop n ts) ≤ each_needed (schemas_of ss) ts
-each_taken_needed zero ss ts schemas within all = omega arith
-each_taken_needed (suc n) [] ts schemas within all = absurd (omega arith)
-each_taken_needed (suc n) (s ∷ ss) [] schemas within all = absurd (omega arith)
-each_taken_needed (suc n) (s ∷ ss) (t ∷ ts) schemas within all =
-    let here = and_parts (holds s t) (each_holds (schemas_of (take n ss)) ts) all in
-    let rest = each_taken_needed n ss ts (omega arith) (omega arith) here.1 in
-    let one = one_needed s t in
-    let first = ap (λ b. needed s t + (if b then each_needed (schemas_of ss) ts else 0)) here.0 in
-    omega (arith, rest, one, first)
-
-pub each_taken_pairs : (n : ℕ) (ss : List Schema) (ts : List Tree) → n ≤ length ss → n ≤ length ts
-    → n + each_pairs (schemas_of (drop n ss)) (drop n ts) ≤ each_pairs (schemas_of ss) ts
-each_taken_pairs zero ss ts schemas within = omega arith
-each_taken_pairs (suc n) [] ts schemas within = absurd (omega arith)
-each_taken_pairs (suc n) (s ∷ ss) [] schemas within = absurd (omega arith)
-each_taken_pairs (suc n) (s ∷ ss) (t ∷ ts) schemas within =
-    let rest = each_taken_pairs n ss ts (omega arith) (omega arith) in
-    let one = one_pair s t in
-    omega (arith, rest, one)

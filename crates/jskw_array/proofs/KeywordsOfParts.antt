@@ -1,57 +1,127 @@
--- The keywords of units that are put together.
-use Rattle.std.proofs.Common.{◌≡◌, ℕ, ◌+◌, ◌<◌, ◌≤◌, List, [], ◌∷◌, ◌++◌, length, get_or, drop, Vec, Global, false}
-use Rattle.std.proofs.Common.{◌||◌, refl, ap, sym, ◌∙◌, arith}
-use Rattle.std.specs.Borrow.{Bor}
-use Rattle.jskw_array.specs.Words.{ArrayShapeValidator, IsBeginning, IfSome, IsShape, Keywords, OfKeyword, Schema}
-use Rattle.jskw_array.specs.Words.{Shape, Some, Part, keywords_delegate, append_keywords, begin_fused, schemas_delegate}
-use Rattle.jskw_array.specs.Words.{hands_on_required, is_shape, keyword, keywords_of, no_keywords, schemas_of}
+-- The keywords of parts that are put together.
+use Rattle.std.specs.Prelude.{⊤}
+use Rattle.std.proofs.Common.{◌≡◌, ◌≢◌, Result, Ok, Err, ℕ, ◌+◌, ◌<◌, ◌≤◌, List, [], ◌∷◌, ◌++◌, length, get_or, drop}
+use Rattle.std.proofs.Common.{Vec, Global, false, Box, ◌||◌, Option, None, Some, refl, ap, subst, sym, ◌∙◌}
+use Rattle.jskw_array.specs.Words.{ArrayShapeValidator, IfSome, IsBeginning, Keywords, OfKeyword, Part, Schema, Shape}
+use Rattle.jskw_array.specs.Words.{is_some, option_map, Keyword, Pointer, Refusal, absorbed_keywords, map_ok}
+use Rattle.jskw_array.specs.Words.{ShapeBegins, append_keywords, hands_on_required, keyword, keywords_delegate}
+use Rattle.jskw_array.specs.Words.{keywords_of, no_keywords, own_keyword, schemas_delegate, schemas_of, shape_in}
 use Rattle.jskw_array.specs.Words.{shape_keywords, validator_keyword}
-use Rattle.std.specs.Prelude.{Option, None}
+use Rattle.std.specs.Borrow.{Bor}
 use Rattle.std.proofs.lemmas.List.{drop_all}
-use Rattle.jskw_report.proofs.AppendedKeywords.{append_append}
+use Rattle.jskw_report.proofs.AppendedKeywords.{append_append, append_none}
 use Rattle.jskw_report.proofs.GatheredNodes.{drop_here}
 use Rattle.jskw_array.specs.declared.part.LocatedValidator.{LocatedValidator}
 
--- one unit more
-pub keywords_of_more : {F Node Number Key : Type 0} (us : List (Part F Node Number Key))
-    (k : LocatedValidator F Node Number Key)
-    → keywords_of (us ++ OfKeyword k ∷ [])
-    ≡ append_keywords (keywords_of us) (keyword k.location (validator_keyword k.validator) no_keywords)
-keywords_of_more [] k = refl
-keywords_of_more (OfKeyword v ∷ us) k = ap (keyword v.location (validator_keyword v.validator)) (keywords_of_more us k)
-keywords_of_more (Shape v ∷ us) k = ap (append_keywords (shape_keywords v.value)) (keywords_of_more us k)
-    ∙ append_append (shape_keywords v.value) (keywords_of us)
-    (keyword k.location (validator_keyword k.validator) no_keywords)
+abbrev behind : Keywords → Keywords
+behind no_keywords = no_keywords
+behind (keyword q k ks) = ks
 
--- the first of them stays the first
-pub begin_fused_more : {F Node Number Key : Type 0} (us : List (Part F Node Number Key))
-    (k : LocatedValidator F Node Number Key) → begin_fused (us ++ OfKeyword k ∷ []) ≡ begin_fused us
-begin_fused_more [] k = refl
-begin_fused_more (OfKeyword v ∷ us) k = refl
-begin_fused_more (Shape v ∷ us) k = refl
+held : (a b : Keywords) → ◌≡◌ {A = Result Keywords Refusal} (Ok a) (Ok b) → a ≡ b
+held a b e = ap kept e
+  where
+    kept : Result Keywords Refusal → Keywords
+    kept (Ok ks) = ks
+    kept (Err x) = a
 
--- whether they begin with a fused shape is for the first unit to say
-pub begin_fused_first : {F Node Number Key : Type 0} (us : List (Part F Node Number Key)) (u d : Part F Node Number Key)
-    → 1 ≤ length us → u ≡ get_or us 0 d → begin_fused us ≡ is_shape u
-begin_fused_first [] u d one is = absurd (omega arith)
-begin_fused_first (OfKeyword k ∷ us) u d one is = ap is_shape (sym is)
-begin_fused_first (Shape v ∷ us) u d one is = ap is_shape (sym is)
+none≢some : {q : Pointer} {k : Keyword} {ks : Keywords} → no_keywords ≢ keyword q k ks
+none≢some e = subst only e tt
+  where
+    only : Keywords → Type 0
+    only no_keywords = ⊤
+    only (keyword q k ks) = ⊥
 
--- a fused shape that is the first unit
-pub shape_first : {F Node Number Key : Type 0} (us : List (Part F Node Number Key)) (u d : Part F Node Number Key)
-    (v : ArrayShapeValidator F Node Number Key) → 1 ≤ length us → u ≡ get_or us 0 d
-    → IsShape u v → IsBeginning (shape_keywords v) (keywords_of us)
-shape_first [] u d v one is shape = absurd (omega arith)
-shape_first (w ∷ us) u d v one is shape = (keywords_of us, ap (λ x. keywords_of (x ∷ us)) (sym is) ∙ shape us)
+-- one part more
+pub keywords_of_more : {F Node Number Key : Type 0} (us : List (Part F Node Number Key)) (u : Part F Node Number Key)
+    → keywords_of (us ++ u ∷ []) ≡ append_keywords (keywords_of us)
+    (keyword (own_keyword u).location (validator_keyword (own_keyword u).validator) no_keywords)
+keywords_of_more [] u = refl
+keywords_of_more (v ∷ us) u =
+    ap (keyword (own_keyword v).location (validator_keyword (own_keyword v).validator)) (keywords_of_more us u)
 
--- the same of the shape that the first unit may be
-pub shapes_begin : {F Node Number Key : Type 0} (r : Option (Bor (ArrayShapeValidator F Node Number Key)))
-    (us : List (Part F Node Number Key)) (u d : Part F Node Number Key) (ks : Keywords) → 1 ≤ length us
-    → u ≡ get_or us 0 d → ks ≡ keywords_of us → IfSome r (λ v. IsShape u v.now)
+-- without a shape it changes none
+pub shape_in_more : {F Node Number Key : Type 0} (us : List (Part F Node Number Key))
+    (k : LocatedValidator F Node Number Key) → shape_in (us ++ OfKeyword k ∷ []) ≡ shape_in us
+shape_in_more [] k = refl
+shape_in_more (OfKeyword v ∷ us) k = shape_in_more us k
+shape_in_more (Shape v ∷ us) k = refl
+
+-- with the first one it has that
+pub shape_in_first : {F Node Number Key : Type 0} (us : List (Part F Node Number Key))
+    (v : Box (ArrayShapeValidator F Node Number Key) Global) → shape_in us ≡ None
+    → shape_in (us ++ Shape v ∷ []) ≡ Some v.value
+shape_in_first [] v none = refl
+shape_in_first (OfKeyword k ∷ us) v none = shape_in_first us v none
+shape_in_first (Shape w ∷ us) v none = cc
+
+-- ---- the shape that begins them
+
+begins_on : {F Node Number Key : Type 0} (o : Option (ArrayShapeValidator F Node Number Key)) (all more : Keywords)
+    → IfSome o (λ v. IsBeginning (shape_keywords v) all)
+    → IfSome o (λ v. IsBeginning (shape_keywords v) (append_keywords all more))
+begins_on None all more begins = begins
+begins_on (Some v) all more begins = (
+  append_keywords begins.0 more,
+  ap (λ ks. append_keywords ks more) begins.1 ∙ sym (append_append (shape_keywords v) begins.0 more),
+)
+
+pub shape_begins_more : {F Node Number Key : Type 0} (us : List (Part F Node Number Key))
+    (k : LocatedValidator F Node Number Key) → ShapeBegins us → ShapeBegins (us ++ OfKeyword k ∷ [])
+shape_begins_more us k begins =
+    let more = keyword k.location (validator_keyword k.validator) no_keywords in
+    subst (λ o. IfSome o (λ v. IsBeginning (shape_keywords v) (keywords_of (us ++ OfKeyword k ∷ []))))
+    (sym (shape_in_more us k))
+    (subst (λ ks. IfSome (shape_in us) (λ v. IsBeginning (shape_keywords v) ks))
+    (sym (keywords_of_more us (OfKeyword k)))
+    (begins_on (shape_in us) (keywords_of us) more begins))
+
+-- ---- `items` of a shape behind the keywords that it checks before
+
+never_none : (ys : Keywords) (q : Pointer) (k : Keyword) → no_keywords ≢ append_keywords ys (keyword q k no_keywords)
+never_none no_keywords q k e = none≢some e
+never_none (keyword r i ys) q k e = none≢some e
+
+last_equal : (xs ys : Keywords) (p q : Pointer) (j k : Keyword)
+    → append_keywords xs (keyword p j no_keywords) ≡ append_keywords ys (keyword q k no_keywords) → xs ≡ ys
+last_equal no_keywords no_keywords p q j k e = refl
+last_equal no_keywords (keyword s l ys) p q j k e = absurd (never_none ys q k (ap behind e))
+last_equal (keyword r i xs) no_keywords p q j k e = absurd (never_none xs p j (sym (ap behind e)))
+last_equal (keyword r i xs) (keyword s l ys) p q j k e = let rest = last_equal xs ys p q j k (ap behind e) in cc
+
+-- they are those before the part, and the shape's keywords are all
+module _ {F Node Number Key : Type 0} (us : List (Part F Node Number Key))
+    (v : Box (ArrayShapeValidator F Node Number Key) Global) where
+  pub shape_before : (r : Result Keyword Refusal) (q : Pointer)
+      → map_ok (λ k. append_keywords (keywords_of us) (keyword q k no_keywords)) r ≡ Ok (shape_keywords v.value)
+      → shape_keywords v.value ≡ keywords_of (us ++ Shape v ∷ [])
+  shape_before (Ok k) q e =
+      let items = keyword v.value.items.location (validator_keyword v.value.items.validator) no_keywords in
+      ap (λ ks. append_keywords ks items) (sym (last_equal (keywords_of us) (absorbed_keywords v.value.absorbed) q
+      v.value.items.location k (validator_keyword v.value.items.validator) (held _ _ e)))
+      ∙ sym (keywords_of_more us (Shape v))
+  shape_before (Err x) q e = cc
+
+  pub shape_begins_all : shape_in us ≡ None → shape_keywords v.value ≡ keywords_of (us ++ Shape v ∷ [])
+      → ShapeBegins (us ++ Shape v ∷ [])
+  shape_begins_all none all =
+      subst (λ o. IfSome o (λ w. IsBeginning (shape_keywords w) (keywords_of (us ++ Shape v ∷ []))))
+      (sym (shape_in_first us v none))
+      (no_keywords, sym all ∙ sym (append_none (shape_keywords v.value)))
+
+-- the shape that is lent
+pub lent_is_some : {F Node Number Key : Type 0} (r : Option (Bor (ArrayShapeValidator F Node Number Key)))
+    (o : Option (ArrayShapeValidator F Node Number Key)) → option_map (λ v. v.now) r ≡ o → is_some r ≡ is_some o
+lent_is_some None o e = ap is_some e
+lent_is_some (Some v) o e = ap is_some e
+
+pub lent_begins : {F Node Number Key : Type 0} (r : Option (Bor (ArrayShapeValidator F Node Number Key)))
+    (o : Option (ArrayShapeValidator F Node Number Key)) → option_map (λ v. v.now) r ≡ o → (ks all : Keywords)
+    → ks ≡ all → IfSome o (λ v. IsBeginning (shape_keywords v) all)
     → IfSome r (λ v. IsBeginning (shape_keywords v.now) ks)
-shapes_begin None us u d ks one is all shape = shape
-shapes_begin (Some v) us u d ks one is all shape = let begins = shape_first us u d v.now one is shape in
-    (begins.0, all ∙ begins.1)
+lent_begins None o e ks all is begins = tt
+lent_begins (Some v) o e ks all is begins =
+    subst (λ js. IsBeginning (shape_keywords v.now) js) (sym is)
+    (subst (λ x. IfSome x (λ w. IsBeginning (shape_keywords w) all)) (sym e) begins)
 
 -- of a whole vector
 abbrev pub keywords_in : {F Node Number Key : Type 0} → Vec (Part F Node Number Key) Global → Keywords

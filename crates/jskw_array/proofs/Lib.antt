@@ -12,7 +12,7 @@ pub mod ObserversAgree
 pub mod ReportingWalks
 pub mod PassedItems
 pub mod PartsLeft
-pub mod QuickArrays
+pub mod AcceptedArrays
 pub mod ValidatorMeanings
 pub mod WalksOverItems
 pub mod WalksOverParts

@@ -1,19 +1,16 @@
 -- Parts that are known to hold, and those that are left behind them.
 use Rattle.std.proofs.Common.{◌≡◌, ℕ, zero, suc, ◌+◌, ◌<◌, ◌≤◌, List, [], ◌∷◌, ◌++◌, length, get_or, take, drop, Bool}
 use Rattle.std.proofs.Common.{true, false, ◌&&◌, if◌then◌else◌, refl, sym, subst, ap, ap₂, ◌∙◌, arith, Global, Vec}
-use Rattle.std.proofs.lemmas.Bool.{and_parts}
-use Rattle.jskw_array.specs.Words.{AreSettled, CountsUpTo, IsLeft, Pointer, Schema, Part, Tree, all_applications}
-use Rattle.jskw_array.specs.Words.{all_fail, all_height}
-use Rattle.jskw_array.specs.Words.{all_hold, all_needed, all_pairs, applications, fail, height, holds, in_outline}
-use Rattle.jskw_array.specs.Words.{keywords_of, marked, meaning_holds, meaning_needed, schema_object}
-use Rattle.jskw_array.specs.Words.{part_meaning, schema_of}
-use Rattle.jskw_array.specs.Node.{SchemaSettles}
+use Rattle.std.proofs.lemmas.Bool.{and_parts, true≢false}
+use Rattle.jskw_array.specs.Words.{CountsUpTo, IsKnown, IsLeft, Knows, Part, Pointer, Schema, ShapeBegins, Tree}
+use Rattle.jskw_array.specs.Words.{all_applications, is_in, all_fail, all_height, all_hold, all_needed, all_pairs}
+use Rattle.jskw_array.specs.Words.{applications, fail, height, holds, in_outline, keywords_of, marked, meaning_holds}
+use Rattle.jskw_array.specs.Words.{meaning_needed, schema_object, part_meaning, schema_of}
 use Rattle.jskw_array.specs.declared.node.Assertions.{Assertions}
-use Rattle.jskw_array.specs.declared.node.Assertions.TheVariants.{Keywords}
-use Rattle.jskw_array.specs.declared.part.SettledParts.{SettledParts}
+use Rattle.jskw_array.specs.declared.node.Assertions.TheVariants.{Keywords, Never}
+use Rattle.jskw_array.specs.declared.accepted.Accepted.{Accepted}
 use Rattle.jskw_number.specs.declared.outline.Outline.{Outline}
 use Rattle.jskw_report.proofs.HoldsIsNoFailure.{no_element}
-use Rattle.jskw_array.proofs.WalksOverParts.{first_fails, first_height, first_holds, first_meets, first_needs}
 use Rattle.jskw_array.proofs.WalksOverParts.{part_empty, part_tall}
 
 module _ {F Node Number Key : Type 0} where
@@ -25,13 +22,12 @@ module _ {F Node Number Key : Type 0} where
       → all_hold (keywords_of (take (suc i) us)) t ≡ true
   first_more [] i u t within is before here = absurd (omega arith)
   first_more (v ∷ us) zero u t within is before here =
-      first_holds v [] t ∙ ap (λ b. b && true) (ap (λ w. meaning_holds (part_meaning w) t) (sym is) ∙ here)
+      ap (λ b. b && true) (ap (λ w. meaning_holds (part_meaning w) t) (sym is) ∙ here)
   first_more (v ∷ us) (suc i) u t within is before here =
       let parts =
       and_parts (meaning_holds (part_meaning v) t) (all_hold (keywords_of (take i us)) t)
-      (sym (first_holds v (take i us) t) ∙ before) in
-      first_holds v (take (suc i) us) t
-      ∙ ap₂ (λ a b. a && b) parts.0 (first_more us i u t (omega arith) is parts.1 here)
+      before in
+      ap₂ (λ a b. a && b) parts.0 (first_more us i u t (omega arith) is parts.1 here)
 
   -- one more of them holds of what is in both outlines
   pub begun_next : (us : List (Part F Node Number Key)) (i : ℕ) (u : Part F Node Number Key) (known own both : Outline)
@@ -56,15 +52,15 @@ module _ {F Node Number Key : Type 0} where
         → (meaning_holds (part_meaning u) t ≡ true) × (all_hold (keywords_of (take k us)) t ≡ true)
     split k u us h =
         and_parts (meaning_holds (part_meaning u) t) (all_hold (keywords_of (take k us)) t)
-        (sym (first_holds u (take k us) t) ∙ h)
+        h
 
-    left_holds : (k : ℕ) (us : List (Part F Node Number Key)) → all_hold (keywords_of (take k us)) t ≡ true
+    pub left_holds : (k : ℕ) (us : List (Part F Node Number Key)) → all_hold (keywords_of (take k us)) t ≡ true
         → all_hold (keywords_of us) t ≡ all_hold (keywords_of (drop k us)) t
     left_holds zero us h = refl
     left_holds (suc k) [] h = refl
     left_holds (suc k) (u ∷ us) h =
         let parts = split k u us h in
-        first_holds u us t ∙ ap (λ b. b && all_hold (keywords_of us) t) parts.0 ∙ left_holds k us parts.1
+        ap (λ b. b && all_hold (keywords_of us) t) parts.0 ∙ left_holds k us parts.1
 
     left_fails : (k : ℕ) (us : List (Part F Node Number Key)) (p : Pointer)
         → all_hold (keywords_of (take k us)) t ≡ true
@@ -73,27 +69,24 @@ module _ {F Node Number Key : Type 0} where
     left_fails (suc k) [] p h = refl
     left_fails (suc k) (u ∷ us) p h =
         let parts = split k u us h in
-        first_fails u us t p
-        ∙ ap (λ fs. fs ++ all_fail (keywords_of us) t p) (no_element _ (sym (part_empty u t p) ∙ parts.0))
+        ap (λ fs. fs ++ all_fail (keywords_of us) t p) (no_element _ (sym (part_empty u t p) ∙ parts.0))
         ∙ left_fails k us p parts.1
 
     left_pairs : (k : ℕ) (us : List (Part F Node Number Key))
         → all_pairs (keywords_of (drop k us)) t ≤ all_pairs (keywords_of us) t
     left_pairs zero us = omega arith
     left_pairs (suc k) [] = omega arith
-    left_pairs (suc k) (u ∷ us) = let rest = left_pairs k us in let whole = first_meets u us t in
-        omega (arith, rest, whole)
+    left_pairs (suc k) (u ∷ us) = let rest = left_pairs k us in omega (arith, rest)
 
-    left_needed : (k : ℕ) (us : List (Part F Node Number Key)) → all_hold (keywords_of (take k us)) t ≡ true
+    pub left_needed : (k : ℕ) (us : List (Part F Node Number Key)) → all_hold (keywords_of (take k us)) t ≡ true
         → all_needed (keywords_of (drop k us)) t ≤ all_needed (keywords_of us) t
     left_needed zero us h = omega arith
     left_needed (suc k) [] h = omega arith
     left_needed (suc k) (u ∷ us) h =
         let parts = split k u us h in
         let rest = left_needed k us parts.1 in
-        let whole = first_needs u us t in
         let on = ap (λ b. if b then all_needed (keywords_of us) t else 0) parts.0 in
-        omega (arith, rest, whole, on)
+        omega (arith, rest, on)
 
     left_applied : (wanted : Bool) (k : ℕ) (us : List (Part F Node Number Key))
         → all_hold (keywords_of (take k us)) t ≡ true
@@ -105,10 +98,9 @@ module _ {F Node Number Key : Type 0} where
       → all_height (keywords_of (drop k us)) ≤ all_height (keywords_of us)
   left_height zero us = omega arith
   left_height (suc k) [] = omega arith
-  left_height (suc k) (u ∷ us) = let rest = left_height k us in let whole = first_height u us in
-      omega (arith, rest, whole)
+  left_height (suc k) (u ∷ us) = let rest = left_height k us in omega (arith, rest)
 
-  object_applied : (wanted : Bool) (q : Pointer) (delegates : Bool) (us : List (Part F Node Number Key)) (t : Tree)
+  pub object_applied : (wanted : Bool) (q : Pointer) (delegates : Bool) (us : List (Part F Node Number Key)) (t : Tree)
       → applications wanted (schema_object q (marked delegates us) (keywords_of us)) t
       ≡ 1 + all_applications wanted (keywords_of us) t
   object_applied true q delegates us t = refl
@@ -148,9 +140,15 @@ module _ {F Node Number Key : Type 0} where
         sym view ∙ ap (schema_of q delegates) is
         ∙ ap (λ ys. schema_object q (marked delegates ys) (keywords_of ys)) (sym value)
 
-    pub settled_units : (b : SettledParts) → SchemaSettles b a → AreSettled b xs
-    settled_units b settles =
-        subst (λ ys. AreSettled b ys) (sym value) (subst (SchemaSettles b) is settles)
+    pub known_parts : (b : Accepted) → Knows b a → IsKnown b xs × ShapeBegins xs
+    known_parts b knows =
+        subst (λ ys. IsKnown b ys × ShapeBegins ys) (sym value) (subst (Knows b) is knows)
+
+  -- the values that are known to be valid are
+  pub accepts_all : (b : Accepted) (a : Assertions F Node Number Key) → Knows b a → (q : Pointer) (delegates : Bool)
+      (t : Tree) → is_in b.values t ≡ true → holds (schema_of q delegates a) t ≡ true
+  accepts_all b Never knows q delegates t h = absurd (true≢false (sym h ∙ knows t))
+  accepts_all b (Keywords us) knows q delegates t h = knows.0.values t h
 
   -- ---- one unit
 
@@ -164,7 +162,7 @@ module _ {F Node Number Key : Type 0} where
       (few : length us < 2) (is : u ≡ get_or us 0 d) where
     pub only_holds : (t : Tree) → all_hold (keywords_of us) t ≡ meaning_holds (part_meaning u) t
     only_holds t =
-        ap (λ xs. all_hold (keywords_of xs) t) (only_unit us u d least few is) ∙ first_holds u [] t
+        ap (λ xs. all_hold (keywords_of xs) t) (only_unit us u d least few is)
         ∙ and_true (meaning_holds (part_meaning u) t)
       where
         and_true : (b : Bool) → (b && true) ≡ b
@@ -174,11 +172,9 @@ module _ {F Node Number Key : Type 0} where
     pub only_needs : (t : Tree) → meaning_needed (part_meaning u) t ≤ all_needed (keywords_of us) t
     only_needs t =
         let alone = ap (λ xs. all_needed (keywords_of xs) t) (only_unit us u d least few is) in
-        let whole = first_needs u [] t in
-        omega (arith, alone, whole)
+        omega (arith, alone)
 
     pub only_lower : part_tall u ≤ all_height (keywords_of us)
     only_lower =
         let alone = ap (λ xs. all_height (keywords_of xs)) (only_unit us u d least few is) in
-        let whole = first_height u [] in
-        omega (arith, alone, whole)
+        omega (arith, alone)

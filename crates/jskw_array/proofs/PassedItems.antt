@@ -7,12 +7,11 @@ use Rattle.std.proofs.lemmas.Bool.{and_parts}
 use Rattle.std.proofs.lemmas.List.{get_or-drop, length-drop, length-take-le, take_more}
 use Rattle.std.proofs.lemmas.List.Folds.{list_all-append}
 use Rattle.std.proofs.lemmas.List.Sums.{sum_by-append, sum_by_push}
-use Rattle.jskw_array.specs.Words.{CountsBetween, PassesOver, PassesOverPairs, Pointer, Schema, Tree, each_fails}
-use Rattle.jskw_array.specs.Words.{each_holds, each_item, fail, holds, items, items_between, list_all, needed}
-use Rattle.jskw_array.specs.Words.{schemas_of}
-use Rattle.jskw_array.proofs.ItemsTaken.{drop_behind, each_taken_fails, each_taken_holds, taken_fails, taken_holds}
-use Rattle.jskw_array.proofs.ItemsTaken.{taken_least}
-use Rattle.jskw_array.proofs.ReportingWalks.{each_applications, each_taken_applied, items_applications, taken_applied}
+use Rattle.jskw_array.specs.Words.{CountsBetween, PassesOver, Pointer, Schema, Tree, each_item, fail, holds, items}
+use Rattle.jskw_array.specs.Words.{items_between, list_all, needed}
+use Rattle.jskw_array.proofs.ItemsTaken.{drop_behind, taken_fails, taken_holds, leading_valid, taken_least}
+use Rattle.jskw_number.specs.QuickSet.{leading}
+use Rattle.jskw_array.proofs.ReportingWalks.{items_applications, taken_applied}
 
 -- ---- over none, and over one more
 
@@ -120,6 +119,19 @@ pub passed_length : (valid : Tree → Bool) (t : Tree) (start end : ℕ) → Pas
     → length (items_between start end t) ≡ end - start
 passed_length valid t start end passed = length-take-le (end - start) (drop start (items t)) passed.within
 
+-- those that pass a check before the first that fails it, if all that pass it are valid
+pub leading_passed : (s : Schema) (check : Tree → Bool) → ((t : Tree) → check t ≡ true → holds s t ≡ true) → (t : Tree)
+    (start end : ℕ) → start ≤ length (items t) → end ≡ start + leading check (drop start (items t))
+    → end ≤ length (items t) → PassesOver (holds s) t start end
+leading_passed s check valid t start end from first within = record {
+  from = omega (arith, first);
+  within = omega (arith, first, within, from, length-drop start (items t));
+  valid =
+      subst (λ n. list_all (holds s) (take n (drop start (items t))) ≡ true)
+      {x = leading check (drop start (items t))} {y = end - start} (omega (arith, first))
+      (leading_valid s check valid (drop start (items t)));
+}
+
 -- ---- what is left behind items that are valid against one schema
 
 module _ (s : Schema) (t : Tree) (start i : ℕ) (passed : PassesOver (holds s) t start i) where
@@ -146,23 +158,3 @@ module _ (s : Schema) (t : Tree) (start i : ℕ) (passed : PassesOver (holds s) 
   -- each of them is an application at least
   pub passed_least : i - start ≤ sum_by (needed s) (items_between start i t)
   passed_least = taken_least s (i - start) (drop start (items t)) passed.within
-
--- ---- and behind those that are valid each against its own
-
-module _ (ss : List Schema) (t : Tree) (n : ℕ) (passed : PassesOverPairs ss t n) where
-  few_schemas : n ≤ length ss
-  few_schemas = omega (arith, passed.within)
-
-  few_items : n ≤ length (items t)
-  few_items = omega (arith, passed.within)
-
-  pub pairs_hold : each_holds (schemas_of ss) (items t) ≡ each_holds (schemas_of (drop n ss)) (drop n (items t))
-  pairs_hold = each_taken_holds n ss (items t) few_schemas few_items passed.valid
-
-  pub pairs_fail : (p : Pointer)
-      → each_fails (schemas_of ss) 0 (items t) p ≡ each_fails (schemas_of (drop n ss)) n (drop n (items t)) p
-  pairs_fail p = each_taken_fails n ss (items t) p few_schemas few_items passed.valid
-
-  pub pairs_applied : (wanted : Bool) → n + each_applications wanted (schemas_of (drop n ss)) (drop n (items t))
-      ≤ each_applications wanted (schemas_of ss) (items t)
-  pairs_applied wanted = each_taken_applied wanted n ss (items t) few_schemas few_items passed.valid

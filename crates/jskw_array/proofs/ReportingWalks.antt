@@ -4,11 +4,10 @@ use Rattle.std.proofs.Common.{Result, Ok, Err, IsErrAnd, if◌then◌else◌, re
 use Rattle.std.proofs.lemmas.Bool.{true≢false}
 use Rattle.jskw_array.specs.Words.{CountsUpTo, Each, Failure, Pointer, Reports, Rest, Schema, Schemas, Part, Tree}
 use Rattle.jskw_array.specs.Words.{all_applications, all_fail, all_needed, all_pairs, applications, each_fails}
-use Rattle.jskw_array.specs.Words.{each_holds, each_item, each_keyword, each_needed, each_pairs, fail, holds}
-use Rattle.jskw_array.specs.Words.{is_empty, item_location, items, keeps_list, keywords_of, list_all}
-use Rattle.jskw_array.specs.Words.{meaning_applications, meaning_fail, meaning_holds, meaning_needed, meaning_pairs}
-use Rattle.jskw_array.specs.Words.{needed, one_keyword, pairs}
-use Rattle.jskw_array.specs.Words.{rest_keyword, schemas_of, sum_to_failure, part_meaning}
+use Rattle.jskw_array.specs.Words.{each_item, each_keyword, each_needed, each_pairs, fail, holds, is_empty}
+use Rattle.jskw_array.specs.Words.{item_location, items, keeps_list, keywords_of, list_all, meaning_applications}
+use Rattle.jskw_array.specs.Words.{meaning_fail, meaning_holds, meaning_needed, meaning_pairs, needed, one_keyword}
+use Rattle.jskw_array.specs.Words.{pairs, rest_keyword, schemas_of, sum_to_failure, part_meaning}
 use Rattle.jskw_report.specs.declared.error.Stop.{Stop}
 use Rattle.jskw_report.specs.declared.report.Report.{Report}
 use Rattle.jskw_report.proofs.HoldsIsNoFailure.{holds_empty}
@@ -16,9 +15,8 @@ use Rattle.jskw_report.proofs.ReportedFailures.{Reported, none_found, reported_m
 use Rattle.jskw_array.proofs.AcceptedValues.{one_needed}
 use Rattle.jskw_leaf.proofs.TypeWalks.{fails_at}
 use Rattle.jskw_array.proofs.WalksOverParts.{fail_at, needed_at, one_pair, pairs_at, part_empty}
-use Rattle.jskw_array.proofs.ValidatorMeanings.{each_meets, each_needs, rest_meets, rest_needs}
 use Rattle.jskw_array.proofs.WalksOverItems.{each_fails_at, each_needed_at, each_pairs_at, sum_at, until_at}
-use Rattle.jskw_array.proofs.ItemsTaken.{each_taken_needed, each_taken_pairs, taken_needed, taken_pairs}
+use Rattle.jskw_array.proofs.ItemsTaken.{taken_needed, taken_pairs}
 
 -- ---- the walk
 
@@ -101,14 +99,14 @@ each_applications false ss ts = each_needed ss ts
 pub rest_applied : {F Node Number Key : Type 0} (wanted : Bool) (v : Rest F Node Number Key) (t : Tree)
     → meaning_applications wanted (one_keyword (rest_keyword v)) t
     ≡ items_applications wanted v.node (drop v.start (items t))
-rest_applied true v t = rest_meets v t
-rest_applied false v t = rest_needs v t
+rest_applied true v t = refl
+rest_applied false v t = refl
 
 pub each_applied : {F Node Number Key : Type 0} (wanted : Bool) (v : Each F Node Number Key) (t : Tree)
     → meaning_applications wanted (one_keyword (each_keyword v)) t
     ≡ each_applications wanted (schemas_of v.nodes.items) (items t)
-each_applied true v t = each_meets v t
-each_applied false v t = each_needs v t
+each_applied true v t = refl
+each_applied false v t = refl
 
 -- the first items, which are valid, take an application each
 pub taken_applied : (wanted : Bool) (s : Schema) (n : ℕ) (ts : List Tree) → n ≤ length ts
@@ -116,12 +114,6 @@ pub taken_applied : (wanted : Bool) (s : Schema) (n : ℕ) (ts : List Tree) → 
     → sum_by (needed s) (take n ts) + items_applications wanted s (drop n ts) ≤ items_applications wanted s ts
 taken_applied true s n ts within valid = taken_pairs s n ts within
 taken_applied false s n ts within valid = taken_needed s n ts within valid
-
-pub each_taken_applied : (wanted : Bool) (n : ℕ) (ss : List Schema) (ts : List Tree) → n ≤ length ss → n ≤ length ts
-    → each_holds (schemas_of (take n ss)) ts ≡ true
-    → n + each_applications wanted (schemas_of (drop n ss)) (drop n ts) ≤ each_applications wanted (schemas_of ss) ts
-each_taken_applied true n ss ts schemas within valid = each_taken_pairs n ss ts schemas within
-each_taken_applied false n ss ts schemas within valid = each_taken_needed n ss ts schemas within valid
 
 -- where the first failure alone is wanted, a part of the walk that passed holds
 passed : (holds_here : Bool) (first : List Failure) → holds_here ≡ is_empty first → (false ≡ false → first ≡ [])

@@ -5,10 +5,8 @@ use Rattle.std.proofs.Math.Seq.{drop-nil}
 use Rattle.std.proofs.lemmas.List.Sums.{sum_by-cons}
 use Rattle.jskw_array.specs.Words.{Each, Pointer, Schema, Schemas, Tree, each_fails, each_height, each_holds}
 use Rattle.jskw_array.specs.Words.{each_keyword, each_needed, each_pairs, evaluate_each, evaluate_pairs, fail, height}
-use Rattle.jskw_array.specs.Words.{holds, tree}
-use Rattle.jskw_array.specs.Words.{item_location, keyword_height, needed, no_schemas, pairs, schema, schemas_of}
-use Rattle.jskw_array.specs.Words.{sum_to_failure}
-use Rattle.jskw_array.specs.Heights.{each_is_as_high}
+use Rattle.jskw_array.specs.Words.{holds, tree, item_location, keyword_height, needed, no_schemas, pairs, schema}
+use Rattle.jskw_array.specs.Words.{schemas_of, sum_to_failure}
 use Rattle.jskw_report.proofs.GatheredNodes.{drop_here}
 use Rattle.jskw_report.specs.Evaluation.{schema_count}
 
@@ -102,7 +100,7 @@ height_at (r ∷ ss) (suc i) s within is = let below = height_at ss i s (omega a
 -- nor higher than the keyword
 pub each_lower : {F Node Number Key : Type 0} (v : Each F Node Number Key) (i : ℕ) (s : Schema)
     → i < length v.nodes.items → s ≡ get_or v.nodes.items i s → height s ≤ keyword_height (each_keyword v)
-each_lower v i s within is = omega (arith, height_at v.nodes.items i s within is, each_is_as_high v)
+each_lower v i s within is = omega (arith, height_at v.nodes.items i s within is)
 
 -- there are as many schemas as in the list
 pub count_of : (ss : List Schema) → schema_count (schemas_of ss) ≡ length ss

@@ -1,5 +1,5 @@
 -- A node's subschemas are lower than its schema.
-use Rattle.std.specs.Prelude.{◌≡◌, ℕ, ◌+◌, ◌≤◌, List, [], ◌∷◌, Bool, true, false, refl}
+use Rattle.std.specs.Prelude.{◌+◌, ◌≤◌, List, [], ◌∷◌, Bool}
 use Rattle.std.proofs.Common.{arith}
 use denote.Param.Weighed.{most}
 use Rattle.jskw_value.specs.Pointer.{Pointer}
@@ -7,18 +7,13 @@ use Rattle.jskw_value.specs.declared.json.JsonNumber as number
 use Rattle.jskw_value.specs.declared.json.Object as object
 use Rattle.jskw_value.specs.declared.json.Rooted as rooted
 use Rattle.jskw_report.specs.Applications.{height, all_height, keyword_height, each_height}
-use Rattle.jskw_report.proofs.AppendedKeywords.{height_appended}
-use Rattle.jskw_report.specs.Keyword.{Schema, Schemas, keyword, no_keywords}
-use Rattle.jskw_leaf.specs.Items.{absorbed_keywords}
-use Rattle.jskw_array.specs.Fused.{shape_keywords}
-use Rattle.jskw_array.specs.Meaning.{each_keyword, each_of, rest_keyword, rest_of, schemas_of, validator_keyword}
+use Rattle.jskw_report.specs.Keyword.{Schema}
+use Rattle.jskw_array.specs.Meaning.{schemas_of, validator_keyword}
 use Rattle.jskw_array.specs.Node.{schema_of}
 use Rattle.jskw_array.specs.Parts.{keywords_of}
-use Rattle.jskw_array.specs.declared.each.Each.{Each}
 use Rattle.jskw_array.specs.declared.items.array_shape.ArrayShapeValidator.{ArrayShapeValidator}
 use Rattle.jskw_array.specs.declared.node.Assertions.{Assertions}
 use Rattle.jskw_array.specs.declared.node.Assertions.TheVariants.{Never, Keywords}
-use Rattle.jskw_array.specs.declared.rest.Rest.{Rest}
 use Rattle.jskw_array.specs.declared.part.Part.{Part}
 use Rattle.jskw_array.specs.declared.part.Part.TheVariants.{Keyword as OfKeyword, Shape}
 use Rattle.jskw_array.specs.declared.node.Subschema.TheDeep.{deep-ArrayShapeValidator, deep-Assertions, deep-Part}
@@ -30,49 +25,26 @@ each_falls : (ss : List Schema) → most (λ s. height s + 1) ss ≤ each_height
 each_falls [] = omega arith
 each_falls (s ∷ ss) = omega (arith, each_falls ss)
 
--- the keyword is as high as its schemas, whichever it is
-each_as_high : (is_prefix : Bool) (ss : Schemas) → keyword_height (each_of is_prefix ss) ≡ each_height ss
-each_as_high true ss = refl
-each_as_high false ss = refl
-
-rest_as_high : (is_additional : Bool) (n : ℕ) (s : Schema) → keyword_height (rest_of is_additional n s) ≡ height s
-rest_as_high true n s = refl
-rest_as_high false n s = refl
-
-pub each_is_as_high : {F Node Number Key : Type 0} (v : Each F Node Number Key)
-    → keyword_height (each_keyword v) ≡ each_height (schemas_of v.nodes.items)
-each_is_as_high v = each_as_high v.is_prefix (schemas_of v.nodes.items)
-
-pub rest_is_as_high : {F Node Number Key : Type 0} (v : Rest F Node Number Key)
-    → keyword_height (rest_keyword v) ≡ height v.node
-rest_is_as_high v = rest_as_high v.is_additional v.start v.node
-
 -- r, o and j say what the types of a representation are
 module _ {F Node Number Key : Type 0} (r : rooted.Ghosts Node) (o : object.Ghosts Node Key)
     (j : number.Ghosts Number) where
   keyword_falls : (v : Validator F Node Number Key)
       → deep-Validator F Node Number Key r o j v ≤ keyword_height (validator_keyword v) + 1
   keyword_falls (validator.Leaf v) = omega arith
-  keyword_falls (validator.Each v) = omega (arith, each_falls v.nodes.items, each_is_as_high v)
-  keyword_falls (validator.Rest v) = omega (arith, rest_is_as_high v)
+  keyword_falls (validator.Each v) = omega (arith, each_falls v.nodes.items)
+  keyword_falls (validator.Rest v) = omega arith
   keyword_falls (validator.Matching v) = omega arith
   keyword_falls (validator.Bare v) = omega arith
 
   shape_falls : (v : ArrayShapeValidator F Node Number Key)
-      → deep-ArrayShapeValidator F Node Number Key r o j v ≤ all_height (shape_keywords v) + 1
-  shape_falls v =
-      let parts =
-      height_appended (absorbed_keywords v.absorbed)
-      (keyword v.items.location (validator_keyword v.items.validator) no_keywords) in
-      omega (arith, parts, keyword_falls v.items.validator)
+      → deep-ArrayShapeValidator F Node Number Key r o j v ≤ keyword_height (validator_keyword v.items.validator) + 1
+  shape_falls v = omega (arith, keyword_falls v.items.validator)
 
   all_fall : (us : List (Part F Node Number Key))
       → most (deep-Part F Node Number Key r o j) us ≤ all_height (keywords_of us) + 1
   all_fall [] = omega arith
   all_fall (OfKeyword k ∷ us) = omega (arith, keyword_falls k.validator, all_fall us)
-  all_fall (Shape v ∷ us) =
-      let parts = height_appended (shape_keywords v.value) (keywords_of us) in
-      omega (arith, parts, shape_falls v.value, all_fall us)
+  all_fall (Shape v ∷ us) = omega (arith, shape_falls v.value, all_fall us)
 
   pub height_falls : (q : Pointer) (delegates : Bool) (a : Assertions F Node Number Key)
       → deep-Assertions F Node Number Key r o j a ≤ height (schema_of q delegates a)

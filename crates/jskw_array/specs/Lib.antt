@@ -3,7 +3,7 @@ pub mod Meaning
 pub mod Parts
 pub mod Fused
 pub mod Node
-pub mod QuickArrays
+pub mod Accepted
 pub mod Passed
 pub mod Heights
 pub mod Siblings

@@ -1,8 +1,7 @@
 -- What each validator stands for. A node is seen as the schema that it stands for.
-use Rattle.std.specs.Prelude.{ℕ, List, [], ◌∷◌, Bool, Box, false, if◌then◌else◌, unwrap_or}
+use Rattle.std.specs.Prelude.{List, [], ◌∷◌, Box, false, unwrap_or}
 use Rattle.std.specs.declared.alloc.Global.{Global}
-use Rattle.jskw_report.specs.Keyword.{Schema, Keyword, additional_items, contains, items_list, items_from}
-use Rattle.jskw_report.specs.Keyword.{prefix_items, Schemas, no_schemas, schema, Bounds}
+use Rattle.jskw_report.specs.Keyword.{Schema, Keyword, contains, each_of, rest_of, Schemas, no_schemas, schema, Bounds}
 use Rattle.jskw_leaf.specs.Items.{bare_keyword}
 use Rattle.jskw_leaf.specs.Meaning.{leaf_keyword}
 use Rattle.jskw_array.specs.declared.each.Each.{Each}
@@ -26,20 +25,12 @@ bounds_of b =
 abbrev pub boxed_bounds : Box ItemBounds Global → Bounds
 boxed_bounds b = bounds_of b.value
 
--- a schema for each item: `prefixItems`, or `items` of an array of schemas
-abbrev pub each_of : Bool → Schemas → Keyword
-each_of is_prefix ss = if is_prefix then prefix_items ss else items_list ss
-
--- one schema for the items from an index on: `additionalItems`, or `items`
-abbrev pub rest_of : Bool → ℕ → Schema → Keyword
-rest_of is_additional n s = if is_additional then additional_items n s else items_from n s false
-
 module _ {F Node Number Key : Type 0} where
   abbrev pub each_keyword : Each F Node Number Key → Keyword
   each_keyword v = each_of v.is_prefix (schemas_of v.nodes.items)
 
   abbrev pub rest_keyword : Rest F Node Number Key → Keyword
-  rest_keyword v = rest_of v.is_additional v.start v.node
+  rest_keyword v = rest_of v.is_additional v.start v.node false
 
   -- the items that match
   abbrev pub matching_keyword : Matching F Node Number Key → Keyword

@@ -1,5 +1,5 @@
 -- The schema that a node stands for.
-use Rattle.std.specs.Prelude.{◌≡◌, ◌≤◌, ◌+◌, List, Option, Some, None, Bool, true, false, ⊤, length, take}
+use Rattle.std.specs.Prelude.{◌≡◌, ◌≤◌, ◌+◌, List, Option, Some, None, Bool, true, false, is_some}
 use Rattle.std.specs.Borrow.{Bor}
 use Rattle.jskw_value.specs.Pointer.{Pointer}
 use Rattle.jskw_value.specs.Tree.{Tree}
@@ -9,54 +9,44 @@ use Rattle.jskw_report.specs.Holds.{all_hold, holds}
 use Rattle.jskw_report.specs.Keyword.{Schema, false_schema, schema_location, schema_object, Marks, no_marks}
 use Rattle.jskw_report.specs.Keyword.{no_keywords}
 use Rattle.jskw_number.specs.QuickSet.{is_in}
-use Rattle.jskw_number.specs.declared.quick_set.QuickSet.{QuickSet}
-use Rattle.jskw_number.specs.Outline.{in_outline}
-use Rattle.jskw_array.specs.Parts.{begin_fused, keywords_of}
+use Rattle.jskw_array.specs.Accepted.{IsKnown}
+use Rattle.jskw_array.specs.Parts.{ShapeBegins, keywords_of, shape_in}
+use Rattle.jskw_array.specs.declared.accepted.Accepted.{Accepted}
 use Rattle.jskw_array.specs.declared.node.Assertions.{Assertions}
 use Rattle.jskw_array.specs.declared.node.Assertions.TheVariants.{Never, Keywords}
-use Rattle.jskw_array.specs.declared.part.SettledParts.{SettledParts}
 use Rattle.jskw_array.specs.declared.part.Part.{Part}
 
 module _ {F Node Number Key : Type 0} where
-  -- what is marked of a schema of these units that delegates its `required` or does not
+  -- what is marked of a schema of these parts that delegates its `required` or does not
   abbrev pub marked : Bool → List (Part F Node Number Key) → Marks
-  marked delegates us = record { delegates = delegates; fused = begin_fused us }
+  marked delegates us = record { delegates = delegates; fused = is_some (shape_in us) }
 
   -- at this keyword location, with or without a `required` that it delegates
   abbrev pub schema_of : Pointer → Bool → Assertions F Node Number Key → Schema
   schema_of q delegates Never = false_schema q
   schema_of q delegates (Keywords us) = schema_object q (marked delegates us.items) (keywords_of us.items)
 
-  -- the schema is that of these units, or it is `false`
+  -- the schema is that of these parts, or it is `false`
   abbrev pub HasParts : Schema → Option (Bor (List (Part F Node Number Key))) → Type 0
   HasParts s None = s ≡ false_schema (schema_location s)
   HasParts s (Some us) =
       (delegates : Bool) × (s ≡ schema_object (schema_location s) (marked delegates us.now) (keywords_of us.now))
+      × ShapeBegins us.now
 
 -- a boolean schema: `true` has no keywords
 abbrev pub boolean_schema : Pointer → Bool → Schema
 boolean_schema q true = schema_object q no_marks no_keywords
 boolean_schema q false = false_schema q
 
--- every tree of the set is valid against the schema
-abbrev pub AllValid : QuickSet → Schema → Type 0
-AllValid q s = (t : Tree) → is_in q t ≡ true → holds s t ≡ true
-
--- ---- units that are known to hold
+-- ---- what is known of a schema
 
 module _ {F Node Number Key : Type 0} where
-  -- the first of these units hold of every tree of the outline
-  abbrev pub AreSettled : SettledParts → List (Part F Node Number Key) → Type 0
-  AreSettled b us =
-      (b.count ≤ length us)
-      × ((t : Tree) → in_outline b.outline t ≡ true → all_hold (keywords_of (take b.count us)) t ≡ true)
+  -- by its parts, if it has any; `false` accepts nothing
+  abbrev pub Knows : Accepted → Assertions F Node Number Key → Type 0
+  Knows a Never = (t : Tree) → is_in a.values t ≡ false
+  Knows a (Keywords us) = IsKnown a us.items × ShapeBegins us.items
 
-  -- the first units of a schema do
-  abbrev pub SchemaSettles : SettledParts → Assertions F Node Number Key → Type 0
-  SchemaSettles b Never = ⊤
-  SchemaSettles b (Keywords us) = AreSettled b us.items
-
-  -- for this tree these units are as good as the schema: they say the same of it, take no more applications, and are
+  -- for this tree these parts are as good as the schema: they say the same of it, take no more applications, and are
   -- lower
   pub record IsLeft (s : Schema) (t : Tree) (us : List (Part F Node Number Key)) : Type 0 where
     pub answer : holds s t ≡ all_hold (keywords_of us) t
@@ -64,7 +54,7 @@ module _ {F Node Number Key : Type 0} where
     pub applied : (wanted : Bool) → 1 + all_applications wanted (keywords_of us) t ≤ applications wanted s t
     pub lower : 1 + all_height (keywords_of us) ≤ height s
 
-  -- these units are left of the schema for this tree, or it is `false`
+  -- these parts are left of the schema for this tree, or it is `false`
   abbrev pub LeftParts : Schema → Tree → Option (Bor (List (Part F Node Number Key))) → Type 0
   LeftParts s t None = s ≡ false_schema (schema_location s)
   LeftParts s t (Some us) = IsLeft s t us.now

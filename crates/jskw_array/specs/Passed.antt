@@ -2,10 +2,7 @@
 use Rattle.std.specs.Prelude.{◌≡◌, ◌≤◌, ◌+◌, ◌-◌, ◌^◌, ℕ, List, Bool, true, drop, take, length, min}
 use Rattle.std.specs.List.{list_all}
 use Rattle.jskw_value.specs.Tree.{Tree, items}
-use Rattle.jskw_report.specs.Holds.{each_holds}
-use Rattle.jskw_report.specs.Keyword.{Schema}
 use Rattle.jskw_report.specs.Observe.{CountsUpTo}
-use Rattle.jskw_array.specs.Meaning.{schemas_of}
 
 -- the items from the index `start` on and before the index `end`
 abbrev pub items_between : ℕ → ℕ → Tree → List Tree
@@ -16,11 +13,6 @@ pub record PassesOver (test : Tree → Bool) (t : Tree) (start end : ℕ) : Type
   pub from : start ≤ end
   pub within : end - start ≤ length (drop start (items t))
   pub valid : list_all test (items_between start end t) ≡ true
-
--- the first items, as many as `end`, have schemas, and each is valid against its own
-pub record PassesOverPairs (ss : List Schema) (t : Tree) (end : ℕ) : Type 0 where
-  pub within : end ≤ min (length (items t)) (length ss)
-  pub valid : each_holds (schemas_of (take end ss)) (items t) ≡ true
 
 -- the count went from `old` to `new`: up by no less than the first bound, unless it reached its end, and by no more
 -- than the second

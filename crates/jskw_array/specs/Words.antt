@@ -19,6 +19,7 @@ pub use Rattle.jskw_report.specs.Paths.{path_of}
 -- what a schema says: its keywords, and how they are read with settings
 pub use Rattle.jskw_report.specs.Keyword.{Bounds, Keyword, Keywords, Schema, Schemas, additional_items}
 pub use Rattle.jskw_report.specs.Keyword.{keywords_delegate, append_keywords, assertion, at_most}
+pub use Rattle.jskw_report.specs.Keyword.{each_of, rest_of}
 pub use Rattle.jskw_report.specs.Keyword.{contains, schemas_delegate, false_schema, hands_on_required, is_fused_schema}
 pub use Rattle.jskw_report.specs.Keyword.{items_from, items_list, keyword, keyword_delegates, keywords_in, no_keywords}
 pub use Rattle.jskw_report.specs.Keyword.{no_schemas, prefix_items, schema, schema_location, schema_object}
@@ -57,16 +58,16 @@ pub use Rattle.jskw_leaf.specs.Items.{absorbed_keywords, bare_keyword}
 pub use Rattle.jskw_leaf.specs.Meaning.{leaf_keyword}
 pub use Rattle.jskw_leaf.specs.Names.{is_leaf}
 -- the same of this crate
-pub use Rattle.jskw_array.specs.Meaning.{bounds_of, boxed_bounds, each_keyword, each_of, matching_keyword}
-pub use Rattle.jskw_array.specs.Meaning.{rest_keyword, rest_of, schemas_of, validator_keyword}
+pub use Rattle.jskw_array.specs.Meaning.{bounds_of, boxed_bounds, each_keyword, matching_keyword}
+pub use Rattle.jskw_array.specs.Meaning.{rest_keyword, schemas_of, validator_keyword}
 pub use Rattle.jskw_array.specs.Limits.{deciding_count, failing_locations, locations_of, matching_result}
-pub use Rattle.jskw_array.specs.Fused.{IsBeginning, fused_keywords, shape_keywords, shape_meaning}
-pub use Rattle.jskw_array.specs.Parts.{IsShape, absorbed_by, after, begin_fused, is_shape, keywords_of, part_delegates}
-pub use Rattle.jskw_array.specs.Parts.{keywords_read, own_keyword, part_meaning}
-pub use Rattle.jskw_array.specs.Node.{AreSettled, HasParts, IsLeft, LeftParts, boolean_schema, marked, schema_of}
-pub use Rattle.jskw_array.specs.QuickArrays.{AddsKeywords, AreTuples, ArraysAreValid, absorbed_hold, arrays_cost}
-pub use Rattle.jskw_array.specs.QuickArrays.{front_cost, front_holds, in_arrays, rest_cost, rest_holds}
-pub use Rattle.jskw_array.specs.Passed.{CountsBetween, PassesOver, PassesOverPairs, items_between}
+pub use Rattle.jskw_array.specs.Fused.{IsBeginning, before_items, fused_keywords, shape_keywords, shape_meaning}
+pub use Rattle.jskw_array.specs.Parts.{ShapeBegins, after, keywords_of, keywords_read, own_keyword, part_delegates}
+pub use Rattle.jskw_array.specs.Parts.{part_meaning, shape_in}
+pub use Rattle.jskw_array.specs.Node.{HasParts, IsLeft, Knows, LeftParts, boolean_schema, marked, schema_of}
+pub use Rattle.jskw_array.specs.Accepted.{AddsKeyword, AllValid, AreSettled, ArraysAreValid, IsKnown, SetsAccept}
+pub use Rattle.jskw_array.specs.Accepted.{arrays_cost, in_arrays, in_rest, in_sets, in_typed, items_cost, rest_cost}
+pub use Rattle.jskw_array.specs.Passed.{CountsBetween, PassesOver, items_between}
 pub use Rattle.jskw_array.specs.Siblings.{MarksLengths, active_member, array_schema_count}
 pub use Rattle.jskw_array.specs.Agreement.{Agree, RejectsNonArrays}
 pub use Rattle.jskw_array.specs.declared.each.Each.{Each}

@@ -1,8 +1,10 @@
 //! Compiles schemas, keyword by keyword.
-ghost use Rattle.std.specs.Prelude.{◌++◌, ◌∷◌, ◌≡◌};
+ghost use Rattle.std.specs.Prelude.{◌++◌, ◌∷◌, ◌≡◌, None};
 ghost use Rattle.jskw_array.specs.Words.{[], Boolean, CompilesKeyword, CompilesTo, Err, IfOk, IsTrue, Keywords};
-ghost use Rattle.jskw_array.specs.Words.{Object, Reading, Refusal, Result, Schema, after, begin_fused};
-ghost use Rattle.jskw_array.specs.Words.{boolean_schema, each_of, fused_keywords, is_fused, is_handed_on};
+ghost use Rattle.jskw_array.specs.Words.{Object, Reading, Refusal, Result, Schema, after};
+ghost use Rattle.jskw_array.specs.Words.{Keyword, MarksLengths, Ok, Pointer, ShapeBegins, append_keywords};
+ghost use Rattle.jskw_array.specs.Words.{before_items, boolean_schema, each_of, fused_keywords, is_fused};
+ghost use Rattle.jskw_array.specs.Words.{is_handed_on, is_some, keyword, no_keywords, shape_in};
 ghost use Rattle.jskw_array.specs.Words.{items_view, keyword_location, keyword_reading, keywords, keywords_of};
 ghost use Rattle.jskw_array.specs.Words.{map_ok, members_view, object, of_types, read, read_each, schemas_of};
 ghost use Rattle.jskw_array.specs.Words.{shape_keywords, true, validator_keyword, view, wrong, keywords_read};
@@ -29,7 +31,7 @@ use members::{active_member, name_lengths};
 use serde_json::{Map, Value};
 use std::alloc::{AllocError, Global};
 
-// The number of keywords of the fused shape, which are the first of all keywords.
+// The number of keywords of the fused shape, which are the first of all keywords. `items` is the last.
 const FUSED: usize = 4;
 
 /// Compiles a schema and its subschemas: a boolean, or an object (JSON Schema Core 4.3). `ctx` has
@@ -126,8 +128,9 @@ fn node_of<'a, F: Json>(
     requires delegates { delegates ≡ is_handed_on ctx.now.setting (members_view parent.now.entries) }
     requires made { CompilesTo (λ _. keywords_of parts.items) made
         (keywords_read keywords ctx.now (members_view parent.now.entries)) }
-    requires fused { IfOk made (λ _. begin_fused parts.items
+    requires fused { IfOk made (λ _. is_some (shape_in parts.items)
         ≡ is_fused ctx.now.setting (members_view parent.now.entries)) }
+    requires begins { IfOk made (λ _. ShapeBegins parts.items) }
     ensures { CompilesTo (λ s. s) result
         (read (object (members_view parent.now.entries)) ctx.now.setting ctx.now.location) }
 {
@@ -137,11 +140,11 @@ fn node_of<'a, F: Json>(
     // a part takes some 200 bytes
     parts.shrink_to_fit();
     let location = ctx.place().copy()?;
-    Ok(Subschema::of_keywords(location, delegates, parts))
+    Ok(Subschema::of_keywords(alloc, location, delegates, parts)?)
 }
 
-// Appends the parts of an object to an empty vector: its keywords in their order, where the first
-// four may be one part. `delegates` is whether its `required` is delegated.
+// Appends the parts of an object to an empty vector: its keywords in their order. `delegates` is
+// whether its `required` is delegated.
 #[inline(never)]
 #[cycle(compile)]
 fn push_parts<'a, F: Json>(
@@ -155,24 +158,23 @@ fn push_parts<'a, F: Json>(
     requires delegates { delegates ≡ is_handed_on ctx.now.setting (members_view parent.now.entries) }
     ensures made { CompilesTo (λ _. keywords_of parts.new.items) result
         (keywords_read keywords ctx.now (members_view parent.now.entries)) }
-    ensures fused { IfOk result (λ _. begin_fused parts.new.items
+    ensures fused { IfOk result (λ _. is_some (shape_in parts.new.items)
         ≡ is_fused ctx.now.setting (members_view parent.now.entries)) }
+    ensures begins { IfOk result (λ _. ShapeBegins parts.new.items) }
 {
+    let lengths = name_lengths(parent);
+    let all = &KeywordName::ALL;
     if !array_shape_fusion(ctx, parent) {
-        return push_keywords(alloc, ctx, parent, delegates, &KeywordName::ALL, parts);
+        return push_keywords(alloc, ctx, parent, delegates, &lengths, all, parts);
     }
+    let (before, behind) = (&all[..FUSED - 1], &all[FUSED..]);
+    push_keywords(alloc, ctx, parent, delegates, &lengths, before, parts)?;
     push_shape(alloc, ctx, parent, parts)?;
-    push_keywords(
-        alloc,
-        ctx,
-        parent,
-        delegates,
-        &KeywordName::ALL[FUSED..],
-        parts,
-    )
+    push_keywords(alloc, ctx, parent, delegates, &lengths, behind, parts)
 }
 
-// Appends the part of an object with the fused shape to an empty vector.
+// Appends `items` of an object with the fused shape, within the shape, to the parts of the keywords
+// before it.
 #[inline(never)]
 #[cycle(compile)]
 fn push_shape<'a, F: Json>(
@@ -181,11 +183,14 @@ fn push_shape<'a, F: Json>(
     parent: &'a Map<String, Value>,
     parts: &mut Vec<Part<F>>,
 ) -> CompilationResult<'a, ()>
-    requires empty { parts.old.items ≡ [] }
     requires fused { IsTrue (is_fused ctx.now.setting (members_view parent.now.entries)) }
+    requires before { keywords_read before_items ctx.now (members_view parent.now.entries)
+        ≡ Ok (keywords_of parts.old.items) }
+    requires none { shape_in parts.old.items ≡ None }
     ensures made { CompilesTo (λ _. keywords_of parts.new.items) result
         (keywords_read fused_keywords ctx.now (members_view parent.now.entries)) }
-    ensures fused { IfOk result (λ _. begin_fused parts.new.items ≡ true) }
+    ensures fused { IfOk result (λ _. is_some (shape_in parts.new.items) ≡ true) }
+    ensures begins { IfOk result (λ _. ShapeBegins parts.new.items) }
 {
     let Some(items) = member_of(parent, KeywordName::Items.as_str()) else {
         unreachable!();
@@ -197,17 +202,22 @@ fn push_shape<'a, F: Json>(
     )
 }
 
-// Appends a fused shape, if it was compiled, to an empty vector.
+// Appends `items` of a fused shape, if that was compiled.
 #[inline(never)]
 fn push_compiled<'a, F: Json>(
     alloc: Global,
     compiled: CompilationResult<'a, ArrayShapeValidator<F>>,
     parts: &mut Vec<Part<F>>,
 ) -> CompilationResult<'a, ()>
-    requires { parts.old.items ≡ [] }
-    ensures made { (read : Result Keywords Refusal) → CompilesTo shape_keywords compiled.entry read
-        → CompilesTo (λ _. keywords_of parts.new.items) result read }
-    ensures fused { IfOk result (λ _. begin_fused parts.new.items ≡ true) }
+    requires { shape_in parts.old.items ≡ None }
+    ensures made { (reading : Result Keyword Refusal) (q : Pointer) → CompilesTo shape_keywords compiled.entry
+        (map_ok (λ k. append_keywords (keywords_of parts.old.items) (keyword q k no_keywords)) reading)
+        → CompilesTo (λ _. keywords_of parts.new.items) result
+        (map_ok (λ k. append_keywords (keywords_of parts.old.items) (keyword q k no_keywords)) reading) }
+    ensures fused { IfOk result (λ _. is_some (shape_in parts.new.items) ≡ true) }
+    ensures begins { (reading : Result Keyword Refusal) (q : Pointer) → CompilesTo shape_keywords compiled.entry
+        (map_ok (λ k. append_keywords (keywords_of parts.old.items) (keyword q k no_keywords)) reading)
+        → IfOk result (λ _. ShapeBegins parts.new.items) }
 {
     parts.push(Part::Shape(Box::new(alloc, compiled?)?))?;
     Ok(())
@@ -226,7 +236,7 @@ fn no_schema<'a>(alloc: Global, location: &KeywordLocation, value: &'a Value) ->
 }
 
 // Appends a part for each of the given keywords that asserts something, in their order. `delegates`
-// is whether the `required` of the object is delegated.
+// is whether the `required` of the object is delegated, `lengths` are the marks of `name_lengths`.
 #[inline(never)]
 #[cycle(compile)]
 fn push_keywords<'a, F: Json>(
@@ -234,19 +244,21 @@ fn push_keywords<'a, F: Json>(
     ctx: &Context<'_, F>,
     parent: &'a Map<String, Value>,
     delegates: bool,
+    lengths: &[bool; 17],
     keywords: &[KeywordName],
     parts: &mut Vec<Part<F>>,
 ) -> CompilationResult<'a, ()>
-    requires { delegates ≡ is_handed_on ctx.now.setting (members_view parent.now.entries) }
+    requires delegates { delegates ≡ is_handed_on ctx.now.setting (members_view parent.now.entries) }
+    requires lengths { MarksLengths lengths.now (members_view parent.now.entries) }
+    requires begins { ShapeBegins parts.old.items }
     ensures made { CompilesTo (λ _. keywords_of parts.new.items) result
         (after (keywords_of parts.old.items)
         (keywords_read keywords.now ctx.now (members_view parent.now.entries))) }
-    ensures fused { IfOk result (λ _. begin_fused parts.new.items
-        ≡ begin_fused parts.old.items) }
+    ensures fused { IfOk result (λ _. shape_in parts.new.items ≡ shape_in parts.old.items) }
+    ensures begins { IfOk result (λ _. ShapeBegins parts.new.items) }
 {
-    let lengths = name_lengths(parent);
     for &keyword in keywords {
-        let Some(schema) = active_member(ctx, parent, &lengths, keyword) else {
+        let Some(schema) = active_member(ctx, parent, lengths, keyword) else {
             continue;
         };
         let compiled = compile_keyword(alloc, ctx, parent, delegates, keyword, schema);

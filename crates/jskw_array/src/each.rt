@@ -1,10 +1,10 @@
 //! A schema for each item: `prefixItems` (JSON Schema Core 10.3.1.1), and `items` of an array of
 //! schemas (Draft 7 Validation 6.4.1). A non-array has no items.
 ghost use Rattle.std.specs.Prelude.{◌≡◌};
-ghost use Rattle.jskw_array.specs.Words.{CountsUpTo, IfSome, IsTrue, CompilesTo, Refusal, Result, Schemas};
-ghost use Rattle.jskw_array.specs.Words.{drop, each_holds, each_needed, is_lawful, items, length, min, true};
-ghost use Rattle.jskw_array.specs.Words.{each_keyword, each_of, keyword_holds, map_ok, one_keyword, schemas_of};
-ghost use Rattle.jskw_array.specs.Words.{validator_keyword, PassesOverPairs, CountsBetween, Pointer};
+ghost use Rattle.jskw_array.specs.Words.{CompilesTo, Refusal, Result, Schemas};
+ghost use Rattle.jskw_array.specs.Words.{items, min, true};
+ghost use Rattle.jskw_array.specs.Words.{each_keyword, each_of, map_ok, one_keyword, schemas_of};
+ghost use Rattle.jskw_array.specs.Words.{validator_keyword, Pointer};
 ghost use Rattle.jskw_array.specs.Words.{evaluate_pairs, result_of, schemas_delegate, unit};
 
 use crate::evaluation::push_item;
@@ -30,56 +30,6 @@ pub struct Each<F: Json> {
 }
 
 impl<F: Json> Each<F> {
-    // Returns the index of the first item that is not in the quick set of its schema, or `count`, if
-    // there is none.
-    #[inline(always)]
-    fn first_not_accepted(&self, count: usize, instance: &F::Node) -> usize
-        requires lawful { IsTrue (is_lawful (F.Node.tree instance.now)) }
-        requires count { count ≡ min (length (items (F.Node.tree instance.now)))
-            (length self.now.nodes.items) }
-        ensures { PassesOverPairs self.now.nodes.items (F.Node.tree instance.now) result }
-    {
-        for index in 0..count {
-            if !self.nodes[index].is_accepted(instance.item(index)) {
-                return index;
-            }
-        }
-        count
-    }
-
-    // Returns how many items of an array of `count` items have a schema, if each of these is in the
-    // quick set of its schema.
-    #[inline(always)]
-    pub(crate) fn accepted_count(&self, count: usize, instance: &F::Node) -> Option<usize>
-        requires lawful { IsTrue (is_lawful (F.Node.tree instance.now)) }
-        requires count { count ≡ length (items (F.Node.tree instance.now)) }
-        ensures { IfSome result (λ n.
-            (keyword_holds (each_keyword self.now) (F.Node.tree instance.now) ≡ true)
-            × (n ≡ min count (length self.now.nodes.items))) }
-    {
-        let count = count.min(self.nodes.len());
-        if self.first_not_accepted(count, instance) == count {
-            Some(count)
-        } else {
-            None
-        }
-    }
-
-    // Applies each schema to its item, as far as the items are in the quick sets of their schemas.
-    // Returns the index of the first item that is not, or `count`, if there is none.
-    #[inline(always)]
-    fn skip_accepted(&self, count: usize, instance: &F::Node, ctx: &mut ValidationContext) -> usize
-        requires lawful { IsTrue (is_lawful (F.Node.tree instance.now)) }
-        requires count { count ≡ min (length (items (F.Node.tree instance.now)))
-            (length self.now.nodes.items) }
-        ensures passed { PassesOverPairs self.now.nodes.items (F.Node.tree instance.now) result }
-        ensures counted { CountsBetween ctx.old ctx.new result result }
-    {
-        let index = self.first_not_accepted(count, instance);
-        ctx.count_more(index);
-        index
-    }
-
     // Returns the unit for an instance whose items that have a schema have these nodes.
     fn unit(
         &self,
@@ -97,29 +47,8 @@ impl<F: Json> Each<F> {
             EvaluationResult::from_children(alloc, children)
         }
     }
-
-    // Returns `is_valid` for the items from `first` on.
-    #[inline(never)]
-    #[cycle(is_valid)]
-    fn are_valid(&self, first: usize, instance: &F::Node, ctx: &mut ValidationContext) -> bool
-        requires { IsTrue (is_lawful (F.Node.tree instance.now)) }
-        ensures answer { result ≡ each_holds (schemas_of (drop first self.now.nodes.items))
-            (drop first (items (F.Node.tree instance.now))) }
-        ensures counted { CountsUpTo ctx.old ctx.new (each_needed
-            (schemas_of (drop first self.now.nodes.items))
-            (drop first (items (F.Node.tree instance.now)))) }
-    {
-        let count = instance.item_count().min(self.nodes.len());
-        for index in first..count {
-            if !self.nodes[index].is_valid(instance.item(index), ctx) {
-                return false;
-            }
-        }
-        true
-    }
 }
 
-#[tactic(auto, using(crate::proofs::ValidatorMeanings::each_no_assertion))]
 impl<F: Json> Validate<F> for Each<F> {
     ghost meaning = { λ v. one_keyword (each_keyword v) };
 
@@ -127,11 +56,12 @@ impl<F: Json> Validate<F> for Each<F> {
     #[cycle(is_valid)]
     fn is_valid(&self, instance: &F::Node, ctx: &mut ValidationContext) -> bool {
         let count = instance.item_count().min(self.nodes.len());
-        let first = self.skip_accepted(count, instance, ctx);
-        if first == count {
-            return true;
+        for index in 0..count {
+            if !self.nodes[index].is_valid(instance.item(index), ctx) {
+                return false;
+            }
         }
-        self.are_valid(first, instance, ctx)
+        true
     }
 
     #[inline(always)]
@@ -144,7 +74,7 @@ impl<F: Json> Validate<F> for Each<F> {
         report: &mut Report<'i, F>,
     ) -> Result<(), Stop> {
         let count = instance.item_count().min(self.nodes.len());
-        for index in self.skip_accepted(count, instance, ctx)..count {
+        for index in 0..count {
             self.nodes[index].report_item(index, instance.item(index), location, ctx, report)?;
         }
         Ok(())

@@ -9,6 +9,7 @@
 //! named.
 #![tactic(auto)]
 
+mod accepted;
 pub mod additional_items;
 pub mod compiler;
 pub mod contains;
@@ -20,7 +21,6 @@ pub mod matching;
 pub mod node;
 mod part;
 pub mod prefix_items;
-mod quick_arrays;
 pub mod rest;
 mod schema;
 pub mod upstream;

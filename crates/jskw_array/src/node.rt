@@ -1,6 +1,6 @@
 //! A compiled schema: the validators of its keywords, in the order in which a schema is read.
 ghost use Rattle.std.specs.Prelude.{◌≡◌, ◌+◌, ◌-◌, ◌≤◌, if◌then◌else◌};
-ghost use Rattle.jskw_array.specs.Words.{[], Appends, IsBeginning, CountsUpTo, HasParts, IfOk};
+ghost use Rattle.jskw_array.specs.Words.{AllValid, Appends, IsBeginning, CountsUpTo, HasParts, IfOk};
 ghost use Rattle.jskw_array.specs.Words.{IfSome, IsFirst, IsTrue, LeftParts, Reports, applications};
 ghost use Rattle.jskw_array.specs.Words.{fail, hands_on_required, keeps_list};
 ghost use Rattle.jskw_array.specs.Words.{holds, is_fused_schema, is_lawful, is_some, items, length};
@@ -10,11 +10,11 @@ ghost use Rattle.jskw_array.specs.Words.{sum_by, tree, true, PassesOver, CountsB
 ghost use Rattle.jskw_array.specs.Words.{items_between};
 
 mod making;
-mod skipping;
 
+use crate::accepted::{Accepted, typed_end};
 use crate::evaluation::{begin_node, end_node, evaluate_refusal};
 use crate::items::ArrayShapeValidator;
-use crate::part::{Part, SettledParts, evaluate_parts, parts_are_valid, report_parts};
+use crate::part::{Part, evaluate_parts, first_shape, parts_are_valid, report_parts};
 pub use crate::schema::SchemaNode;
 pub use crate::validator::Validator;
 use jskw_number::QuickSet;
@@ -38,10 +38,8 @@ pub(crate) struct Subschema<F: Json> {
     delegates: bool,
     // the `required` of this schema or of a subschema is delegated
     delegates_any: bool,
-    // values that are valid against the schema, tested before its keywords
-    accepted: QuickSet,
-    // the parts that hold of arrays and objects whose items and members are not looked at
-    settled: SettledParts,
+    // what is known to be valid against the schema without a look at its keywords
+    accepted: Accepted,
     assertions: Assertions<F>,
 }
 
@@ -59,7 +57,7 @@ impl<F: Json> fmt::Debug for Subschema<F> {
 enum Assertions<F: Json> {
     // The schema `false`.
     Never,
-    // The keywords of an object, none for `true`. A fused shape is the first part.
+    // The keywords of an object, none for `true`.
     Keywords(Vec<Part<F>>),
 }
 
@@ -73,14 +71,13 @@ impl<F: Json> Model for Subschema<F> {
 
     ghost use Rattle.std.specs.Prelude.{◌≡◌};
     ghost use Rattle.jskw_report.specs.Applications.{height};
-    ghost use Rattle.jskw_array.specs.Node.{AllValid, SchemaSettles, schema_of};
+    ghost use Rattle.jskw_array.specs.Node.{Knows, schema_of};
 
     ghost view = { λ n. schema_of n.location n.delegates n.assertions };
 
     ghost invariant = { λ n.
         (n.delegates_any ≡ hands_on_required (schema_of n.location n.delegates n.assertions))
-        × AllValid n.accepted (schema_of n.location n.delegates n.assertions)
-        × SchemaSettles n.settled n.assertions };
+        × Knows n.accepted n.assertions };
 
     ghost size = { height };
 
@@ -115,10 +112,7 @@ impl<F: Json> Subschema<F> {
         ensures keywords { IfSome result (λ v. IsBeginning (shape_keywords v.now)
             (keywords_in self.now)) }
     {
-        match self.parts()? {
-            [first, ..] => first.shape(),
-            [] => None,
-        }
+        first_shape(self.parts()?)
     }
 
     // Returns the parts of the schema, or `None` for `false`.
@@ -143,39 +137,25 @@ impl<F: Json> Subschema<F> {
             Assertions::Never => return None,
             Assertions::Keywords(parts) => parts.as_slice(),
         };
-        if self.settled.count > 0 && self.settled.outline.contains(instance) {
-            Some(&parts[self.settled.count..])
+        if self.accepted.settled.count > 0 && self.accepted.settled.outline.contains(instance) {
+            Some(&parts[self.accepted.settled.count..])
         } else {
             Some(parts)
         }
     }
 
-    // Returns whether the instance is known to be valid without a look at the keywords.
-    #[inline(always)]
-    pub(crate) fn is_accepted(&self, instance: &F::Node) -> bool
-        requires { IsTrue (is_lawful (F.Node.tree instance.now)) }
-        ensures { result ≡ true → holds self.now (F.Node.tree instance.now) ≡ true }
+    // Returns values that are valid.
+    pub(crate) fn values(&self) -> QuickSet
+        ensures { AllValid result self.now }
     {
-        self.accepted.contains(instance)
+        self.accepted.values
     }
 
-    // Returns the index of the first item from `start` on that is not in the quick set, or `count`, if
-    // there is none. `count` is the number of items.
+    // Applies the schema to the items from `start` on, as far as they are known to be valid without a
+    // look at the keywords. Returns the index of the first that is not; if there is none, the number
+    // of items, or `start` if that is past them.
     #[inline(always)]
-    pub(crate) fn first_not_accepted(&self, start: usize, count: usize, instance: &F::Node) -> usize
-        requires lawful { IsTrue (is_lawful (F.Node.tree instance.now)) }
-        requires count { count ≡ length (items (F.Node.tree instance.now)) }
-        requires start { start ≤ count }
-        ensures { PassesOver (holds self.now) (F.Node.tree instance.now) start result }
-    {
-        self.accepted.first_outside(start, count, instance)
-    }
-
-    // Applies the schema to the items from `start` on, as far as they are in the quick set, and then
-    // as far as `skip_arrays` does. Returns the index of the first that neither passes over; if there
-    // is none, the number of items, or `start` if that is past them.
-    #[inline(always)]
-    pub(crate) fn skip_valid(
+    pub(crate) fn skip(
         &self,
         start: usize,
         instance: &F::Node,
@@ -190,12 +170,38 @@ impl<F: Json> Subschema<F> {
         if start >= count {
             return start;
         }
-        let first = self.first_not_accepted(start, count, instance);
+        let first = self.accepted.values.first_outside(start, count, instance);
         ctx.count_more(first - start);
         if first >= count {
             return first;
         }
         self.skip_arrays(first, instance, ctx)
+    }
+
+    // `skip` by the length of arrays and their items.
+    #[inline(never)]
+    fn skip_arrays(&self, start: usize, instance: &F::Node, ctx: &mut ValidationContext) -> usize
+        requires lawful { IsTrue (is_lawful (F.Node.tree instance.now)) }
+        requires start { start ≤ length (items (F.Node.tree instance.now)) }
+        ensures passed { PassesOver (holds self.now) (F.Node.tree instance.now) start result }
+        ensures counted { CountsBetween ctx.old ctx.new (result - start)
+            (sum_by (needed self.now) (items_between start result (F.Node.tree instance.now))) }
+    {
+        let Assertions::Keywords(parts) = &self.assertions else {
+            return start;
+        };
+        if let Some(arrays) = &self.accepted.arrays {
+            return arrays.skip(start, instance, ctx);
+        }
+        let settled = &self.accepted.settled;
+        match &parts[settled.count..] {
+            [part] => {
+                let end = typed_end(&settled.outline, part, start, instance, ctx);
+                ctx.count_more(end - start);
+                end
+            }
+            _ => start,
+        }
     }
 
     // Applies the schema to an instance that is known to be valid without a look at the keywords.
@@ -207,7 +213,7 @@ impl<F: Json> Subschema<F> {
         ensures applied { result ≡ true → min (ctx.old + 1) u64.MAX ≤ ctx.new }
         ensures counted { CountsUpTo ctx.old ctx.new (if result then 1 else 0) }
     {
-        let accepted = self.is_accepted(instance);
+        let accepted = self.accepted.values.contains(instance);
         if accepted {
             ctx.count_one();
         }
@@ -239,7 +245,7 @@ impl<F: Json> Subschema<F> {
             return false;
         };
         match parts {
-            [part] => part.is_valid(instance, ctx),
+            [part] => part.keyword().validator.is_valid(instance, ctx),
             _ => parts_are_valid(parts, instance, ctx),
         }
     }

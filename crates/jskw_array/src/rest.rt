@@ -1,8 +1,8 @@
 //! One schema for the items from an index on: `items` (JSON Schema Core 10.3.1.2), and
 //! `additionalItems` (Draft 7 Validation 6.4.2). A non-array has no items.
-ghost use Rattle.std.specs.Prelude.{◌≡◌, ◌-◌};
-ghost use Rattle.jskw_array.specs.Words.{CompilesTo, IfOk, IfSome, IsTrue, Reading, is_lawful, items, keyword_holds};
-ghost use Rattle.jskw_array.specs.Words.{length, map_ok, one_keyword, rest_keyword, rest_of, true};
+ghost use Rattle.std.specs.Prelude.{◌≡◌, ◌-◌, false};
+ghost use Rattle.jskw_array.specs.Words.{CompilesTo, IfOk, IsTrue, Reading, is_lawful, items};
+ghost use Rattle.jskw_array.specs.Words.{map_ok, one_keyword, rest_keyword, rest_of, true};
 ghost use Rattle.jskw_array.specs.Words.{CountsUpTo, keyword_pairs, path_of, result_of, unit, validator_keyword};
 
 use crate::evaluation::push_item;
@@ -30,26 +30,6 @@ pub struct Rest<F: Json> {
 }
 
 impl<F: Json> Rest<F> {
-    // Returns how many items of an array of `count` items have the schema, if all of these are in its
-    // quick set.
-    #[inline(always)]
-    pub(crate) fn accepted_count(&self, count: usize, instance: &F::Node) -> Option<usize>
-        requires lawful { IsTrue (is_lawful (F.Node.tree instance.now)) }
-        requires count { count ≡ length (items (F.Node.tree instance.now)) }
-        ensures { IfSome result (λ n.
-            (keyword_holds (rest_keyword self.now) (F.Node.tree instance.now) ≡ true)
-            × (n ≡ count - self.now.start)) }
-    {
-        if count <= self.start {
-            return Some(0);
-        }
-        if self.node.first_not_accepted(self.start, count, instance) == count {
-            Some(count - self.start)
-        } else {
-            None
-        }
-    }
-
     // Returns the unit of `additionalItems`, which has the errors and no nodes below.
     fn evaluate_additional(
         &self,
@@ -72,7 +52,6 @@ impl<F: Json> Rest<F> {
     }
 }
 
-#[tactic(auto, using(crate::proofs::ValidatorMeanings::rest_no_assertion))]
 impl<F: Json> Validate<F> for Rest<F> {
     ghost meaning = { λ v. one_keyword (rest_keyword v) };
 
@@ -80,7 +59,7 @@ impl<F: Json> Validate<F> for Rest<F> {
     #[cycle(is_valid)]
     fn is_valid(&self, instance: &F::Node, ctx: &mut ValidationContext) -> bool {
         let count = instance.item_count();
-        for index in self.node.skip_valid(self.start, instance, ctx)..count {
+        for index in self.node.skip(self.start, instance, ctx)..count {
             if !self.node.is_valid(instance.item(index), ctx) {
                 return false;
             }
@@ -98,7 +77,7 @@ impl<F: Json> Validate<F> for Rest<F> {
         report: &mut Report<'i, F>,
     ) -> Result<(), Stop> {
         let count = instance.item_count();
-        for index in self.node.skip_valid(self.start, instance, ctx)..count {
+        for index in self.node.skip(self.start, instance, ctx)..count {
             self.node
                 .report_item(index, instance.item(index), location, ctx, report)?;
         }
@@ -135,7 +114,8 @@ pub(crate) fn of_schema<'a, F: Json>(
     compiled: CompilationResult<'a, Subschema<F>>,
 ) -> CompilationResult<'a, Validator<F>>
     ensures { (read : Reading) → CompilesTo (λ s. s) compiled.entry read
-        → CompilesTo validator_keyword result (map_ok (rest_of is_additional start) read) }
+        → CompilesTo validator_keyword result (map_ok
+        (λ s. rest_of is_additional start s false) read) }
 {
     Ok(Validator::Rest(Rest {
         start,

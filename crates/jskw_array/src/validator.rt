@@ -1,7 +1,7 @@
 //! The validators of all keywords as one type.
 ghost use Rattle.std.specs.Prelude.{◌≡◌};
-ghost use Rattle.jskw_array.specs.Words.{Accepts, AcceptsOutline, IsTrue, is_lawful, keyword_delegates};
-ghost use Rattle.jskw_array.specs.Words.{keyword_holds, one_keyword, true, validator_keyword};
+ghost use Rattle.jskw_array.specs.Words.{Accepts, AcceptsOutline, keyword_delegates};
+ghost use Rattle.jskw_array.specs.Words.{one_keyword, validator_keyword};
 
 use crate::each::{Each, some_schema_delegates};
 use crate::matching::Matching;
@@ -98,28 +98,7 @@ impl<F: Json> Validator<F> {
         }
     }
 
-    // Returns whether the keyword tests the items for a type alone.
-    pub(crate) fn is_typed(&self) -> bool {
-        matches!(self, Validator::Bare(_))
-    }
-
-    // Returns whether the keyword tests the items for a type alone and accepts the instance. Applies
-    // no schema.
-    #[inline(always)]
-    pub(crate) fn types_hold(&self, instance: &F::Node, ctx: &mut ValidationContext) -> bool
-        requires { IsTrue (is_lawful (F.Node.tree instance.now)) }
-        ensures valid { result ≡ true
-            → keyword_holds (validator_keyword self.now) (F.Node.tree instance.now) ≡ true }
-        ensures counted { ctx.new ≡ ctx.old }
-    {
-        match self {
-            Validator::Bare(v) => v.is_valid(instance, ctx),
-            _ => false,
-        }
-    }
-
     // Returns whether the `required` of a subschema is delegated.
-    #[tactic(auto, using(crate::proofs::ValidatorMeanings::each_delegates, crate::proofs::ValidatorMeanings::rest_delegates))]
     pub(crate) fn hands_on_required(&self) -> bool
         ensures { result ≡ keyword_delegates (validator_keyword self.now) }
     {

@@ -1,4 +1,5 @@
 mod CrossingLeaves
+mod CrossingReaders
 mod CrossingSchemas
 mod CrossingValues
 mod Handles

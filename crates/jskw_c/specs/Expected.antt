@@ -7,7 +7,7 @@ use Rattle.serde_json.specs.Written.{compact_text, has_float}
 use Rattle.jskw_value.specs.Types.{contains, type_name}
 use Rattle.jskw_value.specs.declared.types.JsonType.{JsonType}
 use Rattle.jskw_value.specs.declared.types.JsonType.TheVariants.{Array, Boolean, Integer, Null, Number, Object, String}
-use Rattle.jskw_report.specs.Kind.{ErrorKind, EnumOptions}
+use Rattle.jskw_report.specs.Kind.{ErrorKind, EnumOptions, Payload, payload_of}
 use Rattle.jskw_report.specs.Kind as kind
 use Rattle.jskw_report.specs.declared.error.TypeKind.{TypeKind}
 use Rattle.jskw_report.specs.declared.error.TypeKind.TheVariants.{Single, Multiple}
@@ -35,23 +35,17 @@ abbrev pub IsOptionsText : EnumOptions → List ℕ → Type 0
 IsOptionsText (kind.Listed d) text = IsCompact d text
 IsOptionsText kind.TypeNames text = text ≡ names_text all_types
 
--- the limit, divisor, constant, options or name, or the type or types; nothing where the kind has none of these
+-- the limit, divisor, constant, options or name, or the type or types; nothing where there is none of these
+abbrev pub IsPayloadText : Payload → List ℕ → Type 0
+IsPayloadText kind.Nothing text = text ≡ []
+IsPayloadText (kind.Message m) text = text ≡ []
+IsPayloadText (kind.Count n) text = text ≡ decimal n
+IsPayloadText (kind.Limit z) text = text ≡ signed_decimal z
+IsPayloadText (kind.Value d) text = IsCompact d text
+IsPayloadText (kind.Options o) text = IsOptionsText o text
+IsPayloadText (kind.Name name) text = text ≡ quoted name
+IsPayloadText (kind.Types k) text = text ≡ types_text k
+
+-- what the keyword of an error of the kind expected
 abbrev pub IsExpected : ErrorKind → List ℕ → Type 0
-IsExpected (kind.AdditionalItems n) text = text ≡ decimal n
-IsExpected (kind.CompileError m) text = text ≡ []
-IsExpected (kind.Constant d) text = IsCompact d text
-IsExpected kind.Contains text = text ≡ []
-IsExpected (kind.Enum o) text = IsOptionsText o text
-IsExpected (kind.ExclusiveMaximum z) text = text ≡ signed_decimal z
-IsExpected (kind.ExclusiveMinimum z) text = text ≡ signed_decimal z
-IsExpected kind.FalseSchema text = text ≡ []
-IsExpected (kind.MaxItems n) text = text ≡ decimal n
-IsExpected (kind.Maximum z) text = text ≡ signed_decimal z
-IsExpected (kind.MaxProperties n) text = text ≡ decimal n
-IsExpected (kind.MinItems n) text = text ≡ decimal n
-IsExpected (kind.Minimum z) text = text ≡ signed_decimal z
-IsExpected (kind.MinProperties n) text = text ≡ decimal n
-IsExpected (kind.MultipleOf n) text = text ≡ decimal n
-IsExpected (kind.Required name) text = text ≡ quoted name
-IsExpected (kind.WrongType k) text = text ≡ types_text k
-IsExpected kind.UniqueItems text = text ≡ []
+IsExpected k text = IsPayloadText (payload_of k) text

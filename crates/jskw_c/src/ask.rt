@@ -117,15 +117,16 @@ fn status_of_errors(errors: &[ValidationError<'_, DecimalJson>]) -> u32
 }
 
 // Returns the status of the instance of these bytes.
-pub(crate) fn validity(
-    alloc: Global,
-    schema: &SchemaNode<DecimalJson>,
-    instance: &[u8],
-) -> Result<u32, AllocError>
-    ensures { IfOk result (λ status. status ≡ asked_status (Some schema.now) instance.now) }
+pub(crate) fn validity(schema: &mut CompiledSchema, instance: &[u8]) -> Result<u32, AllocError>
+    ensures status { IfOk result (λ status. status ≡ asked_status (Some schema.old) instance.now) }
+    ensures kept { schema.new ≡ schema.old }
 {
-    match read_bytes(alloc, instance) {
-        Ok(tree) => Ok(verdict(schema.is_valid(&tree, &mut ValidationContext::new()))),
+    match schema.read(instance) {
+        Ok(tree) => {
+            let is_valid = schema.node().is_valid(&tree, &mut ValidationContext::new());
+            schema.reuse(tree);
+            Ok(verdict(is_valid))
+        }
         Err(ReadFault::NotJson(_)) => Ok(NOT_JSON),
         Err(ReadFault::Inexact(_)) => Ok(INEXACT),
         Err(ReadFault::Memory(error)) => Err(error),
@@ -145,13 +146,18 @@ pub(crate) enum Detail {
 pub(crate) fn outcome_of(
     alloc: Global,
     detail: Detail,
-    schema: &SchemaNode<DecimalJson>,
+    schema: &mut CompiledSchema,
     instance: &[u8],
 ) -> Result<Outcome, AllocError>
-    ensures { IfOk result (IsOutcomeOnBytes (Says detail) schema.now instance.now) }
+    ensures outcome { IfOk result (IsOutcomeOnBytes (Says detail) schema.old instance.now) }
+    ensures kept { schema.new ≡ schema.old }
 {
-    match read_bytes(alloc, instance) {
-        Ok(tree) => outcome_on(alloc, detail, schema, &tree),
+    match schema.read(instance) {
+        Ok(tree) => {
+            let outcome = outcome_on(alloc, detail, schema.node(), &tree);
+            schema.reuse(tree);
+            outcome
+        }
         Err(ReadFault::NotJson(offset)) => no_json_at(alloc, instance, offset),
         Err(ReadFault::Inexact(location)) => Ok(Outcome {
             status: INEXACT,

@@ -1,18 +1,27 @@
 //! Compiled schemas, as a type without parameters.
-ghost use Rattle.std.specs.Prelude.{◌≡◌, IfOk};
+ghost use Rattle.std.specs.Arc.{arc_value};
+ghost use Rattle.std.specs.Prelude.{◌≡◌, IfOk, IfErr, Ok, Some};
+ghost use Rattle.jskw_value.specs.DecimalTree.{decimal_tree};
+ghost use Rattle.jskw_text.specs.ReadFault.{IsFaultOf};
+ghost use Rattle.jskw_text.specs.Reading.{reading};
 
 use jskw_array::SchemaNode;
-use jskw_value::DecimalJson;
+use jskw_text::{ReadFault, TreeReader};
+use jskw_value::{DecimalJson, DecimalTree};
 use std::alloc::{AllocError, Global};
 use std::marker::Model;
 use std::sync::Arc;
 
+// Of a longer instance, an owner keeps no room.
+const LONGEST: usize = 65536;
+
 /// An owner of a compiled schema over exact decimals. A schema has any number of
-/// owners, in any threads, and is freed with the last. Contracts see an owner as the node of its
-/// schema.
+/// owners, in any threads, and is freed with the last. Each keeps the room of small instances for those
+/// that it reads later. Contracts see an owner as the node of its schema.
 #[derive(Debug, Drop)]
 pub struct CompiledSchema {
     node: Arc<SchemaNode<DecimalJson>>,
+    reader: TreeReader,
 }
 
 impl Model for CompiledSchema {
@@ -35,8 +44,7 @@ impl CompiledSchema {
     ) -> Result<Box<CompiledSchema>, AllocError>
         ensures { IfOk result (λ owner. owner.value ≡ node) }
     {
-        let node = Arc::new(alloc, node)?;
-        Ok(Box::new(alloc, CompiledSchema { node })?)
+        CompiledSchema::owning(alloc, Arc::new(alloc, node)?)
     }
 
     /// Creates one more owner of the schema, in a block of its own. Fails if memory runs out, or if
@@ -44,8 +52,34 @@ impl CompiledSchema {
     pub fn share(&self, alloc: Global) -> Result<Box<CompiledSchema>, AllocError>
         ensures { IfOk result (λ owner. owner.value ≡ self.now) }
     {
-        let node = Arc::try_clone(&self.node)?;
-        Ok(Box::new(alloc, CompiledSchema { node })?)
+        CompiledSchema::owning(alloc, Arc::try_clone(&self.node)?)
+    }
+
+    // Creates the owner of a node, in a block of its own.
+    fn owning(
+        alloc: Global,
+        node: Arc<SchemaNode<DecimalJson>>,
+    ) -> Result<Box<CompiledSchema>, AllocError>
+        ensures { IfOk result (λ owner. owner.value ≡ arc_value node) }
+    {
+        let reader = TreeReader::keeping(alloc, LONGEST);
+        Ok(Box::new(alloc, CompiledSchema { node, reader })?)
+    }
+
+    /// Reads the tree that an instance denotes.
+    pub fn read(&mut self, instance: &[u8]) -> Result<DecimalTree, ReadFault>
+        ensures tree { IfOk result (λ tree. reading instance.now ≡ Some (Ok (decimal_tree tree))) }
+        ensures fault { IfErr result (IsFaultOf instance.now) }
+        ensures kept { self.new ≡ self.old }
+    {
+        self.reader.read(instance)
+    }
+
+    /// Takes a tree that is no longer needed, so that later ones use its room.
+    pub fn reuse(&mut self, tree: DecimalTree)
+        ensures { self.new ≡ self.old }
+    {
+        self.reader.reuse(tree);
     }
 
     /// Returns the node.

@@ -8,7 +8,7 @@ ghost use Rattle.jskw_c.specs.Evaluated.{strings_text};
 ghost use Rattle.jskw_c.specs.Expected.{IsOptionsText, IsExpected, all_types, names_text, types_text};
 
 use crate::json_parts::{push_comma, push_string};
-use jskw_report::{EnumOptions, TypeKind, ValidationErrorKind};
+use jskw_report::{EnumOptions, Payload, TypeKind, ValidationErrorKind};
 use jskw_service::push_bytes;
 use jskw_value::types::{JsonType, JsonTypeSet};
 use std::alloc::{AllocError, Global};
@@ -32,25 +32,14 @@ pub(crate) fn expected_text(
 ) -> Result<Vec<u8>, AllocError>
     ensures { IfOk result (λ text. IsExpected (kind_of kind.now) text.items) }
 {
-    match kind {
-        ValidationErrorKind::AdditionalItems { limit } => size_text(alloc, *limit as u64),
-        ValidationErrorKind::Constant { expected_value } => expected_value.to_vec(alloc),
-        ValidationErrorKind::Enum { options } => options_text(alloc, options),
-        ValidationErrorKind::MaxItems { limit }
-        | ValidationErrorKind::MaxProperties { limit }
-        | ValidationErrorKind::MinItems { limit }
-        | ValidationErrorKind::MinProperties { limit } => size_text(alloc, *limit),
-        ValidationErrorKind::ExclusiveMaximum { limit }
-        | ValidationErrorKind::ExclusiveMinimum { limit }
-        | ValidationErrorKind::Maximum { limit }
-        | ValidationErrorKind::Minimum { limit } => limit_text(alloc, *limit),
-        ValidationErrorKind::MultipleOf { multiple_of } => size_text(alloc, *multiple_of),
-        ValidationErrorKind::Required { property } => string_text(alloc, property),
-        ValidationErrorKind::WrongType { kind } => types_text(alloc, *kind),
-        ValidationErrorKind::CompileError { .. }
-        | ValidationErrorKind::Contains
-        | ValidationErrorKind::FalseSchema
-        | ValidationErrorKind::UniqueItems => Ok(Vec::new(alloc)),
+    match kind.payload() {
+        Payload::Nothing | Payload::Message(_) => Ok(Vec::new(alloc)),
+        Payload::Count(count) => size_text(alloc, count),
+        Payload::Limit(limit) => limit_text(alloc, limit),
+        Payload::Value(value) => value.to_vec(alloc),
+        Payload::Options(options) => options_text(alloc, &options),
+        Payload::Name(name) => string_text(alloc, name),
+        Payload::Types(kind) => types_text(alloc, kind),
     }
 }
 

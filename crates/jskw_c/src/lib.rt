@@ -168,10 +168,10 @@ pub extern "C" fn jskw_is_valid(alloc: Global, handle: &mut SchemaHandle, instan
     ensures kept { handle.new.schema ≡ handle.old.schema }
     ensures status { IsStatus (asked_status handle.old.schema instance.now) result }
 {
-    let Some(schema) = handle.take(alloc) else {
+    let Some(mut schema) = handle.take(alloc) else {
         return NO_SCHEMA;
     };
-    let status = validity(alloc, schema.node(), instance);
+    let status = validity(&mut schema, instance);
     handle.put(alloc, schema);
     match status {
         Ok(status) => status,
@@ -192,10 +192,10 @@ fn write_outcome(
     ensures written { WritesOrRunsOut (IsDetail (Says detail) handle.old.schema instance.now) result
         (asked_status handle.old.schema instance.now) buffer.old buffer.new length.new }
 {
-    let Some(schema) = handle.take(alloc) else {
+    let Some(mut schema) = handle.take(alloc) else {
         return write_text(NO_SCHEMA, &[], buffer, length);
     };
-    let answer = outcome_of(alloc, detail, schema.node(), instance);
+    let answer = outcome_of(alloc, detail, &mut schema, instance);
     handle.put(alloc, schema);
     match answer {
         Ok(outcome) => write_text(outcome.status, outcome.text.as_slice(), buffer, length),

@@ -65,7 +65,7 @@ pub fn answer_to(
         }
         Err(ReadFault::Inexact(location)) => {
             let output = checker.options.output;
-            let offset = offset_of_inexact(document, reader.scratch())?;
+            let offset = offset_of_inexact(alloc, document)?;
             let why = "the number has no exact decimal";
             let location = Some(location.as_str());
             refuse(alloc, output, file, line, document, offset, location, why)

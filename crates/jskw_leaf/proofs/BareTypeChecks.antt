@@ -1,5 +1,5 @@
 -- What a bare type check says: the schema of its items what its assertion says, and the whole what its variant says.
-use Rattle.std.proofs.Common.{◌≡◌, List, [], ◌∷◌, IfOk, Result, true, false, ◌&&◌, refl, ap, subst, sym, ◌∙◌}
+use Rattle.std.proofs.Common.{◌≡◌, List, [], ◌∷◌, IfOk, Result, Some, true, false, ◌&&◌, refl, ap, subst, sym, ◌∙◌}
 use Rattle.std.proofs.Common.{append-nil, map}
 use Rattle.jskw_report.specs.Keyword.{Integers, type_is}
 use Rattle.jskw_value.specs.declared.types.JsonType.{JsonType}
@@ -41,7 +41,7 @@ pub type_fails_not : (j : JsonType) (rule : Integers) (q r : Pointer) (t : Tree)
     → assertion_holds (type_is (Single j) rule) t ≡ true → fail (bare_schema q (type_at j rule r)) t p ≡ []
 type_fails_not j rule q r t p h = bare_fail q (type_at j rule r) t p
     ∙ ap (λ b. map (λ k. record { kind = k; instance_location = p; keyword_location = r; tree = t })
-    (unless b (WrongType (Single j)))) h
+    (unless b (Some (WrongType (Single j))))) h
 
 -- ---- whichever type it is
 

@@ -1,17 +1,21 @@
 -- How many of the names that are wanted an object has: its names are distinct, and the wanted ones too.
-use Rattle.std.proofs.Common.{◌≡◌, ◌≢◌, ℕ, suc, ◌+◌, ◌<◌, ◌≤◌, ◌==◌, List, [], ◌∷◌, length, drop, get_or, filter, Bool}
-use Rattle.std.proofs.Common.{true, false, ◌&&◌, cond, count_by, refl, sym, ap, ◌∙◌, arith}
+use Rattle.std.proofs.Common.{◌≡◌, ◌≢◌, ℕ, suc, ◌+◌, ◌<◌, ◌≤◌, ◌==◌, ◌||◌, List, [], ◌∷◌, length, drop, get_or, filter}
+use Rattle.std.proofs.Common.{Bool, true, false, not, ◌&&◌, cond, count_by, String, Global, string_bytes, map, take}
+use Rattle.std.proofs.Common.{refl, sym, ap, subst, ◌∙◌, arith}
 use Rattle.std.proofs.Math.Bool.{and-true}
 use Rattle.std.proofs.lemmas.Bool.{eq-eqb, ne_eqb}
 use Rattle.std.proofs.lemmas.Cmp.{nat_list_eq_equiv}
-use Rattle.std.proofs.lemmas.List.{at_drop_all, drop_more}
+use Rattle.std.proofs.lemmas.List.{at_drop_all, drop_more, take_all}
 use Rattle.std.proofs.lemmas.List.Elements.{All-head, All-tail, All-weaker, filter_passes}
+use Rattle.std.proofs.lemmas.List.Folds.{list_all_at, list_all_more, list_all-map}
 use Rattle.std.proofs.lemmas.List.Kept.{AllPairs-filter}
+use Rattle.std.proofs.lemmas.List.Sorted.{list_any-IsPermutation}
 use Rattle.std.proofs.lemmas.List.Sums.{count_by-le-length, length-filter, list_all-from_AllPass, sum_by-cons}
 use Rattle.std.proofs.lemmas.Map.Made.{All-is_member, AllPairs-from_IsDistinct, IsDistinct-from_AllPairs}
 use Rattle.std.proofs.lemmas.Map.Made.{alike_from_same, is_member-filter, length-le_from_is_member}
 use Rattle.std.proofs.lemmas.Slice.Eq.{bytes_eq-Decides}
-use Rattle.std.specs.List.{All, list_all, IsDistinct}
+use Rattle.std.specs.List.{All, list_all, list_any, IsDistinct}
+use Rattle.std.specs.List.Sorted.{IsPermutation}
 use Rattle.std.specs.Map.{keys_of}
 use Rattle.std.specs.Str.{bytes_eq}
 use Rattle.jskw_value.specs.Tree.{Tree, has_name, members, names}
@@ -96,3 +100,48 @@ all_step t ws i w h e =
 
 pub all_end : (t : Tree) (ws : List (List ℕ)) (n : ℕ) → length ws ≤ n → list_all (has_name t) (drop n ws) ≡ true
 all_end t ws n h = at_drop_all (list_all (has_name t)) ws n h
+
+-- ---- names beside the members
+
+-- an object has the names of its members
+pub own_names : (t : Tree) → list_all (has_name t) (names t) ≡ true
+own_names t = list_all-from_AllPass (has_name t) (names t) (All-is_member nat_list_eq_equiv (names t))
+
+-- one name more is found
+pub one_more : (t : Tree) (ns : List (String Global)) (i : ℕ) (n : String Global) → i < length ns → n ≡ get_or ns i n
+    → has_name t (string_bytes n) ≡ true
+    → list_all (λ m. has_name t (string_bytes m)) (take i ns) ≡ true
+    → list_all (λ m. has_name t (string_bytes m)) (take (i + 1) ns) ≡ true
+one_more t ns i n h e k a =
+    let p : String Global → Bool = λ m. has_name t (string_bytes m) in
+    list_all_more p ns i n h ∙ rw (a, ← e, k) refl
+
+-- all are found behind the last one
+pub all_beside : (t : Tree) (ns : List (String Global)) (i : ℕ) → length ns ≤ i
+    → list_all (λ m. has_name t (string_bytes m)) (take i ns) ≡ true
+    → list_all (λ m. has_name t (string_bytes m)) ns ≡ true
+all_beside t ns i h a = subst (λ ms. list_all (λ m. has_name t (string_bytes m)) ms ≡ true) (take_all i ns h) a
+
+-- one that the object lacks decides
+pub one_missing : (t : Tree) (ns : List (String Global)) (i : ℕ) (n : String Global) → i < length ns → n ≡ get_or ns i n
+    → has_name t (string_bytes n) ≡ false
+    → list_all (λ m. has_name t (string_bytes m)) ns ≡ false
+one_missing t ns i n h e k = list_all_at (λ m. has_name t (string_bytes m)) ns i n h (rw (← e) k)
+
+-- all pass where none fails
+none_fails : (p : List ℕ → Bool) (ws : List (List ℕ)) → list_all p ws ≡ not (list_any (λ w. not (p w)) ws)
+none_fails p [] = refl
+none_fails p (w ∷ ws) = ap (λ b. p w && b) (none_fails p ws) ∙ go (p w)
+  where
+    go : (b : Bool) → (b && not (list_any (λ w. not (p w)) ws)) ≡ not (not b || list_any (λ w. not (p w)) ws)
+    go true = refl
+    go false = refl
+
+-- the table has the same names
+pub all_in_table : (t : Tree) (ws : List (List ℕ)) (ns : List (String Global))
+    → IsPermutation ws (map string_bytes ns)
+    → list_all (λ m. has_name t (string_bytes m)) ns ≡ list_all (has_name t) ws
+all_in_table t ws ns h = sym (list_all-map (has_name t) string_bytes ns)
+    ∙ none_fails (has_name t) (map string_bytes ns)
+    ∙ ap not (sym (list_any-IsPermutation (λ w. not (has_name t w)) ws (map string_bytes ns) h))
+    ∙ sym (none_fails (has_name t) ws)

@@ -14,7 +14,7 @@ use Rattle.jskw_report.specs.KeywordValue.{Refusal, join_ok, map_ok, size_value}
 use Rattle.jskw_report.specs.Setting.{Setting, name_of, is_active}
 use Rattle.jskw_report.specs.declared.error.TypeKind.TheVariants.{Single}
 use Rattle.jskw_report.specs.Read.{asserted, before, integers_of, keyword_location, readings, readings_named}
-use Rattle.jskw_report.specs.Read.{read_keyword, read_keywords, size_keyword, type_keyword}
+use Rattle.jskw_report.specs.Read.{read_keyword, read_keywords, keyword_by, size_rule, type_rule}
 use Rattle.serde_json.specs.Find.{get_member}
 use Rattle.jskw_report.specs.Sibling.{has_keyword, is_absent, is_fused, is_items_schema, is_size, is_string}
 use Rattle.jskw_report.specs.Sibling.{member_passes, takes_size, unfused_names}
@@ -116,10 +116,11 @@ type_read s p ms h = go (get_member (name_of keyword_name.TypeKeyword) ms) refl
   where
     of : (d : Data) → is_string (type_name Array) d ≡ true
         → ◌≡◌ {A = Option (Result Keyword Refusal)}
-        (Some (type_keyword (integers_of s.draft) (keyword_location p keyword_name.TypeKeyword) d))
+        (Some (keyword_by (type_rule (integers_of s.draft)) (keyword_location p keyword_name.TypeKeyword) d))
         (Some (Ok (as_keyword (type_at Array by_value (keyword_location p keyword_name.TypeKeyword)))))
     of (string r) e =
-        ap (λ x. Some (type_keyword (integers_of s.draft) (keyword_location p keyword_name.TypeKeyword) (string x)))
+        ap (λ x. Some (keyword_by (type_rule (integers_of s.draft)) (keyword_location p keyword_name.TypeKeyword)
+        (string x)))
         (sym ((bytes_eq-Decides (type_name Array) r).0 e))
         ∙ ap (λ rule. Some (Ok (assertion (keyword_location p keyword_name.TypeKeyword) (type_is (Single Array) rule))))
         (rule_of_array s.draft)
@@ -137,7 +138,7 @@ type_read s p ms h = go (get_member (name_of keyword_name.TypeKeyword) ms) refl
 
 bound_read : (least : Bool) (s : Setting) (p : Pointer) (ms : Members) (d : Data)
     → asserted (size_keyword_name (size_of true least)) s p ms (readings d)
-    ≡ Some (size_keyword (size_of true least) (keyword_location p (size_keyword_name (size_of true least))) d)
+    ≡ Some (keyword_by (size_rule (size_of true least)) (keyword_location p (size_keyword_name (size_of true least))) d)
 unfolding asserted
 bound_read true s p ms d = refl
 bound_read false s p ms d = refl
@@ -156,11 +157,12 @@ module _ (least : Bool) (s : Setting) (p : Pointer) (ms : Members) where
   size_absent at = ap (λ a. before (keyword_location p w) a (Ok no_keywords)) (read_absent w s p ms at)
 
   size_there : (d : Data) → takes_size s ms w ≡ true → get_member (name_of w) ms ≡ Some d
-      → alone ≡ map_ok (λ k. keyword (keyword_location p w) k no_keywords) (size_keyword which (keyword_location p w) d)
+      → alone ≡ map_ok (λ k. keyword (keyword_location p w) k no_keywords)
+      (keyword_by (size_rule which) (keyword_location p w) d)
   size_there d h at =
       ap (λ a. before (keyword_location p w) a (Ok no_keywords))
       (read_standing w s p ms d at (size_stands s ms w d h at) ∙ bound_read least s p ms d)
-      ∙ go (size_keyword which (keyword_location p w) d)
+      ∙ go (keyword_by (size_rule which) (keyword_location p w) d)
     where
       go : (r : Result Keyword Refusal) → before (keyword_location p w) (Some r) (Ok no_keywords)
           ≡ map_ok (λ k. keyword (keyword_location p w) k no_keywords) r
@@ -169,15 +171,16 @@ module _ (least : Bool) (s : Setting) (p : Pointer) (ms : Members) where
 
   -- the validator that was made stands where the keyword does
   size_made : {A L : ℕ} (d : Data) (v : SizeLimit A L)
-      → size_keyword which (keyword_location p w) d ≡ Ok (as_keyword (sized which v))
-      → map_ok (λ k. keyword (keyword_location p w) k no_keywords) (size_keyword which (keyword_location p w) d)
+      → keyword_by (size_rule which) (keyword_location p w) d ≡ Ok (as_keyword (sized which v))
+      → map_ok (λ k. keyword (keyword_location p w) k no_keywords)
+      (keyword_by (size_rule which) (keyword_location p w) d)
       ≡ Ok (optional (sized which) (Some v))
   size_made d v e =
       ap (map_ok (λ k. keyword (keyword_location p w) k no_keywords)) e ∙ ap
       (λ q. Ok (keyword q (as_keyword (sized which v)) no_keywords)) (place (size_value (keyword_location p w) d) e)
     where
       place : (r : Result _ Refusal)
-          → map_ok (λ n. assertion (keyword_location p w) (size which n)) r ≡ Ok (as_keyword (sized which v))
+          → map_ok (assertion (keyword_location p w)) (map_ok (size which) r) ≡ Ok (as_keyword (sized which v))
           → keyword_location p w ≡ v.location
       place (Ok n) f = ap location_of f
         where
@@ -188,7 +191,7 @@ module _ (least : Bool) (s : Setting) (p : Pointer) (ms : Members) where
 
   pub size_reads : {A L : ℕ} (d : Data) (v : SizeLimit A L) → takes_size s ms w ≡ true
       → get_member (name_of w) ms ≡ Some d
-      → size_keyword which (keyword_location p w) d ≡ Ok (as_keyword (sized which v))
+      → keyword_by (size_rule which) (keyword_location p w) d ≡ Ok (as_keyword (sized which v))
       → alone ≡ Ok (optional (sized which) (Some v))
   size_reads d v h at e = size_there d h at ∙ size_made d v e
 

@@ -1,18 +1,22 @@
 -- A search by halves in a sorted table.
 use Rattle.std.proofs.Common.{◌≡◌, ℕ, zero, suc, ◌+◌, ◌^◌, ℤ, pos, ◌*ℤ◌, List, [], ◌∷◌, length, get_or, Bool, true}
 use Rattle.std.proofs.Common.{false, ◌||◌, cond, map, String, Global, string_bytes, string_cmp, refl, sym, ap, ◌∙◌, inl}
-use Rattle.std.proofs.Common.{inr, arith}
+use Rattle.std.proofs.Common.{inr, arith, ◌&&◌, subst}
 use Rattle.std.specs.Prelude.{int_lt}
+use Rattle.std.proofs.Math.Bool.{and-false}
 use Rattle.std.proofs.Math.IntN.{*ℤ-one, *ℤ_comm, one, suc_ℤ-*ℤ, zero-*ℤ}
-use Rattle.std.proofs.lemmas.Bool.{cases_lt, false_from_ne_true}
-use Rattle.std.proofs.lemmas.Cmp.{nat_list_cmp_total, int_cmp_total}
+use Rattle.std.proofs.lemmas.Bool.{both_ways, cases_lt, false_from_ne_true, or_from, or_parts}
+use Rattle.std.proofs.lemmas.Cmp.{int_cmp_total, nat_cmp_total, nat_list_cmp_total, on_total, then_total}
 use Rattle.std.proofs.lemmas.Int.{ints}
 use Rattle.std.proofs.lemmas.List.Folds.{list_any_at, list_any_none}
-use Rattle.std.proofs.lemmas.List.Sorted.{searchable_from_sorted}
+use Rattle.std.proofs.lemmas.List.Sorted.{ranks_by, searchable_from_sorted}
 use Rattle.std.proofs.lemmas.Map.Text.{is_eq-slice_cmp}
+use Rattle.std.proofs.lemmas.Slice.Eq.{bytes_eq-Decides}
+use Rattle.std.specs.Cmp.{IsStrictWeakOrder, IsTotalOrder, nat_cmp_is}
+use Rattle.std.specs.Cmp.Lexicographic.{slice_cmp}
 use Rattle.std.specs.List.{list_any}
 use Rattle.std.specs.List.Sorted.{IsSorted, IsSortedByKey, IsNonDecreasingBy, IsBinarySearchResult, IsSearchInRange}
-use Rattle.std.specs.Ordering.{is_eq, is_lt, int_cmp, int_eq, ordering_index, ordering_reverse}
+use Rattle.std.specs.Ordering.{is_eq, is_lt, int_cmp, int_eq, nat_cmp, ordering_index, ordering_reverse, ordering_then}
 use Rattle.std.specs.Result.{is_ok}
 use Rattle.std.specs.Str.{bytes_eq}
 use Rattle.std.specs.declared.cmp.Ordering.{Ordering}
@@ -20,7 +24,7 @@ use Rattle.std.specs.declared.cmp.Ordering.TheVariants.{Less, Equal, Greater}
 use Rattle.std.specs.declared.result.Result.{Result}
 use Rattle.std.specs.declared.result.Result.TheVariants.{Ok, Err}
 use Rattle.jskw_value.specs.Number.{exact, num_equal}
-use Rattle.jskw_leaf.specs.Options.{some_text, some_integer, text_against, integer_against}
+use Rattle.jskw_leaf.specs.Options.{some_text, some_integer, text_against, integer_against, text_order, word_of}
 
 -- ---- any table
 
@@ -52,6 +56,70 @@ searched_texts s ws r sorted h e =
         → list_any (λ w. bytes_eq (string_bytes w) s) ws ≡ some_text (map string_bytes ws) s
     mapped [] = refl
     mapped (w ∷ ws) = ap (λ b. bytes_eq (string_bytes w) s || b) (mapped ws)
+
+-- ---- texts by their words
+
+then_eq : (o p : Ordering) → is_eq (ordering_then o p) ≡ (is_eq o && is_eq p)
+then_eq Less p = refl
+then_eq Equal p = refl
+then_eq Greater p = refl
+
+-- a number stands to itself as equal
+word_same : (n : ℕ) → is_eq (nat_cmp n n) ≡ true
+word_same n = sym (ap is_eq (nat_cmp_is n n Equal refl))
+
+-- two texts tie where they are equal, since then they have one word
+texts_tie : (s w : List ℕ) → is_eq (text_order w s) ≡ bytes_eq w s
+texts_tie s w = then_eq (nat_cmp (word_of w) (word_of s)) (slice_cmp nat_cmp w s) ∙ go (bytes_eq w s) refl
+  where
+    go : (b : Bool) → bytes_eq w s ≡ b
+        → (is_eq (nat_cmp (word_of w) (word_of s)) && is_eq (slice_cmp nat_cmp w s)) ≡ bytes_eq w s
+    go true e =
+        rw (is_eq-slice_cmp w s, e)
+        (ap (λ b. b && true) (subst (λ x. is_eq (nat_cmp (word_of x) (word_of s)) ≡ true)
+        (sym ((bytes_eq-Decides w s).0 e)) (word_same (word_of s))))
+    go false e = rw (is_eq-slice_cmp w s, e) (and-false _)
+
+texts_total : IsTotalOrder text_order
+texts_total = then_total (on_total word_of nat_cmp_total) nat_list_cmp_total
+
+-- what a sort by it asks
+pub text_order_ranks : IsStrictWeakOrder (λ x y. is_lt (text_order x y))
+text_order_ranks = ranks_by texts_total (λ w. w)
+
+pub searched_texts_by_words : (s : List ℕ) (ws : List (List ℕ)) (r : Result ℕ ℕ) → IsSorted text_order ws
+    → IsSearchInRange r (length ws) → IsBinarySearchResult (λ w. text_order w s) ws r → is_ok r ≡ some_text ws s
+searched_texts_by_words s ws r sorted h e =
+    searched (λ w. bytes_eq w s) (λ w. text_order w s) (texts_tie s) ws r
+    (searchable_from_sorted texts_total (λ w. w) ws s sorted) h e
+
+lt_first : (o p : Ordering) → is_lt (ordering_then o p) ≡ false → is_lt o ≡ false
+lt_first Less p h = h
+lt_first Equal p h = refl
+lt_first Greater p h = refl
+
+-- without a text of its word, a text is not there
+without_word : (s : List ℕ) (ws : List (List ℕ))
+    → list_any (λ w. is_eq (nat_cmp (word_of w) (word_of s))) ws ≡ false → some_text ws s ≡ false
+without_word s [] h = refl
+without_word s (w ∷ ws) h = let parts = or_parts _ _ h in
+    or_from (bytes_eq w s) (some_text ws s)
+    (false_from_ne_true _ (λ e. both_ways _ parts.0 (same_word e))) (without_word s ws parts.1)
+  where
+    same_word : bytes_eq w s ≡ true → is_eq (nat_cmp (word_of w) (word_of s)) ≡ true
+    same_word e =
+        subst (λ x. is_eq (nat_cmp (word_of x) (word_of s)) ≡ true) (sym ((bytes_eq-Decides w s).0 e))
+        (word_same (word_of s))
+
+-- a search for its word finds none
+pub no_word : (s : List ℕ) (ws : List (List ℕ)) (i : ℕ) → IsSorted text_order ws
+    → IsBinarySearchResult (λ w. nat_cmp (word_of w) (word_of s)) ws (Err i) → IsSearchInRange (Err i) (length ws)
+    → some_text ws s ≡ false
+no_word s ws i sorted e h =
+    without_word s ws (sym (searched (λ w. is_eq (nat_cmp (word_of w) (word_of s)))
+    (λ w. nat_cmp (word_of w) (word_of s)) (λ w. refl) ws (Err i)
+    (searchable_from_sorted nat_cmp_total word_of ws (word_of s)
+    (λ k d a b. lt_first _ _ (sorted k d a b))) h e))
 
 -- ---- integers
 

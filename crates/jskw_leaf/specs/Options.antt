@@ -4,7 +4,7 @@ use Rattle.std.specs.Prelude.{is_some, option_and_then, String, string_bytes}
 use Rattle.std.specs.Cmp.Lexicographic.{slice_cmp}
 use Rattle.std.specs.List.{list_any}
 use Rattle.std.specs.Option.{option_map_or}
-use Rattle.std.specs.Ordering.{nat_cmp, int_cmp}
+use Rattle.std.specs.Ordering.{nat_cmp, int_cmp, on, then_cmp}
 use Rattle.std.specs.Str.{bytes_eq}
 use Rattle.std.specs.declared.alloc.Global.{Global}
 use Rattle.std.specs.declared.cmp.Ordering.{Ordering}
@@ -12,6 +12,7 @@ use Rattle.serde_json.specs.Data.{Data, array, Items, no_items, item}
 use Rattle.serde_json.specs.Find as json
 use Rattle.serde_json.specs.Find.{as_null, as_str, as_i64}
 use Rattle.jskw_value.specs.Number.{Num, exact, num_equal}
+use Rattle.jskw_value.specs.PropertyName.{head_of, word}
 use Rattle.jskw_value.specs.Serde.{tree_of}
 use Rattle.jskw_value.specs.Tree.{Tree, as_number, as_string, is_null}
 use Rattle.jskw_value.specs.Types.{insert, json_type}
@@ -31,6 +32,14 @@ not_among d = Enum (Listed (array (options_of d)))
 -- one of the texts
 abbrev pub some_text : List (List ℕ) → List ℕ → Bool
 some_text names s = list_any (λ n. bytes_eq n s) names
+
+-- the number beside a text in a table, which differs for most different texts
+abbrev pub word_of : List ℕ → ℕ
+word_of s = word (head_of s)
+
+-- texts by these numbers, and by their bytes where two have the same
+abbrev pub text_order : List ℕ → List ℕ → Ordering
+text_order = then_cmp (on word_of nat_cmp) (slice_cmp nat_cmp)
 
 -- a string that is one of the texts
 abbrev pub has_text : List (List ℕ) → Tree → Bool

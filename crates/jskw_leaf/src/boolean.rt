@@ -1,6 +1,5 @@
 //! The schema `false` (JSON Schema Core 4.3.2).
-ghost use Rattle.std.specs.Prelude.{◌≡◌, refl};
-ghost use Rattle.jskw_report.specs.Kind as kind;
+ghost use Rattle.std.specs.Prelude.{◌≡◌};
 ghost use Rattle.jskw_leaf.specs.Meaning.{false_at, false_schema};
 
 use jskw_report::{Assertion, KeywordLocation, Location, ValidationErrorKind};
@@ -24,10 +23,6 @@ impl FalseValidator {
 
 impl Assertion for FalseValidator {
     ghost asserts = { false_schema };
-
-    ghost error = { λ _. kind.FalseSchema };
-
-    ghost fails_once = { λ _ _. refl };
 
     fn holds<F: Json>(&self, _instance: &F::Node) -> bool {
         false

@@ -1,11 +1,10 @@
 //! `const` (JSON Schema Validation 6.1.3): the instance equals the value of the schema.
-ghost use Rattle.std.specs.Prelude.{◌≡◌, IsSome, IsTrue, refl, true};
+ghost use Rattle.std.specs.Prelude.{◌≡◌, IsSome, IsTrue, true};
 ghost use Rattle.serde_json.specs.Find.{as_str};
 ghost use Rattle.serde_json.specs.View.{view};
 ghost use Rattle.jskw_value.specs.Equality.{equal};
 ghost use Rattle.jskw_value.specs.Serde.{value_tree};
 ghost use Rattle.jskw_value.specs.Tree.{Tree, is_lawful};
-ghost use Rattle.jskw_report.specs.Kind as kind;
 ghost use Rattle.jskw_report.specs.Meaning.{as_keyword};
 ghost use Rattle.jskw_number.specs.QuickSet.{Accepts, is_in};
 ghost use Rattle.jskw_leaf.specs.Meaning.{const_assertion};
@@ -41,10 +40,6 @@ impl ConstValueValidator {
 
 impl Assertion for ConstValueValidator {
     ghost asserts = { const_assertion };
-
-    ghost error = { λ v. kind.Constant (view v.value) };
-
-    ghost fails_once = { λ _ _. refl };
 
     #[inline(always)]
     fn holds<F: Json>(&self, instance: &F::Node) -> bool {

@@ -1,6 +1,6 @@
 //! `enum` (JSON Schema Validation 6.1.2): the instance equals one of the options, the items of the
 //! schema's array.
-ghost use Rattle.std.specs.Prelude.{◌≡◌, IsSome, refl};
+ghost use Rattle.std.specs.Prelude.{◌≡◌, IsSome};
 ghost use Rattle.serde_json.specs.Find.{as_array};
 ghost use Rattle.serde_json.specs.View.{view, items_view};
 ghost use Rattle.jskw_value.specs.Equality.{equal};
@@ -18,6 +18,7 @@ mod integers;
 mod strings;
 mod table;
 mod values;
+mod worded_text;
 
 use crate::const_::equal_integers;
 pub use compilation::compile;
@@ -45,10 +46,6 @@ impl Assertion for EnumValidator {
     ghost use Rattle.jskw_leaf.specs.Meaning.{enum_any};
 
     ghost asserts = { enum_any };
-
-    ghost error = { λ v. not_among (view v.options) };
-
-    ghost fails_once = { λ _ _. refl };
 
     fn holds<F: Json>(&self, instance: &F::Node) -> bool {
         self.types.contains_value_type::<F>(instance) && is_listed::<F>(&self.options, instance)
@@ -89,10 +86,6 @@ impl Assertion for SingleValueEnumValidator {
     ghost use Rattle.jskw_leaf.specs.Meaning.{enum_single};
 
     ghost asserts = { enum_single };
-
-    ghost error = { λ v. not_among (view v.options) };
-
-    ghost fails_once = { λ _ _. refl };
 
     #[inline(never)]
     fn holds<F: Json>(&self, instance: &F::Node) -> bool {

@@ -1,9 +1,15 @@
-//! The validators of the keywords without subschemas as one type.
-ghost use Rattle.std.specs.Prelude.{◌≡◌};
+//! The validators of the keywords without subschemas as one type, and the compile of such a keyword
+//! by its name.
+ghost use Rattle.std.specs.Prelude.{◌≡◌, true};
+ghost use Rattle.serde_json.specs.View.{view, members_view};
+ghost use Rattle.jskw_report.specs.Compile.{CompilesKeyword, keyword_reading};
 ghost use Rattle.jskw_report.specs.Meaning.{one_keyword};
+ghost use Rattle.jskw_report.specs.Read.{Asserts};
+ghost use Rattle.jskw_number.specs.Meaning.{number_keyword};
 ghost use Rattle.jskw_number.specs.Outline.{AcceptsOutline};
 ghost use Rattle.jskw_number.specs.QuickSet.{Accepts};
 ghost use Rattle.jskw_leaf.specs.Meaning.{leaf_assertion, leaf_keyword};
+ghost use Rattle.jskw_leaf.specs.Names.{is_leaf};
 
 use crate::boolean::FalseValidator;
 use crate::const_::ConstValueValidator;
@@ -15,12 +21,14 @@ use crate::in_place::AdditionalItemsBooleanValidator;
 use crate::required::{Required3Validator, RequiredValidator};
 use crate::type_::TypeValidator;
 use crate::unique_items::UniqueItemsValidator;
+use crate::{const_, enum_, required, type_, unique_items};
 use jskw_number::{NumberValidator, Outline, QuickSet};
 use jskw_report::{
-    Assertion, EvaluationResult, KeywordLocation, LazyLocation, Report, Stop, Validate,
-    ValidationContext,
+    Assertion, CompilationResult, Context, EvaluationResult, KeywordLocation, KeywordName,
+    LazyLocation, Report, Stop, Validate, ValidationContext,
 };
 use jskw_value::{Json, NotNullable, Nullable};
+use serde_json::{Map, Value};
 use std::alloc::{AllocError, Global};
 
 /// The validator of one keyword without subschemas, over the representation `F`.
@@ -108,7 +116,13 @@ impl<F: Json> LeafValidator<F> {
             LeafValidator::SingleValueEnum(v) => v.quick_set(),
             LeafValidator::IntegerEnum(v) => v.quick_set(),
             LeafValidator::NullableIntegerEnum(v) => v.quick_set(),
-            _ => QuickSet::none(),
+            LeafValidator::False(_)
+            | LeafValidator::Enum(_)
+            | LeafValidator::BigEnum(_)
+            | LeafValidator::SmallStringEnum(_)
+            | LeafValidator::NullableSmallStringEnum(_)
+            | LeafValidator::BigStringEnum(_)
+            | LeafValidator::NullableBigStringEnum(_) => QuickSet::none(),
         }
     }
 
@@ -162,5 +176,59 @@ impl<F: Json> Validate<F> for LeafValidator<F> {
         dispatch!(self, validator => Validate::<F>::evaluate(
             validator, alloc, instance, location, ctx,
         ))
+    }
+}
+
+/// Returns whether the keyword has no subschemas, so that [`compile`] takes it: true for all but
+/// `items`, `prefixItems`, `additionalItems` and `contains` (JSON Schema Core 10.3.1).
+pub fn is_leaf(keyword: KeywordName) -> bool
+    ensures { result ≡ is_leaf keyword }
+{
+    !matches!(
+        keyword,
+        KeywordName::Items
+            | KeywordName::PrefixItems
+            | KeywordName::AdditionalItems
+            | KeywordName::Contains
+    )
+}
+
+/// Compiles a keyword without subschemas, by its name and the draft of `ctx`. [`is_leaf`] of
+/// `keyword` must be true.
+///
+/// Returns `None` exactly if the keyword asserts nothing: for `uniqueItems` with any value but
+/// `true`, and for a `required` that is [delegated](crate::required::is_handed_on). The
+/// [crate's documentation](crate) has the other arguments and the errors.
+pub fn compile<'a, F: Json>(
+    alloc: Global,
+    ctx: &Context<'_, F>,
+    parent: &'a Map<String, Value>,
+    keyword: KeywordName,
+    schema: &'a Value,
+) -> Option<CompilationResult<'a, LeafValidator<F>>>
+    requires { is_leaf keyword ≡ true }
+    ensures { CompilesKeyword leaf_keyword result
+        (keyword_reading keyword ctx.now (members_view parent.now.entries) (view schema.now)) }
+{
+    match keyword {
+        KeywordName::TypeKeyword => type_::compile(alloc, ctx, parent, schema),
+        KeywordName::UniqueItems => unique_items::compile(alloc, ctx, parent, schema),
+        KeywordName::Const => const_::compile(alloc, ctx, parent, schema),
+        KeywordName::Enum => enum_::compile(alloc, ctx, parent, schema),
+        KeywordName::Required => required::compile(alloc, ctx, parent, schema),
+        _ => of_number(jskw_number::compile(alloc, ctx, parent, keyword, schema)),
+    }
+}
+
+// Wraps the validator in a `LeafValidator`.
+fn of_number<'a, F: Json>(
+    compiled: Option<CompilationResult<'a, NumberValidator>>,
+) -> Option<CompilationResult<'a, LeafValidator<F>>>
+    ensures { (read : Asserts) → CompilesKeyword number_keyword compiled.entry read
+        → CompilesKeyword leaf_keyword result read }
+{
+    match compiled? {
+        Ok(validator) => Some(Ok(LeafValidator::Number(validator))),
+        Err(fault) => Some(Err(fault)),
     }
 }

@@ -40,7 +40,6 @@ pub mod const_;
 pub mod enum_;
 mod floats;
 pub mod in_place;
-mod keywords;
 pub mod leaf;
 pub mod legacy;
 pub mod required;
@@ -49,5 +48,4 @@ pub mod type_;
 pub mod unique_items;
 pub mod upstream;
 
-pub use keywords::{compile, is_leaf};
-pub use leaf::LeafValidator;
+pub use leaf::{LeafValidator, compile, is_leaf};

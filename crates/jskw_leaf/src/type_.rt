@@ -1,12 +1,12 @@
 //! `type` (JSON Schema Validation 6.1.1): the instance is of one of the types that the schema
 //! names. A number whose fractional part is zero is an integer, however it is written.
-ghost use Rattle.std.specs.Prelude.{◌≡◌, IsTrue, refl};
+ghost use Rattle.std.specs.Prelude.{◌≡◌, IsTrue};
 ghost use Rattle.jskw_value.specs.Number.{is_exact, is_integer};
 ghost use Rattle.jskw_value.specs.Tree.{is_lawful};
 ghost use Rattle.jskw_value.specs.Types.{contains};
 ghost use Rattle.jskw_value.specs.declared.types.JsonType.TheVariants.{Integer};
 ghost use Rattle.jskw_report.specs.Holds.{is_integer_by};
-ghost use Rattle.jskw_report.specs.Kind.{WrongType, types_of};
+ghost use Rattle.jskw_report.specs.Kind.{types_of};
 ghost use Rattle.jskw_report.specs.Meaning.{as_keyword};
 ghost use Rattle.jskw_report.specs.Read.{integers_of};
 ghost use Rattle.jskw_number.specs.QuickSet.{Accepts};
@@ -95,10 +95,6 @@ impl TypeValidator {
 
 impl Assertion for TypeValidator {
     ghost asserts = { named_types };
-
-    ghost error = { λ v. WrongType v.kind };
-
-    ghost fails_once = { λ _ _. refl };
 
     fn holds<F: Json>(&self, instance: &F::Node) -> bool {
         has_type(self.kind, instance.json_type())

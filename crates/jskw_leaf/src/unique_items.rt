@@ -1,8 +1,6 @@
 //! `uniqueItems` (JSON Schema Validation 6.4.3): no two items of the array are equal.
-ghost use Rattle.std.specs.Prelude.{refl};
 ghost use Rattle.serde_json.specs.View.{view, members_view};
 ghost use Rattle.jskw_report.specs.Compile.{CompilesKeyword, keyword_reading};
-ghost use Rattle.jskw_report.specs.Kind as kind;
 ghost use Rattle.jskw_report.specs.declared.keyword.KeywordName.TheVariants.{UniqueItems};
 ghost use Rattle.jskw_leaf.specs.Meaning.{unique_items, leaf_keyword};
 
@@ -24,10 +22,6 @@ pub struct UniqueItemsValidator {
 
 impl Assertion for UniqueItemsValidator {
     ghost asserts = { unique_items };
-
-    ghost error = { λ _. kind.UniqueItems };
-
-    ghost fails_once = { λ _ _. refl };
 
     #[inline(never)]
     #[tactic(auto, using(crate::proofs::Options::no_items_unique))]

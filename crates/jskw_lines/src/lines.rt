@@ -1,6 +1,6 @@
 //! Texts that grow, and the lines of errors and evaluations.
 use jskw_report::{
-    Annotations, CompileFault, EnumOptions, EvaluationNode, Fault, Location, TypeKind,
+    Annotations, CompileFault, EnumOptions, EvaluationNode, Fault, Location, Payload, TypeKind,
     ValidationError, ValidationErrorKind as Kind,
 };
 use jskw_value::{Json, JsonType, JsonTypeSet, Node, SerdeJson};
@@ -184,26 +184,16 @@ impl Lines {
     fn push_kind(&mut self, kind: &Kind) {
         let text = &mut self.text;
         write!(text, "{} ", kind.keyword());
-        match kind {
-            Kind::AdditionalItems { limit } => write!(text, "{limit}"),
-            Kind::CompileError { message } => write!(text, "\"{message}\""),
-            Kind::Constant { expected_value } => text.push_json(*expected_value),
-            Kind::Enum { options } => match options {
-                EnumOptions::Listed(options) => text.push_json(*options),
-                EnumOptions::TypeNames => text.push("\"typeNames\""),
-            },
-            Kind::MinItems { limit }
-            | Kind::MaxItems { limit }
-            | Kind::MinProperties { limit }
-            | Kind::MaxProperties { limit }
-            | Kind::MultipleOf { multiple_of: limit } => write!(text, "{limit}"),
-            Kind::Minimum { limit }
-            | Kind::Maximum { limit }
-            | Kind::ExclusiveMinimum { limit }
-            | Kind::ExclusiveMaximum { limit } => write!(text, "{limit}"),
-            Kind::Required { property } => push_name(self.alloc, text, property),
-            Kind::WrongType { kind } => push_types(text, *kind),
-            _ => text.push("true"),
+        match kind.payload() {
+            Payload::Nothing => text.push("true"),
+            Payload::Message(message) => write!(text, "\"{message}\""),
+            Payload::Count(count) => write!(text, "{count}"),
+            Payload::Limit(limit) => write!(text, "{limit}"),
+            Payload::Value(value) => text.push_json(value),
+            Payload::Options(EnumOptions::Listed(options)) => text.push_json(options),
+            Payload::Options(EnumOptions::TypeNames) => text.push("\"typeNames\""),
+            Payload::Name(name) => push_name(self.alloc, text, name),
+            Payload::Types(kind) => push_types(text, kind),
         }
     }
 

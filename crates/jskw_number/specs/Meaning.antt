@@ -1,17 +1,11 @@
--- What each validator asserts, and where; and of any of them the keyword, the kind of its error, and the limit that it
--- keeps.
+-- What each validator asserts, and where; and of any of them the keyword, and the limit that it keeps.
 use Rattle.std.specs.Int.NonZero.{non_zero_u64_get}
-use Rattle.std.specs.Prelude.{◌≡◌, ℕ, ℤ, pos, Option, Some, None, refl}
+use Rattle.std.specs.Prelude.{ℕ, ℤ, pos, Option, Some, None}
 use Rattle.serde_json.specs.Data.{Data}
 use Rattle.serde_json.specs.View.{view}
 use Rattle.jskw_value.specs.Pointer.{Pointer}
-use Rattle.jskw_value.specs.Tree.{Tree}
-use Rattle.jskw_report.specs.Fail.{error_kinds, unless}
-use Rattle.jskw_report.specs.Holds.{assertion_holds}
 use Rattle.jskw_report.specs.Keyword.{Keyword, Relation, Size, size, limit, multiple_of}
 use Rattle.jskw_report.specs.Keyword as which
-use Rattle.jskw_report.specs.Kind.{ErrorKind}
-use Rattle.jskw_report.specs.Kind as kind
 use Rattle.jskw_report.specs.Meaning.{LocatedAssertion, as_keyword}
 use Rattle.jskw_number.specs.declared.sizes.SizeLimit.{SizeLimit}
 use Rattle.jskw_number.specs.declared.multiple_of.MultipleOfIntegerValidator.{MultipleOfIntegerValidator}
@@ -66,28 +60,6 @@ number_assertion (MultipleOfInteger v) = multiple_of_integer v
 -- the keyword that it stands for
 abbrev pub number_keyword : NumberValidator → Keyword
 number_keyword v = as_keyword (number_assertion v)
-
--- the kind of its error
-abbrev pub number_error : NumberValidator → ErrorKind
-number_error (MinItems v) = kind.MinItems v.limit
-number_error (MaxItems v) = kind.MaxItems v.limit
-number_error (MinProperties v) = kind.MinProperties v.limit
-number_error (MaxProperties v) = kind.MaxProperties v.limit
-number_error (MinimumU64 v) = kind.Minimum (pos v.limit)
-number_error (MinimumI64 v) = kind.Minimum v.limit
-number_error (MaximumU64 v) = kind.Maximum (pos v.limit)
-number_error (MaximumI64 v) = kind.Maximum v.limit
-number_error (ExclusiveMinimumU64 v) = kind.ExclusiveMinimum (pos v.limit)
-number_error (ExclusiveMinimumI64 v) = kind.ExclusiveMinimum v.limit
-number_error (ExclusiveMaximumU64 v) = kind.ExclusiveMaximum (pos v.limit)
-number_error (ExclusiveMaximumI64 v) = kind.ExclusiveMaximum v.limit
-number_error (MultipleOfInteger v) = kind.MultipleOf (non_zero_u64_get v.multiple_of)
-
--- it has one error of that kind where it does not hold, and none where it does
-pub number_fails_once : (v : NumberValidator) (t : Tree) → error_kinds (number_assertion v).assertion t
-    ≡ unless (assertion_holds (number_assertion v).assertion t) (number_error v)
-number_fails_once (MinItems v) t = refl
-number_fails_once _ t = refl
 
 -- the limit as the schema has it; only a limit keeps one
 abbrev pub limit_of : NumberValidator → Option Data

@@ -7,7 +7,7 @@
 //!
 //! - any other number, such as `1.5`, `2.0` or `-0`, with the kind `CompileError`;
 //! - any other value with the kind `WrongType` and the type number.
-ghost use Rattle.std.specs.Prelude.{◌≡◌, ◌-◌, ◌^◌, ◌≤ℤ◌, ◌<ℤ◌, ℤ, pos, negsuc, true, refl, Some};
+ghost use Rattle.std.specs.Prelude.{◌≡◌, ◌-◌, ◌^◌, ◌≤ℤ◌, ◌<ℤ◌, ℤ, pos, negsuc, true, Some};
 ghost use Rattle.std.specs.Prelude.{IfSome, IsTrue, ℕ};
 ghost use Rattle.serde_json.specs.View.{view};
 ghost use Rattle.jskw_value.specs.Number.{exact, is_exact};
@@ -179,10 +179,6 @@ impl<T: Whole, R: LimitTest> Limit<T, R> {
 
 impl<T: Whole, R: LimitTest> Assertion for Limit<T, R> {
     ghost asserts = { λ v. limit_at R.relation (T.whole v.limit) v.location };
-
-    ghost error = { λ v. limit_kind R.relation (T.whole v.limit) };
-
-    ghost fails_once = { λ v t. refl };
 
     #[tactic(auto, using(crate::proofs::Limits::holding))]
     fn holds<F: Json>(&self, instance: &F::Node) -> bool {

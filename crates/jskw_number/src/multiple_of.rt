@@ -10,13 +10,11 @@
 #![tactic(auto, unfolding(jskw_report::specs::Read::asserted))]
 
 ghost use Rattle.std.specs.Int.NonZero.{non_zero_u64_get};
-ghost use Rattle.std.specs.Prelude.{refl};
 ghost use Rattle.serde_json.specs.View.{view, members_view};
 ghost use Rattle.jskw_report.specs.Compile.{CompilesKeyword, CompilesTo, keyword_reading};
 ghost use Rattle.jskw_report.specs.KeywordValue.{divisor_value};
-ghost use Rattle.jskw_report.specs.Kind as kind;
 ghost use Rattle.jskw_report.specs.Meaning.{as_keyword};
-ghost use Rattle.jskw_report.specs.Read.{divisor_keyword, keyword_location};
+ghost use Rattle.jskw_report.specs.Read.{divisor_rule, keyword_by, keyword_location};
 ghost use Rattle.jskw_report.specs.declared.keyword.KeywordName.TheVariants as keyword_name;
 ghost use Rattle.jskw_number.specs.QuickSet.{Accepts};
 ghost use Rattle.jskw_number.specs.Meaning.{multiple_of_integer, number_keyword};
@@ -48,7 +46,7 @@ impl MultipleOfIntegerValidator {
         ctx: &Context<'_, F>,
         schema: &'a Value,
     ) -> CompilationResult<'a, MultipleOfIntegerValidator>
-        ensures { CompilesTo (λ v. as_keyword (multiple_of_integer v)) result (divisor_keyword
+        ensures { CompilesTo (λ v. as_keyword (multiple_of_integer v)) result (keyword_by divisor_rule
             (keyword_location ctx.now.location keyword_name.MultipleOf) (view schema.now)) }
     {
         let location = ctx.keyword_location(alloc, KeywordName::MultipleOf)?;
@@ -71,10 +69,6 @@ impl MultipleOfIntegerValidator {
 #[tactic(auto, using(crate::proofs::Divisors::divides))]
 impl Assertion for MultipleOfIntegerValidator {
     ghost asserts = { multiple_of_integer };
-
-    ghost error = { λ v. kind.MultipleOf (non_zero_u64_get v.multiple_of) };
-
-    ghost fails_once = { λ v t. refl };
 
     fn holds<F: Json>(&self, instance: &F::Node) -> bool {
         let Some(number) = instance.as_number() else {

@@ -1,5 +1,5 @@
 //! The validators of this crate as one type.
-ghost use Rattle.jskw_number.specs.Meaning.{number_assertion, number_error, number_fails_once};
+ghost use Rattle.jskw_number.specs.Meaning.{number_assertion};
 ghost use Rattle.jskw_number.specs.Meaning.{number_keyword};
 ghost use Rattle.jskw_number.specs.Outline.{AcceptsOutline};
 ghost use Rattle.jskw_number.specs.QuickSet.{Accepts};
@@ -109,10 +109,6 @@ impl NumberValidator {
 
 impl Assertion for NumberValidator {
     ghost asserts = { number_assertion };
-
-    ghost error = { number_error };
-
-    ghost fails_once = { number_fails_once };
 
     #[inline(never)]
     fn holds<F: Json>(&self, instance: &F::Node) -> bool {

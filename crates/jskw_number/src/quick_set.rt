@@ -18,6 +18,10 @@ use jskw_value::{Array, JsonNumber, JsonType, Node};
 use making::type_index;
 use number_test::{Integers, Multiples, NaturalMultiples, NumberTest, reciprocal_of};
 
+// How many items are tested one by one: for so few, what the loops over numbers set up takes longer
+// than it saves.
+const FEW: usize = 4;
+
 /// A set of values by their types, in which the numbers may be limited to those that are written
 /// without a fraction, to the integers of a range among these, or to such integers and all numbers
 /// between them that have a fraction.
@@ -73,6 +77,18 @@ impl QuickSet {
         ensures { (ms : Members) → is_in self.now (object ms) ≡ result }
     {
         self.types[type_index(JsonType::Object)]
+    }
+
+    /// Returns whether no value is in the set. May return false for an empty set whose numbers are
+    /// limited.
+    pub fn is_empty(&self) -> bool {
+        !self.types[0]
+            && !self.types[1]
+            && !self.types[2]
+            && !self.types[3]
+            && !self.types[4]
+            && !self.types[5]
+            && (!self.is_limited || self.integers.is_empty())
     }
 
     // Returns whether the number, which must be lawful, is in the set, which must be limited.
@@ -206,7 +222,7 @@ impl QuickSet {
         ensures within { result ≤ count }
     {
         let mut start = start;
-        if self.is_limited {
+        if self.is_limited && count - start > FEW {
             start = self.behind_naturals(start, count, instance);
             if start < count {
                 start = self.behind_numbers(start, count, instance);

@@ -7,14 +7,13 @@
 //! values are refused.
 #![tactic(auto, unfolding(jskw_report::specs::Read::asserted))]
 
-ghost use Rattle.std.specs.Prelude.{◌≡◌, IsTrue, length, refl, true};
+ghost use Rattle.std.specs.Prelude.{◌≡◌, IsTrue, length, true};
 ghost use Rattle.serde_json.specs.View.{view, members_view};
 ghost use Rattle.jskw_value.specs.Tree.{Tree, is_array, items};
 ghost use Rattle.jskw_report.specs.Compile.{CompilesKeyword, CompilesTo, keyword_reading};
-ghost use Rattle.jskw_report.specs.Fail.{size_kind};
 ghost use Rattle.jskw_report.specs.Holds.{assertion_holds};
 ghost use Rattle.jskw_report.specs.Meaning.{as_keyword};
-ghost use Rattle.jskw_report.specs.Read.{keyword_location, size_keyword};
+ghost use Rattle.jskw_report.specs.Read.{keyword_by, keyword_location, size_rule};
 ghost use Rattle.jskw_report.specs.declared.keyword.KeywordName.TheVariants as keyword_name;
 ghost use Rattle.jskw_number.specs.Meaning.{number_keyword, sized};
 ghost use Rattle.jskw_number.specs.Size.{is_within, size_of, size_keyword_name};
@@ -66,7 +65,7 @@ impl<const OF_ARRAYS: bool, const IS_LEAST: bool> SizeLimit<OF_ARRAYS, IS_LEAST>
         schema: &'a Value,
     ) -> CompilationResult<'a, SizeLimit<OF_ARRAYS, IS_LEAST>>
         ensures { let which = size_of OF_ARRAYS IS_LEAST in
-            CompilesTo (λ v. as_keyword (sized which v)) result (size_keyword which
+            CompilesTo (λ v. as_keyword (sized which v)) result (keyword_by (size_rule which)
             (keyword_location ctx.now.location (size_keyword_name which)) (view schema.now)) }
     {
         let keyword = match (OF_ARRAYS, IS_LEAST) {
@@ -110,10 +109,6 @@ impl<const IS_LEAST: bool> SizeLimit<true, IS_LEAST> {
 
 impl<const OF_ARRAYS: bool, const IS_LEAST: bool> Assertion for SizeLimit<OF_ARRAYS, IS_LEAST> {
     ghost asserts = { sized (size_of OF_ARRAYS IS_LEAST) };
-
-    ghost error = { λ v. size_kind (size_of OF_ARRAYS IS_LEAST) v.limit };
-
-    ghost fails_once = { λ v t. refl };
 
     fn holds<F: Json>(&self, instance: &F::Node) -> bool {
         if OF_ARRAYS {

@@ -6,8 +6,7 @@ use Rattle.std.proofs.Math.Seq.{drop-nil}
 use Rattle.jskw_value.specs.Pointer.{Pointer, item_location}
 use Rattle.jskw_value.specs.Tree.{Tree, array, items, is_array}
 use Rattle.jskw_report.specs.Keyword.{Schema, false_schema, schema_object, Keywords, no_keywords, keyword, Keyword}
-use Rattle.jskw_report.specs.Keyword.{assertion, contains, items_list, prefix_items, items_from, additional_items}
-use Rattle.jskw_report.specs.Keyword.{Schemas, no_schemas, schema}
+use Rattle.jskw_report.specs.Keyword.{assertion, contains, each_of, rest_of, Schemas, no_schemas, schema}
 use Rattle.jskw_report.specs.Holds.{holds, all_hold, keyword_holds, each_holds}
 use Rattle.jskw_report.specs.Fail.{Failure, keyword_fail, is_empty}
 use Rattle.jskw_report.specs.Evaluation.{Evaluation, Result, is_valid, evaluate_each, tree, units, unit, evaluate_pairs}
@@ -53,11 +52,10 @@ mutual
   unit_valid (contains s b) t p =
       contains_valid (keyword_holds (contains s b) t) (keyword_fail (contains s b) t p) _
       (keyword_empty (contains s b) t p) refl
-  unit_valid (items_list ss) t p = pairs_valid ss 0 (items t) p
-  unit_valid (prefix_items ss) t p = pairs_valid ss 0 (items t) p
-  unit_valid (items_from n s bare) t p =
+  unit_valid (each_of prefix ss) t p = pairs_valid ss 0 (items t) p
+  unit_valid (rest_of true n s bare) t p = sym (keyword_empty (rest_of true n s bare) t p)
+  unit_valid (rest_of false n s bare) t p =
       items_valid (holds s) n t _ (each_valid (holds s) (tree s) (λ t p. tree_valid s t p) n (drop n (items t)) p)
-  unit_valid (additional_items n s) t p = sym (keyword_empty (additional_items n s) t p)
 
   -- the nodes of schemas over the items of their indices
   pub pairs_valid : (ss : Schemas) (i : ℕ) (ts : List Tree) (p : Pointer)

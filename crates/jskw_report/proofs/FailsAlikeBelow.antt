@@ -5,11 +5,9 @@ use Rattle.std.proofs.Common.{refl, sym, ◌∙◌, ap}
 use Rattle.std.proofs.lemmas.List.{append_assoc, map-append}
 use Rattle.jskw_value.specs.Pointer.{Pointer, item_location}
 use Rattle.jskw_value.specs.Tree.{Tree, items, is_array}
-use Rattle.jskw_report.specs.Kind.{ErrorKind}
 use Rattle.jskw_report.specs.Kind as kind
 use Rattle.jskw_report.specs.Keyword.{Schema, false_schema, schema_object, Keywords, no_keywords, keyword, Keyword}
-use Rattle.jskw_report.specs.Keyword.{assertion, contains, items_list, prefix_items, items_from, additional_items}
-use Rattle.jskw_report.specs.Keyword.{Schemas, no_schemas, schema, Bounds}
+use Rattle.jskw_report.specs.Keyword.{assertion, contains, each_of, rest_of, Schemas, no_schemas, schema, Bounds}
 use Rattle.jskw_report.specs.Holds.{holds}
 use Rattle.jskw_report.specs.Fail.{Failure, error_kinds, failing_bound, contains_fails, each_item, fail, all_fail}
 use Rattle.jskw_report.specs.Fail.{keyword_fail, each_fails}
@@ -71,10 +69,8 @@ mutual
       map-map (λ k p. record { kind = k; instance_location = p; keyword_location = q; tree = t }) r p (λ k. refl)
       (error_kinds a t)
   keyword_below (contains s b) t r p = contains_below b (count_by (holds s) (items t)) t (is_array t) r p
-  keyword_below (items_list ss) t r p = pairs_below ss 0 (items t) r p
-  keyword_below (prefix_items ss) t r p = pairs_below ss 0 (items t) r p
-  keyword_below (items_from n s bare) t r p = each_below (fail s) (λ t. fail_below s t) n (drop n (items t)) r p
-  keyword_below (additional_items n s) t r p = each_below (fail s) (λ t. fail_below s t) n (drop n (items t)) r p
+  keyword_below (each_of prefix ss) t r p = pairs_below ss 0 (items t) r p
+  keyword_below (rest_of additional n s bare) t r p = each_below (fail s) (λ t. fail_below s t) n (drop n (items t)) r p
 
   -- the failures of schemas over the items of their indices
   pairs_below : (ss : Schemas) (i : ℕ) (ts : List Tree) → AlikeBelow (each_fails ss i ts)

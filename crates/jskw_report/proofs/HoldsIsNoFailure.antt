@@ -1,6 +1,6 @@
 -- `holds` says what `fail` says.
 use Rattle.std.specs.Prelude.{◌≡◌, ℕ, suc, ◌&&◌, ◌||◌, not, nat_le, nat_lt, List, [], ◌∷◌, ◌++◌, map, filter, drop}
-use Rattle.std.specs.Prelude.{count_by, Bool, true, false, Option, Some, None, ◌⊎◌, ◌<◌, ◌≤◌, if◌then◌else◌}
+use Rattle.std.specs.Prelude.{count_by, Bool, true, false, Option, Some, None, is_some, ◌⊎◌, ◌<◌, ◌≤◌, if◌then◌else◌}
 use Rattle.std.specs.List.{list_all}
 use Rattle.std.proofs.Common.{refl, sym, ◌∙◌, ap, inl, inr}
 use Rattle.std.proofs.lemmas.Bool.{cases_lt, lt-leb, lt-ltb, le-leb, le-ltb, not_from_true, not_from_false}
@@ -9,13 +9,12 @@ use Rattle.jskw_value.specs.Tree.{Tree, items, is_array, is_object, has_name}
 use Rattle.jskw_report.specs.Kind.{ErrorKind}
 use Rattle.jskw_report.specs.Kind as kind
 use Rattle.jskw_report.specs.Keyword.{Schema, false_schema, schema_object, Keywords, no_keywords, keyword, Keyword}
-use Rattle.jskw_report.specs.Keyword.{assertion, contains, items_list, prefix_items, items_from, additional_items}
-use Rattle.jskw_report.specs.Keyword.{Schemas, no_schemas, schema, Assertion, never, type_is, size, constant, among}
-use Rattle.jskw_report.specs.Keyword.{limit, multiple_of, unique, required, at_most, Bounds}
+use Rattle.jskw_report.specs.Keyword.{assertion, contains, each_of, rest_of, Schemas, no_schemas, schema, Assertion}
+use Rattle.jskw_report.specs.Keyword.{required, Bounds}
 use Rattle.jskw_report.specs.Holds.{assertion_holds, required_holds, within, count_holds, holds, all_hold}
 use Rattle.jskw_report.specs.Holds.{keyword_holds, each_holds}
-use Rattle.jskw_report.specs.Fail.{Failure, unless, missing, error_kinds, passes, failing_bound, contains_fails}
-use Rattle.jskw_report.specs.Fail.{each_item, fail, all_fail, keyword_fail, each_fails, is_empty}
+use Rattle.jskw_report.specs.Fail.{Failure, kind_for, unless, missing, error_kinds, passes, failing_bound}
+use Rattle.jskw_report.specs.Fail.{contains_fails, each_item, fail, all_fail, keyword_fail, each_fails, is_empty}
 
 -- ---- empty lists
 
@@ -41,9 +40,10 @@ joined {b} xs ys e f = ap (λ a. a && b) e ∙ ap (λ b. is_empty xs && b) f ∙
 -- ---- assertions
 
 -- there is no error where the test passes
-unless_empty : (b : Bool) (k : ErrorKind) → b ≡ is_empty (unless b k)
-unless_empty true k = refl
-unless_empty false k = refl
+unless_empty : (b : Bool) (k : Option ErrorKind) → is_some k ≡ true → b ≡ is_empty (unless b k)
+unless_empty true k e = refl
+unless_empty false (Some k) e = refl
+unless_empty false None e = cc
 
 -- every name is there exactly where none is missing
 all_named : (names : List (List ℕ)) (t : Tree)
@@ -68,16 +68,8 @@ missing_empty names t = go (is_object t)
 
 -- an assertion holds where it has no errors
 pub error_kinds_empty : (a : Assertion) (t : Tree) → assertion_holds a t ≡ is_empty (error_kinds a t)
-error_kinds_empty never t = refl
-error_kinds_empty (type_is k rule) t = unless_empty (assertion_holds (type_is k rule) t) _
-error_kinds_empty (size which n) t = unless_empty (assertion_holds (size which n) t) _
-error_kinds_empty (constant d) t = unless_empty (assertion_holds (constant d) t) _
-error_kinds_empty (among ds) t = unless_empty (assertion_holds (among ds) t) _
-error_kinds_empty (limit r n) t = unless_empty (assertion_holds (limit r n) t) _
-error_kinds_empty (multiple_of m) t = unless_empty (assertion_holds (multiple_of m) t) _
-error_kinds_empty unique t = unless_empty (assertion_holds unique t) _
 error_kinds_empty (required names) t = missing_empty names t
-error_kinds_empty (at_most n) t = unless_empty (assertion_holds (at_most n) t) _
+error_kinds_empty a t = unless_empty (assertion_holds a t) (kind_for a) refl
 
 -- ---- `contains`
 
@@ -143,11 +135,8 @@ mutual
   pub keyword_empty : (k : Keyword) (t : Tree) (p : Pointer) → keyword_holds k t ≡ is_empty (keyword_fail k t p)
   keyword_empty (assertion q a) t p = error_kinds_empty a t ∙ sym (is_empty-map _ (error_kinds a t))
   keyword_empty (contains s b) t p = contains_empty b (count_by (holds s) (items t)) t p
-  keyword_empty (items_list ss) t p = each_empty ss 0 (items t) p
-  keyword_empty (prefix_items ss) t p = each_empty ss 0 (items t) p
-  keyword_empty (items_from n s bare) t p =
-      each_item_empty (holds s) (fail s) (λ t p. holds_empty s t p) n (drop n (items t)) p
-  keyword_empty (additional_items n s) t p =
+  keyword_empty (each_of prefix ss) t p = each_empty ss 0 (items t) p
+  keyword_empty (rest_of additional n s bare) t p =
       each_item_empty (holds s) (fail s) (λ t p. holds_empty s t p) n (drop n (items t)) p
 
   -- schemas hold of the items of their indices where they have no errors

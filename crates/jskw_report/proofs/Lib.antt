@@ -1,5 +1,6 @@
 pub mod AppendedKeywords
 pub mod AssertedKeywords
+pub mod AssertionLaws
 pub mod AssertionUnits
 pub mod ContainsMatches
 pub mod EvaluationValidity
@@ -18,4 +19,5 @@ pub mod ReportedFailures
 pub mod SameTrees
 pub mod SchemaMembers
 pub mod SmallerNodes
+pub mod Twins
 pub mod TypeReading

@@ -32,9 +32,9 @@ read_of w s p ms d k e h = asserted_if_read w s p ms (readings d) k
 
 -- both keywords, once the first float of the value is known
 same_answer : (d : Data) (t : Tree) (o : Option Data) (p q : Pointer) (k j : Keyword)
-    → ◌≡◌ {A = Asserts} (Some (map_ok (λ d. assertion p (constant d)) (unless_float p o d))) (Some (Ok k))
+    → ◌≡◌ {A = Asserts} (Some (map_ok (assertion p) (map_ok constant (unless_float p o d)))) (Some (Ok k))
     → ◌≡◌ {A = Asserts}
-    (Some (map_ok (λ ds. assertion q (among ds)) (unless_float q (option_or o None) (item d no_items))))
+    (Some (map_ok (assertion q) (map_ok among (unless_float q (option_or o None) (item d no_items)))))
     (Some (Ok j))
     → keyword_holds k t ≡ keyword_holds j t
 same_answer d t None p q k j e f =
@@ -47,9 +47,9 @@ same_answer d t (Some x) p q k j e f = absurd (cc)
 -- both schemas, once the first float of the value is known
 alike : (d : Data) (t : Tree) (o : Option Data) (q r : Pointer) (h g : Marks)
     → reading_accepts (object_schema [] h
-    (before q (Some (map_ok (λ d. assertion q (constant d)) (unless_float q o d))) (Ok no_keywords))) t
+    (before q (Some (map_ok (assertion q) (map_ok constant (unless_float q o d)))) (Ok no_keywords))) t
     ≡ reading_accepts (object_schema [] g (before r
-    (Some (map_ok (λ ds. assertion r (among ds)) (unless_float r (option_or o None) (item d no_items))))
+    (Some (map_ok (assertion r) (map_ok among (unless_float r (option_or o None) (item d no_items)))))
     (Ok no_keywords))) t
 alike d t None q r h g = ap (λ b. Some (b && true)) (sym (or-false (equal (tree_of d) t)))
 alike d t (Some x) q r h g = refl

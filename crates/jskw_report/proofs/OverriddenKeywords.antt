@@ -10,7 +10,7 @@ use Rattle.jskw_report.specs.declared.keyword.KeywordName.{KeywordName}
 use Rattle.jskw_report.specs.declared.keyword.KeywordName.TheVariants.{TypeKeyword}
 
 -- each keyword has a place
-pub within : (w : KeywordName) → keyword_index w < 18
+pub within : (w : KeywordName) → keyword_index w < length keywords
 within TypeKeyword = lit< tt
 within w = lit< tt
 
@@ -28,10 +28,11 @@ pub ruleset lemmas = (within, marked)
 -- the first n are made
 abbrev pub AreMarked : List (List ℕ) → ℕ → List Bool → Type 0
 AreMarked names n bs =
-    (length bs ≡ 18) × ((k : ℕ) → k < n → (b : Bool) → get_or bs k b ≡ get_or (overridden_marks names) k b)
+    (length bs ≡ length keywords) × ((k : ℕ) → k < n → (b : Bool) → get_or bs k b ≡ get_or (overridden_marks names) k b)
 
 -- one more
-pub next_marked : (names : List (List ℕ)) (n : ℕ) (bs : List Bool) (name : List ℕ) (w : KeywordName) → n < 18
+pub next_marked : (names : List (List ℕ)) (n : ℕ) (bs : List Bool) (name : List ℕ) (w : KeywordName)
+    → n < length keywords
     → name ≡ name_of (get_or keywords n w) → AreMarked names n bs
     → AreMarked names (n + 1) (set bs n (list_any (bytes_eq name) names))
 unfolding overridden_marks
@@ -44,7 +45,7 @@ next_marked names n bs name w h e known = (
 )
 
 -- all are made
-pub all_marked : (names : List (List ℕ)) (n : ℕ) (bs : List Bool) → 18 ≤ n → AreMarked names n bs
+pub all_marked : (names : List (List ℕ)) (n : ℕ) (bs : List Bool) → length keywords ≤ n → AreMarked names n bs
     → bs ≡ overridden_marks names
 unfolding overridden_marks
 all_marked names n bs h known =

@@ -6,8 +6,7 @@ use Rattle.std.proofs.lemmas.List.Sums.{sum_by-cons, sum_by-le-sum_by, sum_by-ta
 use Rattle.std.proofs.Math.Nat.{le_refl, le_trans}
 use Rattle.jskw_value.specs.Tree.{Tree, array, Items, no_items, item, item_list, items}
 use Rattle.jskw_report.specs.Keyword.{Schema, false_schema, schema_object, Keywords, no_keywords, keyword, Keyword}
-use Rattle.jskw_report.specs.Keyword.{assertion, contains, items_list, prefix_items, items_from, additional_items}
-use Rattle.jskw_report.specs.Keyword.{Schemas, no_schemas, schema}
+use Rattle.jskw_report.specs.Keyword.{assertion, contains, each_of, rest_of, Schemas, no_schemas, schema}
 use Rattle.jskw_report.specs.Holds.{holds, keyword_holds}
 use Rattle.jskw_report.specs.Applications.{pairs, all_pairs, keyword_pairs, each_pairs, needed, all_needed}
 use Rattle.jskw_report.specs.Applications.{keyword_needed, each_needed, sum_to_failure, schemas_at, all_schemas_at}
@@ -52,12 +51,9 @@ mutual
   keyword_needed-le : (k : Keyword) (t : Tree) → keyword_needed k t ≤ keyword_pairs k t
   keyword_needed-le (assertion q a) t = le_refl 0
   keyword_needed-le (contains s b) t = sum_by-le-sum_by (needed s) (pairs s) (items t) (λ u. needed-le s u)
-  keyword_needed-le (items_list ss) t = each_needed-le ss (items t)
-  keyword_needed-le (prefix_items ss) t = each_needed-le ss (items t)
-  keyword_needed-le (items_from n s true) t = le_refl 0
-  keyword_needed-le (items_from n s false) t =
-      sum_to_failure-le (holds s) (needed s) (pairs s) (λ u. needed-le s u) (drop n (items t))
-  keyword_needed-le (additional_items n s) t =
+  keyword_needed-le (each_of prefix ss) t = each_needed-le ss (items t)
+  keyword_needed-le (rest_of additional n s true) t = le_refl 0
+  keyword_needed-le (rest_of additional n s false) t =
       sum_to_failure-le (holds s) (needed s) (pairs s) (λ u. needed-le s u) (drop n (items t))
 
   -- of the pairs of schemas and the items of their indices
@@ -136,13 +132,9 @@ mutual
   keyword_pairs_at-le (contains s b) t d =
       below_items (schemas_at s d) d t
       (items_meet (schemas_at s d) d (λ u. pairs_at s u d) (λ u. pairs_at-le s u d) (items t))
-  keyword_pairs_at-le (items_list ss) t d = below_items (each_schemas_at ss d) d t (each_pairs_at-le ss (items t) d)
-  keyword_pairs_at-le (prefix_items ss) t d = below_items (each_schemas_at ss d) d t (each_pairs_at-le ss (items t) d)
-  keyword_pairs_at-le (items_from n s true) t d = omega arith
-  keyword_pairs_at-le (items_from n s false) t d = below_items (schemas_at s d) d t
-      (le_trans (drop-le (λ u. pairs_at s u d) (items t) n)
-      (items_meet (schemas_at s d) d (λ u. pairs_at s u d) (λ u. pairs_at-le s u d) (items t)))
-  keyword_pairs_at-le (additional_items n s) t d = below_items (schemas_at s d) d t
+  keyword_pairs_at-le (each_of prefix ss) t d = below_items (each_schemas_at ss d) d t (each_pairs_at-le ss (items t) d)
+  keyword_pairs_at-le (rest_of additional n s true) t d = omega arith
+  keyword_pairs_at-le (rest_of additional n s false) t d = below_items (schemas_at s d) d t
       (le_trans (drop-le (λ u. pairs_at s u d) (items t) n)
       (items_meet (schemas_at s d) d (λ u. pairs_at s u d) (λ u. pairs_at-le s u d) (items t)))
 
@@ -205,12 +197,9 @@ mutual
       → sum_below n (keyword_pairs_at k t) ≡ keyword_pairs k t
   keyword_pairs-sum (assertion q a) t n h = sum_below-zero n
   keyword_pairs-sum (contains s b) t n h = sum_below-items n (pairs_at s) (pairs s) (λ u. pairs-sum s u n h) (items t)
-  keyword_pairs-sum (items_list ss) t n h = each_pairs-sum ss (items t) n h
-  keyword_pairs-sum (prefix_items ss) t n h = each_pairs-sum ss (items t) n h
-  keyword_pairs-sum (items_from i s true) t n h = sum_below-zero n
-  keyword_pairs-sum (items_from i s false) t n h =
-      sum_below-items n (pairs_at s) (pairs s) (λ u. pairs-sum s u n h) (drop i (items t))
-  keyword_pairs-sum (additional_items i s) t n h =
+  keyword_pairs-sum (each_of prefix ss) t n h = each_pairs-sum ss (items t) n h
+  keyword_pairs-sum (rest_of additional i s true) t n h = sum_below-zero n
+  keyword_pairs-sum (rest_of additional i s false) t n h =
       sum_below-items n (pairs_at s) (pairs s) (λ u. pairs-sum s u n h) (drop i (items t))
 
   -- the pairs of schemas and the items of their indices, over the depths of the schemas and any that lie deeper

@@ -3,8 +3,7 @@
 use Rattle.std.specs.Prelude.{ℕ, zero, suc, ◌+◌, max, List, [], ◌∷◌, drop, sum_by, Bool, true, false, if◌then◌else◌}
 use Rattle.jskw_value.specs.Tree.{Tree, array, Items, no_items, item, items}
 use Rattle.jskw_report.specs.Keyword.{Schema, false_schema, schema_object, Keywords, no_keywords, keyword, Keyword}
-use Rattle.jskw_report.specs.Keyword.{assertion, contains, items_list, prefix_items, items_from, additional_items}
-use Rattle.jskw_report.specs.Keyword.{Schemas, no_schemas, schema}
+use Rattle.jskw_report.specs.Keyword.{assertion, contains, each_of, rest_of, Schemas, no_schemas, schema}
 use Rattle.jskw_report.specs.Holds.{holds, keyword_holds}
 
 -- ---- all pairs
@@ -24,11 +23,9 @@ abbrev mutual
   pub keyword_pairs : Keyword → Tree → ℕ
   keyword_pairs (assertion q a) t = 0
   keyword_pairs (contains s b) t = sum_by (pairs s) (items t)
-  keyword_pairs (items_list ss) t = each_pairs ss (items t)
-  keyword_pairs (prefix_items ss) t = each_pairs ss (items t)
-  keyword_pairs (items_from n s true) t = 0
-  keyword_pairs (items_from n s false) t = sum_by (pairs s) (drop n (items t))
-  keyword_pairs (additional_items n s) t = sum_by (pairs s) (drop n (items t))
+  keyword_pairs (each_of prefix ss) t = each_pairs ss (items t)
+  keyword_pairs (rest_of additional n s true) t = 0
+  keyword_pairs (rest_of additional n s false) t = sum_by (pairs s) (drop n (items t))
 
   -- the pairs of each schema and the item of its index, as far as both go
   pub each_pairs : Schemas → List Tree → ℕ
@@ -58,11 +55,9 @@ abbrev mutual
   pub keyword_needed : Keyword → Tree → ℕ
   keyword_needed (assertion q a) t = 0
   keyword_needed (contains s b) t = sum_by (needed s) (items t)
-  keyword_needed (items_list ss) t = each_needed ss (items t)
-  keyword_needed (prefix_items ss) t = each_needed ss (items t)
-  keyword_needed (items_from n s true) t = 0
-  keyword_needed (items_from n s false) t = sum_to_failure (holds s) (needed s) (drop n (items t))
-  keyword_needed (additional_items n s) t = sum_to_failure (holds s) (needed s) (drop n (items t))
+  keyword_needed (each_of prefix ss) t = each_needed ss (items t)
+  keyword_needed (rest_of additional n s true) t = 0
+  keyword_needed (rest_of additional n s false) t = sum_to_failure (holds s) (needed s) (drop n (items t))
 
   -- the pairs that are needed of each schema and the item of its index, up to the first that fails
   pub each_needed : Schemas → List Tree → ℕ
@@ -102,11 +97,9 @@ abbrev mutual
   pub keyword_pairs_at : Keyword → Tree → ℕ → ℕ
   keyword_pairs_at (assertion q a) t d = 0
   keyword_pairs_at (contains s b) t d = sum_by (λ u. pairs_at s u d) (items t)
-  keyword_pairs_at (items_list ss) t d = each_pairs_at ss (items t) d
-  keyword_pairs_at (prefix_items ss) t d = each_pairs_at ss (items t) d
-  keyword_pairs_at (items_from n s true) t d = 0
-  keyword_pairs_at (items_from n s false) t d = sum_by (λ u. pairs_at s u d) (drop n (items t))
-  keyword_pairs_at (additional_items n s) t d = sum_by (λ u. pairs_at s u d) (drop n (items t))
+  keyword_pairs_at (each_of prefix ss) t d = each_pairs_at ss (items t) d
+  keyword_pairs_at (rest_of additional n s true) t d = 0
+  keyword_pairs_at (rest_of additional n s false) t d = sum_by (λ u. pairs_at s u d) (drop n (items t))
 
   -- the pairs d deep of each schema and the item of its index, as far as both go
   pub each_pairs_at : Schemas → List Tree → ℕ → ℕ
@@ -132,10 +125,8 @@ abbrev mutual
   pub keyword_schemas_at : Keyword → ℕ → ℕ
   keyword_schemas_at (assertion q a) d = 0
   keyword_schemas_at (contains s b) d = schemas_at s d
-  keyword_schemas_at (items_list ss) d = each_schemas_at ss d
-  keyword_schemas_at (prefix_items ss) d = each_schemas_at ss d
-  keyword_schemas_at (items_from n s bare) d = schemas_at s d
-  keyword_schemas_at (additional_items n s) d = schemas_at s d
+  keyword_schemas_at (each_of prefix ss) d = each_schemas_at ss d
+  keyword_schemas_at (rest_of additional n s bare) d = schemas_at s d
 
   -- the number of schemas that lie d deep in the schemas of the list
   pub each_schemas_at : Schemas → ℕ → ℕ
@@ -169,10 +160,8 @@ abbrev mutual
   pub keyword_height : Keyword → ℕ
   keyword_height (assertion q a) = 0
   keyword_height (contains s b) = height s
-  keyword_height (items_list ss) = each_height ss
-  keyword_height (prefix_items ss) = each_height ss
-  keyword_height (items_from n s bare) = height s
-  keyword_height (additional_items n s) = height s
+  keyword_height (each_of prefix ss) = each_height ss
+  keyword_height (rest_of additional n s bare) = height s
 
   -- the depth in the schemas of the list below which no subschema lies
   pub each_height : Schemas → ℕ

@@ -7,8 +7,7 @@ use Rattle.jskw_value.specs.Tree.{Tree, items, is_array}
 use Rattle.jskw_report.specs.Fail.{Failure, keyword_fail, is_empty}
 use Rattle.jskw_report.specs.Holds.{holds, keyword_holds}
 use Rattle.jskw_report.specs.Keyword.{Schema, false_schema, schema_object, Keywords, no_keywords, keyword, Keyword}
-use Rattle.jskw_report.specs.Keyword.{assertion, contains, items_list, prefix_items, items_from, additional_items}
-use Rattle.jskw_report.specs.Keyword.{Schemas, no_schemas, schema}
+use Rattle.jskw_report.specs.Keyword.{assertion, contains, each_of, rest_of, Schemas, no_schemas, schema}
 use Rattle.jskw_report.specs.Kind.{FalseSchema, keyword_of}
 
 -- an annotation (Core 7.7): a boolean, the largest index, or indices
@@ -147,13 +146,13 @@ abbrev mutual
         children = evaluate_matching (holds s) (tree s) 0 (items t) p;
       }
       else of_errors (keyword_fail (contains s b) t p)
-  unit (items_list ss) t p = of_children None (evaluate_pairs ss 0 (items t) p)
-  unit (prefix_items ss) t p =
-      of_children (prefix_annotation (schema_count ss) (length (items t))) (evaluate_pairs ss 0 (items t) p)
-  unit (items_from n s bare) t p = if is_array t
+  unit (each_of prefix ss) t p =
+      of_children (if prefix then prefix_annotation (schema_count ss) (length (items t)) else None)
+      (evaluate_pairs ss 0 (items t) p)
+  unit (rest_of true n s bare) t p = of_errors (keyword_fail (rest_of true n s bare) t p)
+  unit (rest_of false n s bare) t p = if is_array t
       then of_children (Some (flag (nat_lt n (length (items t))))) (evaluate_each (tree s) n (drop n (items t)) p)
       else valid_unit
-  unit (additional_items n s) t p = of_errors (keyword_fail (additional_items n s) t p)
 
   -- the nodes of each schema over the item of its index, as far as both go, the first being item i of the array at p
   pub evaluate_pairs : Schemas → ℕ → List Tree → Pointer → List Evaluation

@@ -1,17 +1,13 @@
 -- What is wrong with an instance: the errors of a schema, in the order of its keywords.
-use Rattle.std.specs.Prelude.{ℕ, ℤ, suc, nat_lt, nat_le, List, [], ◌∷◌, ◌++◌, map, drop, filter, count_by, Bool, true}
-use Rattle.std.specs.Prelude.{false, not, Option, Some, None, if◌then◌else◌}
-use Rattle.serde_json.specs.Data as value
+use Rattle.std.specs.Prelude.{ℕ, suc, nat_lt, nat_le, List, [], ◌∷◌, ◌++◌, map, drop, count_by, Bool, true, false}
+use Rattle.std.specs.Prelude.{Option, Some, None, if◌then◌else◌}
 use Rattle.jskw_value.specs.Pointer.{Pointer, item_location}
-use Rattle.jskw_value.specs.Tree.{Tree, items, is_array, is_object, has_name}
-use Rattle.jskw_report.specs.Holds.{assertion_holds, holds}
+use Rattle.jskw_value.specs.Tree.{Tree, items, is_array}
+pub use Rattle.jskw_report.specs.Assertions.{size_kind, limit_kind, kind_for, unless, missing, error_kinds}
+use Rattle.jskw_report.specs.Holds.{holds}
 use Rattle.jskw_report.specs.Keyword.{Schema, false_schema, schema_object, Keywords, no_keywords, keyword, Keyword}
-use Rattle.jskw_report.specs.Keyword.{assertion, contains, items_list, prefix_items, items_from, additional_items}
-use Rattle.jskw_report.specs.Keyword.{Schemas, no_schemas, schema, Assertion, never, type_is, size, constant, among}
-use Rattle.jskw_report.specs.Keyword.{limit, multiple_of, unique, required, at_most, Bounds, Size, MinItems, MaxItems}
-use Rattle.jskw_report.specs.Keyword.{MinProperties, MaxProperties, Relation, Minimum, Maximum, ExclusiveMinimum}
-use Rattle.jskw_report.specs.Keyword.{ExclusiveMaximum}
-use Rattle.jskw_report.specs.Kind.{ErrorKind, Listed, WrongType}
+use Rattle.jskw_report.specs.Keyword.{assertion, contains, each_of, rest_of, Schemas, no_schemas, schema, Bounds}
+use Rattle.jskw_report.specs.Kind.{ErrorKind}
 use Rattle.jskw_report.specs.Kind as kind
 
 -- an error: its kind, the instance location (Core 12.3.3), the keyword location (Core 12.3.1), and the tree that stands
@@ -21,44 +17,6 @@ pub record Failure : Type 0 where
   pub instance_location : Pointer
   pub keyword_location : Pointer
   pub tree : Tree
-
--- ---- assertions
-
--- the kind of a bound on a size
-abbrev pub size_kind : Size → ℕ → ErrorKind
-size_kind MinItems n = kind.MinItems n
-size_kind MaxItems n = kind.MaxItems n
-size_kind MinProperties n = kind.MinProperties n
-size_kind MaxProperties n = kind.MaxProperties n
-
--- the kind of a limit
-abbrev pub limit_kind : Relation → ℤ → ErrorKind
-limit_kind Minimum n = kind.Minimum n
-limit_kind Maximum n = kind.Maximum n
-limit_kind ExclusiveMinimum n = kind.ExclusiveMinimum n
-limit_kind ExclusiveMaximum n = kind.ExclusiveMaximum n
-
--- no error if the keyword holds, else one of the kind
-abbrev pub unless : Bool → ErrorKind → List ErrorKind
-unless true k = []
-unless false k = k ∷ []
-
--- one error for each name that an object lacks, in their order
-abbrev pub missing : List (List ℕ) → Tree → List ErrorKind
-missing names t = if is_object t then map kind.Required (filter (λ name. not (has_name t name)) names) else []
-
--- the kinds of an assertion's errors: none where it holds, else one, but for `required`
-abbrev pub error_kinds : Assertion → Tree → List ErrorKind
-error_kinds never t = kind.FalseSchema ∷ []
-error_kinds (type_is k rule) t = unless (assertion_holds (type_is k rule) t) (WrongType k)
-error_kinds (size which n) t = unless (assertion_holds (size which n) t) (size_kind which n)
-error_kinds (constant d) t = unless (assertion_holds (constant d) t) (kind.Constant d)
-error_kinds (among ds) t = unless (assertion_holds (among ds) t) (kind.Enum (Listed (value.array ds)))
-error_kinds (limit r n) t = unless (assertion_holds (limit r n) t) (limit_kind r n)
-error_kinds (multiple_of m) t = unless (assertion_holds (multiple_of m) t) (kind.MultipleOf m)
-error_kinds unique t = unless (assertion_holds unique t) kind.UniqueItems
-error_kinds (required names) t = missing names t
-error_kinds (at_most n) t = unless (assertion_holds (at_most n) t) (kind.AdditionalItems n)
 
 -- ---- `contains`
 
@@ -101,10 +59,8 @@ abbrev mutual
   keyword_fail (assertion q a) t p =
       map (λ k. record { kind = k; instance_location = p; keyword_location = q; tree = t }) (error_kinds a t)
   keyword_fail (contains s b) t p = if is_array t then contains_fails b (count_by (holds s) (items t)) t p else []
-  keyword_fail (items_list ss) t p = each_fails ss 0 (items t) p
-  keyword_fail (prefix_items ss) t p = each_fails ss 0 (items t) p
-  keyword_fail (items_from n s bare) t p = each_item (fail s) n (drop n (items t)) p
-  keyword_fail (additional_items n s) t p = each_item (fail s) n (drop n (items t)) p
+  keyword_fail (each_of prefix ss) t p = each_fails ss 0 (items t) p
+  keyword_fail (rest_of additional n s bare) t p = each_item (fail s) n (drop n (items t)) p
 
   -- the errors of each schema over the item of its index, as far as both go, the first being item i of the array at p
   pub each_fails : Schemas → ℕ → List Tree → Pointer → List Failure

@@ -1,5 +1,5 @@
 -- A schema as its keywords, one by one, in the order in which it is read (Core 4.3).
-use Rattle.std.specs.Prelude.{ℕ, ℤ, List, Bool, false, ◌||◌, Option}
+use Rattle.std.specs.Prelude.{ℕ, ℤ, List, Bool, true, false, ◌||◌, Option}
 use Rattle.serde_json.specs.Data.{Data, Items}
 use Rattle.jskw_value.specs.Pointer.{Pointer}
 use Rattle.jskw_report.specs.Kind.{TypeKind}
@@ -74,20 +74,32 @@ mutual
     assertion : Pointer → Assertion → Keyword
     -- `contains` (Core 10.3.1.3)
     contains : Schema → Bounds → Keyword
-    -- `items` of an array of schemas (Draft 7 Validation 6.4.1); in 2020-12 too, by this project's own rule
-    items_list : Schemas → Keyword
-    -- `prefixItems` (Core 10.3.1.1)
-    prefix_items : Schemas → Keyword
-    -- `items` of one schema, from an index on (Core 10.3.1.2); true where that is a bare type check, which is no
-    -- application
-    items_from : ℕ → Schema → Bool → Keyword
-    -- `additionalItems` of a schema, from an index on (Draft 7 Validation 6.4.2)
-    additional_items : ℕ → Schema → Keyword
+    -- a schema for each of the first items: `prefixItems`, or, marked false, `items` of an array
+    each_of : Bool → Schemas → Keyword
+    -- one schema for the rest of the items, from an index on: `additionalItems`, or, marked false, `items`; the other
+    -- mark is true where that is a bare type check, which is no application
+    rest_of : Bool → ℕ → Schema → Bool → Keyword
 
   -- a list of schemas
   pub data Schemas : Type 0 where
     no_schemas : Schemas
     schema : Schema → Schemas → Schemas
+
+-- `items` of an array of schemas (Draft 7 Validation 6.4.1); in 2020-12 too, by this project's own rule
+abbrev pub items_list : Schemas → Keyword
+items_list ss = each_of false ss
+
+-- `prefixItems` (Core 10.3.1.1)
+abbrev pub prefix_items : Schemas → Keyword
+prefix_items ss = each_of true ss
+
+-- `items` of one schema, from an index on (Core 10.3.1.2); true where that is a bare type check
+abbrev pub items_from : ℕ → Schema → Bool → Keyword
+items_from n s bare = rest_of false n s bare
+
+-- `additionalItems` of a schema, from an index on (Draft 7 Validation 6.4.2)
+abbrev pub additional_items : ℕ → Schema → Keyword
+additional_items n s = rest_of true n s false
 
 -- the schema's keyword location
 abbrev pub schema_location : Schema → Pointer
@@ -124,10 +136,8 @@ abbrev mutual
   pub keyword_delegates : Keyword → Bool
   keyword_delegates (assertion q a) = false
   keyword_delegates (contains s b) = hands_on_required s
-  keyword_delegates (items_list ss) = schemas_delegate ss
-  keyword_delegates (prefix_items ss) = schemas_delegate ss
-  keyword_delegates (items_from n s bare) = hands_on_required s
-  keyword_delegates (additional_items n s) = hands_on_required s
+  keyword_delegates (each_of prefix ss) = schemas_delegate ss
+  keyword_delegates (rest_of additional n s bare) = hands_on_required s
 
   -- the `required` of some schema of the list, or of a subschema of it, is delegated
   pub schemas_delegate : Schemas → Bool

@@ -5,6 +5,7 @@ pub mod Keyword
 pub mod KeywordValue
 pub mod Sibling
 pub mod Read
+pub mod Assertions
 pub mod Holds
 pub mod Fail
 pub mod Evaluation

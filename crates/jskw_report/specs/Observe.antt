@@ -103,4 +103,4 @@ pub record CountsUpTo (old new bound : ℕ) : Type 0 where
 -- is p
 abbrev pub failures_unless : Bool → ErrorKind → Pointer → Tree → Pointer → List Failure
 failures_unless holds kind q t p =
-    map (λ k. record { kind = k; instance_location = p; keyword_location = q; tree = t }) (unless holds kind)
+    map (λ k. record { kind = k; instance_location = p; keyword_location = q; tree = t }) (unless holds (Some kind))

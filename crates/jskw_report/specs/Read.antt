@@ -15,11 +15,11 @@ use Rattle.jskw_report.specs.declared.settings.Vocabulary.TheVariants.{Validatio
 use Rattle.jskw_report.specs.KeywordValue.{Refusal, wrong, map_ok, join_ok, of_type, of_types, size_value, limit_value}
 use Rattle.jskw_report.specs.KeywordValue.{divisor_value, type_value, required_value, const_value, enum_value}
 use Rattle.jskw_report.specs.Keyword.{Marks, no_marks, Schema, false_schema, schema_object, Keywords, no_keywords}
-use Rattle.jskw_report.specs.Keyword.{keyword, Keyword, assertion, contains, items_list, prefix_items, items_from}
-use Rattle.jskw_report.specs.Keyword.{additional_items, Schemas, no_schemas, schema, Integers, by_value, as_written}
-use Rattle.jskw_report.specs.Keyword.{type_is, size, constant, among, limit, multiple_of, unique, required, at_most}
-use Rattle.jskw_report.specs.Keyword.{Bounds, Size, MinItems, MaxItems, MinProperties, MaxProperties, Relation, Minimum}
-use Rattle.jskw_report.specs.Keyword.{Maximum, ExclusiveMinimum, ExclusiveMaximum}
+use Rattle.jskw_report.specs.Keyword.{keyword, Keyword, Assertion, assertion, contains, items_list, prefix_items}
+use Rattle.jskw_report.specs.Keyword.{items_from, additional_items, Schemas, no_schemas, schema, Integers, by_value}
+use Rattle.jskw_report.specs.Keyword.{as_written, type_is, size, constant, among, limit, multiple_of, unique, required}
+use Rattle.jskw_report.specs.Keyword.{at_most, Bounds, Size, MinItems, MaxItems, MinProperties, MaxProperties, Relation}
+use Rattle.jskw_report.specs.Keyword.{Minimum, Maximum, ExclusiveMinimum, ExclusiveMaximum}
 use Rattle.jskw_report.specs.Kind.{TypeKind, types_of}
 use Rattle.jskw_report.specs.Setting.{Setting, has_vocabulary, is_active, keywords, name_of, is_after_draft_4}
 use Rattle.jskw_report.specs.Setting.{is_after_draft_7, is_2020_12}
@@ -57,33 +57,45 @@ abbrev pub integers_of : Draft → TypeKind → Integers
 integers_of draft k =
     if not (is_after_draft_4 draft) && types.contains (types_of k) Integer then as_written else by_value
 
+-- what a keyword without subschemas asserts of its value, which is judged at the keyword location q
+abbrev pub Rule : Type 0
+Rule = Pointer → Data → Result Assertion Refusal
+
 -- `type` (Validation 6.1.1), by a rule on integers
-abbrev pub type_keyword : (TypeKind → Integers) → Pointer → Data → Result Keyword Refusal
-type_keyword rule q d = map_ok (λ k. assertion q (type_is k (rule k))) (type_value q d)
+abbrev pub type_rule : (TypeKind → Integers) → Rule
+type_rule integers q d = map_ok (λ k. type_is k (integers k)) (type_value q d)
 
 -- a bound on a size (Validation 6.4.1, 6.4.2, 6.5.1, 6.5.2)
-abbrev pub size_keyword : Size → Pointer → Data → Result Keyword Refusal
-size_keyword which q d = map_ok (λ n. assertion q (size which n)) (size_value q d)
+abbrev pub size_rule : Size → Rule
+size_rule which q d = map_ok (size which) (size_value q d)
+
+-- `uniqueItems` (Validation 6.4.3)
+abbrev pub unique_rule : Rule
+unique_rule q d = Ok unique
 
 -- `const` (Validation 6.1.3)
-abbrev pub const_keyword : Pointer → Data → Result Keyword Refusal
-const_keyword q d = map_ok (λ d. assertion q (constant d)) (const_value q d)
+abbrev pub const_rule : Rule
+const_rule q d = map_ok constant (const_value q d)
 
 -- `enum` (Validation 6.1.2)
-abbrev pub enum_keyword : Pointer → Data → Result Keyword Refusal
-enum_keyword q d = map_ok (λ ds. assertion q (among ds)) (enum_value q d)
-
--- `multipleOf` (Validation 6.2.1)
-abbrev pub divisor_keyword : Pointer → Data → Result Keyword Refusal
-divisor_keyword q d = map_ok (λ n. assertion q (multiple_of n)) (divisor_value q d)
-
--- `required` (Validation 6.5.3), whatever stands beside it
-abbrev pub required_keyword : Pointer → Data → Result Keyword Refusal
-required_keyword q d = map_ok (λ names. assertion q (required names)) (required_value q d)
+abbrev pub enum_rule : Rule
+enum_rule q d = map_ok among (enum_value q d)
 
 -- a limit on numbers (Validation 6.2.2 to 6.2.5)
-abbrev pub relation_keyword : Relation → Pointer → Data → Result Keyword Refusal
-relation_keyword r q d = map_ok (λ z. assertion q (limit r z)) (limit_value q d)
+abbrev pub limit_rule : Relation → Rule
+limit_rule r q d = map_ok (limit r) (limit_value q d)
+
+-- `multipleOf` (Validation 6.2.1)
+abbrev pub divisor_rule : Rule
+divisor_rule q d = map_ok multiple_of (divisor_value q d)
+
+-- `required` (Validation 6.5.3), whatever stands beside it
+abbrev pub required_rule : Rule
+required_rule q d = map_ok required (required_value q d)
+
+-- the keyword of the rule, which fails at q
+abbrev pub keyword_by : Rule → Pointer → Data → Result Keyword Refusal
+keyword_by rule q d = map_ok (assertion q) (rule q d)
 
 -- ---- limits of a schema
 
@@ -109,7 +121,7 @@ relation_beside s ms r =
 
 -- a limit of the schema at p, which is judged and fails at the keyword of its relation
 abbrev pub limit_keyword : Relation → Pointer → Data → Result Keyword Refusal
-limit_keyword r p d = relation_keyword r (keyword_location p (limit_keyword_name r)) d
+limit_keyword r p d = keyword_by (limit_rule r) (keyword_location p (limit_keyword_name r)) d
 
 -- ---- `contains` (Core 10.3.1.3) with `maxContains` and `minContains` (Validation 6.4.4, 6.4.5)
 
@@ -189,15 +201,39 @@ additional_keyword s q _ readings d = None
 
 -- ---- a keyword
 
+-- the rule of a keyword without subschemas, beside the members ms; none where it asserts nothing of its value d, nor
+-- for a keyword with subschemas
+abbrev pub rule_for : KeywordName → Setting → Members → Data → Option Rule
+rule_for keyword_name.TypeKeyword s ms d = Some (type_rule (integers_of s.draft))
+rule_for keyword_name.MinItems s ms d = Some (size_rule MinItems)
+rule_for keyword_name.MaxItems s ms d = Some (size_rule MaxItems)
+rule_for keyword_name.UniqueItems s ms d = if is_true d then Some unique_rule else None
+rule_for keyword_name.Const s ms d = Some const_rule
+rule_for keyword_name.Enum s ms d = Some enum_rule
+rule_for keyword_name.Minimum s ms d = Some (limit_rule (relation_beside s ms Minimum))
+rule_for keyword_name.Maximum s ms d = Some (limit_rule (relation_beside s ms Maximum))
+rule_for keyword_name.ExclusiveMinimum s ms d = Some (limit_rule ExclusiveMinimum)
+rule_for keyword_name.ExclusiveMaximum s ms d = Some (limit_rule ExclusiveMaximum)
+rule_for keyword_name.MultipleOf s ms d = Some divisor_rule
+rule_for keyword_name.MinProperties s ms d = Some (size_rule MinProperties)
+rule_for keyword_name.MaxProperties s ms d = Some (size_rule MaxProperties)
+rule_for keyword_name.Required s ms d = if is_handed_on s ms then None else Some required_rule
+rule_for _ s ms d = None
+
+-- what the rule asserts, if there is one
+abbrev pub asserted_by : Option Rule → Pointer → Data → Asserts
+asserted_by None q d = None
+asserted_by (Some rule) q d = Some (keyword_by rule q d)
+
+-- the keyword at which a keyword without subschemas fails: itself, or in Draft 4 the one that makes a limit exclusive
+abbrev pub failing_keyword : KeywordName → Setting → Members → KeywordName
+failing_keyword keyword_name.Minimum s ms = limit_keyword_name (relation_beside s ms Minimum)
+failing_keyword keyword_name.Maximum s ms = limit_keyword_name (relation_beside s ms Maximum)
+failing_keyword w s ms = w
+
 -- what the keyword w asserts under the setting s: p is the location of the schema, ms are its members, and `readings`
 -- is the keyword's value
 unfoldable pub asserted : KeywordName → Setting → Pointer → Members → ValueReadings → Asserts
-asserted keyword_name.TypeKeyword s p ms readings =
-    Some (type_keyword (integers_of s.draft) (keyword_location p keyword_name.TypeKeyword) readings.value)
-asserted keyword_name.MinItems s p ms readings =
-    Some (size_keyword MinItems (keyword_location p keyword_name.MinItems) readings.value)
-asserted keyword_name.MaxItems s p ms readings =
-    Some (size_keyword MaxItems (keyword_location p keyword_name.MaxItems) readings.value)
 asserted keyword_name.Items s p ms readings =
     items_keyword s (keyword_location p keyword_name.Items) ms readings readings.value
 asserted keyword_name.PrefixItems s p ms readings =
@@ -206,24 +242,8 @@ asserted keyword_name.AdditionalItems s p ms readings =
     additional_keyword s (keyword_location p keyword_name.AdditionalItems) (get_member (name_of keyword_name.Items) ms)
     readings readings.value
 asserted keyword_name.Contains s p ms readings = contains_keyword s p ms readings
-asserted keyword_name.UniqueItems s p ms readings =
-    if is_true readings.value then Some (Ok (assertion (keyword_location p keyword_name.UniqueItems) unique)) else None
-asserted keyword_name.Const s p ms readings =
-    Some (const_keyword (keyword_location p keyword_name.Const) readings.value)
-asserted keyword_name.Enum s p ms readings = Some (enum_keyword (keyword_location p keyword_name.Enum) readings.value)
-asserted keyword_name.Minimum s p ms readings = Some (limit_keyword (relation_beside s ms Minimum) p readings.value)
-asserted keyword_name.Maximum s p ms readings = Some (limit_keyword (relation_beside s ms Maximum) p readings.value)
-asserted keyword_name.ExclusiveMinimum s p ms readings = Some (limit_keyword ExclusiveMinimum p readings.value)
-asserted keyword_name.ExclusiveMaximum s p ms readings = Some (limit_keyword ExclusiveMaximum p readings.value)
-asserted keyword_name.MultipleOf s p ms readings =
-    Some (divisor_keyword (keyword_location p keyword_name.MultipleOf) readings.value)
-asserted keyword_name.MinProperties s p ms readings =
-    Some (size_keyword MinProperties (keyword_location p keyword_name.MinProperties) readings.value)
-asserted keyword_name.MaxProperties s p ms readings =
-    Some (size_keyword MaxProperties (keyword_location p keyword_name.MaxProperties) readings.value)
-asserted keyword_name.Required s p ms readings =
-    if is_handed_on s ms then None
-    else Some (required_keyword (keyword_location p keyword_name.Required) readings.value)
+asserted w s p ms readings =
+    asserted_by (rule_for w s ms readings.value) (keyword_location p (failing_keyword w s ms)) readings.value
 
 -- what the keyword w asserts, of a value that may be absent; it asserts nothing then, nor where it does not stand
 unfoldable pub read_keyword : KeywordName → Setting → Pointer → Members → Option ValueReadings → Asserts

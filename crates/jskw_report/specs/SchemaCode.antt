@@ -11,8 +11,7 @@ use Rattle.jskw_report.specs.Keyword.{by_value, as_written, MinItems, MaxItems, 
 use Rattle.jskw_report.specs.Keyword.{Maximum, ExclusiveMinimum, ExclusiveMaximum, Assertion, never, type_is, size}
 use Rattle.jskw_report.specs.Keyword.{constant, among, limit, multiple_of, unique, required, at_most, Bounds, Marks}
 use Rattle.jskw_report.specs.Keyword.{Schema, false_schema, schema_object, Keywords, no_keywords, keyword, Keyword}
-use Rattle.jskw_report.specs.Keyword.{assertion, contains, items_list, prefix_items, items_from, additional_items}
-use Rattle.jskw_report.specs.Keyword.{Schemas, no_schemas, schema}
+use Rattle.jskw_report.specs.Keyword.{assertion, contains, each_of, rest_of, Schemas, no_schemas, schema}
 use Rattle.jskw_report.specs.declared.error.TypeKind.{TypeKind}
 use Rattle.jskw_report.specs.LabelTree.{LabelTree, leaf, fork, label_tree_code}
 use Rattle.jskw_report.specs.contracts.error.TypeKind as type_kind
@@ -77,17 +76,17 @@ marks_code =
     code_by _ (coded× coded_bool coded_bool) (λ m. (m.delegates, m.fused))
     (λ p. record { delegates = p.0; fused = p.1 }) (λ _. refl)
 
--- what stands at a fork: a location, alone or with marks or an assertion; bounds; a boolean; or an index, with a
--- boolean or alone
+-- what stands at a fork: a location, alone or with marks or an assertion; bounds; a boolean; or an index with two
+-- booleans
 abbrev SchemaLabel : Type 0
-SchemaLabel = (Pointer ⊎ ((Pointer × Marks) ⊎ (Pointer × Assertion))) ⊎ ((Bounds ⊎ Bool) ⊎ ((ℕ × Bool) ⊎ ℕ))
+SchemaLabel = (Pointer ⊎ ((Pointer × Marks) ⊎ (Pointer × Assertion))) ⊎ ((Bounds ⊎ Bool) ⊎ (ℕ × (Bool × Bool)))
 
 -- its code
 abbrev schema_label_code : Coded SchemaLabel
 schema_label_code =
     coded⊎ (coded⊎ (coded_list coded_ℕ)
     (coded⊎ (coded× (coded_list coded_ℕ) marks_code) (coded× (coded_list coded_ℕ) assertion_code)))
-    (coded⊎ (coded⊎ bounds_code coded_bool) (coded⊎ (coded× coded_ℕ coded_bool) coded_ℕ))
+    (coded⊎ (coded⊎ bounds_code coded_bool) (coded× coded_ℕ (coded× coded_bool coded_bool)))
 
 abbrev mutual
   -- the tree of the schema
@@ -104,10 +103,8 @@ abbrev mutual
   keyword_tree : Keyword → LabelTree SchemaLabel
   keyword_tree (assertion q a) = fork (inl (inr (inr (q, a)))) leaf leaf
   keyword_tree (contains s b) = fork (inr (inl (inl b))) (schema_tree s) leaf
-  keyword_tree (items_list ss) = fork (inr (inl (inr false))) (schemas_tree ss) leaf
-  keyword_tree (prefix_items ss) = fork (inr (inl (inr true))) (schemas_tree ss) leaf
-  keyword_tree (items_from n s bare) = fork (inr (inr (inl (n, bare)))) (schema_tree s) leaf
-  keyword_tree (additional_items n s) = fork (inr (inr (inr n))) (schema_tree s) leaf
+  keyword_tree (each_of prefix ss) = fork (inr (inl (inr prefix))) (schemas_tree ss) leaf
+  keyword_tree (rest_of additional n s bare) = fork (inr (inr (n, (additional, bare)))) (schema_tree s) leaf
 
   -- the tree of the schemas, under empty locations
   schemas_tree : Schemas → LabelTree SchemaLabel
@@ -130,10 +127,8 @@ abbrev mutual
   keyword_of : LabelTree SchemaLabel → Keyword
   keyword_of (fork (inl (inr (inr l))) t u) = assertion l.0 l.1
   keyword_of (fork (inr (inl (inl b))) t u) = contains (schema_of t) b
-  keyword_of (fork (inr (inl (inr false))) t u) = items_list (schemas_of t)
-  keyword_of (fork (inr (inl (inr true))) t u) = prefix_items (schemas_of t)
-  keyword_of (fork (inr (inr (inl l))) t u) = items_from l.0 (schema_of t) l.1
-  keyword_of (fork (inr (inr (inr n))) t u) = additional_items n (schema_of t)
+  keyword_of (fork (inr (inl (inr prefix))) t u) = each_of prefix (schemas_of t)
+  keyword_of (fork (inr (inr l)) t u) = rest_of l.1.0 l.0 (schema_of t) l.1.1
   keyword_of _ = assertion [] never
 
   -- the schemas of the tree
@@ -154,10 +149,8 @@ mutual
   keyword_back : (k : Keyword) → keyword_of (keyword_tree k) ≡ k
   keyword_back (assertion q a) = refl
   keyword_back (contains s b) = λ i. contains (schema_back s i) b
-  keyword_back (items_list ss) = ap items_list (schemas_back ss)
-  keyword_back (prefix_items ss) = ap prefix_items (schemas_back ss)
-  keyword_back (items_from n s bare) = λ i. items_from n (schema_back s i) bare
-  keyword_back (additional_items n s) = ap (additional_items n) (schema_back s)
+  keyword_back (each_of prefix ss) = ap (each_of prefix) (schemas_back ss)
+  keyword_back (rest_of additional n s bare) = λ i. rest_of additional n (schema_back s i) bare
 
   schemas_back : (ss : Schemas) → schemas_of (schemas_tree ss) ≡ ss
   schemas_back no_schemas = refl

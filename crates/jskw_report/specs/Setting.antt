@@ -87,90 +87,65 @@ keywords =
     ∷ Minimum ∷ Maximum ∷ ExclusiveMinimum ∷ ExclusiveMaximum ∷ MultipleOf ∷ MinProperties ∷ MaxProperties ∷ Required
     ∷ []
 
+-- every draft
+abbrev pub every_draft : Draft → Bool
+every_draft d = true
+
+-- what is known of a keyword by its name: the vocabulary and the drafts that define it, and the type of the instances
+-- that it concerns, if it isn't all of them (Validation 6.1): numbers (Validation 6.2), arrays (Validation 6.4, Core
+-- 10.3.1), or objects (Validation 6.5)
+pub record Facts : Type 0 where
+  pub name : List ℕ
+  pub vocabulary : Vocabulary
+  pub drafts : Draft → Bool
+  pub subject : Option JsonType
+
+-- a keyword of structural validation (Validation 6)
+abbrev pub validates : List ℕ → (Draft → Bool) → Option JsonType → Facts
+validates name drafts subject =
+    record { name = name; vocabulary = Validation; drafts = drafts; subject = subject }
+
+-- a keyword that applies subschemas, all of them to items (Core 10.3.1)
+abbrev pub applies_to_items : List ℕ → (Draft → Bool) → Facts
+applies_to_items name drafts =
+    record { name = name; vocabulary = Applicator; drafts = drafts; subject = Some Array }
+
+-- the facts of each keyword
+abbrev pub facts : KeywordName → Facts
+facts TypeKeyword = validates (codes "type") every_draft None
+facts MinItems = validates (codes "minItems") every_draft (Some Array)
+facts MaxItems = validates (codes "maxItems") every_draft (Some Array)
+facts Items = applies_to_items (codes "items") every_draft
+facts PrefixItems = applies_to_items (codes "prefixItems") is_2020_12
+facts AdditionalItems = applies_to_items (codes "additionalItems") (λ d. not (is_2020_12 d))
+facts Contains = applies_to_items (codes "contains") is_after_draft_4
+facts UniqueItems = validates (codes "uniqueItems") every_draft (Some Array)
+facts Const = validates (codes "const") is_after_draft_4 None
+facts Enum = validates (codes "enum") every_draft None
+facts Minimum = validates (codes "minimum") every_draft (Some Number)
+facts Maximum = validates (codes "maximum") every_draft (Some Number)
+facts ExclusiveMinimum = validates (codes "exclusiveMinimum") is_after_draft_4 (Some Number)
+facts ExclusiveMaximum = validates (codes "exclusiveMaximum") is_after_draft_4 (Some Number)
+facts MultipleOf = validates (codes "multipleOf") every_draft (Some Number)
+facts MinProperties = validates (codes "minProperties") every_draft (Some Object)
+facts MaxProperties = validates (codes "maxProperties") every_draft (Some Object)
+facts Required = validates (codes "required") every_draft (Some Object)
+
 -- the keyword's name
 abbrev pub name_of : KeywordName → List ℕ
-name_of TypeKeyword = codes "type"
-name_of MinItems = codes "minItems"
-name_of MaxItems = codes "maxItems"
-name_of Items = codes "items"
-name_of PrefixItems = codes "prefixItems"
-name_of AdditionalItems = codes "additionalItems"
-name_of Contains = codes "contains"
-name_of UniqueItems = codes "uniqueItems"
-name_of Const = codes "const"
-name_of Enum = codes "enum"
-name_of Minimum = codes "minimum"
-name_of Maximum = codes "maximum"
-name_of ExclusiveMinimum = codes "exclusiveMinimum"
-name_of ExclusiveMaximum = codes "exclusiveMaximum"
-name_of MultipleOf = codes "multipleOf"
-name_of MinProperties = codes "minProperties"
-name_of MaxProperties = codes "maxProperties"
-name_of Required = codes "required"
+name_of w = (facts w).name
 
--- the vocabulary that defines the keyword: applying subschemas (Core 10) or structural validation (Validation 6)
+-- the vocabulary that defines the keyword
 abbrev pub vocabulary_of : KeywordName → Vocabulary
-vocabulary_of Items = Applicator
-vocabulary_of PrefixItems = Applicator
-vocabulary_of AdditionalItems = Applicator
-vocabulary_of Contains = Applicator
-vocabulary_of TypeKeyword = Validation
-vocabulary_of MinItems = Validation
-vocabulary_of MaxItems = Validation
-vocabulary_of UniqueItems = Validation
-vocabulary_of Const = Validation
-vocabulary_of Enum = Validation
-vocabulary_of Minimum = Validation
-vocabulary_of Maximum = Validation
-vocabulary_of ExclusiveMinimum = Validation
-vocabulary_of ExclusiveMaximum = Validation
-vocabulary_of MultipleOf = Validation
-vocabulary_of MinProperties = Validation
-vocabulary_of MaxProperties = Validation
-vocabulary_of Required = Validation
+vocabulary_of w = (facts w).vocabulary
 
--- the draft defines the keyword: every draft does, but for the first six keywords
+-- the draft defines the keyword
 abbrev pub is_in_draft : Draft → KeywordName → Bool
-is_in_draft d PrefixItems = is_2020_12 d
-is_in_draft d AdditionalItems = not (is_2020_12 d)
-is_in_draft d Contains = is_after_draft_4 d
-is_in_draft d Const = is_after_draft_4 d
-is_in_draft d ExclusiveMinimum = is_after_draft_4 d
-is_in_draft d ExclusiveMaximum = is_after_draft_4 d
-is_in_draft d TypeKeyword = true
-is_in_draft d MinItems = true
-is_in_draft d MaxItems = true
-is_in_draft d Items = true
-is_in_draft d UniqueItems = true
-is_in_draft d Enum = true
-is_in_draft d Minimum = true
-is_in_draft d Maximum = true
-is_in_draft d MultipleOf = true
-is_in_draft d MinProperties = true
-is_in_draft d MaxProperties = true
-is_in_draft d Required = true
+is_in_draft d w = (facts w).drafts d
 
--- the type of the instances that a keyword concerns, if it isn't all of them (Validation 6.1):
--- numbers (Validation 6.2), arrays (Validation 6.4, Core 10.3.1), or objects (Validation 6.5)
+-- the type of the instances that the keyword concerns, if it isn't all of them
 abbrev pub concerns : KeywordName → Option JsonType
-concerns TypeKeyword = None
-concerns MinItems = Some Array
-concerns MaxItems = Some Array
-concerns Items = Some Array
-concerns PrefixItems = Some Array
-concerns AdditionalItems = Some Array
-concerns Contains = Some Array
-concerns UniqueItems = Some Array
-concerns Const = None
-concerns Enum = None
-concerns Minimum = Some Number
-concerns Maximum = Some Number
-concerns ExclusiveMinimum = Some Number
-concerns ExclusiveMaximum = Some Number
-concerns MultipleOf = Some Number
-concerns MinProperties = Some Object
-concerns MaxProperties = Some Object
-concerns Required = Some Object
+concerns w = (facts w).subject
 
 -- the keyword's name is overridden
 abbrev pub is_overridden : Setting → List ℕ → Bool

@@ -1,16 +1,15 @@
 //! The trait of validators that give at most one error: those of the keywords without subschemas
 //! (JSON Schema Core 7.6) other than `required`, of the schema `false`, and of `additionalItems`
 //! with `false`.
-ghost use Rattle.std.specs.Prelude.{◌≡◌, IfOk, IsOk, IsTrue, false};
+ghost use Rattle.std.specs.Prelude.{◌≡◌, IfOk, IsOk, IsTrue, Some, false};
 ghost use Rattle.jskw_report.specs.Evaluation.{of_errors};
 ghost use Rattle.jskw_report.specs.EvaluationView.{result_of};
-ghost use Rattle.jskw_value.specs.Tree.{Tree, is_lawful};
+ghost use Rattle.jskw_value.specs.Tree.{is_lawful};
 ghost use Rattle.jskw_report.specs.Errors.{kind_of};
-ghost use Rattle.jskw_report.specs.Fail.{error_kinds, keyword_fail, unless};
+ghost use Rattle.jskw_report.specs.Fail.{keyword_fail, kind_for};
 ghost use Rattle.jskw_report.specs.Holds.{assertion_holds, keyword_holds};
-ghost use Rattle.jskw_report.specs.Kind.{ErrorKind};
 ghost use Rattle.jskw_report.specs.Meaning.{LocatedAssertion, as_keyword, one_keyword};
-ghost use Rattle.jskw_report.specs.Observe.{Reports, failures_unless};
+ghost use Rattle.jskw_report.specs.Observe.{Reports};
 ghost use Rattle.jskw_report.specs.Paths.{path_of};
 
 use crate::error::{Stop, ValidationError, ValidationErrorKind};
@@ -23,13 +22,11 @@ use std::alloc::{AllocError, Global};
 
 /// A validator that gives at most one error for an instance. It says whether it holds, and the kind
 /// and the keyword location of its error. From these it gets the four observers of [`Validate`],
-/// for every representation.
+/// for every representation. Of `required` there is none: `kind` returns what `kind_for` has for the
+/// assertion, and it has nothing for `required`.
 pub trait Assertion {
     /// What is asserted, and the keyword location of the error.
     ghost asserts: { Self → LocatedAssertion };
-
-    /// The kind of the error.
-    ghost error: { Self → ErrorKind };
 
     /// Returns whether the assertion holds for `instance`. The instance must be lawful: it contains
     /// no float. Allocates nothing.
@@ -40,16 +37,11 @@ pub trait Assertion {
 
     /// Returns the kind of the error, with what the keyword expects.
     fn kind(&self) -> ValidationErrorKind<'_>
-        ensures { kind_of result ≡ error self.now };
+        ensures { kind_for (asserts self.now).assertion ≡ Some (kind_of result) };
 
     /// Returns the keyword location of the error (JSON Schema Core 12.3.1).
     fn location(&self) -> &KeywordLocation
         ensures { result.now ≡ (asserts self.now).location };
-
-    /// The law of an assertion: it has one error, of the kind `error`, if it does not hold, and
-    /// none if it does.
-    ghost fails_once: { (a : Self) (t : Tree) → error_kinds (asserts a).assertion t
-        ≡ unless (assertion_holds (asserts a).assertion t) (error a) };
 }
 
 impl<F: Json, A: Assertion> Validate<F> for A {
@@ -127,8 +119,10 @@ fn report_failure<'i, F: Json, A: Assertion>(
     location: &LazyLocation,
     report: &mut Report<'i, F>,
 ) -> Result<(), Stop>
-    ensures { let a = A.asserts assertion.now in Reports F.Node.tree report.old report.new
-        (failures_unless false (A.error assertion.now) a.location (F.Node.tree instance.now)
+    requires { assertion_holds (A.asserts assertion.now).assertion (F.Node.tree instance.now)
+        ≡ false }
+    ensures { Reports F.Node.tree report.old report.new (keyword_fail
+        (as_keyword (A.asserts assertion.now)) (F.Node.tree instance.now)
         (path_of location.now)) result }
 {
     let schema_path = assertion.location();
@@ -143,11 +137,20 @@ fn evaluate_failure<'i, F: Json, A: Assertion>(
     instance: &'i F::Node,
     location: &LazyLocation,
 ) -> Result<EvaluationResult, AllocError>
-    ensures { let a = A.asserts assertion.now in IfOk result (λ r. result_of r
-        ≡ of_errors (failures_unless false (A.error assertion.now) a.location
-        (F.Node.tree instance.now) (path_of location.now))) }
+    requires { assertion_holds (A.asserts assertion.now).assertion (F.Node.tree instance.now)
+        ≡ false }
+    ensures { IfOk result (λ r. result_of r ≡ of_errors (keyword_fail
+        (as_keyword (A.asserts assertion.now)) (F.Node.tree instance.now)
+        (path_of location.now))) }
 {
     let mut report: Report<F> = Report::First(None);
-    let reported = report_failure(assertion, instance, location, &mut report);
+    let schema_path = assertion.location();
+    let reported = report_error(
+        assertion.kind(),
+        schema_path,
+        instance,
+        location,
+        &mut report,
+    );
     evaluate_first(alloc, report.first_result(reported))
 }

@@ -1,11 +1,11 @@
 //! The errors of an instance, and those of a schema that does not compile.
 ghost use Rattle.std.specs.Prelude.{◌≡◌, [], IfOk, alloc_error};
-ghost use Rattle.jskw_report.specs.Kind.{keyword_of, Single, Multiple, WrongType};
+ghost use Rattle.jskw_report.specs.Kind.{keyword_of, payload_of, Single, Multiple, WrongType};
 ghost use Rattle.jskw_report.specs.KeywordValue.{not_whole};
 ghost use Rattle.serde_json.specs.View.{view};
 ghost use Rattle.jskw_value.specs.Serde.{value_tree};
 ghost use Rattle.jskw_report.specs.Compile.{Refuses, refusal_of};
-ghost use Rattle.jskw_report.specs.Errors.{kind_of, failure_of};
+ghost use Rattle.jskw_report.specs.Errors.{kind_of, failure_of, payload_view};
 ghost use Rattle.jskw_report.specs.declared.error.CompileFault.TheVariants as compile_fault;
 ghost use Rattle.jskw_report.specs.declared.error.Fault.TheVariants as fault;
 ghost use Rattle.jskw_report.specs.declared.error.Stop.TheVariants as stop;
@@ -118,27 +118,79 @@ impl<'i> ValidationErrorKind<'i> {
     pub fn keyword(&self) -> &'static str
         ensures { result.now ≡ keyword_of (kind_of self.now) }
     {
-        match self {
-            ValidationErrorKind::AdditionalItems { .. } => "additionalItems",
-            ValidationErrorKind::CompileError { .. } => "compileError",
-            ValidationErrorKind::Constant { .. } => "const",
-            ValidationErrorKind::Contains => "contains",
-            ValidationErrorKind::Enum { .. } => "enum",
-            ValidationErrorKind::ExclusiveMaximum { .. } => "exclusiveMaximum",
-            ValidationErrorKind::ExclusiveMinimum { .. } => "exclusiveMinimum",
-            ValidationErrorKind::FalseSchema => "falseSchema",
-            ValidationErrorKind::MaxItems { .. } => "maxItems",
-            ValidationErrorKind::Maximum { .. } => "maximum",
-            ValidationErrorKind::MaxProperties { .. } => "maxProperties",
-            ValidationErrorKind::MinItems { .. } => "minItems",
-            ValidationErrorKind::Minimum { .. } => "minimum",
-            ValidationErrorKind::MinProperties { .. } => "minProperties",
-            ValidationErrorKind::MultipleOf { .. } => "multipleOf",
-            ValidationErrorKind::Required { .. } => "required",
-            ValidationErrorKind::WrongType { .. } => "type",
-            ValidationErrorKind::UniqueItems => "uniqueItems",
+        self.told().0
+    }
+
+    /// Returns what the keyword expected.
+    pub fn payload(&self) -> Payload<'i>
+        ensures { payload_view result ≡ payload_of (kind_of self.now) }
+    {
+        self.told().1
+    }
+
+    // Returns the name of the keyword, and what it expected.
+    fn told(&self) -> (&'static str, Payload<'i>)
+        ensures keyword { result.0.now ≡ keyword_of (kind_of self.now) }
+        ensures payload { payload_view result.1 ≡ payload_of (kind_of self.now) }
+    {
+        match *self {
+            ValidationErrorKind::AdditionalItems { limit } => {
+                ("additionalItems", Payload::Count(limit as u64))
+            }
+            ValidationErrorKind::CompileError { message } => {
+                ("compileError", Payload::Message(message))
+            }
+            ValidationErrorKind::Constant { expected_value } => {
+                ("const", Payload::Value(expected_value))
+            }
+            ValidationErrorKind::Contains => ("contains", Payload::Nothing),
+            ValidationErrorKind::Enum { options } => ("enum", Payload::Options(options)),
+            ValidationErrorKind::ExclusiveMaximum { limit } => {
+                ("exclusiveMaximum", Payload::Limit(limit))
+            }
+            ValidationErrorKind::ExclusiveMinimum { limit } => {
+                ("exclusiveMinimum", Payload::Limit(limit))
+            }
+            ValidationErrorKind::FalseSchema => ("falseSchema", Payload::Nothing),
+            ValidationErrorKind::MaxItems { limit } => ("maxItems", Payload::Count(limit)),
+            ValidationErrorKind::Maximum { limit } => ("maximum", Payload::Limit(limit)),
+            ValidationErrorKind::MaxProperties { limit } => {
+                ("maxProperties", Payload::Count(limit))
+            }
+            ValidationErrorKind::MinItems { limit } => ("minItems", Payload::Count(limit)),
+            ValidationErrorKind::Minimum { limit } => ("minimum", Payload::Limit(limit)),
+            ValidationErrorKind::MinProperties { limit } => {
+                ("minProperties", Payload::Count(limit))
+            }
+            ValidationErrorKind::MultipleOf { multiple_of } => {
+                ("multipleOf", Payload::Count(multiple_of))
+            }
+            ValidationErrorKind::Required { property } => ("required", Payload::Name(property)),
+            ValidationErrorKind::WrongType { kind } => ("type", Payload::Types(kind)),
+            ValidationErrorKind::UniqueItems => ("uniqueItems", Payload::Nothing),
         }
     }
+}
+
+/// What a keyword expected: what errors of most kinds have beside their keyword.
+#[derive(Clone, Copy, Debug, PartialEq)]
+pub enum Payload<'i> {
+    /// Nothing more than the keyword says.
+    Nothing,
+    /// Why a schema is refused.
+    Message(&'static str),
+    /// A bound on a size, or a divisor: an integer from 0 to 2^64-1.
+    Count(u64),
+    /// A limit on numbers: an integer from -2^63 to 2^64-1.
+    Limit(i128),
+    /// The value of `const`.
+    Value(&'i Value),
+    /// The options of `enum`, or the names of all types.
+    Options(EnumOptions<'i>),
+    /// The name of a member.
+    Name(&'i str),
+    /// The types, one of which was expected.
+    Types(TypeKind),
 }
 
 /// A keyword location: borrowed from a validator, or owned by a compile error.

@@ -79,30 +79,14 @@ impl KeywordName {
         KeywordName::Required,
     ];
 
+    // The number of keywords.
+    pub(crate) const COUNT: usize = KeywordName::ALL.len();
+
     /// Returns the name of the keyword in a schema, such as `minItems`.
     pub fn as_str(self) -> &'static str
         ensures { result.now ≡ name_of self }
     {
-        match self {
-            KeywordName::TypeKeyword => "type",
-            KeywordName::MinItems => "minItems",
-            KeywordName::MaxItems => "maxItems",
-            KeywordName::Items => "items",
-            KeywordName::PrefixItems => "prefixItems",
-            KeywordName::AdditionalItems => "additionalItems",
-            KeywordName::Contains => "contains",
-            KeywordName::UniqueItems => "uniqueItems",
-            KeywordName::Const => "const",
-            KeywordName::Enum => "enum",
-            KeywordName::Minimum => "minimum",
-            KeywordName::Maximum => "maximum",
-            KeywordName::ExclusiveMinimum => "exclusiveMinimum",
-            KeywordName::ExclusiveMaximum => "exclusiveMaximum",
-            KeywordName::MultipleOf => "multipleOf",
-            KeywordName::MinProperties => "minProperties",
-            KeywordName::MaxProperties => "maxProperties",
-            KeywordName::Required => "required",
-        }
+        &self.token()[1..]
     }
 
     // Returns the name behind a slash: the reference token of the keyword's member (RFC 6901).

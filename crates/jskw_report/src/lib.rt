@@ -44,7 +44,7 @@ pub mod validator;
 pub use assertion::Assertion;
 pub use context::Context;
 pub use error::{
-    CompilationResult, CompileFault, EnumOptions, Fault, Stop, TypeKind, ValidationError,
+    CompilationResult, CompileFault, EnumOptions, Fault, Payload, Stop, TypeKind, ValidationError,
     ValidationErrorKind,
 };
 pub use evaluation::{Annotations, ErrorDescription, EvaluationNode, EvaluationResult};

@@ -106,7 +106,7 @@ pub struct Settings {
     vocabularies: VocabularySet,
     overridden: Vec<String>,
     // for each keyword, whether its name is one of `overridden`
-    marks: [bool; 18],
+    marks: [bool; KeywordName::COUNT],
 }
 
 impl Model for Settings {
@@ -183,10 +183,10 @@ impl Settings {
 }
 
 // Returns for each keyword whether its name is one of these.
-fn marks_of(names: &[String]) -> [bool; 18]
+fn marks_of(names: &[String]) -> [bool; KeywordName::COUNT]
     ensures { result ≡ overridden_marks (map string_bytes names.now) }
 {
-    let mut marks = [false; 18];
+    let mut marks = [false; KeywordName::COUNT];
     for (i, keyword) in KeywordName::ALL.iter().enumerate() {
         marks[i] = is_among(names, keyword.as_str());
     }

@@ -1,5 +1,6 @@
 -- What comes first in a text.
 use Rattle.std.proofs.Common.{◌≡◌, ℕ, zero, suc, ◌+◌, ◌-◌, ◌<◌, ◌≤◌, Bool, true, false, cond, ◌||◌, ◌==◌, List, [], ◌∷◌}
+use Rattle.std.proofs.Common.{Option, Some, None, IfSome}
 use Rattle.std.proofs.Common.{◌++◌, length, drop, take, get_or, ◌⊎◌, inl, inr, refl, sym, ap, ap₂, ◌∙◌, subst, nat_eq}
 use Rattle.std.proofs.Common.{arith, append-nil, take_all, length-drop, length-take-le, length-append}
 use Rattle.std.proofs.lemmas.Bool.{eqb-true, or_cases, true≢false}
@@ -17,7 +18,13 @@ use Rattle.json.specs.Run.{is_plain}
 use Rattle.json.specs.Token.{Token, string, boolean, null}
 use Rattle.json.specs.Word.{head, is_space, ends_word, word}
 use Rattle.jskw_value.specs.Number.{Num}
+use Rattle.jskw_text.specs.Escapes.{IsString}
 use Rattle.jskw_text.specs.Passing.{Passes, PassesNumber, IsNumberAt}
+
+-- what is found has a property if it has another
+pub if_some : {A : Type 0} (P Q : A → Type 0) (r : Option A) → ((a : A) → P a → Q a) → IfSome r P → IfSome r Q
+if_some P Q None f h = tt
+if_some P Q (Some a) f h = f a h
 
 -- ---- spaces
 
@@ -109,6 +116,18 @@ string_first d p stop within opens is inside closes =
     record {
       lexed = ap (lex between) whole ∙ quoted_first s (drop (stop + 1) d);
       shorter = omega (arith, length-drop p d, length-drop (stop + 1) d);
+    }
+
+-- a quote, the text of a string, and a quote at `stop`
+pub escaped_first : (d : List ℕ) (p stop : ℕ) (s : List ℕ) → p < length d → get_or d p 0 ≡ 34
+    → IsString d (p + 1) s stop → Passes (drop p d) (token (string s) ∷ []) (drop (stop + 1) d)
+unfolding lex
+escaped_first d p stop s within opens is =
+    let xs = drop (p + 1) d in
+    record {
+      lexed = ap (lex between) (drop_more d p 0 within ∙ ap (λ x. x ∷ xs) opens)
+          ∙ ap (λ o. token (string_token o) ∷ lex in_string xs) is.content_is ∙ ap (λ l. token (string s) ∷ l) is.lexed;
+      shorter = omega (arith, length-drop p d, length-drop (stop + 1) d, is.bounds.0, is.bounds.1);
     }
 
 -- ---- numbers

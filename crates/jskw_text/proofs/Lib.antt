@@ -1,5 +1,7 @@
 pub mod Alike
+mod Contents
 pub mod Digits
+pub mod Escapes
 pub mod Exact
 pub mod FewDigits
 mod Lanes

@@ -2,7 +2,7 @@
 use Rattle.std.proofs.Common.{◌≡◌, ℕ, ◌+◌, ◌-◌, ◌*◌, ◌%◌, ◌^◌, ◌<◌, ◌≤◌, ◌==◌, ◌||◌, List}
 use Rattle.std.proofs.Common.{length, drop, take, get_or, Bool, true, false, cond, Option, Some, None, IfSome}
 use Rattle.std.proofs.Common.{option_map, option_and_then, inl, inr, ◌⊎◌, refl, sym, ap, ◌∙◌, arith, length-drop}
-use Rattle.std.proofs.Common.{add-zero}
+use Rattle.std.proofs.Common.{add-zero, is_some, lt_of_not-le}
 use Rattle.std.proofs.Common.{length-take-le}
 use Rattle.std.proofs.lemmas.Bool.{cases_Bool, eqb-true, ne_eqb, false≢true, eq-eqb}
 use Rattle.std.proofs.lemmas.List.{drop-drop, drop-take, get_or-drop, get_or-take, take-take}
@@ -159,6 +159,9 @@ module _ (d : List ℕ) (start : ℕ) (negative : Bool) (r : Option Decimal) whe
 
 -- ---- with the sign
 
+is_some_none : {A : Type 0} {a : A} → None ≡ Some a → ⊥
+is_some_none e = false≢true (ap is_some e)
+
 -- what is left of a text behind a number is what stands behind its slice
 number_in : (d : List ℕ) (from end : ℕ) → from ≤ end → ends_word (drop end d) ≡ true
     → after_number (drop from d) ≡ Some (drop end d) → IsNumber (slice_range d from end)
@@ -217,3 +220,11 @@ negative_number d from end x minus u =
           ∙ ap (λ l. decimal_from true (scan l)) rest ∙ u.denotes;
       ended = u.ended;
     }
+
+-- a number has a byte
+pub some_bytes : (d : List ℕ) (from end : ℕ) → from ≤ end → IsNumber (slice_range d from end) → from < end
+unfolding after_number
+some_bytes d from end le is = lt_of_not-le (λ h. none (omega arith))
+  where
+    none : end - from ≡ 0 → ⊥
+    none e = absurd (is_some_none (sym (ap (λ n. after_number (take n (drop from d))) e) ∙ is))

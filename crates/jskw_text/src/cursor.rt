@@ -1,13 +1,17 @@
 //! The rest of a text, and what comes first in it.
-ghost use Rattle.std.specs.Prelude.{◌≡◌, [], ◌∷◌, ◌++◌, IfNone, IfSome, MatchBool, IsTrue, length};
+ghost use Rattle.std.specs.Prelude.{◌≡◌, [], ◌∷◌, ◌++◌, IfNone, IfOk, IfSome, MatchBool, IsTrue, length, string_bytes};
 ghost use Rattle.json.specs.Lex.{class, operator, operator_lexeme, token, between, lex};
 ghost use Rattle.json.specs.Token.{string};
 ghost use Rattle.json.specs.Word.{head, ends_word};
 ghost use Rattle.jskw_value.specs.Decimal.{value};
 ghost use Rattle.jskw_text.specs.Passing.{Passes, PassesNumber};
 
-use crate::scan::{behind_spaces, byte_at, ends_word, has_at, plain_end, short_number_at};
+use crate::escape::unescape;
+use crate::scan::{
+    behind_spaces, byte_at, ends_word, has_at, number_at, plain_end, short_number_at,
+};
 use jskw_value::Decimal;
+use std::alloc::AllocError;
 use std::marker::Model;
 
 // A text and an offset. Contracts see the text from there on.
@@ -89,7 +93,8 @@ impl<'a> Cursor<'a> {
     #[inline(always)]
     pub(crate) fn string(&mut self) -> Option<&'a str>
         requires { head self.old ≡ 34 }
-        ensures { IfSome result (λ s. Passes self.old (token (string s.now) ∷ []) self.new) }
+        ensures string { IfSome result (λ s. Passes self.old (token (string s.now) ∷ []) self.new) }
+        ensures none { IfNone result (self.new ≡ self.old) }
     {
         let text = self.text;
         let start = self.at + 1;
@@ -101,13 +106,39 @@ impl<'a> Cursor<'a> {
         Some(&text[start..stop])
     }
 
-    // Passes over the number that comes first and returns it, if it is a decimal.
+    // Passes over the string that comes first and appends its content to a text. Returns whether there
+    // is one.
+    pub(crate) fn escaped_string(&mut self, content: &mut String) -> Result<bool, AllocError>
+        requires first { head self.old ≡ 34 }
+        requires empty { string_bytes content.old ≡ [] }
+        ensures { IfOk result (λ found. IsTrue found
+            → Passes self.old (token (string (string_bytes content.new)) ∷ []) self.new) }
+    {
+        let Some(stop) = unescape(self.text, self.at + 1, content)? else {
+            return Ok(false);
+        };
+        self.at = stop + 1;
+        Ok(true)
+    }
+
+    // Passes over the number that comes first and returns it, if it is a decimal of few digits.
     #[inline(always)]
-    pub(crate) fn number(&mut self) -> Option<Decimal>
+    pub(crate) fn short_number(&mut self) -> Option<Decimal>
         ensures number { IfSome result (λ d. PassesNumber self.old (value d) self.new) }
         ensures none { IfNone result (self.new ≡ self.old) }
     {
         let (decimal, end) = short_number_at(self.text.as_bytes(), self.at)?;
+        self.at = end;
+        Some(decimal)
+    }
+
+    // Passes over the number that comes first and returns it, if it is a decimal.
+    #[cold]
+    #[inline(never)]
+    pub(crate) fn number(&mut self) -> Option<Decimal>
+        ensures { IfSome result (λ d. PassesNumber self.old (value d) self.new) }
+    {
+        let (decimal, end) = number_at(self.text, self.at)?;
         self.at = end;
         Some(decimal)
     }

@@ -1,14 +1,14 @@
 //! Exact decimals from JSON text.
 //!
 //! [`read_bytes`] reads JSON text into a [`DecimalTree`](jskw_value::DecimalTree), or returns a
-//! [`ReadFault`]. [`read_bytes_with`] keeps the room that reading needs, [`TreeReader`] also that of
-//! trees that are no longer needed. [`position_of`] returns the line and the column of an offset.
-//! [`parse_decimal`] reads one number. `specs/Reading.antt` says which tree a text denotes,
-//! `specs/NumberText.antt` which decimal a number.
+//! [`ReadFault`]. [`TreeReader`] keeps the room of trees that are no longer needed. [`position_of`]
+//! returns the line and the column of an offset. [`parse_decimal`] reads one number.
+//! `specs/Reading.antt` says which tree a text denotes, `specs/NumberText.antt` which decimal a number.
 #![tactic(auto)]
 
 mod broken;
 mod cursor;
+mod escape;
 pub mod fault;
 pub mod laws;
 pub mod number;
@@ -24,4 +24,4 @@ pub use fault::ReadFault;
 pub use number::parse_decimal;
 pub use position::{Position, position_of};
 pub use reader::TreeReader;
-pub use tree::{read_bytes, read_bytes_with};
+pub use tree::read_bytes;

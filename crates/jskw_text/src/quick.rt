@@ -1,13 +1,14 @@
-//! The tree of a text in one pass. It reads most texts, and gives the others up.
-ghost use Rattle.std.specs.Prelude.{◌≡◌, ◌≤◌, Some, Ok, IfOk, OnOk, length, map, string_bytes};
+//! The tree of a text in one pass. It gives a text up that is refused, and does not say why.
+ghost use Rattle.std.specs.Prelude.{◌≡◌, ◌≤◌, [], ◌∷◌, Some, Ok, IfOk, OnOk, length, map, string_bytes};
+ghost use Rattle.json.specs.Lex.{token};
+ghost use Rattle.json.specs.Token.{string};
 ghost use Rattle.json.specs.Word.{head};
 ghost use Rattle.jskw_value.specs.DecimalTree.{decimal_tree, items_from};
 ghost use Rattle.jskw_text.specs.Members.{members_seen};
-ghost use Rattle.jskw_text.specs.Passing.{PassesLeaf, PassesName, Reads, ReadsItems, ReadsMembers};
+ghost use Rattle.jskw_text.specs.Passing.{Passes, PassesLeaf, PassesName, Reads, ReadsItems, ReadsMembers};
 ghost use Rattle.jskw_text.specs.Reading.{reading};
 
 use crate::cursor::Cursor;
-use crate::scan::has_backslash;
 use crate::sorted::put;
 use crate::spare::Spare;
 use crate::tree::MAX_DEPTH;
@@ -17,7 +18,7 @@ use std::alloc::{AllocError, AllocFailed};
 // Why a text was not read.
 #[derive(Drop)]
 pub(crate) enum Unread {
-    // It has an escape, a number of many digits or with an exponent, or is no JSON.
+    // It is no JSON, or has a number that is not exact.
     Text,
     // Memory ran out.
     Memory(AllocError),
@@ -39,9 +40,6 @@ impl<T: Drop> From<AllocFailed<T>> for Unread {
 pub(crate) fn read_quickly(text: &str, spare: &mut Spare) -> Result<DecimalTree, Unread>
     ensures { IfOk result (λ tree. reading text.now ≡ Some (Ok (decimal_tree tree))) }
 {
-    if has_backslash(text.as_bytes()) {
-        return Err(Unread::Text);
-    }
     let mut cursor = Cursor::new(text);
     let tree = read(&mut cursor, spare, MAX_DEPTH)?;
     cursor.skip_spaces();
@@ -79,7 +77,8 @@ fn read(cursor: &mut Cursor<'_>, spare: &mut Spare, depth: usize) -> Result<Deci
     }
 }
 
-// Reads a string.
+// Reads a string. What a call out of line returns is put into a new result: with one result for both,
+// the value of each item would go through memory.
 #[inline(always)]
 fn read_text(cursor: &mut Cursor<'_>, spare: &mut Spare) -> Result<DecimalTree, Unread>
     requires { head cursor.old ≡ 34 }
@@ -87,8 +86,23 @@ fn read_text(cursor: &mut Cursor<'_>, spare: &mut Spare) -> Result<DecimalTree, 
 {
     match cursor.string() {
         Some(text) => Ok(DecimalTree::Text(spare.text(text)?)),
-        None => Err(Unread::Text),
+        None => Ok(DecimalTree::Text(read_escaped(cursor, spare)?)),
     }
+}
+
+// Reads the content of a string that has escapes.
+#[cold]
+#[inline(never)]
+fn read_escaped(cursor: &mut Cursor<'_>, spare: &mut Spare) -> Result<String, Unread>
+    requires { head cursor.old ≡ 34 }
+    ensures { IfOk result (λ content.
+        Passes cursor.old (token (string (string_bytes content)) ∷ []) cursor.new) }
+{
+    let mut content = spare.text("")?;
+    if !cursor.escaped_string(&mut content)? {
+        return Err(Unread::Text);
+    }
+    Ok(content)
 }
 
 // Reads a number, a boolean or null.
@@ -96,7 +110,7 @@ fn read_text(cursor: &mut Cursor<'_>, spare: &mut Spare) -> Result<DecimalTree, 
 fn read_word(cursor: &mut Cursor<'_>) -> Result<DecimalTree, Unread>
     ensures { IfOk result (λ tree. PassesLeaf cursor.old (decimal_tree tree) cursor.new) }
 {
-    if let Some(decimal) = cursor.number() {
+    if let Some(decimal) = cursor.short_number() {
         Ok(DecimalTree::Number(decimal))
     } else if cursor.takes_word(b"true") {
         Ok(DecimalTree::Bool(true))
@@ -104,6 +118,8 @@ fn read_word(cursor: &mut Cursor<'_>) -> Result<DecimalTree, Unread>
         Ok(DecimalTree::Bool(false))
     } else if cursor.takes_word(b"null") {
         Ok(DecimalTree::Null)
+    } else if let Some(decimal) = cursor.number() {
+        Ok(DecimalTree::Number(decimal))
     } else {
         Err(Unread::Text)
     }
@@ -124,7 +140,7 @@ fn read_items(
     if cursor.takes(b']') {
         return Ok(Vec::new(spare.alloc));
     }
-    let mut found = spare.list()?;
+    let mut found = spare.list(depth)?;
     'items: loop {
         let item = read(cursor, spare, depth)?;
         found.push(item)?;
@@ -135,7 +151,7 @@ fn read_items(
     if !cursor.takes(b']') {
         return Err(Unread::Text);
     }
-    spare.had_items(found.len());
+    spare.had(depth, found.len());
     Ok(found)
 }
 
@@ -149,11 +165,12 @@ fn read_members(cursor: &mut Cursor<'_>, spare: &mut Spare, depth: usize) -> Res
     if cursor.takes(b'}') {
         return Ok(Members::new(spare.alloc));
     }
-    let mut found = spare.pairs()?;
+    let mut found = spare.pairs(depth)?;
+    let mut in_order = true;
     'members: loop {
         let name = read_name(cursor, spare)?;
         let value = read(cursor, spare, depth)?;
-        put(&mut found, Member { name, value })?;
+        in_order = put(&mut found, Member { name, value }, in_order)?;
         if !cursor.takes(b',') {
             break;
         }
@@ -161,7 +178,7 @@ fn read_members(cursor: &mut Cursor<'_>, spare: &mut Spare, depth: usize) -> Res
     if !cursor.takes(b'}') {
         return Err(Unread::Text);
     }
-    spare.had_members(found.len());
+    spare.had(depth, found.len());
     Ok(Members::from_last_pairs(found)?)
 }
 
@@ -176,6 +193,21 @@ fn read_name(cursor: &mut Cursor<'_>, spare: &mut Spare) -> Result<String, Unrea
     }
     match cursor.string() {
         Some(text) if cursor.takes(b':') => Ok(spare.text(text)?),
-        _ => Err(Unread::Text),
+        Some(_) => Err(Unread::Text),
+        None => Ok(read_escaped_name(cursor, spare)?),
     }
+}
+
+// Reads a name that has escapes, and its colon.
+#[cold]
+#[inline(never)]
+fn read_escaped_name(cursor: &mut Cursor<'_>, spare: &mut Spare) -> Result<String, Unread>
+    requires { head cursor.old ≡ 34 }
+    ensures { IfOk result (λ name. PassesName cursor.old (string_bytes name) cursor.new) }
+{
+    let name = read_escaped(cursor, spare)?;
+    if !cursor.takes(b':') {
+        return Err(Unread::Text);
+    }
+    Ok(name)
 }

@@ -12,13 +12,20 @@ use json::Scratch;
 use std::alloc::Global;
 use std::fmt;
 
-/// Reads texts one after another. It keeps the room that reading needs, and up to 4 MB of the room
-/// of trees that are no longer needed.
+// The longest text whose room is kept.
+const LONGEST: usize = 1_000_000;
+
+/// Reads texts one after another. It keeps up to 4 MB of the room of trees that are no longer needed,
+/// and what a text that is refused is read with, but neither behind a long text.
 #[derive(Drop)]
 pub struct TreeReader {
     alloc: Global,
-    scratch: Scratch,
     spare: Spare,
+    // What a text that is refused is read with, once there was one.
+    scratch: Option<Box<Scratch>>,
+    longest: usize,
+    // Whether the text that was read last is longer.
+    is_long: bool,
 }
 
 impl fmt::Debug for TreeReader {
@@ -28,12 +35,19 @@ impl fmt::Debug for TreeReader {
 }
 
 impl TreeReader {
-    /// Creates a reader whose trees are allocated with `alloc`.
+    /// Creates a reader whose trees are allocated with `alloc`. It keeps room of texts of up to 1 MB.
     pub fn new(alloc: Global) -> TreeReader {
+        TreeReader::keeping(alloc, LONGEST)
+    }
+
+    /// Creates a reader that keeps room of texts of up to so many bytes.
+    pub fn keeping(alloc: Global, longest: usize) -> TreeReader {
         TreeReader {
             alloc,
-            scratch: Scratch::new(alloc),
             spare: Spare::new(alloc),
+            scratch: None,
+            longest,
+            is_long: false,
         }
     }
 
@@ -46,17 +60,21 @@ impl TreeReader {
         ensures tree { IfOk result (λ tree. reading bytes.now ≡ Some (Ok (decimal_tree tree))) }
         ensures fault { IfErr result (IsFaultOf bytes.now) }
     {
-        read_with(self.alloc, bytes, &mut self.scratch, &mut self.spare)
+        self.is_long = bytes.len() > self.longest;
+        let tree = read_with(self.alloc, bytes, &mut self.spare, &mut self.scratch);
+        if self.is_long {
+            self.scratch = None;
+        }
+        tree
     }
 
     /// Takes a tree that is no longer needed. Trees that are read later use its room, so that it need
     /// not be freed and allocated again.
     pub fn reuse(&mut self, tree: DecimalTree) {
-        self.spare.take(tree);
-    }
-
-    /// Returns the room that reading needs.
-    pub fn scratch(&mut self) -> &mut Scratch {
-        &mut self.scratch
+        if self.is_long {
+            self.spare = Spare::new(self.alloc);
+        } else {
+            self.spare.take(tree);
+        }
     }
 }

@@ -7,12 +7,14 @@ ghost use Rattle.std.specs.Simd.Lanes.{mask_l};
 ghost use Rattle.std.specs.Str.Parse.{digits_value};
 ghost use Rattle.json.specs.Lex.{between, lex};
 ghost use Rattle.json.specs.Run.{is_plain, is_stop};
-ghost use Rattle.json.specs.Word.{after_whole, head, is_operator, is_space};
+ghost use Rattle.json.specs.Word.{after_whole, ends_word, head, is_operator, is_space};
 ghost use Rattle.jskw_value.specs.Decimal.{value};
 ghost use Rattle.jskw_text.specs.Passing.{IsNumberAt, IsUnsignedAt};
 
+use crate::number::parse_decimal;
 use core::dec2flt::read_digits;
 use jskw_value::Decimal;
+use json::is_number;
 use std::simd::prelude::*;
 
 // Returns the byte at an offset, or a space behind the end.
@@ -22,18 +24,6 @@ pub(crate) fn byte_at(bytes: &[u8], at: usize) -> u8
     ensures head { result ≡ head (drop at bytes.now) }
 {
     if at < bytes.len() { bytes[at] } else { b' ' }
-}
-
-// Returns whether there is a backslash. It looks at each byte, so that the compiler can look at
-// several at once.
-pub(crate) fn has_backslash(bytes: &[u8]) -> bool {
-    let mut found = false;
-    for &byte in bytes {
-        if byte == b'\\' {
-            found = true;
-        }
-    }
-    found
 }
 
 // Returns whether a byte is a space between tokens.
@@ -182,4 +172,43 @@ fn with_fraction(
     }
     let decimal = Decimal::from_parts(is_negative, size, (end - point - 1) as u8)?;
     Some((decimal, end))
+}
+
+// Returns the decimal of any number at an offset, and the offset behind it.
+#[cold]
+#[inline(never)]
+pub(crate) fn number_at(text: &str, from: usize) -> Option<(Decimal, usize)>
+    requires { from ≤ length text.now }
+    ensures { IfSome result (λ p. IsNumberAt text.now from p.1 (value p.0)) }
+{
+    let bytes = text.as_bytes();
+    if !begins_number(byte_at(bytes, from)) {
+        return None;
+    }
+    let end = word_end(bytes, from);
+    let word = &text[from..end];
+    if !is_number(word) {
+        return None;
+    }
+    Some((parse_decimal(word)?, end))
+}
+
+// Returns whether a number begins with this byte.
+fn begins_number(byte: u8) -> bool
+    ensures { IsTrue result → byte < 128 }
+{
+    byte == b'-' || byte.is_ascii_digit()
+}
+
+// Returns the offset behind the word that begins at an offset.
+fn word_end(bytes: &[u8], from: usize) -> usize
+    requires { from ≤ length bytes.now }
+    ensures bounds { (from ≤ result) × (result ≤ length bytes.now) }
+    ensures ended { ends_word (drop result bytes.now) ≡ true }
+{
+    let mut at = from;
+    'bytes: while at < bytes.len() && !ends_word(bytes[at]) {
+        at += 1;
+    }
+    at
 }

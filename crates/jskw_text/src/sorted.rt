@@ -1,5 +1,5 @@
 //! Members that are put in the order of their names while they are read.
-ghost use Rattle.std.specs.Prelude.{◌≡◌, ◌≤◌, ◌<◌, length, string_bytes, OnOk, IsTrue, slice_index, get_or};
+ghost use Rattle.std.specs.Prelude.{◌≡◌, ◌≤◌, ◌<◌, length, string_bytes, OnOk, IfSome, IsTrue, slice_index, get_or};
 ghost use Rattle.std.specs.Cmp.Lexicographic.{slice_cmp};
 ghost use Rattle.std.specs.Ordering.{nat_cmp};
 ghost use Rattle.jskw_value.specs.DecimalTree.{decimal_tree};
@@ -12,40 +12,41 @@ use std::alloc::AllocError;
 use std::cmp::Ordering;
 
 // How many members a new one can be put in front of.
-const MOST_STEPS: usize = 16;
+const MOST_STEPS: usize = 32;
 
-// Adds a member, in front of those at the end whose names are greater, if they are few.
+// Adds a member. While the members are in order, it is put in front of those at the end whose names
+// are greater, if they are few. Returns whether the members are in order.
 #[inline(always)]
 pub(crate) fn put(
     found: &mut Vec<Member<DecimalTree>>,
     member: Member<DecimalTree>,
-) -> Result<(), AllocError>
+    in_order: bool,
+) -> Result<bool, AllocError>
     ensures { OnOk result (members_seen (lasts found.new.items)
         ≡ put (string_bytes member.name) (decimal_tree member.value) (members_seen (lasts found.old.items))) }
 {
-    let place = place_of(found.as_slice(), member.name.as_str());
-    if place == found.len() {
-        found.push(member)?;
-    } else {
+    if in_order && let Some(place) = place_of(found.as_slice(), member.name.as_str()) {
         found.insert(place, member)?;
+        return Ok(true);
     }
-    Ok(())
+    found.push(member)?;
+    Ok(false)
 }
 
-// Returns where a name is put: all members from there on have greater names.
+// Returns where a name is put: all members from there on have greater names. They are few.
 #[inline(always)]
-fn place_of(found: &[Member<DecimalTree>], name: &str) -> usize
-    ensures within { result ≤ length found.now }
-    ensures behind { AreBehind name.now found.now result }
+fn place_of(found: &[Member<DecimalTree>], name: &str) -> Option<usize>
+    ensures within { IfSome result (λ place. place ≤ length found.now) }
+    ensures behind { IfSome result (AreBehind name.now found.now) }
 {
     let mut place = found.len();
     'steps: for _ in 0..MOST_STEPS {
         if place == 0 || !is_less(name, found[place - 1].name.as_str()) {
-            return place;
+            return Some(place);
         }
         place -= 1;
     }
-    found.len()
+    None
 }
 
 // Returns whether a text comes before another by its bytes. The first bytes are compared by

@@ -5,7 +5,10 @@ use jskw_value::{DecimalTree, Member, Members};
 use std::alloc::{AllocError, Global};
 
 // For how many items or members a new array or object has room.
-const MOST_ROOM: usize = 8;
+const MOST_ROOM: u8 = 8;
+
+// For how many depths that is guessed by itself.
+const DEPTHS: usize = 128;
 
 // How many texts are kept, and how many bytes each has room for at most.
 const MOST_TEXTS: usize = 4096;
@@ -55,10 +58,9 @@ pub(crate) struct Spare {
     objects: Vec<Vec<Member<DecimalTree>>>,
     // Parts of a tree that are still to be taken apart.
     parts: Vec<DecimalTree>,
-    // How many items and members the last array and object had that were read, up to `MOST_ROOM`:
+    // How many items or members the last array or object had at each depth, up to `MOST_ROOM`:
     // neighbours are often alike.
-    items: usize,
-    members: usize,
+    room: [u8; DEPTHS],
 }
 
 impl Spare {
@@ -70,8 +72,7 @@ impl Spare {
             lists: Vec::new(alloc),
             objects: Vec::new(alloc),
             parts: Vec::new(alloc),
-            items: MOST_ROOM,
-            members: MOST_ROOM,
+            room: [MOST_ROOM; DEPTHS],
         }
     }
 
@@ -90,32 +91,32 @@ impl Spare {
         }
     }
 
-    // Returns an empty list for the items of an array.
+    // Returns an empty list for the items of an array at a depth.
     #[inline(always)]
-    pub(crate) fn list(&mut self) -> Result<Vec<DecimalTree>, AllocError>
+    pub(crate) fn list(&mut self, depth: usize) -> Result<Vec<DecimalTree>, AllocError>
         ensures { IfOk result (λ list. list.items ≡ []) }
     {
-        emptied_or_new(self.lists.pop(), self.alloc, self.items)
+        emptied_or_new(self.lists.pop(), self.alloc, self.room_at(depth))
     }
 
-    // Returns an empty list for the members of an object.
+    // Returns an empty list for the members of an object at a depth.
     #[inline(always)]
-    pub(crate) fn pairs(&mut self) -> Result<Vec<Member<DecimalTree>>, AllocError>
+    pub(crate) fn pairs(&mut self, depth: usize) -> Result<Vec<Member<DecimalTree>>, AllocError>
         ensures { IfOk result (λ pairs. pairs.items ≡ []) }
     {
-        emptied_or_new(self.objects.pop(), self.alloc, self.members)
+        emptied_or_new(self.objects.pop(), self.alloc, self.room_at(depth))
     }
 
-    // Says how many items an array had.
+    // Returns for how many items or members a new array or object at a depth has room.
     #[inline(always)]
-    pub(crate) fn had_items(&mut self, count: usize) {
-        self.items = count.min(MOST_ROOM);
+    fn room_at(&self, depth: usize) -> usize {
+        self.room[depth % DEPTHS] as usize
     }
 
-    // Says how many members an object had.
+    // Says how many items or members an array or object at a depth had.
     #[inline(always)]
-    pub(crate) fn had_members(&mut self, count: usize) {
-        self.members = count.min(MOST_ROOM);
+    pub(crate) fn had(&mut self, depth: usize, count: usize) {
+        self.room[depth % DEPTHS] = count.min(MOST_ROOM as usize) as u8;
     }
 
     // Takes the room of a tree.

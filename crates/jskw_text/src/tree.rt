@@ -35,38 +35,22 @@ pub fn read_bytes(alloc: Global, bytes: &[u8]) -> Result<DecimalTree, ReadFault>
     ensures tree { IfOk result (λ tree. reading bytes.now ≡ Some (Ok (decimal_tree tree))) }
     ensures fault { IfErr result (IsFaultOf bytes.now) }
 {
-    read_bytes_with(alloc, bytes, &mut Scratch::new(alloc))
+    read_with(alloc, bytes, &mut Spare::new(alloc), &mut None)
 }
 
-/// Reads the tree that bytes denote as JSON text, as [`read_bytes`] does. `scratch` is room that
-/// reading needs: to keep one for many texts spares each the time in which 16 KB are cleared.
-///
-/// # Errors
-///
-/// The same as those of [`read_bytes`].
-pub fn read_bytes_with(
-    alloc: Global,
-    bytes: &[u8],
-    scratch: &mut Scratch,
-) -> Result<DecimalTree, ReadFault>
-    ensures tree { IfOk result (λ tree. reading bytes.now ≡ Some (Ok (decimal_tree tree))) }
-    ensures fault { IfErr result (IsFaultOf bytes.now) }
-{
-    read_with(alloc, bytes, scratch, &mut Spare::new(alloc))
-}
-
-// Reads the tree that bytes denote as JSON text, in room of trees that are no longer needed.
+// Reads the tree that bytes denote as JSON text, in room of trees that are no longer needed. Puts the
+// `Scratch` into `kept` if the text is refused.
 pub(crate) fn read_with(
     alloc: Global,
     bytes: &[u8],
-    scratch: &mut Scratch,
     spare: &mut Spare,
+    kept: &mut Option<Box<Scratch>>,
 ) -> Result<DecimalTree, ReadFault>
     ensures tree { IfOk result (λ tree. reading bytes.now ≡ Some (Ok (decimal_tree tree))) }
     ensures fault { IfErr result (IsFaultOf bytes.now) }
 {
     match simdutf8::compat::from_utf8(bytes) {
-        Ok(text) => read_text(alloc, text, scratch, spare),
+        Ok(text) => read_text(alloc, text, spare, kept),
         Err(e) => Err(ReadFault::NotJson(e.valid_up_to())),
     }
 }
@@ -75,22 +59,48 @@ pub(crate) fn read_with(
 fn read_text(
     alloc: Global,
     text: &str,
-    scratch: &mut Scratch,
     spare: &mut Spare,
+    kept: &mut Option<Box<Scratch>>,
 ) -> Result<DecimalTree, ReadFault>
     requires { IsTrue (is_utf8 text.now) }
     ensures tree { IfOk result (λ tree. reading text.now ≡ Some (Ok (decimal_tree tree))) }
     ensures fault { IfErr result (IsFaultOf text.now) }
 {
     match read_quickly(text, spare) {
-        Ok(tree) => return Ok(tree),
-        Err(Unread::Memory(e)) => return Err(ReadFault::Memory(e)),
-        Err(Unread::Text) => {}
+        Ok(tree) => Ok(tree),
+        Err(Unread::Text) => read_slowly(alloc, text, kept),
+        Err(Unread::Memory(e)) => Err(ReadFault::Memory(e)),
     }
+}
+
+// Reads the tree that a text denotes, or finds why it is refused. A `Scratch` has 16 KB, which are
+// cleared when it is made: so it is made for the first such text, and kept for the next one.
+#[cold]
+#[inline(never)]
+fn read_slowly(
+    alloc: Global,
+    text: &str,
+    kept: &mut Option<Box<Scratch>>,
+) -> Result<DecimalTree, ReadFault>
+    requires { IsTrue (is_utf8 text.now) }
+    ensures tree { IfOk result (λ tree. reading text.now ≡ Some (Ok (decimal_tree tree))) }
+    ensures fault { IfErr result (IsFaultOf text.now) }
+{
+    let scratch = scratch_in(alloc, kept)?;
     match read_all(alloc, text, scratch) {
         Ok(tree) => Ok(tree),
         Err(stop) => Err(fault_of(alloc, text, scratch, stop)?),
     }
+}
+
+// Returns the `Scratch` that is kept, and makes it if there is none.
+#[inline(never)]
+fn scratch_in(alloc: Global, kept: &mut Option<Box<Scratch>>) -> Result<&mut Scratch, AllocError> {
+    let scratch = match kept.take() {
+        Some(scratch) => scratch,
+        None => Box::new(alloc, Scratch::new(alloc))?,
+    };
+    Ok(kept.insert(scratch))
 }
 
 // Returns the fault of a text that was read up to a stop. Behind an inexact number nothing was read.

@@ -6,16 +6,15 @@ use Rattle.std.specs.Prelude.{⊤}
 use Rattle.serde_json.specs.Data.{Data, boolean, array, object, Members}
 use Rattle.serde_json.specs.Find.{get_member}
 use Rattle.jskw_value.specs.Pointer.{Pointer, member_location, name_token}
-use Rattle.jskw_report.specs.Keyword.{Keywords, no_keywords, keyword, Keyword, contains, Relation, Minimum, Maximum}
-use Rattle.jskw_report.specs.Keyword.{ExclusiveMinimum, ExclusiveMaximum}
-use Rattle.jskw_report.specs.KeywordValue.{Refusal, map_ok, join_ok, size_value, limit_value, divisor_value}
-use Rattle.jskw_report.specs.KeywordValue.{const_value, enum_value, type_value, required_value}
-use Rattle.jskw_report.specs.Read.{Asserts, ValueReadings, Reading, asserted, before, bound_beside, bound_value}
-use Rattle.jskw_report.specs.Read.{bounds_between, items_keyword, additional_keyword, prefix_keyword, keyword_location}
-use Rattle.jskw_report.specs.Read.{limit_keyword_name, max_contains, min_contains, read_keyword, read_keywords}
-use Rattle.jskw_report.specs.Read.{relation_beside}
+use Rattle.jskw_report.specs.Keyword.{Keywords, no_keywords, keyword, Keyword, Assertion, assertion, contains, Relation}
+use Rattle.jskw_report.specs.Keyword.{Minimum, Maximum, ExclusiveMinimum, ExclusiveMaximum}
+use Rattle.jskw_report.specs.KeywordValue.{Refusal, map_ok, join_ok, size_value}
+use Rattle.jskw_report.specs.Read.{Asserts, ValueReadings, Reading, Rule, asserted, asserted_by, before, bound_beside}
+use Rattle.jskw_report.specs.Read.{bound_value, bounds_between, items_keyword, additional_keyword, prefix_keyword}
+use Rattle.jskw_report.specs.Read.{keyword_location, limit_keyword_name, max_contains, min_contains, read_keyword}
+use Rattle.jskw_report.specs.Read.{read_keywords, rule_for}
 use Rattle.jskw_report.specs.Setting.{Setting, keywords, name_of, is_active, is_after_draft_4}
-use Rattle.jskw_report.specs.Sibling.{is_true, is_handed_on, member_passes}
+use Rattle.jskw_report.specs.Sibling.{is_true, member_passes}
 use Rattle.jskw_report.specs.declared.keyword.KeywordName.{KeywordName}
 use Rattle.jskw_report.specs.declared.keyword.KeywordName.TheVariants as keyword_name
 use Rattle.jskw_unchecked.specs.Covered.{asserts_member, count_at}
@@ -100,6 +99,15 @@ pub if_map : {A : Type 0} (P : Keyword → Type 0) (f : A → Keyword) (r : Resu
 if_map P f (Ok a) h = h a refl
 if_map P f (Err e) h = tt
 
+pub if_by : (P : Keyword → Type 0) (rule : Option Rule) (q : Pointer) (d : Data) → ((a : Assertion) → P (assertion q a))
+    → IfAsserts P (asserted_by rule q d)
+if_by P None q d h = tt
+if_by P (Some rule) q d h = go (rule q d)
+  where
+    go : (r : Result Assertion Refusal) → IfAsserts P (Some (map_ok (assertion q) r))
+    go (Ok a) = h a
+    go (Err e) = tt
+
 pub if_either : (P : Keyword → Type 0) (b : Bool) (x y : Asserts) → IfAsserts P x → IfAsserts P y
     → IfAsserts P (if b then x else y)
 if_either P true x y h k = h
@@ -183,9 +191,6 @@ module _ (p : Pointer) (m : Pointer) where
   asserted_alike : (w : KeywordName) (s : Setting) (ms : Members) (part : ValueReadings)
       → IfAsserts (AssertsAlike w s ms) (asserted w s p ms part)
   unfolding asserted
-  asserted_alike keyword_name.TypeKeyword s ms part = if_map _ _ (type_value _ part.value) (λ a e. or_same _)
-  asserted_alike keyword_name.MinItems s ms part = if_map _ _ (size_value _ part.value) (λ a e. or_same _)
-  asserted_alike keyword_name.MaxItems s ms part = if_map _ _ (size_value _ part.value) (λ a e. or_same _)
   asserted_alike keyword_name.Items s ms part = items_alike s ms part part.value
   asserted_alike keyword_name.PrefixItems s ms part = prefix_alike s ms part part.value
   asserted_alike keyword_name.AdditionalItems s ms part =
@@ -193,27 +198,17 @@ module _ (p : Pointer) (m : Pointer) where
   asserted_alike keyword_name.Contains s ms part =
       contains_alike s ms (bound_beside s ms min_contains) (bound_beside s ms max_contains)
       (part.schema s (keyword_location p keyword_name.Contains))
-  asserted_alike keyword_name.UniqueItems s ms part = if_either _ (is_true part.value) _ None (or_same _) tt
-  asserted_alike keyword_name.Const s ms part = if_map _ _ (const_value _ part.value) (λ a e. or_same _)
-  asserted_alike keyword_name.Enum s ms part = if_map _ _ (enum_value _ part.value) (λ a e. or_same _)
   asserted_alike keyword_name.Minimum s ms part =
       let c = is_exclusive s ms (name_of keyword_name.ExclusiveMinimum) in
-      if_map _ _ (limit_value (keyword_location p (limit_keyword_name (relation_beside s ms Minimum))) part.value)
-      (λ a e. limit_alike (name_of keyword_name.Minimum) (name_of keyword_name.ExclusiveMinimum) c Minimum
+      if_by _ (rule_for keyword_name.Minimum s ms part.value) _ part.value
+      (λ a. limit_alike (name_of keyword_name.Minimum) (name_of keyword_name.ExclusiveMinimum) c Minimum
       ExclusiveMinimum refl refl)
   asserted_alike keyword_name.Maximum s ms part =
       let c = is_exclusive s ms (name_of keyword_name.ExclusiveMaximum) in
-      if_map _ _ (limit_value (keyword_location p (limit_keyword_name (relation_beside s ms Maximum))) part.value)
-      (λ a e. limit_alike (name_of keyword_name.Maximum) (name_of keyword_name.ExclusiveMaximum) c Maximum
+      if_by _ (rule_for keyword_name.Maximum s ms part.value) _ part.value
+      (λ a. limit_alike (name_of keyword_name.Maximum) (name_of keyword_name.ExclusiveMaximum) c Maximum
       ExclusiveMaximum refl refl)
-  asserted_alike keyword_name.ExclusiveMinimum s ms part = if_map _ _ (limit_value _ part.value) (λ a e. or_same _)
-  asserted_alike keyword_name.ExclusiveMaximum s ms part = if_map _ _ (limit_value _ part.value) (λ a e. or_same _)
-  asserted_alike keyword_name.MultipleOf s ms part = if_map _ _ (divisor_value _ part.value) (λ a e. or_same _)
-  asserted_alike keyword_name.MinProperties s ms part = if_map _ _ (size_value _ part.value) (λ a e. or_same _)
-  asserted_alike keyword_name.MaxProperties s ms part = if_map _ _ (size_value _ part.value) (λ a e. or_same _)
-  asserted_alike keyword_name.Required s ms part =
-      if_either _ (is_handed_on s ms) None _ tt
-      (if_map _ _ (required_value (keyword_location p keyword_name.Required) part.value) (λ a e. or_same _))
+  asserted_alike w s ms part = if_by _ (rule_for w s ms part.value) (keyword_location p w) part.value (λ a. or_same _)
 
   -- what is read of w asserts the member where w is to
   pub read_alike : (w : KeywordName) (s : Setting) (ms : Members) (o : Option ValueReadings)

@@ -18,20 +18,19 @@ use Rattle.jskw_value.specs.Pointer.{Pointer, member_location, item_location}
 use Rattle.jskw_report.proofs.SchemaMembers.{readings_named-get, read_not_standing, read_standing}
 use Rattle.jskw_report.specs.Keyword.{Schema, false_schema, schema_object, Keywords, no_keywords, keyword, Keyword}
 use Rattle.jskw_report.specs.Keyword.{Schemas, no_schemas, schema, Bounds, contains}
-use Rattle.jskw_report.specs.KeywordValue.{Refusal, map_ok, join_ok, size_value, limit_value, divisor_value}
-use Rattle.jskw_report.specs.KeywordValue.{const_value, enum_value, type_value, required_value}
+use Rattle.jskw_report.specs.KeywordValue.{Refusal, map_ok, join_ok}
 use Rattle.jskw_report.specs.Read.{Asserts, ValueReadings, Reading, asserted, before, bound_beside, additional_keyword}
-use Rattle.jskw_report.specs.Read.{items_keyword, items_start, prefix_keyword, keyword_location, limit_keyword_name}
-use Rattle.jskw_report.specs.Read.{relation_beside, max_contains, min_contains, readings, readings_named, read}
-use Rattle.jskw_report.specs.Read.{read_bounds, read_each, read_keyword, read_keywords, marks_of}
+use Rattle.jskw_report.specs.Read.{failing_keyword, items_keyword, items_start, prefix_keyword, keyword_location}
+use Rattle.jskw_report.specs.Read.{max_contains, min_contains, readings, readings_named, read, read_bounds, read_each}
+use Rattle.jskw_report.specs.Read.{read_keyword, read_keywords, marks_of, rule_for}
 use Rattle.jskw_report.specs.Setting.{Setting, keywords, name_of, is_active, has_vocabulary, is_after_draft_4}
 use Rattle.jskw_report.specs.Setting.{is_after_draft_7, is_overridden}
-use Rattle.jskw_report.specs.Sibling.{is_bare, is_true, is_handed_on, member_passes}
+use Rattle.jskw_report.specs.Sibling.{is_bare, is_true, member_passes}
 use Rattle.jskw_report.specs.Keyword as plain
 use Rattle.jskw_report.specs.declared.keyword.KeywordName.{KeywordName}
 use Rattle.jskw_report.specs.declared.keyword.KeywordName.TheVariants as keyword_name
 use Rattle.jskw_report.specs.declared.settings.Vocabulary.TheVariants.{Validation}
-use Rattle.jskw_unchecked.proofs.Counts.{IfAsserts, NotExclusive, counted_named, if_either, if_map, is_exclusive}
+use Rattle.jskw_unchecked.proofs.Counts.{IfAsserts, NotExclusive, counted_named, if_by, if_either, if_map, is_exclusive}
 use Rattle.jskw_unchecked.proofs.Counts.{is_read, only_itself, only_lower, only_maximum, only_minimum, only_upper}
 use Rattle.jskw_unchecked.specs.Covered.{AllCover, AreCovered, CoverEach, Covers, EmptyListCovers, IsCovered}
 use Rattle.jskw_unchecked.specs.Covered.{KeywordCovers, accepts_everything, count_at}
@@ -393,30 +392,11 @@ module _ (s : Setting) (p : Pointer) (ms : Members) (good : MembersCover ms)
   asserted_fit : (w : KeywordName) (d : Data) → get_member (name_of w) ms ≡ Some d
       → IfAsserts Fits (asserted w s p ms (readings d))
   unfolding asserted
-  asserted_fit keyword_name.TypeKeyword d at = if_map Fits _ (type_value _ d) (λ a e. tt)
-  asserted_fit keyword_name.MinItems d at = if_map Fits _ (size_value _ d) (λ a e. tt)
-  asserted_fit keyword_name.MaxItems d at = if_map Fits _ (size_value _ d) (λ a e. tt)
   asserted_fit keyword_name.Items d at = items_fit d at
   asserted_fit keyword_name.PrefixItems d at = prefix_fit d at
   asserted_fit keyword_name.AdditionalItems d at = additional_fit (get_member (name_of keyword_name.Items) ms) d at
   asserted_fit keyword_name.Contains d at = contains_fit (read_bounds s p ms) d at
-  asserted_fit keyword_name.UniqueItems d at = if_either Fits (is_true d) _ None tt tt
-  asserted_fit keyword_name.Const d at = if_map Fits _ (const_value _ d) (λ a e. tt)
-  asserted_fit keyword_name.Enum d at = if_map Fits _ (enum_value _ d) (λ a e. tt)
-  asserted_fit keyword_name.Minimum d at =
-      if_map Fits _ (limit_value (keyword_location p (limit_keyword_name (relation_beside s ms plain.Minimum))) d)
-      (λ a e. tt)
-  asserted_fit keyword_name.Maximum d at =
-      if_map Fits _ (limit_value (keyword_location p (limit_keyword_name (relation_beside s ms plain.Maximum))) d)
-      (λ a e. tt)
-  asserted_fit keyword_name.ExclusiveMinimum d at = if_map Fits _ (limit_value _ d) (λ a e. tt)
-  asserted_fit keyword_name.ExclusiveMaximum d at = if_map Fits _ (limit_value _ d) (λ a e. tt)
-  asserted_fit keyword_name.MultipleOf d at = if_map Fits _ (divisor_value _ d) (λ a e. tt)
-  asserted_fit keyword_name.MinProperties d at = if_map Fits _ (size_value _ d) (λ a e. tt)
-  asserted_fit keyword_name.MaxProperties d at = if_map Fits _ (size_value _ d) (λ a e. tt)
-  asserted_fit keyword_name.Required d at =
-      if_either Fits (is_handed_on s ms) None _ tt
-      (if_map Fits _ (required_value (keyword_location p keyword_name.Required) d) (λ a e. tt))
+  asserted_fit w d at = if_by Fits (rule_for w s ms d) (keyword_location p (failing_keyword w s ms)) d (λ a. tt)
 
   value_fit : (w : KeywordName) (o : Option Data) → get_member (name_of w) ms ≡ o
       → IfAsserts Fits (read_keyword w s p ms (option_map readings o))

@@ -5,8 +5,7 @@ use Rattle.serde_json.specs.Data.{Data, array, object, Items, no_items, item, Me
 use Rattle.serde_json.specs.Find.{get_member}
 use Rattle.jskw_value.specs.Pointer.{Pointer, member_location}
 use Rattle.jskw_report.specs.Keyword.{Schema, false_schema, schema_object, Keywords, no_keywords, keyword, Keyword}
-use Rattle.jskw_report.specs.Keyword.{assertion, contains, items_list, prefix_items, items_from, additional_items}
-use Rattle.jskw_report.specs.Keyword.{Schemas, no_schemas, schema}
+use Rattle.jskw_report.specs.Keyword.{assertion, contains, each_of, rest_of, Schemas, no_schemas, schema}
 use Rattle.jskw_report.specs.Read.{read}
 use Rattle.jskw_report.specs.Setting.{Setting, name_of}
 use Rattle.jskw_report.specs.declared.keyword.KeywordName.{KeywordName}
@@ -47,6 +46,14 @@ IsCovered s p ms ks name d =
 abbrev pub AreCovered : Setting → Pointer → Members → Keywords → Type 0
 AreCovered s p ms ks = (name : List ℕ) (d : Data) → get_member name ms ≡ Some d → IsCovered s p ms ks name d
 
+-- the keyword that has a list of schemas: `prefixItems`, or `items`
+abbrev pub list_name : Bool → KeywordName
+list_name prefix = if prefix then keyword_name.PrefixItems else keyword_name.Items
+
+-- the keyword that has a schema for the rest of the items: `additionalItems`, or `items`
+abbrev pub rest_name : Bool → KeywordName
+rest_name additional = if additional then keyword_name.AdditionalItems else keyword_name.Items
+
 abbrev mutual
   -- the plain schema covers the schema: all members of an object are covered, and those of each subschema that its
   -- keywords
@@ -66,14 +73,10 @@ abbrev mutual
   KeywordCovers (assertion f a) s ms = ⊤
   KeywordCovers (contains sub b) s ms =
       (d : Data) × (get_member (name_of keyword_name.Contains) ms ≡ Some d) × Covers sub s d
-  KeywordCovers (items_list subs) s ms =
-      (ds : Items) × (get_member (name_of keyword_name.Items) ms ≡ Some (array ds)) × CoverEach subs s ds
-  KeywordCovers (prefix_items subs) s ms =
-      (ds : Items) × (get_member (name_of keyword_name.PrefixItems) ms ≡ Some (array ds)) × CoverEach subs s ds
-  KeywordCovers (items_from n sub bare) s ms =
-      (d : Data) × (get_member (name_of keyword_name.Items) ms ≡ Some d) × Covers sub s d
-  KeywordCovers (additional_items n sub) s ms =
-      (d : Data) × (get_member (name_of keyword_name.AdditionalItems) ms ≡ Some d) × Covers sub s d
+  KeywordCovers (each_of prefix subs) s ms =
+      (ds : Items) × (get_member (name_of (list_name prefix)) ms ≡ Some (array ds)) × CoverEach subs s ds
+  KeywordCovers (rest_of additional n sub bare) s ms =
+      (d : Data) × (get_member (name_of (rest_name additional)) ms ≡ Some d) × Covers sub s d
 
   -- each covers the item at its index
   pub CoverEach : Schemas → Setting → Items → Type 0

@@ -1,6 +1,6 @@
 -- Equality, one item or member at a time.
-use Rattle.std.proofs.Common.{◌≡◌, ℕ, ◌+◌, ◌<◌, ◌≤◌, ◌==◌, List, [], ◌∷◌, length, get_or, drop, Bool, true, false, not}
-use Rattle.std.proofs.Common.{◌&&◌, ◌||◌, Some, refl, sym, ap, ap₂, subst, ◌∙◌, arith}
+use Rattle.std.proofs.Common.{◌≡◌, ℕ, zero, suc, ◌+◌, ◌<◌, ◌≤◌, ◌==◌, List, [], ◌∷◌, length, get_or, drop, Bool, true}
+use Rattle.std.proofs.Common.{false, not, ◌&&◌, ◌||◌, Some, refl, sym, ap, ap₂, subst, ◌∙◌, arith}
 use Rattle.std.proofs.Math.Bool.{and-false, and-true}
 use Rattle.std.proofs.lemmas.Cmp.{nat_list_eq_equiv}
 use Rattle.std.proofs.lemmas.List.{at_drop_all, drop_all}
@@ -65,6 +65,17 @@ pointwise_length [] [] h = absurd (h refl)
 pointwise_length [] (u ∷ us) h = refl
 pointwise_length (t ∷ ts) [] h = refl
 pointwise_length (t ∷ ts) (u ∷ us) h = rw (pointwise_length ts us (λ e. h (omega (arith, e)))) (and-false (equal t u))
+
+-- arrays differ where the items at an index do
+pub other_item : (ts us : List Tree) (i : ℕ) (t u : Tree) → i < length ts → i < length us → t ≡ get_or ts i t
+    → u ≡ get_or us i u
+    → equal t u ≡ false → pointwise equal ts us ≡ false
+other_item [] us i t u h k e f n = absurd (omega (arith, h))
+other_item (x ∷ xs) [] i t u h k e f n = absurd (omega (arith, k))
+other_item (x ∷ xs) (y ∷ ys) zero t u h k e f n =
+    ap (λ b. b && pointwise equal xs ys) (sym (ap₂ equal e f) ∙ n)
+other_item (x ∷ xs) (y ∷ ys) (suc i) t u h k e f n =
+    rw (other_item xs ys i t u (omega (arith, h)) (omega (arith, k)) e f n) (and-false (equal x y))
 
 -- ---- objects
 

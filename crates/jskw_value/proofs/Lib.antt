@@ -19,6 +19,7 @@ pub mod Numbers
 pub mod PlacesInTrees
 pub mod Pointers
 pub mod Powers
+pub mod RisingItems
 pub mod SameNames
 pub mod SerdeDecimals
 pub mod SerdeTrees

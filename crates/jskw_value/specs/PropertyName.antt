@@ -1,6 +1,7 @@
 -- What tells most texts apart at a glance.
-use Rattle.std.specs.Prelude.{ℕ, ◌-◌, List, ◌++◌, length, take, drop, replicate}
+use Rattle.std.specs.Prelude.{ℕ, ◌-◌, ◌*◌, ◌%◌, ◌^◌, List, ◌++◌, length, take, drop, replicate}
 use Rattle.std.specs.Int.{w64, from_le_bytes}
+use Rattle.std.specs.Int.Bits.{bit_xor}
 use Rattle.jskw_value.specs.declared.property_name.KeyHead.{KeyHead}
 
 -- the bytes, and behind fewer than eight of them zeros, up to eight
@@ -16,3 +17,7 @@ head_of s =
       first = from_le_bytes w64 (padded (take 8 s));
       last = from_le_bytes w64 (padded (drop (length s - 8) s));
     }
+
+-- a number that differs for most different heads
+unfoldable pub word : KeyHead → ℕ
+word h = bit_xor (bit_xor h.first (h.last * 11400714819323198485 % 2 ^ 64)) h.length

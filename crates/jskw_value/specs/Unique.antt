@@ -1,11 +1,13 @@
 -- Words of the search for equal items.
-use Rattle.std.specs.Prelude.{◌≡◌, ℕ, ◌+◌, ◌<◌, ◌≤◌, List, length, true, false, Some, slice_get, slice_index}
+use Rattle.std.specs.Prelude.{◌≡◌, ℕ, ◌+◌, ◌<◌, ◌≤◌, List, length, true, false, Option, Some, option_and_then}
+use Rattle.std.specs.Prelude.{slice_get, slice_index}
 use Rattle.std.specs.List.Sorted.{IsNonDecreasing, IsPermutation}
 use Rattle.jskw_value.specs.Doubt.{is_distinct_for, key}
 use Rattle.jskw_value.specs.Equality.{equal}
 use Rattle.jskw_value.specs.Fingerprint.{fingerprint, is_distinct_within}
+use Rattle.jskw_value.specs.Number.{u64_of, written_integer}
 use Rattle.jskw_value.specs.Sketch.{is_marked}
-use Rattle.jskw_value.specs.Tree.{Tree}
+use Rattle.jskw_value.specs.Tree.{Tree, as_number}
 
 -- none of the items from `start` up to `end` is equal to the one at the index
 pub record IsNewAt (start end index : ℕ) (ts : List Tree) : Type 0 where
@@ -27,6 +29,18 @@ pub record IsToldOf (start end budget n : ℕ) (sketch : List ℕ) (ts : List Tr
   -- none of those of the block is equal to a later one
   pub differ : (i j : ℕ) (t u : Tree) → start ≤ i → i < end → i < j → j < n → slice_get ts i ≡ Some t
       → slice_get ts j ≡ Some u → equal t u ≡ false
+
+-- ---- by their order
+
+-- the integer from 0 to 2^64 - 1 that a tree is
+abbrev pub natural_of : Tree → Option ℕ
+natural_of t = option_and_then u64_of (option_and_then written_integer (as_number t))
+
+-- the first n items are such integers below `least`, and differ
+pub record AreRising (n least : ℕ) (ts : List Tree) : Type 0 where
+  pub below : (i : ℕ) (t : Tree) → i < n → slice_get ts i ≡ Some t → (a : ℕ) × (natural_of t ≡ Some a) × (a < least)
+  pub differ : (i j : ℕ) (t u : Tree) → i < j → j < n → slice_get ts i ≡ Some t → slice_get ts j ≡ Some u
+      → equal t u ≡ false
 
 -- ---- by sorted keys
 

@@ -1,5 +1,5 @@
 //! Equality of nodes, of one representation or two.
-ghost use Rattle.std.specs.Prelude.{◌≡◌, ◌==◌, ◌&&◌, IsTrue, None, false, length, option_map};
+ghost use Rattle.std.specs.Prelude.{◌≡◌, ◌==◌, ◌&&◌, IsTrue, None, false, length, option_map, true};
 ghost use Rattle.std.specs.Cmp.Lexicographic.{pointwise};
 ghost use Rattle.std.specs.List.{list_all, IsDistinct};
 ghost use Rattle.std.specs.Option.{option_map_or};
@@ -47,7 +47,7 @@ fn equal_arrays<N: Node, M: Node, C: Meter>(left: &N, right: &M, meter: &mut C) 
     ensures { result ≡ pointwise equal (items (N.tree left.now)) (items (M.tree right.now)) }
 {
     let count = Array::len(left);
-    if count != Array::len(right) {
+    if count != Array::len(right) || end_in_other_numbers(left, right, count) {
         return false;
     }
     for i in 0..count {
@@ -57,6 +57,25 @@ fn equal_arrays<N: Node, M: Node, C: Meter>(left: &N, right: &M, meter: &mut C) 
         }
     }
     true
+}
+
+// Returns whether the last item of the left array is a number and that of the right one is not equal to
+// it, as in rows that begin alike. Both have `count` items.
+#[tactic(auto, using(crate::proofs::Equal::other_item, crate::proofs::Equal::equal_number))]
+fn end_in_other_numbers<N: Node, M: Node>(left: &N, right: &M, count: usize) -> bool
+    requires left { IsTrue (is_array (N.tree left.now)) }
+    requires right { IsTrue (is_array (M.tree right.now)) }
+    requires count { count ≡ length (items (N.tree left.now)) }
+    requires same { count ≡ length (items (M.tree right.now)) }
+    ensures { result ≡ true → pointwise equal (items (N.tree left.now)) (items (M.tree right.now)) ≡ false }
+{
+    if count == 0 {
+        return false;
+    }
+    match left.item(count - 1).as_number() {
+        Some(number) => !equals_number(number, right.item(count - 1)),
+        None => false,
+    }
 }
 
 // Returns whether two objects have the same number of members, and each name of the left one has an

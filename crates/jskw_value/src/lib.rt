@@ -28,6 +28,7 @@ pub mod names;
 pub mod nullability;
 pub mod pointer;
 pub mod property_name;
+mod rising_items;
 pub mod seed;
 mod serde_decimals;
 pub mod serde_tree;

@@ -1,6 +1,6 @@
 //! Whether two names are equal, for names that are compared with many others.
 ghost use Rattle.std.specs.Prelude.{◌≡◌, length};
-ghost use Rattle.std.specs.Int.{w16, w32, from_le_bytes, to_le_bytes};
+ghost use Rattle.std.specs.Int.{w16, w32, w64, from_le_bytes, to_le_bytes};
 ghost use Rattle.std.specs.Str.{bytes_eq};
 
 /// Returns whether the names are equal, for names that are compared with many others, of which most
@@ -12,10 +12,10 @@ pub fn is_same_name(name: &str, other: &str) -> bool
     name.len() == other.len() && is_same(name, other)
 }
 
-// Returns whether the texts, which have the same length, are equal. Those of four bytes and more are
-// compared by their first and their last four bytes, which are all that most names have: where these
-// differ, as in names that are numbered, no call is made. Those of two and three bytes, as `id`, are
-// compared as two half words.
+// Returns whether the texts, which have the same length, are equal. Those of eight bytes and more are
+// compared by their first and their last eight bytes, which are all that most names have: where these
+// differ, as in names that are numbered, no call is made. Shorter ones are compared as two words of four
+// bytes, or of two, as `id`.
 #[inline(always)]
 fn is_same(text: &str, other: &str) -> bool
     requires { length text.now ≡ length other.now }
@@ -30,12 +30,27 @@ fn is_same(text: &str, other: &str) -> bool
         return half(&left[..2]) == half(&right[..2])
             && half(&left[length - 2..]) == half(&right[length - 2..]);
     }
-    if word(&left[..4]) != word(&right[..4])
-        || word(&left[length - 4..]) != word(&right[length - 4..])
+    if length < 8 {
+        return word(&left[..4]) == word(&right[..4])
+            && word(&left[length - 4..]) == word(&right[length - 4..]);
+    }
+    if double(&left[..8]) != double(&right[..8])
+        || double(&left[length - 8..]) != double(&right[length - 8..])
     {
         return false;
     }
-    length <= 8 || is_equal(text, other)
+    length <= 16 || is_equal(text, other)
+}
+
+// Returns eight bytes as a number, the lowest byte first.
+fn double(bytes: &[u8]) -> u64
+    requires { length bytes.now ≡ 8 }
+    ensures value { result ≡ from_le_bytes w64 bytes.now }
+    ensures bytes { to_le_bytes w64 result ≡ bytes.now }
+{
+    let mut eight = [0u8; 8];
+    eight.copy_from_slice(bytes);
+    u64::from_le_bytes(eight)
 }
 
 // Returns four bytes as a number, the lowest byte first.

@@ -2,10 +2,13 @@
 ghost use Rattle.std.specs.Prelude.{◌≡◌, ◌≤◌, ◌<◌, length, get_or, IfOk};
 ghost use Rattle.std.specs.Int.{w64, from_le_bytes};
 ghost use Rattle.std.specs.Str.{bytes_eq};
-ghost use Rattle.jskw_value.specs.PropertyName.{head_of, padded};
+ghost use Rattle.jskw_value.specs.PropertyName.{head_of, padded, word};
 
 use std::alloc::{AllocError, Global};
 use std::marker::Model;
+
+// A text's last bytes are multiplied by it, so that they do not cancel out its first ones.
+const SPREAD: u64 = 0x9E37_79B9_7F4A_7C15;
 
 /// The head of a text: its length in bytes, and its first and last eight bytes. Equal texts have
 /// equal heads. Texts with equal heads may differ.
@@ -37,6 +40,15 @@ impl KeyHead {
             first: number_of(&bytes[..8]),
             last: number_of(&bytes[length - 8..]),
         }
+    }
+
+    /// Returns a number that differs for most different heads.
+    #[inline(always)]
+    #[tactic(auto, unfolding(crate::specs::PropertyName::word))]
+    pub fn word(&self) -> u64
+        ensures { result ≡ word self.now }
+    {
+        self.first ^ self.last.wrapping_mul(SPREAD) ^ self.length as u64
     }
 }
 

@@ -1,6 +1,6 @@
 //! The values of `serde_json` as nodes. To get a member by its place takes time in proportion to
 //! the place; a walk takes constant time for each member.
-ghost use Rattle.std.specs.Prelude.{◌≡◌, ◌<◌, string_bytes, slice_index_or};
+ghost use Rattle.std.specs.Prelude.{◌≡◌, ◌<◌, ◌≤◌, length, take, true, string_bytes, slice_index_or};
 ghost use Rattle.std.specs.List.{list_all};
 ghost use Rattle.std.specs.BTreeMap.{btree_map_len, keys, values};
 ghost use Rattle.jskw_value.specs.Serde.{value_tree, number_num};
@@ -12,6 +12,9 @@ use crate::types::JsonType;
 use crate::walk::Walk;
 use serde_json::{Map, Number, Value};
 use std::alloc::{AllocError, Global};
+
+// Fewer items are looked at one by one.
+const FEW_ITEMS: usize = 8;
 
 /// The representation whose nodes are the values of `serde_json`, with its numbers. A number that
 /// is neither an `i64` nor a `u64` is a float. Members are in the order of the bytes of their
@@ -199,12 +202,72 @@ fn value_is_lawful(value: &Value) -> bool
 fn items_are_lawful(items: &Vec<Value>) -> bool
     ensures { result ≡ list_all (λ v. lawful (value_tree v)) items.now.items }
 {
-    for item in items {
-        if !value_is_lawful(item) {
+    if items.len() < FEW_ITEMS {
+        return are_lawful_from(items, 0);
+    }
+    are_lawful_from(items, behind_scalars(items))
+}
+
+// Returns the same if no item before `start` holds a float.
+#[inline(always)]
+#[cycle(lawful)]
+fn are_lawful_from(items: &[Value], start: usize) -> bool
+    requires within { start ≤ length items.now }
+    requires lawful { list_all (λ v. lawful (value_tree v)) (take start items.now) ≡ true }
+    ensures { result ≡ list_all (λ v. lawful (value_tree v)) items.now }
+{
+    for index in start..items.len() {
+        if !value_is_lawful(&items[index]) {
             return false;
         }
     }
     true
+}
+
+// Returns an index before which no item holds a float. Most arrays have items of one type, so the
+// first numbers are passed over, then the first scalars.
+#[inline(always)]
+fn behind_scalars(items: &[Value]) -> usize
+    ensures within { result ≤ length items.now }
+    ensures lawful { list_all (λ v. lawful (value_tree v)) (take result items.now) ≡ true }
+{
+    let start = behind::<false>(items, 0);
+    behind::<true>(items, start)
+}
+
+// Returns an index before which no item holds a float, if none does before `start`: behind the numbers
+// from there on, or with `ANY` behind the scalars, taken four a turn.
+#[inline(always)]
+fn behind<const ANY: bool>(items: &[Value], start: usize) -> usize
+    requires within { start ≤ length items.now }
+    requires lawful { list_all (λ v. lawful (value_tree v)) (take start items.now) ≡ true }
+    ensures within { result ≤ length items.now }
+    ensures lawful { list_all (λ v. lawful (value_tree v)) (take result items.now) ≡ true }
+{
+    let mut index = start;
+    while items.len() - index >= 4 {
+        if !is_passed::<ANY>(&items[index])
+            || !is_passed::<ANY>(&items[index + 1])
+            || !is_passed::<ANY>(&items[index + 2])
+            || !is_passed::<ANY>(&items[index + 3])
+        {
+            break;
+        }
+        index += 4;
+    }
+    index
+}
+
+// Returns whether the value is a number that is no float, or with `ANY` another scalar.
+#[inline(always)]
+fn is_passed<const ANY: bool>(value: &Value) -> bool
+    ensures { result ≡ true → lawful (value_tree value.now) ≡ true }
+{
+    match value {
+        Value::Number(number) => JsonNumber::is_lawful(number),
+        Value::Null | Value::Bool(_) | Value::String(_) => ANY,
+        Value::Array(_) | Value::Object(_) => false,
+    }
 }
 
 // Returns whether no number in a member is a float.

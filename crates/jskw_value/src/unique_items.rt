@@ -13,6 +13,7 @@ use crate::equality::equal_nodes;
 use crate::fingerprint::fingerprint_within;
 use crate::json::{Array, JsonNumber, Node};
 use crate::meter::{Allowance, Meter, Unmetered};
+use crate::rising_items::are_rising;
 use crate::sketch::{is_marked, mark};
 use crate::unique_by_fingerprints::are_unique_by_fingerprints;
 
@@ -43,6 +44,10 @@ const FIRST_VISITS: usize = 1024;
 
 const VISITS_AN_ITEM: usize = 8;
 
+// For each so many blocks that are begun, items are granted their visits once more: each block is
+// looked up by all later items, of which some look equal to one of it by chance.
+const BLOCKS_A_GRANT: usize = 8;
+
 // Returns whether no two items of the array are equal. The first item is compared with all others
 // before a sketch is begun, so that equal items at the beginning are found at once.
 #[tactic(auto, using(crate::proofs::BlockSearch::first_again, crate::proofs::BlockSearch::first_new))]
@@ -53,6 +58,9 @@ pub(crate) fn has_unique_items<N: Node>(array: &N) -> bool
     let count = Array::len(array);
     if count <= FEW {
         return are_unique_by_pairs(array);
+    }
+    if are_rising(array) {
+        return true;
     }
     if occurs_from(array, 1, array.item(0)) {
         return false;
@@ -82,8 +90,10 @@ fn are_many_unique<const WORDS: usize, const MARKS: usize, const FINGERPRINTS: u
     requires few_fingerprints { FINGERPRINTS ≤ 2 ^ 32 }
     ensures { result ≡ unique (items (N.tree array.now)) }
 {
-    let visits = Array::len(array)
+    let count = Array::len(array);
+    let visits = count
         .saturating_mul(VISITS_AN_ITEM)
+        .saturating_mul(count / (2 * WORDS) / BLOCKS_A_GRANT + 1)
         .saturating_add(FIRST_VISITS);
     match are_unique_by_sketch::<WORDS, N>(array, &[], visits) {
         Some(told) => told,
@@ -319,7 +329,8 @@ fn are_equal<N: Node>(left: &N, right: &N, allowance: &mut Allowance) -> bool
 }
 
 // Returns the number that a node is, if it is written without a point and is from 0 to 2^64-1.
-fn whole_number<N: Node>(node: &N) -> Option<u64>
+#[inline(always)]
+pub(crate) fn whole_number<N: Node>(node: &N) -> Option<u64>
     ensures { result ≡ option_and_then u64_of (option_and_then written_integer (as_number (N.tree node.now))) }
 {
     let number = node.as_number()?;

@@ -40,7 +40,7 @@ pub use jskw_number;
 pub use jskw_report;
 pub use jskw_report::{
     Annotations, CompilationResult, CompileFault, Context, Draft, EnumOptions, ErrorDescription,
-    EvaluationNode, Fault, KeywordName, LazyLocation, Location, Settings, TypeKind,
+    EvaluationNode, Fault, KeywordName, LazyLocation, Location, Payload, Settings, TypeKind,
     ValidationContext, ValidationError, ValidationErrorKind, Vocabulary, VocabularySet,
 };
 pub use jskw_text;

@@ -1,27 +1,25 @@
 use Rattle.std.proofs.Common.{rules, ◌≡◌, Bool, ℕ, Some, None, Result, Ok, Err, true, false, drop, get_or, refl, sym}
 use Rattle.std.proofs.Common.{ap, ap₂, subst, ◌∙◌, arith}
 use Rattle.jskw_array.specs.Words.{Array, Keyword, CompilesTo, Refusal, Schema, absorbed_keywords, active_member, after}
-use Rattle.jskw_array.specs.Words.{append_keywords, as_array, before, begin_fused, boxed_bounds, contains}
+use Rattle.jskw_array.specs.Words.{is_some, shape_in, append_keywords, as_array, before, boxed_bounds, contains}
 use Rattle.jskw_array.specs.Words.{fused_keywords, get_member, is_fused, is_items_schema, items_depth, items_from}
-use Rattle.jskw_array.specs.Words.{items_start}
-use Rattle.jskw_array.specs.Words.{items_view, join_ok, keyword, keyword_location, keywords, keywords_of, map_ok}
-use Rattle.jskw_array.specs.Words.{members_view, name_of, no_keywords, of_type, readings_named, read, read_bounds}
-use Rattle.jskw_array.specs.Words.{read_each, read_keywords, array_schema_count, shape_keywords, validator_keyword}
-use Rattle.jskw_array.specs.Words.{view, wrong}
+use Rattle.jskw_array.specs.Words.{items_start, items_view, join_ok, keyword, keyword_location, keywords, keywords_of}
+use Rattle.jskw_array.specs.Words.{map_ok, members_view, name_of, no_keywords, of_type, readings_named, read}
+use Rattle.jskw_array.specs.Words.{read_bounds, read_each, read_keywords, array_schema_count, shape_keywords}
+use Rattle.jskw_array.specs.Words.{validator_keyword, view, wrong}
 use Rattle.jskw_report.specs.declared.keyword.KeywordName.TheVariants as keyword_name
 use Rattle.jskw_array.proofs.Depths.{depth_array, item_depth, member_depth}
 use Rattle.jskw_array.proofs.CompiledSchemas.{after_none as after_no_schemas, each_end, each_made, each_refused}
 use Rattle.jskw_array.proofs.CompiledSchemas.{schemas_in}
 use Rattle.jskw_leaf.proofs.PassedFaults.{compiles_as, passed_by_try, refused_whole}
 use Rattle.jskw_leaf.proofs.FusedReading.{fused_items, is_there}
-use Rattle.jskw_array.proofs.FusedReading.{fused_behind, fused_refused, is_one, items_value, shape_reads}
+use Rattle.jskw_array.proofs.FusedReading.{fused_behind, is_one, items_value, shape_reads}
 use Rattle.jskw_array.proofs.KeywordReadings.{additional_absent, additional_false, additional_of_schema}
-use Rattle.jskw_array.proofs.KeywordReadings.{additional_true}
-use Rattle.jskw_array.proofs.KeywordReadings.{contains_of_schema, contains_read, items_of_array, items_of_one}
-use Rattle.jskw_array.proofs.KeywordReadings.{items_silent, prefix_of_array, prefix_refused, read_boolean, view-Bool}
+use Rattle.jskw_array.proofs.KeywordReadings.{additional_true, contains_of_schema, contains_read, items_of_array}
+use Rattle.jskw_array.proofs.KeywordReadings.{items_of_one, items_silent, prefix_of_array, prefix_refused, read_boolean}
+use Rattle.jskw_array.proofs.KeywordReadings.{view-Bool}
 use Rattle.jskw_array.proofs.CompiledKeywords.{active_depth, active_reads, after_empty, inactive_reads, keyword_same}
-use Rattle.jskw_array.proofs.CompiledKeywords.{ok_then}
-use Rattle.jskw_array.proofs.CompiledKeywords.{turn_end, turn_made, turn_refused, turn_silent}
+use Rattle.jskw_array.proofs.CompiledKeywords.{ok_then, turn_end, turn_made, turn_refused, turn_silent}
 use Rattle.jskw_array.proofs.+compile.Goals as goal
 
 -- ---- a schema
@@ -34,13 +32,15 @@ compiler::compile_subschema-returns-in_ok-boolean_node-in-Bool g t c =
     ap (λ x. read x s p) (ap view c.in-Bool.is ∙ view-Bool c.in-Bool.accepts) ∙ read_boolean c.in-Bool.accepts s p
     ∙ ap Ok (sym c.in_ok-boolean_node-in-Bool.ensures)
 
--- ---- the units of an object
+-- ---- the parts of an object
 
 pub compiler::push_parts-push_shape-requires : goal.compiler::push_parts-push_shape-requires
 compiler::push_parts-push_shape-requires g t c κs within =
     let there : is_fused c.args.ctx.now.setting (members_view c.args.parent.now.entries) ≡ true =
     search (rules, c.array_shape_fusion.ensures, c.if-not-array_shape_fusion.false) in
-    (omega (arith, c.decreases), search (rules, c.requires.empty, there))
+    let before = sym (after_empty _ c.requires.empty _) ∙ c.in_ok-push_keywords.ensures.made in
+    let none = c.in_ok-push_keywords.ensures.fused ∙ ap shape_in c.requires.empty in
+    (omega (arith, c.decreases), search (rules, there, before, none))
 
 pub compiler::push_parts-returns-then-not-array_shape_fusion-clause-made
     : goal.compiler::push_parts-returns-then-not-array_shape_fusion-clause-made
@@ -56,17 +56,36 @@ pub compiler::push_parts-returns-then-not-array_shape_fusion-clause-fused
 compiler::push_parts-returns-then-not-array_shape_fusion-clause-fused g t c =
     let lacks : is_fused c.args.ctx.now.setting (members_view c.args.parent.now.entries) ≡ false =
     search (rules, c.array_shape_fusion.ensures, c.if-not-array_shape_fusion.true) in
-    ok_then c.push_keywords.result (λ _ same. same ∙ ap begin_fused c.requires.empty ∙ sym lacks)
+    ok_then c.push_keywords.result (λ _ same. ap is_some (same ∙ ap shape_in c.requires.empty) ∙ sym lacks)
     c.push_keywords.ensures.fused
 
-pub compiler::push_parts-returns-in_err-push_shape-clause-made
-    : goal.compiler::push_parts-returns-in_err-push_shape-clause-made
-compiler::push_parts-returns-in_err-push_shape-clause-made g t c =
-    let new = keywords_of c.push_shape.new.parts.items in
-    passed_by_try (λ (u : Unit {0}). new) (λ (u : Unit {0}). new) c.in_err-push_shape.field-0.0 _ _ _
-    c.from_residual.ensures.1 c.in_err-push_shape.ensures.made
-    (fused_refused fused_keywords (drop 4 keywords) c.args.ctx.now.setting c.args.ctx.now.location
-    (members_view c.args.parent.now.entries))
+pub compiler::push_shape-returns-clause-made : goal.compiler::push_shape-returns-clause-made
+compiler::push_shape-returns-clause-made g t c =
+    let point = c.args.ctx.now in
+    let ms = members_view c.args.parent.now.entries in
+    let d = view c.in-Some.items.now in
+    let found : get_member (name_of keyword_name.Items) ms ≡ Some d =
+    search (rules, c.as_str.ensures, c.in-Some.ensures) in
+    let of_shape =
+    shape_keywords {F = g.row.F.Denot} {Node = g.row.F-Node.Denot} {Number = g.row.F-Node-Number.Denot}
+    {Key = g.row.F-Node-PreparedKey.Denot} in
+    let reads = shape_reads point ms d c.requires.fused found (keywords_of c.args.parts.now.items) c.requires.before in
+    let made = subst (CompilesTo of_shape c.compile.result) reads c.compile.ensures in
+    subst (CompilesTo (λ _. keywords_of c.push_compiled.new.parts.items) c.push_compiled.result) (sym reads)
+    (c.push_compiled.ensures.made _ _ made)
+
+pub compiler::push_shape-returns-clause-begins : goal.compiler::push_shape-returns-clause-begins
+compiler::push_shape-returns-clause-begins g t c =
+    let point = c.args.ctx.now in
+    let ms = members_view c.args.parent.now.entries in
+    let d = view c.in-Some.items.now in
+    let found : get_member (name_of keyword_name.Items) ms ≡ Some d =
+    search (rules, c.as_str.ensures, c.in-Some.ensures) in
+    let of_shape =
+    shape_keywords {F = g.row.F.Denot} {Node = g.row.F-Node.Denot} {Number = g.row.F-Node-Number.Denot}
+    {Key = g.row.F-Node-PreparedKey.Denot} in
+    let reads = shape_reads point ms d c.requires.fused found (keywords_of c.args.parts.now.items) c.requires.before in
+    c.push_compiled.ensures.begins _ _ (subst (CompilesTo of_shape c.compile.result) reads c.compile.ensures)
 
 pub compiler::push_parts-returns-clause-made : goal.compiler::push_parts-returns-clause-made
 compiler::push_parts-returns-clause-made g t c =
@@ -74,15 +93,8 @@ compiler::push_parts-returns-clause-made g t c =
     let all =
     fused_behind fused_keywords (drop 4 keywords) c.args.ctx.now.setting c.args.ctx.now.location
     (members_view c.args.parent.now.entries) js c.in_ok-push_shape.ensures.made in
-    subst (CompilesTo (λ _. keywords_of c.push_keywords-2.new.parts.items) c.push_keywords-2.result) (sym all)
-    c.push_keywords-2.ensures.made
-
-pub compiler::push_parts-returns-clause-fused : goal.compiler::push_parts-returns-clause-fused
-compiler::push_parts-returns-clause-fused g t c =
-    let there : is_fused c.args.ctx.now.setting (members_view c.args.parent.now.entries) ≡ true =
-    search (rules, c.array_shape_fusion.ensures, c.if-not-array_shape_fusion.false) in
-    ok_then c.push_keywords-2.result (λ _ same. same ∙ c.in_ok-push_shape.ensures.fused ∙ sym there)
-    c.push_keywords-2.ensures.fused
+    subst (CompilesTo (λ _. keywords_of c.push_keywords-3.new.parts.items) c.push_keywords-3.result) (sym all)
+    c.push_keywords-3.ensures.made
 
 pub compiler::push_shape-unreachable-requires : goal.compiler::push_shape-unreachable-requires
 compiler::push_shape-unreachable-requires g t c =
@@ -99,9 +111,6 @@ compiler::push_shape-compile-requires g t c κs within =
     search (rules, c.as_str.ensures, c.in-Some.ensures) in
     let below = member_depth (name_of keyword_name.Items) ms (view c.in-Some.items.now) found in
     (omega (arith, below, c.decreases), search (rules, found, c.requires.fused))
-
-pub compiler::push_shape-returns-clause-made : goal.compiler::push_shape-returns-clause-made
-compiler::push_shape-returns-clause-made g t c = c.push_compiled.ensures.made _ c.compile.ensures
 
 pub items::array_shape::ArrayShapeValidator::compile-compile_schema-requires
     : goal.items::array_shape::ArrayShapeValidator::compile-compile_schema-requires
@@ -140,7 +149,8 @@ compiler::push_keywords-compile_keyword-compiled-requires g t c κs within =
     (omega (arith, below, c.decreases), search (rules, c.requires))
 
 pub compiler::push_keywords-loop-keyword-init : goal.compiler::push_keywords-loop-keyword-init
-compiler::push_keywords-loop-keyword-init g t c = record { left = refl; fused = refl }
+compiler::push_keywords-loop-keyword-init g t c =
+    record { left = refl; fused = refl; begins = c.requires.begins }
 
 pub compiler::push_keywords-loop-keyword-preserved-in_default
     : goal.compiler::push_keywords-loop-keyword-preserved-in_default
@@ -154,6 +164,7 @@ compiler::push_keywords-loop-keyword-preserved-in_default g t c =
           turn_silent _ _ _ _ _ _ c.args.keywords.now l.keyword-index keyword_name.TypeKeyword c.loop-keyword-test.true
           l.invariant.left (inactive_reads w c.args.ctx.now _ none);
       fused = l.invariant.fused;
+      begins = l.invariant.begins;
     }
 
 pub compiler::push_keywords-loop-keyword-preserved : goal.compiler::push_keywords-loop-keyword-preserved
@@ -171,6 +182,7 @@ compiler::push_keywords-loop-keyword-preserved g t c =
           (active_reads w c.args.ctx.now _ _ found)
           ∙ c.in_ok-push_part.ensures.made _ c.compile_keyword-compiled.ensures);
       fused = c.in_ok-push_part.ensures.fused ∙ l.invariant.fused;
+      begins = c.in_ok-push_part.ensures.begins l.invariant.begins;
     }
 
 pub compiler::push_keywords-returns-in_err-push_part-clause-made

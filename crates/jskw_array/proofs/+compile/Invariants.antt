@@ -1,6 +1,6 @@
 use Rattle.std.proofs.Common.{◌≡◌, ◌+◌, ◌*◌, drop}
-use Rattle.jskw_array.specs.Words.{after, begin_fused, depth, items_depth, items_view, keywords_of, members_depth}
-use Rattle.jskw_array.specs.Words.{members_view, readings_named, read_each, read_keywords, schemas_of, view}
+use Rattle.jskw_array.specs.Words.{ShapeBegins, after, depth, items_depth, items_view, keywords_of, members_depth}
+use Rattle.jskw_array.specs.Words.{shape_in, members_view, readings_named, read_each, read_keywords, schemas_of, view}
 use Rattle.jskw_array.proofs.CompiledSchemas.{after as after_schemas}
 use Rattle.jskw_array.proofs.+compile.Given as goal
 
@@ -59,7 +59,8 @@ invariant-compiler::push_keywords-loop-keyword g l =
           l.ctx.location ms (λ name. readings_named name ms))
           ≡ after (keywords_of l.initial.parts.items)
           (read_keywords l.keywords l.ctx.setting l.ctx.location ms (λ name. readings_named name ms));
-      fused : begin_fused l.parts.items ≡ begin_fused l.initial.parts.items;
+      fused : shape_in l.parts.items ≡ shape_in l.initial.parts.items;
+      begins : ShapeBegins l.parts.items;
     }
 
 abbrev pub invariant-compiler::compile_each-loop-index : goal.invariant-compiler::compile_each-loop-index

@@ -1,17 +1,14 @@
 use Rattle.std.proofs.Common.{rules, ◌≡◌, ◌∙◌, ◌+◌, ◌++◌, [], ◌∷◌, length, drop, ap, ap₂, subst, refl, IfOk, arith}
 use Rattle.std.proofs.Common.{if◌then◌else◌}
 use Rattle.std.proofs.lemmas.Grind.{common_steps}
-use Rattle.jskw_array.specs.Words.{absorbed_by, boxed_bounds, evaluate_each, evaluate_pairs, failing_locations, holds}
-use Rattle.jskw_array.specs.Words.{item_location, items, matching_result, meaning_unit, node_at, one_keyword}
-use Rattle.jskw_array.specs.Words.{own_keyword, pairs, part_meaning, path_of, result_of, schemas_of, tree, units}
-use Rattle.jskw_array.specs.Words.{validator_keyword}
+use Rattle.jskw_array.specs.Words.{boxed_bounds, evaluate_each, evaluate_pairs, failing_locations, holds, item_location}
+use Rattle.jskw_array.specs.Words.{items, matching_result, meaning_unit, node_at, one_keyword, own_keyword, pairs}
+use Rattle.jskw_array.specs.Words.{part_meaning, path_of, result_of, schemas_of, tree, units, validator_keyword}
 use Rattle.jskw_report.proofs.GatheredNodes.{appended, gathered_all, index_end, index_met, node_end, node_met}
 use Rattle.jskw_report.proofs.EvaluationValidity.{tree_valid}
-use Rattle.jskw_array.specs.Heights.{rest_is_as_high}
 use Rattle.jskw_array.proofs.WalksOverParts.{keywords_end, own_counted, own_gives, own_lower, pairs_at, unit_height}
 use Rattle.jskw_array.proofs.WalksOverParts.{unit_taken}
 use Rattle.jskw_array.proofs.MatchedItems.{matching_is_unit}
-use Rattle.jskw_array.proofs.ValidatorMeanings.{each_meets}
 use Rattle.jskw_array.proofs.WalksOverItems.{each_lower, each_pairs_at, each_units_at, each_units_end, sum_at, units_at}
 use Rattle.jskw_array.proofs.+evaluate.Goals as goal
 
@@ -28,7 +25,7 @@ each::EachValidate::evaluate-loop-index-init g t c =
           c.in_ok-children.ensures.items;
       location = refl;
       counted_from = omega arith;
-      counted_to = omega (arith, each_meets v instance);
+      counted_to = omega arith;
     }
 
 pub each::EachValidate::evaluate-evaluate_item-made-requires
@@ -75,7 +72,7 @@ each::EachValidate::evaluate-returns-clause-gives g t c =
 pub rest::RestValidate::evaluate-evaluate_item-made-requires
     : goal.rest::RestValidate::evaluate-evaluate_item-made-requires
 rest::RestValidate::evaluate-evaluate_item-made-requires g t c κs within =
-    (omega (arith, rest_is_as_high c.args.self.now, c.decreases), search rules)
+    (omega (arith, c.decreases), search rules)
 
 pub rest::RestValidate::evaluate-loop-index-preserved : goal.rest::RestValidate::evaluate-loop-index-preserved
 rest::RestValidate::evaluate-loop-index-preserved g t c =
@@ -150,7 +147,7 @@ pub part::evaluate_parts-evaluate-made-requires : goal.part::evaluate_parts-eval
 part::evaluate_parts-evaluate-made-requires g t c κs within =
     let lower =
     unit_height c.args.parts.now c.loop-part.part-index c.part-item.result c.loop-part-test.true c.part-item.is in
-    let own = own_lower c.part-item.result c.own-own.result.now c.own-own.ensures in
+    let own = own_lower c.part-item.result c.keyword-keyword.result.now c.keyword-keyword.ensures in
     (omega (arith, own, lower, c.decreases), search rules)
 
 pub part::evaluate_parts-loop-part-init : goal.part::evaluate_parts-loop-part-init
@@ -169,25 +166,22 @@ part::evaluate_parts-loop-part-preserved g t c =
     let p = path_of c.args.location.now in
     let us = c.args.parts.now in
     let u = c.part-item.result in
-    let k = c.own-own.result.now in
-    let before =
-    c.in_ok-push_absorbed.ensures
-    ∙ ap (λ q. l.children.items ++ units (absorbed_by u) instance q) c.requires.path in
+    let k = c.keyword-keyword.result.now in
     let result =
-    own_gives u k c.own-own.ensures instance _
+    own_gives u k c.keyword-keyword.ensures instance _
     ∙ ap (λ q. meaning_unit (part_meaning u) instance (path_of q)) l.invariant.location in
     let r = meaning_unit (one_keyword (validator_keyword k.validator)) instance (path_of l.location) in
     let made =
-    ap (λ x. node_at x.location c.args.path.now r) c.own-own.ensures
+    ap (λ x. node_at x.location c.args.path.now r) c.keyword-keyword.ensures
     ∙ ap₂ (node_at (own_keyword u).location) c.requires.path result in
     let more =
     c.in_ok-push_unit.ensures r c.evaluate-made.ensures.gives
-    ∙ ap (λ e. c.push_absorbed.new.children.items ++ e ∷ []) made in
+    ∙ ap (λ e. l.children.items ++ e ∷ []) made in
     let cost = pairs_at us l.part-index u c.loop-part-test.true c.part-item.is instance in
-    let next = own_counted u k c.own-own.ensures instance c.evaluate-made.ensures.counted in
+    let next = own_counted u k c.keyword-keyword.ensures instance c.evaluate-made.ensures.counted in
     record {
       gathered =
-          unit_taken us l.part-index u c.loop-part-test.true c.part-item.is instance p _ _ _ _ before more
+          unit_taken us l.part-index u c.loop-part-test.true c.part-item.is instance p _ _ _ more
           l.invariant.gathered;
       location = c.evaluate-made.ensures.location ∙ l.invariant.location;
       counted_from = omega (arith, l.invariant.counted_from, next.from);

@@ -1,67 +1,38 @@
-use Rattle.std.proofs.Common.{rules, ◌∙◌, false, sym, arith}
+use Rattle.std.proofs.Common.{rules, ◌∙◌, false, refl, sym, arith}
 use Rattle.jskw_array.specs.Words.{holds, items, needed}
-use Rattle.jskw_array.specs.Heights.{rest_is_as_high}
 use Rattle.jskw_array.proofs.AcceptedValues.{counted_within, one_needed}
 use Rattle.jskw_array.proofs.PartsLeft.{left_within, only_holds, only_lower, only_needs}
-use Rattle.jskw_array.proofs.WalksOverParts.{passed_at, shape_below, stopped_at, unit_height}
-use Rattle.jskw_array.proofs.ValidatorMeanings.{each_holds_of, each_needs, rest_holds_of, rest_needs}
+use Rattle.jskw_array.proofs.WalksOverParts.{own_holds, own_lower, own_needs, passed_at, stopped_at, unit_height}
 use Rattle.jskw_array.proofs.WalksOverItems.{each_holds_end, each_lower, until_at}
-use Rattle.jskw_array.proofs.PassedItems.{pairs_applied, pairs_hold, passed_applied, passed_holds}
+use Rattle.jskw_array.proofs.PassedItems.{passed_applied, passed_holds}
 use Rattle.jskw_array.proofs.+is_valid.Goals as goal
 
 -- ---- a schema for each item
 
-pub each::Each::are_valid-is_valid-requires : goal.each::Each::are_valid-is_valid-requires
-each::Each::are_valid-is_valid-requires g t c κs within =
+pub each::EachValidate::is_valid-loop-index-init : goal.each::EachValidate::is_valid-loop-index-init
+each::EachValidate::is_valid-loop-index-init g t c =
+    let v = c.args.self.now in
+    let u = g.F.Node.Rooted.tree c.args.instance.now in
+    record {
+      last = omega arith;
+      answer = refl;
+      counted_from = omega arith;
+      counted_to = omega arith;
+    }
+
+pub each::EachValidate::is_valid-is_valid-requires : goal.each::EachValidate::is_valid-is_valid-requires
+each::EachValidate::is_valid-is_valid-requires g t c κs within =
     let lower = each_lower c.args.self.now c.loop-index.index c.index.result.now (omega arith) c.index.ensures in
     (omega (arith, lower, c.decreases), search rules)
 
-pub each::Each::are_valid-returns-clause-answer : goal.each::Each::are_valid-returns-clause-answer
-each::Each::are_valid-returns-clause-answer g t c =
+pub each::EachValidate::is_valid-returns-clause-answer : goal.each::EachValidate::is_valid-returns-clause-answer
+each::EachValidate::is_valid-returns-clause-answer g t c =
     let l = c.loop-index in
     let none =
     each_holds_end c.args.self.now.nodes.items
     (items (g.F.Node.Rooted.tree c.args.instance.now)) l.index (omega arith) in
     let left = l.invariant.answer in
     cc
-
-pub each::EachValidate::is_valid-returns-then-first-count-clause-answer
-    : goal.each::EachValidate::is_valid-returns-then-first-count-clause-answer
-each::EachValidate::is_valid-returns-then-first-count-clause-answer g t c =
-    let v = c.args.self.now in
-    let u = g.F.Node.Rooted.tree c.args.instance.now in
-    let ss = v.nodes.items in
-    let n = c.skip_accepted-first.result in
-    sym (each_holds_of v u ∙ pairs_hold ss u n c.skip_accepted-first.ensures.passed
-    ∙ each_holds_end ss (items u) n (omega arith))
-
-pub each::EachValidate::is_valid-returns-then-first-count-clause-counted
-    : goal.each::EachValidate::is_valid-returns-then-first-count-clause-counted
-each::EachValidate::is_valid-returns-then-first-count-clause-counted g t c =
-    let v = c.args.self.now in
-    let u = g.F.Node.Rooted.tree c.args.instance.now in
-    let taken = c.skip_accepted-first.ensures in
-    let cost = pairs_applied v.nodes.items u c.skip_accepted-first.result taken.passed false in
-    let counted = taken.counted.counted in
-    record { from = counted.from; to = omega (arith, each_needs v u, cost, counted.to) }
-
-pub each::EachValidate::is_valid-returns-clause-answer : goal.each::EachValidate::is_valid-returns-clause-answer
-each::EachValidate::is_valid-returns-clause-answer g t c =
-    let v = c.args.self.now in
-    let u = g.F.Node.Rooted.tree c.args.instance.now in
-    c.are_valid.ensures.answer
-    ∙ sym (each_holds_of v u
-    ∙ pairs_hold v.nodes.items u c.skip_accepted-first.result c.skip_accepted-first.ensures.passed)
-
-pub each::EachValidate::is_valid-returns-clause-counted : goal.each::EachValidate::is_valid-returns-clause-counted
-each::EachValidate::is_valid-returns-clause-counted g t c =
-    let v = c.args.self.now in
-    let u = g.F.Node.Rooted.tree c.args.instance.now in
-    let taken = c.skip_accepted-first.ensures in
-    let cost = pairs_applied v.nodes.items u c.skip_accepted-first.result taken.passed false in
-    let first = taken.counted.counted in
-    let next = c.are_valid.ensures.counted in
-    record { from = omega (arith, first.from, next.from); to = omega (arith, each_needs v u, cost, first.to, next.to) }
 
 -- ---- one schema for the items from an index on
 
@@ -89,19 +60,19 @@ pub rest::RestValidate::is_valid-loop-index-init : goal.rest::RestValidate::is_v
 rest::RestValidate::is_valid-loop-index-init g t c =
     let v = c.args.self.now in
     let u = g.F.Node.Rooted.tree c.args.instance.now in
-    let i = c.skip_valid-index.result in
-    let taken = c.skip_valid-index.ensures in
+    let i = c.skip-index.result in
+    let taken = c.skip-index.ensures in
     let counted = taken.counted.counted in
     let cost = passed_applied v.node u v.start i taken.passed false in
     record {
-      answer = rest_holds_of v u ∙ passed_holds v.node u v.start i taken.passed;
+      answer = passed_holds v.node u v.start i taken.passed;
       counted_from = counted.from;
-      counted_to = omega (arith, rest_needs v u, cost, counted.to);
+      counted_to = omega (arith, cost, counted.to);
     }
 
 pub rest::RestValidate::is_valid-is_valid-requires : goal.rest::RestValidate::is_valid-is_valid-requires
 rest::RestValidate::is_valid-is_valid-requires g t c κs within =
-    (omega (arith, rest_is_as_high c.args.self.now, c.decreases), search rules)
+    (omega (arith, c.decreases), search rules)
 
 -- ---- the units
 
@@ -109,26 +80,33 @@ pub part::parts_are_valid-is_valid-requires : goal.part::parts_are_valid-is_vali
 part::parts_are_valid-is_valid-requires g t c κs within =
     let lower =
     unit_height c.args.parts.now c.loop-part.part-index c.part-item.result c.loop-part-test.true c.part-item.is in
-    (omega (arith, lower, c.decreases), search rules)
+    let own = own_lower c.part-item.result c.keyword.result.now c.keyword.ensures in
+    (omega (arith, own, lower, c.decreases), search rules)
 
 pub part::parts_are_valid-loop-part-preserved : goal.part::parts_are_valid-loop-part-preserved
 part::parts_are_valid-loop-part-preserved g t c =
     let l = c.loop-part in
-    let holds = sym c.is_valid.ensures.answer ∙ c.if-not-is_valid.false in
+    let holds =
+    sym (own_holds c.part-item.result c.keyword.result.now c.keyword.ensures (g.F.Node.Rooted.tree c.args.instance.now))
+    ∙ sym c.is_valid.ensures.answer ∙ c.if-not-is_valid.false in
     let passed =
     passed_at c.args.parts.now l.part-index c.part-item.result c.loop-part-test.true c.part-item.is
     (g.F.Node.Rooted.tree c.args.instance.now) holds in
     let next = c.is_valid.ensures.counted in
+    let needs =
+    own_needs c.part-item.result c.keyword.result.now c.keyword.ensures (g.F.Node.Rooted.tree c.args.instance.now) in
     record {
       answer = l.invariant.answer ∙ passed.0;
       counted_from = omega (arith, l.invariant.counted_from, next.from);
-      counted_to = omega (arith, passed.1, l.invariant.counted_to, next.to);
+      counted_to = omega (arith, needs, passed.1, l.invariant.counted_to, next.to);
     }
 
 pub part::parts_are_valid-returns-then-not-is_valid-clause-answer
     : goal.part::parts_are_valid-returns-then-not-is_valid-clause-answer
 part::parts_are_valid-returns-then-not-is_valid-clause-answer g t c =
-    let fails = sym c.is_valid.ensures.answer ∙ c.if-not-is_valid.true in
+    let fails =
+    sym (own_holds c.part-item.result c.keyword.result.now c.keyword.ensures (g.F.Node.Rooted.tree c.args.instance.now))
+    ∙ sym c.is_valid.ensures.answer ∙ c.if-not-is_valid.true in
     let stopped =
     stopped_at c.args.parts.now c.loop-part.part-index c.part-item.result c.loop-part-test.true c.part-item.is
     (g.F.Node.Rooted.tree c.args.instance.now) fails in
@@ -138,23 +116,21 @@ pub part::parts_are_valid-returns-then-not-is_valid-clause-counted
     : goal.part::parts_are_valid-returns-then-not-is_valid-clause-counted
 part::parts_are_valid-returns-then-not-is_valid-clause-counted g t c =
     let l = c.loop-part in
-    let fails = sym c.is_valid.ensures.answer ∙ c.if-not-is_valid.true in
+    let fails =
+    sym (own_holds c.part-item.result c.keyword.result.now c.keyword.ensures (g.F.Node.Rooted.tree c.args.instance.now))
+    ∙ sym c.is_valid.ensures.answer ∙ c.if-not-is_valid.true in
     let stopped =
     stopped_at c.args.parts.now l.part-index c.part-item.result c.loop-part-test.true c.part-item.is
     (g.F.Node.Rooted.tree c.args.instance.now) fails in
     let next = c.is_valid.ensures.counted in
+    let needs =
+    own_needs c.part-item.result c.keyword.result.now c.keyword.ensures (g.F.Node.Rooted.tree c.args.instance.now) in
     record {
       from =
           omega (arith, l.invariant.counted_from, next.from);
       to =
-          omega (arith, stopped.1, l.invariant.counted_to, next.to);
+          omega (arith, needs, stopped.1, l.invariant.counted_to, next.to);
     }
-
-pub part::Part::is_valid-is_valid-requires-in-Shape
-    : goal.part::Part::is_valid-is_valid-requires-in-Shape
-part::Part::is_valid-is_valid-requires-in-Shape g t c κs within =
-    let below = shape_below c.args.self.now c.deref.result.now c.in-Shape.is c.deref.ensures in
-    (omega (arith, below, c.decreases), search rules)
 
 -- ---- a node
 
@@ -174,7 +150,8 @@ pub node::Subschema::keywords_are_valid-is_valid-requires : goal.node::Subschema
 node::Subschema::keywords_are_valid-is_valid-requires g t c κs within =
     let left = c.in-Some.ensures.parts in
     let below = only_lower c.in-Some.parts.now _ _ c.in-len1.len_at_least c.in-len1.len_below c.part-item.is in
-    (omega (arith, left.lower, below, c.decreases), search rules)
+    let own = own_lower c.part-item.result c.keyword.result.now c.keyword.ensures in
+    (omega (arith, left.lower, own, below, c.decreases), search rules)
 
 pub node::Subschema::keywords_are_valid-returns-in-len1-clause-answer
     : goal.node::Subschema::keywords_are_valid-returns-in-len1-clause-answer
@@ -182,7 +159,9 @@ node::Subschema::keywords_are_valid-returns-in-len1-clause-answer g t c =
     let only =
     only_holds c.in-Some.parts.now _ _ c.in-len1.len_at_least c.in-len1.len_below c.part-item.is
     (g.F.Node.Rooted.tree c.args.instance.now) in
-    c.is_valid.ensures.answer ∙ sym (c.in-Some.ensures.parts.answer ∙ only)
+    c.is_valid.ensures.answer
+    ∙ own_holds c.part-item.result c.keyword.result.now c.keyword.ensures (g.F.Node.Rooted.tree c.args.instance.now)
+    ∙ sym (c.in-Some.ensures.parts.answer ∙ only)
 
 pub node::Subschema::keywords_are_valid-returns-in-len1-clause-counted
     : goal.node::Subschema::keywords_are_valid-returns-in-len1-clause-counted
@@ -190,7 +169,10 @@ node::Subschema::keywords_are_valid-returns-in-len1-clause-counted g t c =
     let only =
     only_needs c.in-Some.parts.now _ _ c.in-len1.len_at_least c.in-len1.len_below c.part-item.is
     (g.F.Node.Rooted.tree c.args.instance.now) in
-    left_within c.in-Some.ensures.parts false c.apply.ensures.counted c.is_valid.ensures.counted only
+    let needs =
+    own_needs c.part-item.result c.keyword.result.now c.keyword.ensures (g.F.Node.Rooted.tree c.args.instance.now) in
+    left_within c.in-Some.ensures.parts false c.apply.ensures.counted c.is_valid.ensures.counted
+    (omega (arith, needs, only))
 
 pub node::Subschema::keywords_are_valid-returns-in_default-parts-clause-answer
     : goal.node::Subschema::keywords_are_valid-returns-in_default-parts-clause-answer

@@ -2,7 +2,6 @@ use Rattle.std.proofs.Common.{◌≡◌, ◌+◌, ◌*◌, ◌≤◌, length, mi
 use Rattle.jskw_array.specs.Words.{all_height, all_hold, all_needed, each_holds, each_keyword, each_needed, height}
 use Rattle.jskw_array.specs.Words.{holds, items, keyword_height, keyword_holds, keyword_needed, keywords_of, list_all}
 use Rattle.jskw_array.specs.Words.{needed, rest_keyword, schemas_of, sum_to_failure, validator_keyword}
-use Rattle.jskw_array.proofs.WalksOverParts.{part_tall}
 use Rattle.jskw_array.proofs.+is_valid.Given as goal
 
 abbrev pub decreases-node::Subschema::is_valid : goal.decreases-node::Subschema::is_valid
@@ -14,22 +13,11 @@ decreases-node::Subschema::keywords_are_valid g l = 10 * height l.self.now
 abbrev pub decreases-part::parts_are_valid : goal.decreases-part::parts_are_valid
 decreases-part::parts_are_valid g l = 10 * all_height (keywords_of l.parts.now) + 8
 
-abbrev pub decreases-part::Part::is_valid : goal.decreases-part::Part::is_valid
-decreases-part::Part::is_valid g l = 10 * part_tall l.self.now + 7
-
-abbrev pub decreases-items::array_shape::ArrayShapeValidatorValidate::is_valid
-    : goal.decreases-items::array_shape::ArrayShapeValidatorValidate::is_valid
-decreases-items::array_shape::ArrayShapeValidatorValidate::is_valid g l =
-    10 * keyword_height (validator_keyword l.self.now.items.validator) + 6
-
 abbrev pub decreases-validator::ValidatorValidate::is_valid : goal.decreases-validator::ValidatorValidate::is_valid
 decreases-validator::ValidatorValidate::is_valid g l = 10 * keyword_height (validator_keyword l.self.now) + 4
 
 abbrev pub decreases-each::EachValidate::is_valid : goal.decreases-each::EachValidate::is_valid
 decreases-each::EachValidate::is_valid g l = 10 * keyword_height (each_keyword l.self.now) + 3
-
-abbrev pub decreases-each::Each::are_valid : goal.decreases-each::Each::are_valid
-decreases-each::Each::are_valid g l = 10 * keyword_height (each_keyword l.self.now) + 2
 
 abbrev pub decreases-rest::RestValidate::is_valid : goal.decreases-rest::RestValidate::is_valid
 decreases-rest::RestValidate::is_valid g l = 10 * keyword_height (rest_keyword l.self.now) + 3
@@ -40,17 +28,17 @@ decreases-matching::MatchingValidate::is_valid g l = 10 * height l.self.now.node
 abbrev pub decreases-matching::Matching::failing_location : goal.decreases-matching::Matching::failing_location
 decreases-matching::Matching::failing_location g l = 10 * height l.self.now.node + 2
 
-abbrev pub invariant-each::Each::are_valid-loop-index : goal.invariant-each::Each::are_valid-loop-index
-invariant-each::Each::are_valid-loop-index g l =
-    let ts = items (g.F.Node.Rooted.tree l.instance) in
+abbrev pub invariant-each::EachValidate::is_valid-loop-index : goal.invariant-each::EachValidate::is_valid-loop-index
+invariant-each::EachValidate::is_valid-loop-index g l =
+    let t = g.F.Node.Rooted.tree l.instance in
     let ss = l.self.nodes.items in
     record {
-      last : l.count ≡ min (length ts) (length ss);
-      answer : each_holds (schemas_of (drop l.first ss)) (drop l.first ts)
-          ≡ each_holds (schemas_of (drop l.index ss)) (drop l.index ts);
+      last : l.count ≡ min (length (items t)) (length ss);
+      answer : keyword_holds (each_keyword l.self) t
+          ≡ each_holds (schemas_of (drop l.index ss)) (drop l.index (items t));
       counted_from : l.initial.ctx ≤ l.ctx;
-      counted_to : l.ctx + each_needed (schemas_of (drop l.index ss)) (drop l.index ts)
-          ≤ l.initial.ctx + each_needed (schemas_of (drop l.first ss)) (drop l.first ts);
+      counted_to : l.ctx + each_needed (schemas_of (drop l.index ss)) (drop l.index (items t))
+          ≤ l.initial.ctx + keyword_needed (each_keyword l.self) t;
     }
 
 abbrev pub invariant-rest::RestValidate::is_valid-loop-index : goal.invariant-rest::RestValidate::is_valid-loop-index

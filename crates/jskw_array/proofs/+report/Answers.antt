@@ -1,16 +1,11 @@
-use Rattle.std.proofs.Common.{rules, ◌∙◌, refl, ap, sym, subst, append-nil, arith}
-use Rattle.jskw_array.specs.Words.{Reports, absorbed_keywords, all_fail, fail, item_location, items, keeps_list}
-use Rattle.jskw_array.specs.Words.{keyword_fail, path_of, validator_keyword}
-use Rattle.jskw_report.proofs.AppendedKeywords.{fail_appended}
-use Rattle.jskw_report.proofs.ReportedFailures.{reported_all, reported_nothing, reports_begun, reports_behind}
-use Rattle.jskw_report.proofs.ReportedFailures.{reports_memory, reports_none}
-use Rattle.jskw_array.specs.Heights.{rest_is_as_high}
+use Rattle.std.proofs.Common.{rules, ◌∙◌, refl, ap, sym, subst, arith}
+use Rattle.jskw_array.specs.Words.{Reports, all_fail, fail, item_location, items, keeps_list, CountsUpTo, path_of}
+use Rattle.jskw_report.proofs.ReportedFailures.{reported_all, reported_nothing, reports_memory, reports_none}
 use Rattle.jskw_array.proofs.AcceptedValues.{counted_within, no_errors}
-use Rattle.jskw_array.proofs.WalksOverParts.{items_keywords, keywords_end, shape_below, unit_height}
-use Rattle.jskw_array.proofs.ValidatorMeanings.{each_fails_of, rest_fails_of}
+use Rattle.jskw_array.proofs.WalksOverParts.{keywords_end, own_lower, unit_height}
 use Rattle.jskw_leaf.proofs.TypeWalks.{entered}
 use Rattle.jskw_array.proofs.WalksOverItems.{each_fails_end, each_lower}
-use Rattle.jskw_array.proofs.PassedItems.{pairs_applied, pairs_fail, passed_applied, passed_fails}
+use Rattle.jskw_array.proofs.PassedItems.{passed_applied, passed_fails}
 use Rattle.jskw_array.proofs.ReportingWalks.{each_applied, each_step, item_step, one_applied, rest_applied, unit_step}
 use Rattle.jskw_array.proofs.ReportingWalks.{walk_begun, walk_counted, walk_on, walk_stopped}
 use Rattle.jskw_array.proofs.PartsLeft.{left_within}
@@ -54,13 +49,10 @@ each::EachValidate::report_errors-loop-index-init g t c =
     let u = tree c.args.instance.now in
     let old = c.args.report.now in
     let p = path_of c.args.location.now in
-    let n = c.skip_accepted-index.result in
-    let taken = c.skip_accepted-index.ensures in
-    let left = each_fails_of v u p ∙ pairs_fail v.nodes.items u n taken.passed p in
-    let cost = pairs_applied v.nodes.items u n taken.passed (keeps_list old) in
+    let none : CountsUpTo c.args.ctx.now c.args.ctx.now 0 = record { from = omega arith; to = omega arith } in
     record {
       last = omega arith;
-      walk = walk_begun tree old left taken.counted.counted (omega (arith, each_applied (keeps_list old) v u, cost));
+      walk = walk_begun tree old refl none (omega (arith, each_applied (keeps_list old) v u));
       location = refl;
     }
 
@@ -121,9 +113,9 @@ rest::RestValidate::report_errors-loop-index-init g t c =
     let u = tree c.args.instance.now in
     let old = c.args.report.now in
     let p = path_of c.args.location.now in
-    let i = c.skip_valid-index.result in
-    let taken = c.skip_valid-index.ensures in
-    let left = rest_fails_of v u p ∙ passed_fails v.node u v.start i taken.passed p in
+    let i = c.skip-index.result in
+    let taken = c.skip-index.ensures in
+    let left = passed_fails v.node u v.start i taken.passed p in
     let cost = passed_applied v.node u v.start i taken.passed (keeps_list old) in
     record {
       last = omega arith;
@@ -133,7 +125,7 @@ rest::RestValidate::report_errors-loop-index-init g t c =
 
 pub rest::RestValidate::report_errors-report_item-requires : goal.rest::RestValidate::report_errors-report_item-requires
 rest::RestValidate::report_errors-report_item-requires g t c κs within =
-    (omega (arith, rest_is_as_high c.args.self.now, c.decreases), search rules)
+    (omega (arith, c.decreases), search rules)
 
 pub rest::RestValidate::report_errors-returns-in_err-report_item-clause-reported
     : goal.rest::RestValidate::report_errors-returns-in_err-report_item-clause-reported
@@ -189,7 +181,8 @@ pub part::report_parts-report_errors-requires : goal.part::report_parts-report_e
 part::report_parts-report_errors-requires g t c κs within =
     let lower =
     unit_height c.args.parts.now c.loop-part.part-index c.part-item.result c.loop-part-test.true c.part-item.is in
-    (omega (arith, lower, c.decreases), search rules)
+    let own = own_lower c.part-item.result c.keyword.result.now c.keyword.ensures in
+    (omega (arith, own, lower, c.decreases), search rules)
 
 pub part::report_parts-returns-in_err-report_errors-clause-reported
     : goal.part::report_parts-returns-in_err-report_errors-clause-reported
@@ -200,7 +193,7 @@ part::report_parts-returns-in_err-report_errors-clause-reported g t c =
     unit_step c.args.parts.now l.part-index c.part-item.result c.loop-part-test.true c.part-item.is
     (tree c.args.instance.now) (path_of c.args.location.now) in
     walk_stopped tree l.invariant.walk step c.from_residual.ensures.1
-    (rw l.invariant.location at c.in_err-report_errors.ensures.reported)
+    (rw c.keyword.ensures at (rw l.invariant.location at c.in_err-report_errors.ensures.reported))
 
 pub part::report_parts-returns-in_err-report_errors-clause-counted
     : goal.part::report_parts-returns-in_err-report_errors-clause-counted
@@ -210,7 +203,7 @@ part::report_parts-returns-in_err-report_errors-clause-counted g t c =
     let step =
     unit_step c.args.parts.now l.part-index c.part-item.result c.loop-part-test.true c.part-item.is
     (tree c.args.instance.now) (path_of c.args.location.now) in
-    walk_counted tree l.invariant.walk step c.in_err-report_errors.ensures.counted
+    walk_counted tree l.invariant.walk step (rw c.keyword.ensures at c.in_err-report_errors.ensures.counted)
 
 pub part::report_parts-loop-part-preserved : goal.part::report_parts-loop-part-preserved
 part::report_parts-loop-part-preserved g t c =
@@ -221,7 +214,9 @@ part::report_parts-loop-part-preserved g t c =
     unit_step c.args.parts.now l.part-index c.part-item.result c.loop-part-test.true c.part-item.is
     (tree c.args.instance.now) (path_of c.args.location.now) in
     record {
-      walk = walk_on tree l.invariant.walk step (rw l.invariant.location at next.reported) next.counted;
+      walk =
+          walk_on tree l.invariant.walk step (rw c.keyword.ensures at (rw l.invariant.location at next.reported))
+          (rw c.keyword.ensures at next.counted);
       location = next.location ∙ l.invariant.location;
     }
 
@@ -232,44 +227,6 @@ part::report_parts-returns-clause-reported g t c =
     reported_all tree l.invariant.walk.reported (ap
     (λ ks. all_fail ks (tree c.args.instance.now) (path_of c.args.location.now))
     (keywords_end c.args.parts.now l.part-index c.loop-part-test.false))
-
-pub part::Part::report_errors-report_errors-requires-in-Shape
-    : goal.part::Part::report_errors-report_errors-requires-in-Shape
-part::Part::report_errors-report_errors-requires-in-Shape g t c κs within =
-    let below = shape_below c.args.self.now c.deref.result.now c.in-Shape.is c.deref.ensures in
-    (omega (arith, below, c.decreases), search rules)
-
--- ---- the fused shape
-
-pub items::array_shape::ArrayShapeValidatorValidate::report_errors-returns-in_err-report_errors-clause-reported
-    : goal.items::array_shape::ArrayShapeValidatorValidate::report_errors-returns-in_err-report_errors-clause-reported
-items::array_shape::ArrayShapeValidatorValidate::report_errors-returns-in_err-report_errors-clause-reported g t c =
-    let tree = g.F.Node.Rooted.tree in
-    let instance = tree c.args.instance.now in
-    let p = path_of c.args.location.now in
-    let v = c.args.self.now in
-    let whole = fail_appended instance p (absorbed_keywords v.absorbed) (items_keywords v) in
-    subst (λ fs. Reports tree c.args.report.now c.report_errors.new.report fs c.from_residual.result) (sym whole)
-    (reports_begun tree (all_fail (absorbed_keywords v.absorbed) instance p) (all_fail (items_keywords v) instance p) _
-    _ c.from_residual.ensures.1 c.in_err-report_errors.ensures)
-
-pub items::array_shape::ArrayShapeValidatorValidate::report_errors-returns-clause-reported
-    : goal.items::array_shape::ArrayShapeValidatorValidate::report_errors-returns-clause-reported
-items::array_shape::ArrayShapeValidatorValidate::report_errors-returns-clause-reported g t c =
-    let tree = g.F.Node.Rooted.tree in
-    let instance = tree c.args.instance.now in
-    let p = path_of c.args.location.now in
-    let v = c.args.self.now in
-    let whole = fail_appended instance p (absorbed_keywords v.absorbed) (items_keywords v) in
-    let old = c.args.report.now in
-    let now = c.report_errors.new.report in
-    let new = c.report_errors-2.new.report in
-    let r = c.report_errors-2.result in
-    let alone = sym (append-nil (keyword_fail (validator_keyword v.items.validator) instance p)) in
-    let last = subst (λ fs. Reports tree now new fs r) alone c.report_errors-2.ensures.reported in
-    subst (λ fs. Reports tree old new fs r) (sym whole) (reports_behind tree
-    (all_fail (absorbed_keywords v.absorbed) instance p) (all_fail (items_keywords v) instance p) r
-    c.in_ok-report_errors.ensures last)
 
 -- ---- a node
 

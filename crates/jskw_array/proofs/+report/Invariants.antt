@@ -3,7 +3,6 @@ use Rattle.jskw_array.specs.Words.{all_applications, all_fail, all_height, each_
 use Rattle.jskw_array.specs.Words.{height, items, keeps_list, keyword_fail, keyword_height, keywords_of}
 use Rattle.jskw_array.specs.Words.{meaning_applications, one_keyword, path_of, rest_keyword, schemas_of}
 use Rattle.jskw_array.specs.Words.{validator_keyword}
-use Rattle.jskw_array.proofs.WalksOverParts.{part_tall}
 use Rattle.jskw_array.proofs.ReportingWalks.{Walk, each_applications, items_applications}
 use Rattle.jskw_array.proofs.+report.Given as goal
 
@@ -15,14 +14,6 @@ decreases-node::Subschema::report_item g l = 10 * height l.self.now + 1
 
 abbrev pub decreases-part::report_parts : goal.decreases-part::report_parts
 decreases-part::report_parts g l = 10 * all_height (keywords_of l.parts.now) + 7
-
-abbrev pub decreases-part::Part::report_errors : goal.decreases-part::Part::report_errors
-decreases-part::Part::report_errors g l = 10 * part_tall l.self.now + 6
-
-abbrev pub decreases-items::array_shape::ArrayShapeValidatorValidate::report_errors
-    : goal.decreases-items::array_shape::ArrayShapeValidatorValidate::report_errors
-decreases-items::array_shape::ArrayShapeValidatorValidate::report_errors g l =
-    10 * keyword_height (validator_keyword l.self.now.items.validator) + 5
 
 abbrev pub decreases-validator::ValidatorValidate::report_errors
     : goal.decreases-validator::ValidatorValidate::report_errors

@@ -1,8 +1,8 @@
 //! A keyword of an object: its validator, if it has no subschemas, and its part of the node.
 ghost use Rattle.std.specs.Prelude.{◌≡◌};
 ghost use Rattle.jskw_array.specs.Words.{Asserts, CompilesKeyword, CompilesTo, IfOk, Keyword};
-ghost use Rattle.jskw_array.specs.Words.{Members, Ok, Refusal, Result, after, before, begin_fused};
-ghost use Rattle.jskw_array.specs.Words.{is_handed_on, is_leaf, keyword_location, keyword_reading};
+ghost use Rattle.jskw_array.specs.Words.{Members, Ok, Refusal, Result, ShapeBegins, after, before};
+ghost use Rattle.jskw_array.specs.Words.{is_handed_on, is_leaf, shape_in, keyword_location, keyword_reading};
 ghost use Rattle.jskw_array.specs.Words.{keywords_of, leaf_keyword, members_view, no_keywords};
 ghost use Rattle.jskw_array.specs.Words.{true, validator_keyword, view};
 
@@ -27,8 +27,8 @@ pub(crate) fn push_part<'a, F: Json>(
     ensures made { (read : Asserts) → CompilesKeyword validator_keyword compiled.entry read
         → CompilesTo (λ _. keywords_of parts.new.items) result (after (keywords_of parts.old.items)
         (before (keyword_location ctx.now.location keyword) read (Ok no_keywords))) }
-    ensures fused { IfOk result (λ _. begin_fused parts.new.items
-        ≡ begin_fused parts.old.items) }
+    ensures fused { IfOk result (λ _. shape_in parts.new.items ≡ shape_in parts.old.items) }
+    ensures begins { ShapeBegins parts.old.items → IfOk result (λ _. ShapeBegins parts.new.items) }
 {
     match compiled {
         None => Ok(()),

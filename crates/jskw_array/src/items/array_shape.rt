@@ -1,12 +1,12 @@
 //! The fused shape of an array: `type` of `array`, `minItems`, `maxItems` and `items` of one schema
 //! (JSON Schema Validation 6.1.1, 6.4.1, 6.4.2, Core 10.3.1.2), with no other keyword of items
 //! beside them. The type and the length are tested once, and then the items.
-ghost use Rattle.std.specs.Prelude.{◌≡◌, ◌-◌, ◌≤◌};
-ghost use Rattle.jskw_array.specs.Words.{is_lawful, items, length, meaning_holds, true, IsTrue, Keyword};
+ghost use Rattle.std.specs.Prelude.{◌≡◌, ◌-◌};
+ghost use Rattle.jskw_array.specs.Words.{items, length, true, IsTrue, Keyword};
 ghost use Rattle.jskw_array.specs.Words.{CompilesTo, Refusal, Result, Some, absorbed_keywords, append_keywords};
 ghost use Rattle.jskw_array.specs.Words.{fused_keywords, get_member, is_fused, keyword, map_ok, members_view};
 ghost use Rattle.jskw_array.specs.Words.{name_of, no_keywords, shape_keywords, shape_meaning};
-ghost use Rattle.jskw_array.specs.Words.{validator_keyword, view, PassesOver, read_keywords, readings_named};
+ghost use Rattle.jskw_array.specs.Words.{validator_keyword, view, read_keywords, readings_named};
 
 use crate::items::{self, AbsorbedKeywords};
 use crate::part::LocatedValidator;
@@ -15,7 +15,7 @@ use jskw_report::{
     CompilationResult, Context, EvaluationResult, KeywordLocation, KeywordName, LazyLocation,
     Report, Stop, Validate, ValidationContext,
 };
-use jskw_value::{Array, Json, Node};
+use jskw_value::Json;
 use serde_json::{Map, Value};
 use std::alloc::{AllocError, Global};
 
@@ -71,37 +71,6 @@ impl<F: Json> ArrayShapeValidator<F> {
     }
 }
 
-impl<F: Json> ArrayShapeValidator<F> {
-    // Returns the index of the first item from `start` on that is no array of the shape, where the
-    // items of these arrays are tested for a type alone, or the number of items, if there is none.
-    // Applies nothing.
-    #[inline(never)]
-    pub(crate) fn typed_end(
-        &self,
-        start: usize,
-        instance: &F::Node,
-        ctx: &mut ValidationContext,
-    ) -> usize
-        requires lawful { IsTrue (is_lawful (F.Node.tree instance.now)) }
-        requires start { start ≤ length (items (F.Node.tree instance.now)) }
-        ensures passed { PassesOver (meaning_holds (shape_meaning self.now))
-            (F.Node.tree instance.now) start result }
-        ensures applied { ctx.new ≡ ctx.old }
-    {
-        let count = instance.item_count();
-        for index in start..count {
-            let item = instance.item(index);
-            let Some(_) = self.absorbed.valid_count(item) else {
-                return index;
-            };
-            if !self.items.validator.types_hold(item, ctx) {
-                return index;
-            }
-        }
-        count
-    }
-}
-
 // Returns the validator of the other keywords and of `items`, if that was compiled.
 #[inline(never)]
 fn with_items<'a, F: Json>(
@@ -125,13 +94,11 @@ impl<F: Json> Validate<F> for ArrayShapeValidator<F> {
     ghost meaning = { shape_meaning };
 
     #[inline(never)]
-    #[cycle(is_valid)]
     fn is_valid(&self, instance: &F::Node, ctx: &mut ValidationContext) -> bool {
         self.absorbed.valid_count(instance).is_some()
             && self.items.validator.is_valid(instance, ctx)
     }
 
-    #[cycle(report)]
     fn report_errors<'i>(
         &'i self,
         instance: &'i F::Node,

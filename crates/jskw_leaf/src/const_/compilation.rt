@@ -1,7 +1,7 @@
 //! Compiles `const`.
 ghost use Rattle.serde_json.specs.View.{view, members_view};
 ghost use Rattle.jskw_report.specs.Compile.{CompilesTo, CompilesKeyword, keyword_reading};
-ghost use Rattle.jskw_report.specs.Read.{const_keyword, keyword_location};
+ghost use Rattle.jskw_report.specs.Read.{const_rule, keyword_by, keyword_location};
 ghost use Rattle.jskw_report.specs.declared.keyword.KeywordName.TheVariants.{Const};
 ghost use Rattle.jskw_leaf.specs.Meaning.{leaf_keyword};
 
@@ -39,7 +39,7 @@ fn const_validator<'a, F: Json>(
     schema: &'a Value,
 ) -> CompilationResult<'a, LeafValidator<F>>
     ensures { CompilesTo leaf_keyword result
-        (const_keyword (keyword_location ctx.now.location Const) (view schema.now)) }
+        (keyword_by const_rule (keyword_location ctx.now.location Const) (view schema.now)) }
 {
     let location = ctx.keyword_location(alloc, KeywordName::Const)?;
     refuse_floats(alloc, &location, schema)?;

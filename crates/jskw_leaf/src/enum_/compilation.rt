@@ -5,7 +5,7 @@ ghost use Rattle.serde_json.specs.View.{view, items_view, members_view};
 ghost use Rattle.jskw_value.specs.Types.{no_types};
 ghost use Rattle.jskw_report.specs.Compile.{CompilesTo, CompilesKeyword, keyword_reading};
 ghost use Rattle.jskw_report.specs.Meaning.{as_keyword};
-ghost use Rattle.jskw_report.specs.Read.{enum_keyword, keyword_location};
+ghost use Rattle.jskw_report.specs.Read.{enum_rule, keyword_by, keyword_location};
 ghost use Rattle.jskw_report.specs.declared.keyword.KeywordName.TheVariants.{Enum};
 ghost use Rattle.jskw_leaf.specs.Meaning.{among_at, leaf_keyword};
 ghost use Rattle.jskw_leaf.specs.Options.{has_null, only, option_types};
@@ -60,7 +60,7 @@ fn enum_validator<'a, F: Json>(
     schema: &'a Value,
 ) -> CompilationResult<'a, LeafValidator<F>>
     ensures { CompilesTo leaf_keyword result
-        (enum_keyword (keyword_location ctx.now.location Enum) (view schema.now)) }
+        (keyword_by enum_rule (keyword_location ctx.now.location Enum) (view schema.now)) }
 {
     let location = ctx.keyword_location(alloc, KeywordName::Enum)?;
     let Value::Array(items) = schema else {

@@ -1,12 +1,12 @@
 //! Options that are strings.
-ghost use Rattle.std.specs.Prelude.{◌≡◌, IfOk, map, string_bytes, string_cmp};
+ghost use Rattle.std.specs.Prelude.{◌≡◌, IfOk};
 ghost use Rattle.std.specs.List.Sorted.{IsSorted};
 ghost use Rattle.serde_json.specs.Find.{as_str};
 ghost use Rattle.serde_json.specs.View.{items_view};
-ghost use Rattle.jskw_leaf.specs.Options.{has_null, has_text, is_text, picked, some_text};
+ghost use Rattle.jskw_leaf.specs.Options.{has_null, has_text, is_text, picked, some_text, text_order};
 
 use super::table::{OptionTable, TableEnumValidator};
-use crate::text_table::{is_in_table, sorted};
+use super::worded_text::{WordedText, has_text, sorted};
 use jskw_number::QuickSet;
 use jskw_value::{Json, Node, PropertyName, is_same_name};
 use serde_json::Value;
@@ -51,11 +51,11 @@ impl OptionTable for FewStrings {
     }
 }
 
-/// A table of more than 10 strings, sorted by their bytes for a binary search.
+/// A table of more than 10 strings, sorted for a binary search.
 #[derive(Debug, Drop)]
 pub struct SortedStrings {
-    texts: Vec<String>,
-    ghost sorted: { IsSorted string_cmp texts.items },
+    texts: Vec<WordedText>,
+    ghost sorted: { IsSorted text_order texts.items },
 }
 
 /// The validator of more than 10 strings, and of null too if `N` is
@@ -67,7 +67,7 @@ impl OptionTable for SortedStrings {
 
     ghost leaves_out_null = { has_null };
 
-    ghost has = { λ table. has_text (map string_bytes table.texts.items) };
+    ghost has = { λ table. has_text table.texts.items };
 
     fn takes(value: &Value) -> bool {
         value.as_str().is_some()
@@ -85,7 +85,7 @@ impl OptionTable for SortedStrings {
 
     fn has<F: Json>(&self, instance: &F::Node) -> bool {
         match instance.as_string() {
-            Some(text) => is_in_table(&self.texts, text),
+            Some(text) => has_text(&self.texts, text),
             None => false,
         }
     }
@@ -118,13 +118,13 @@ fn names_of(alloc: Global, items: &[Value]) -> Result<Vec<PropertyName>, AllocEr
 }
 
 // Returns the strings among the items.
-fn texts_of(alloc: Global, items: &[Value]) -> Result<Vec<String>, AllocError>
-    ensures { IfOk result (λ v. map string_bytes v.items ≡ picked as_str (items_view items.now)) }
+fn texts_of(alloc: Global, items: &[Value]) -> Result<Vec<WordedText>, AllocError>
+    ensures { IfOk result (λ v. v.items ≡ picked as_str (items_view items.now)) }
 {
     let mut texts = Vec::new(alloc);
     for item in items {
         if let Some(text) = item.as_str() {
-            texts.push(String::from_str(alloc, text)?)?;
+            texts.push(WordedText::new(alloc, text)?)?;
         }
     }
     Ok(texts)

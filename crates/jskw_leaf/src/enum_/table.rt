@@ -1,5 +1,5 @@
 //! Options in a table, which may leave out null (JSON Schema Validation 6.1.2).
-ghost use Rattle.std.specs.Prelude.{◌≡◌, Bool, IfOk, IsSome, IsTrue, refl, true};
+ghost use Rattle.std.specs.Prelude.{◌≡◌, Bool, IfOk, IsSome, IsTrue, true};
 ghost use Rattle.serde_json.specs.Data.{Data, Items, array};
 ghost use Rattle.serde_json.specs.Find.{as_array};
 ghost use Rattle.serde_json.specs.View.{view, items_view};
@@ -7,7 +7,7 @@ ghost use Rattle.jskw_value.specs.Tree.{Tree, is_lawful};
 ghost use Rattle.jskw_report.specs.Holds.{is_option};
 ghost use Rattle.jskw_report.specs.Meaning.{as_keyword};
 ghost use Rattle.jskw_number.specs.QuickSet.{Accepts, is_in};
-ghost use Rattle.jskw_leaf.specs.Options.{AreOptions, not_among, only, options_of};
+ghost use Rattle.jskw_leaf.specs.Options.{AreOptions, only, options_of};
 
 use super::not_among;
 use jskw_number::QuickSet;
@@ -153,10 +153,6 @@ impl<T: OptionTable, N: Nullability> Assertion for TableEnumValidator<T, N> {
     ghost use Rattle.jskw_leaf.specs.Meaning.{enum_table};
 
     ghost asserts = { enum_table };
-
-    ghost error = { λ v. not_among (view v.listed) };
-
-    ghost fails_once = { λ _ _. refl };
 
     fn holds<F: Json>(&self, instance: &F::Node) -> bool {
         self.listed.accepts::<F>(instance)

@@ -1,7 +1,6 @@
 //! `additionalItems` of `false` (JSON Schema Draft 7 Validation 6.4.2), which has no subschema to
 //! apply: the array has no more items than `items` has schemas.
-ghost use Rattle.std.specs.Prelude.{◌≡◌, refl};
-ghost use Rattle.jskw_report.specs.Kind.{AdditionalItems};
+ghost use Rattle.std.specs.Prelude.{◌≡◌};
 ghost use Rattle.jskw_leaf.specs.Meaning.{at_most_at, no_additional_items};
 
 use jskw_report::{Assertion, KeywordLocation, ValidationErrorKind};
@@ -30,10 +29,6 @@ impl AdditionalItemsBooleanValidator {
 
 impl Assertion for AdditionalItemsBooleanValidator {
     ghost asserts = { no_additional_items };
-
-    ghost error = { λ v. AdditionalItems v.items_count };
-
-    ghost fails_once = { λ _ _. refl };
 
     fn holds<F: Json>(&self, instance: &F::Node) -> bool {
         instance.item_count() <= self.items_count

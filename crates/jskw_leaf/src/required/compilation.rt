@@ -6,7 +6,7 @@ ghost use Rattle.serde_json.specs.View.{view, items_view, members_view};
 ghost use Rattle.jskw_report.specs.Compile.{CompilesTo, CompilesKeyword, keyword_reading};
 ghost use Rattle.jskw_report.specs.KeywordValue.{map_ok, texts, distinct};
 ghost use Rattle.jskw_report.specs.Meaning.{as_keyword};
-ghost use Rattle.jskw_report.specs.Read.{keyword_location, required_keyword};
+ghost use Rattle.jskw_report.specs.Read.{keyword_by, keyword_location, required_rule};
 ghost use Rattle.jskw_report.specs.declared.keyword.KeywordName.TheVariants.{Required};
 ghost use Rattle.jskw_leaf.specs.Meaning.{leaf_keyword, required_at};
 ghost use Rattle.jskw_leaf.specs.Required.{name_value};
@@ -53,7 +53,7 @@ pub fn compile_checked<'a, F: Json>(
     schema: &'a Value,
 ) -> CompilationResult<'a, LeafValidator<F>>
     ensures { CompilesTo leaf_keyword result
-        (required_keyword (keyword_location ctx.now.location Required) (view schema.now)) }
+        (keyword_by required_rule (keyword_location ctx.now.location Required) (view schema.now)) }
 {
     let location = ctx.keyword_location(alloc, KeywordName::Required)?;
     required_validator(alloc, schema, location)
@@ -74,7 +74,7 @@ pub fn compile_with_path<'a, F: Json>(
     schema: &'a Value,
     location: Location,
 ) -> Option<CompilationResult<'a, LeafValidator<F>>>
-    ensures { CompilesKeyword leaf_keyword result (Some (required_keyword location (view schema.now))) }
+    ensures { CompilesKeyword leaf_keyword result (Some (keyword_by required_rule location (view schema.now))) }
 {
     Some(required_validator(alloc, schema, KeywordLocation::from(location)))
 }
@@ -85,7 +85,7 @@ fn required_validator<'a, F: Json>(
     schema: &'a Value,
     location: KeywordLocation,
 ) -> CompilationResult<'a, LeafValidator<F>>
-    ensures { CompilesTo leaf_keyword result (required_keyword location (view schema.now)) }
+    ensures { CompilesTo leaf_keyword result (keyword_by required_rule location (view schema.now)) }
 {
     let Value::Array(items) = schema else {
         let kind = ValidationErrorKind::of_type(JsonType::Array);

@@ -1,19 +1,23 @@
-//! Which of the required names an object has. An object of at most `KEYS_PER_LOOKUP` members for
-//! each name is walked over once; in a larger one each name is looked up. The walk that finds which
-//! names are missing is for at most 16 names.
+//! Which of the required names an object has. Names that are kept in order are looked for beside the
+//! members first, which tells if these come in the same order. Else an object of at most
+//! `KEYS_PER_LOOKUP` members for each name is walked over once, and in a larger one each name is looked
+//! up. The walk that finds which names are missing is for at most 16 names.
 ghost use Rattle.std.specs.Prelude.{◌≡◌, ◌<◌, ◌≤◌, ◌==◌, ◌^◌, [], IfSome, Some, IsTrue, is_some};
-ghost use Rattle.std.specs.Prelude.{not, length, slice_get, slice_index_or};
+ghost use Rattle.std.specs.Prelude.{not, length, slice_get, slice_index_or, string_bytes, take, true};
 ghost use Rattle.std.specs.Int.{bit_at};
 ghost use Rattle.std.specs.List.{list_all};
 ghost use Rattle.jskw_value.specs.Tree.{has_name, is_object};
 ghost use Rattle.jskw_leaf.specs.Required.{is_among, MarksNames};
 
 use super::names::Names;
-use jskw_value::{Json, Object};
+use jskw_value::{Json, Object, is_same_name};
 
 // The largest number of names for the walk that distinguishes them: it compares each member with
 // every name, and marks a name by a bit.
 const MAX_SCANNED_REQUIRED: usize = 16;
+
+// An object with more members for each name is not walked over beside them: lookups are faster.
+const MEMBERS_A_NAME: usize = 16;
 
 // Returns whether the object has all names. Walks over it if that is not slower than the lookups,
 // which `KEYS_PER_LOOKUP` estimates.
@@ -27,11 +31,71 @@ pub(crate) fn has_all<F: Json, L: Names<F>>(names: &L, object: &F::Node) -> bool
     if members < count {
         return false;
     }
+    if members <= MEMBERS_A_NAME.saturating_mul(count) {
+        if let Some(answer) = told_by_table(names, object) {
+            return answer;
+        }
+    }
     if members <= F::KEYS_PER_LOOKUP.saturating_mul(count) {
         walk_finds_all(names, object)
     } else {
         lookups_find_all(names, object)
     }
+}
+
+// Returns the same by the names in their order, or `None` if they are not kept so, or do not tell.
+#[inline(always)]
+#[tactic(auto, using(crate::proofs::FoundNames::all_in_table))]
+fn told_by_table<F: Json, L: Names<F>>(names: &L, object: &F::Node) -> Option<bool>
+    requires { IsTrue (is_object (F.Node.tree object.now)) }
+    ensures { IfSome result (λ answer. answer
+        ≡ list_all (has_name (F.Node.tree object.now)) (L.names names.now)) }
+{
+    match names.table() {
+        Some(table) => has_table::<F>(table, object),
+        None => None,
+    }
+}
+
+// Returns whether the object has the names of the table, which are in the order of their bytes, or
+// `None` if its members come in another order and no name is known to be missing.
+#[inline(never)]
+#[tactic(auto, using(crate::proofs::FoundNames::all_beside, crate::proofs::FoundNames::one_missing))]
+fn has_table<F: Json>(table: &[String], object: &F::Node) -> Option<bool>
+    requires { IsTrue (is_object (F.Node.tree object.now)) }
+    ensures { IfSome result (λ answer. answer
+        ≡ list_all (λ name. has_name (F.Node.tree object.now) (string_bytes name)) table.now) }
+{
+    let found = found_beside::<F>(table, object);
+    let Some(name) = table.get(found) else {
+        return Some(true);
+    };
+    if object.find(name.as_str()).is_none() {
+        return Some(false);
+    }
+    None
+}
+
+// Walks over the object beside the table. Returns how many names are found: the first ones, each behind
+// the one before it.
+#[inline(always)]
+#[tactic(auto, using(crate::proofs::FoundNames::one_more, crate::proofs::FoundNames::own_names))]
+fn found_beside<F: Json>(table: &[String], object: &F::Node) -> usize
+    requires { IsTrue (is_object (F.Node.tree object.now)) }
+    ensures within { result ≤ length table.now }
+    ensures found { list_all (λ name. has_name (F.Node.tree object.now) (string_bytes name))
+        (take result table.now) ≡ true }
+{
+    let mut found = 0;
+    for (name, _) in object.walk() {
+        let Some(next) = table.get(found) else {
+            return found;
+        };
+        if is_same_name(name, next.as_str()) {
+            found += 1;
+        }
+    }
+    found
 }
 
 // Counts the members whose names are required, until all names are found. The required names are

@@ -1,7 +1,8 @@
 //! Lists of required names, each name once.
-ghost use Rattle.std.specs.Prelude.{◌≡◌, ◌<◌, ℕ, List, IfOk, length, map, slice_index_or};
+ghost use Rattle.std.specs.Prelude.{◌≡◌, ◌<◌, ℕ, List, IfOk, IfSome, length, map, slice_index_or};
 ghost use Rattle.std.specs.Prelude.{string_bytes};
 ghost use Rattle.std.specs.List.{IsDistinct};
+ghost use Rattle.std.specs.List.Sorted.{IsPermutation};
 ghost use Rattle.std.specs.Str.{bytes_eq};
 ghost use Rattle.jskw_leaf.specs.Required.{is_among};
 
@@ -36,6 +37,10 @@ pub trait Names<F: Json> {
     {
         &self.list()[index]
     }
+
+    /// Returns the names in the order of their bytes, if they are kept so.
+    fn table(&self) -> Option<&[String]>
+        ensures { IfSome result (λ table. IsPermutation (names self.now) (map string_bytes table.now)) };
 
     /// Returns whether `text` is one of the names.
     fn contains(&self, text: &str) -> bool
@@ -108,6 +113,10 @@ impl<F: Json> Names<F> for NameList<F> {
         &self.names
     }
 
+    fn table(&self) -> Option<&[String]> {
+        Some(self.table.as_slice())
+    }
+
     fn contains(&self, text: &str) -> bool {
         is_in_table(&self.table, text)
     }
@@ -149,6 +158,11 @@ impl<F: Json> Names<F> for FewNames<F> {
 
     fn list(&self) -> &[PreparedName<F>] {
         &self.names
+    }
+
+    #[inline(always)]
+    fn table(&self) -> Option<&[String]> {
+        None
     }
 
     #[inline(always)]

@@ -5,7 +5,7 @@ ghost use Rattle.jskw_report.specs.Compile.{CompilesTo, CompilesKeyword, keyword
 ghost use Rattle.jskw_report.specs.Errors.{kind_of};
 ghost use Rattle.jskw_report.specs.KeywordValue.{type_value, array_types, one_type, type_set};
 ghost use Rattle.jskw_report.specs.KeywordValue.{named_type};
-ghost use Rattle.jskw_report.specs.Read.{integers_of, keyword_location, type_keyword};
+ghost use Rattle.jskw_report.specs.Read.{integers_of, keyword_by, keyword_location, type_rule};
 ghost use Rattle.jskw_report.specs.declared.keyword.KeywordName.TheVariants.{TypeKeyword};
 ghost use Rattle.jskw_leaf.specs.Meaning.{leaf_keyword};
 
@@ -54,7 +54,7 @@ fn type_validator<'a, F: Json>(
     ctx: &Context<'_, F>,
     schema: &'a Value,
 ) -> CompilationResult<'a, LeafValidator<F>>
-    ensures { CompilesTo leaf_keyword result (type_keyword (integers_of ctx.now.setting.draft)
+    ensures { CompilesTo leaf_keyword result (keyword_by (type_rule (integers_of ctx.now.setting.draft))
         (keyword_location ctx.now.location TypeKeyword) (view schema.now)) }
 {
     let location = ctx.keyword_location(alloc, KeywordName::TypeKeyword)?;

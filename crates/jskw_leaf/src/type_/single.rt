@@ -1,5 +1,5 @@
 //! The validator of `type` with one type, and the types as tests.
-ghost use Rattle.std.specs.Prelude.{◌≡◌, IsTrue, refl};
+ghost use Rattle.std.specs.Prelude.{◌≡◌, IsTrue};
 ghost use Rattle.jskw_value.specs.Tree.{is_lawful};
 ghost use Rattle.jskw_value.specs.declared.types.JsonType.{JsonType};
 ghost use Rattle.jskw_value.specs.declared.types.JsonType.TheVariants.{Array, Boolean, Integer};
@@ -7,7 +7,6 @@ ghost use Rattle.jskw_value.specs.declared.types.JsonType.TheVariants.{Null, Num
 ghost use Rattle.jskw_value.specs.declared.types.JsonType.TheVariants.{String};
 ghost use Rattle.jskw_report.specs.Holds.{assertion_holds};
 ghost use Rattle.jskw_report.specs.Keyword.{Integers, by_value, type_is};
-ghost use Rattle.jskw_report.specs.Kind.{WrongType};
 ghost use Rattle.jskw_report.specs.Meaning.{as_keyword};
 ghost use Rattle.jskw_report.specs.declared.error.TypeKind.TheVariants.{Single};
 ghost use Rattle.jskw_number.specs.QuickSet.{Accepts};
@@ -73,10 +72,6 @@ impl<T: TypeTest> SingleTypeValidator<T> {
 
 impl<T: TypeTest> Assertion for SingleTypeValidator<T> {
     ghost asserts = { single_type T.json_type T.rule };
-
-    ghost error = { λ _. WrongType (Single T.json_type) };
-
-    ghost fails_once = { λ _ _. refl };
 
     fn holds<F: Json>(&self, instance: &F::Node) -> bool {
         T::matches::<F>(instance)

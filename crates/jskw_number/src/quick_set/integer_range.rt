@@ -31,6 +31,11 @@ impl IntegerRange {
         IntegerRange { low, high, divisor }
     }
 
+    // Returns whether there is nothing between the ends.
+    pub(super) fn is_empty(&self) -> bool {
+        self.high < self.low
+    }
+
     // No integer, and nothing between the ends.
     #[tactic(auto, using(crate::proofs::QuickSets::nothing_enclosed))]
     pub(super) fn none() -> IntegerRange

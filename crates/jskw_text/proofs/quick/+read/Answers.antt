@@ -84,7 +84,7 @@ pub read_members-members-preserved : goal.read_members-members-preserved
 read_members-members-preserved t c =
     members_left c.args.depth c.args.cursor.now _ _ _ (string_bytes c.in_ok-name.name) c.read_name.new.cursor
     (decimal_tree c.in_ok-value.value) c.read.new.cursor _ c.members.invariant c.in_ok-name.ensures
-    c.in_ok-value.ensures.ok c.in_ok-value.ensures.shorter c.if-not-takes.ensures c.in_ok-put.ensures
+    c.in_ok-value.ensures.ok c.in_ok-value.ensures.shorter c.if-not-takes.ensures c.in_ok-in_order.ensures
 
 pub read_members-returns-clause-ok : goal.read_members-returns-clause-ok
 read_members-returns-clause-ok t c =
@@ -92,4 +92,4 @@ read_members-returns-clause-ok t c =
     (sym c.in_ok-from_last_pairs.ensures)
     (members_read c.args.depth c.args.cursor.now _ _ _ (string_bytes c.in_ok-name.name) c.read_name.new.cursor
     (decimal_tree c.in_ok-value.value) c.read.new.cursor _ c.members.invariant c.in_ok-name.ensures
-    c.in_ok-value.ensures.ok (c.if-not-takes.ensures.lexed ∙ c.if-not-takes-2.ensures.lexed) c.in_ok-put.ensures)
+    c.in_ok-value.ensures.ok (c.if-not-takes.ensures.lexed ∙ c.if-not-takes-2.ensures.lexed) c.in_ok-in_order.ensures)

@@ -1,10 +1,7 @@
 use Rattle.jskw_text.proofs.ShortNumbers.{plain_number, negative_number}
-use Rattle.std.proofs.Common.{Option, Some, None, IfSome, arith}
+use Rattle.std.proofs.Common.{arith}
+use Rattle.jskw_text.proofs.Lexemes.{if_some}
 use Rattle.jskw_text.proofs.scan.short_number_at.Goals as goal
-
-if_some : {A : Type 0} (P Q : A → Type 0) (r : Option A) → ((a : A) → P a → Q a) → IfSome r P → IfSome r Q
-if_some P Q None f h = tt
-if_some P Q (Some a) f h = f a h
 
 pub returns-then-byte_at-eq45 : goal.returns-then-byte_at-eq45
 returns-then-byte_at-eq45 c =

@@ -1,7 +1,7 @@
 use Rattle.std.proofs.Common.{◌∙◌, subst, sym}
 use Rattle.std.proofs.lemmas.List.{take_rest}
 use Rattle.jskw_array.specs.Words.{IsLeft}
-use Rattle.jskw_array.proofs.PartsLeft.{behind_held, schema_by_units, settled_units}
+use Rattle.jskw_array.proofs.PartsLeft.{behind_held, known_parts, schema_by_units}
 use Rattle.jskw_array.proofs.node.Subschema.apply.Goals as goal
 
 pub returns-then-contains-clause-parts : goal.returns-then-contains-clause-parts
@@ -10,8 +10,9 @@ returns-then-contains-clause-parts g c =
     let t = g.F.Node.Rooted.tree c.args.instance.now in
     let us = c.as_slice-parts.result.now in
     let value = c.as_slice-parts.ensures.value in
-    let begins = settled_units c.in-Keywords.is value n.settled c.self.invariant.2 in
-    subst (IsLeft c.args.self.now t) (sym (take_rest us n.settled.count))
-    (behind_held c.args.self.now n.location n.delegates us n.settled.count t
+    let b = n.accepted.settled in
+    let known = (known_parts c.in-Keywords.is value n.accepted c.self.invariant.1).0 in
+    subst (IsLeft c.args.self.now t) (sym (take_rest us b.count))
+    (behind_held c.args.self.now n.location n.delegates us b.count t
     (schema_by_units c.in-Keywords.is value c.self.view_is)
-    (begins.1 t (sym c.contains.ensures ∙ c.if-contains.true)))
+    (known.settled.1 t (sym c.contains.ensures ∙ c.if-contains.true)))

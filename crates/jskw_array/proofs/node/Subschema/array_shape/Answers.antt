@@ -1,14 +1,13 @@
-use Rattle.std.proofs.Common.{◌∙◌, ap, sym, arith}
+use Rattle.std.proofs.Common.{◌∙◌, ap, sym}
 use Rattle.jskw_array.specs.Words.{is_fused_schema, keywords_in}
-use Rattle.jskw_array.proofs.KeywordsOfParts.{begin_fused_first, shapes_begin}
+use Rattle.jskw_array.proofs.KeywordsOfParts.{lent_begins, lent_is_some}
 use Rattle.jskw_array.proofs.node.Subschema.array_shape.Goals as goal
 
-pub returns-in-len1-up-clause-fused : goal.returns-in-len1-up-clause-fused
-returns-in-len1-up-clause-fused g c =
-    c.shape.ensures.fused ∙ sym (ap is_fused_schema c.in_ok-parts.ensures.1
-    ∙ begin_fused_first c.in_ok-parts.field-0.now _ _ (omega (arith, c.in-len1-up.len_at_least)) c.first-item.is)
+pub returns-clause-fused : goal.returns-clause-fused
+returns-clause-fused g c =
+    lent_is_some c.first_shape.result _ c.first_shape.ensures ∙ sym (ap is_fused_schema c.in_ok-parts.ensures.1)
 
-pub returns-in-len1-up-clause-keywords : goal.returns-in-len1-up-clause-keywords
-returns-in-len1-up-clause-keywords g c =
-    shapes_begin c.shape.result c.in_ok-parts.field-0.now _ _ _ (omega (arith, c.in-len1-up.len_at_least))
-    c.first-item.is (ap keywords_in c.in_ok-parts.ensures.1) c.shape.ensures.keywords
+pub returns-clause-keywords : goal.returns-clause-keywords
+returns-clause-keywords g c =
+    lent_begins c.first_shape.result _ c.first_shape.ensures _ _ (ap keywords_in c.in_ok-parts.ensures.1)
+    c.in_ok-parts.ensures.2

@@ -14,10 +14,13 @@ use Rattle.jskw_c.specs.Slot.{slot_owns}
 use Rattle.jskw_c.specs.contracts.compiled.CompiledSchema as compiled
 use Rattle.jskw_c.specs.contracts.compiled.CompiledSchema.TheInside as inside
 use Rattle.jskw_c.specs.contracts.handle.SchemaHandle.{the_row, the_type}
+use Rattle.jskw_c.proofs.CrossingReaders.{reader_send}
+use Rattle.jskw_c.proofs.CrossingValues.{row_send}
 use Rattle.jskw_c.proofs.CrossingSchemas.{schema_row, schema_send, schema_sync}
 
 owner_send : IsSend compiled.the_row
-owner_send = view_send _ _ _ _ _ (declared_send inside.the_type (std.Arc-send schema_row schema_send schema_sync, tt))
+owner_send = view_send _ _ _ _ _ (declared_send inside.the_type
+    (std.Arc-send schema_row schema_send schema_sync, (row_send reader_send, tt)))
 
 keyless : (p : Ptr) (s : Option compiled.the_row.Denot) → Keyless (slot_owns compiled.the_row p s)
 keyless p None = tt

@@ -1,4 +1,5 @@
 use Rattle.std.proofs.Common.{◌≡◌, ◌∙◌, ap, ap₂, sym, subst, IfOk}
+use Rattle.jskw_report.specs.Errors.{kind_of}
 use Rattle.jskw_report.specs.Observe.{failures_unless}
 use Rattle.jskw_report.specs.Evaluation.{node_at, of_errors}
 use Rattle.jskw_report.proofs.FailsAtMostOnce.{fails_unless}
@@ -10,9 +11,10 @@ returns g c =
     let p = c.args.path.now in
     let x = c.args.assertion.now in
     let a = g.A.Assertion.asserts x in
-    let fails = fails_unless a (g.A.Assertion.error x) (g.met.A.Assertion.fails_once x) t p c.args.holds c.requires in
+    let k = kind_of c.kind-kind.result in
+    let fails = fails_unless a k c.kind-kind.ensures t p c.args.holds c.requires in
     let unit_is =
-    c.in_ok-result.ensures ∙ ap₂ (λ k q. of_errors (failures_unless c.args.holds k q t p)) c.kind-kind.ensures
-    c.location-schema_path.ensures ∙ ap of_errors (sym fails) in
+    c.in_ok-result.ensures ∙ ap (λ q. of_errors (failures_unless c.args.holds k q t p)) c.location-schema_path.ensures
+    ∙ ap of_errors (sym fails) in
     subst (λ n. IfOk c.at_keyword.result (λ node. node ≡ n))
     (ap₂ (λ q r. node_at q p r) c.location-schema_path.ensures unit_is) c.at_keyword.ensures

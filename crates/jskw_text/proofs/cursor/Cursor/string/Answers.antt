@@ -19,8 +19,8 @@ range-requires-clause-start_boundary c some =
     let within : at < length d = lt_of_not-le (λ h. omega (arith, get_or_past d at 32 h)) in
     IsCharBoundary-after_ascii d at c.self.invariant.1 within (omega (arith, get_or_default d at 0 32 within))
 
-pub returns : goal.returns
-returns c =
+pub returns-clause-string : goal.returns-clause-string
+returns-clause-string c =
     let d = c.self.inside.text.now in
     let at = c.self.inside.at in
     let stop = c.plain_end-stop.result in
