@@ -24,7 +24,7 @@ use Rattle.std.specs.declared.cmp.Ordering.TheVariants.{Less, Equal, Greater}
 use Rattle.std.specs.declared.result.Result.{Result}
 use Rattle.std.specs.declared.result.Result.TheVariants.{Ok, Err}
 use Rattle.jskw_value.specs.Number.{exact, num_equal}
-use Rattle.jskw_leaf.specs.Options.{some_text, some_integer, text_against, integer_against, text_order, word_of}
+use Rattle.jskw_leaf.specs.Options.{some_text, some_integer, text_against, integer_against, text_order, hash_of}
 
 -- ---- any table
 
@@ -57,7 +57,7 @@ searched_texts s ws r sorted h e =
     mapped [] = refl
     mapped (w ∷ ws) = ap (λ b. bytes_eq (string_bytes w) s || b) (mapped ws)
 
--- ---- texts by their words
+-- ---- texts by their hashes
 
 then_eq : (o p : Ordering) → is_eq (ordering_then o p) ≡ (is_eq o && is_eq p)
 then_eq Less p = refl
@@ -65,31 +65,31 @@ then_eq Equal p = refl
 then_eq Greater p = refl
 
 -- a number stands to itself as equal
-word_same : (n : ℕ) → is_eq (nat_cmp n n) ≡ true
-word_same n = sym (ap is_eq (nat_cmp_is n n Equal refl))
+number_same : (n : ℕ) → is_eq (nat_cmp n n) ≡ true
+number_same n = sym (ap is_eq (nat_cmp_is n n Equal refl))
 
--- two texts tie where they are equal, since then they have one word
+-- two texts tie where they are equal, since then they have one hash
 texts_tie : (s w : List ℕ) → is_eq (text_order w s) ≡ bytes_eq w s
-texts_tie s w = then_eq (nat_cmp (word_of w) (word_of s)) (slice_cmp nat_cmp w s) ∙ go (bytes_eq w s) refl
+texts_tie s w = then_eq (nat_cmp (hash_of w) (hash_of s)) (slice_cmp nat_cmp w s) ∙ go (bytes_eq w s) refl
   where
     go : (b : Bool) → bytes_eq w s ≡ b
-        → (is_eq (nat_cmp (word_of w) (word_of s)) && is_eq (slice_cmp nat_cmp w s)) ≡ bytes_eq w s
+        → (is_eq (nat_cmp (hash_of w) (hash_of s)) && is_eq (slice_cmp nat_cmp w s)) ≡ bytes_eq w s
     go true e =
         rw (is_eq-slice_cmp w s, e)
-        (ap (λ b. b && true) (subst (λ x. is_eq (nat_cmp (word_of x) (word_of s)) ≡ true)
-        (sym ((bytes_eq-Decides w s).0 e)) (word_same (word_of s))))
+        (ap (λ b. b && true) (subst (λ x. is_eq (nat_cmp (hash_of x) (hash_of s)) ≡ true)
+        (sym ((bytes_eq-Decides w s).0 e)) (number_same (hash_of s))))
     go false e = rw (is_eq-slice_cmp w s, e) (and-false _)
 
 texts_total : IsTotalOrder text_order
-texts_total = then_total (on_total word_of nat_cmp_total) nat_list_cmp_total
+texts_total = then_total (on_total hash_of nat_cmp_total) nat_list_cmp_total
 
 -- what a sort by it asks
 pub text_order_ranks : IsStrictWeakOrder (λ x y. is_lt (text_order x y))
 text_order_ranks = ranks_by texts_total (λ w. w)
 
-pub searched_texts_by_words : (s : List ℕ) (ws : List (List ℕ)) (r : Result ℕ ℕ) → IsSorted text_order ws
+pub searched_by_hashes : (s : List ℕ) (ws : List (List ℕ)) (r : Result ℕ ℕ) → IsSorted text_order ws
     → IsSearchInRange r (length ws) → IsBinarySearchResult (λ w. text_order w s) ws r → is_ok r ≡ some_text ws s
-searched_texts_by_words s ws r sorted h e =
+searched_by_hashes s ws r sorted h e =
     searched (λ w. bytes_eq w s) (λ w. text_order w s) (texts_tie s) ws r
     (searchable_from_sorted texts_total (λ w. w) ws s sorted) h e
 
@@ -98,27 +98,27 @@ lt_first Less p h = h
 lt_first Equal p h = refl
 lt_first Greater p h = refl
 
--- without a text of its word, a text is not there
-without_word : (s : List ℕ) (ws : List (List ℕ))
-    → list_any (λ w. is_eq (nat_cmp (word_of w) (word_of s))) ws ≡ false → some_text ws s ≡ false
-without_word s [] h = refl
-without_word s (w ∷ ws) h = let parts = or_parts _ _ h in
+-- without a text of its hash, a text is not there
+without_hash : (s : List ℕ) (ws : List (List ℕ))
+    → list_any (λ w. is_eq (nat_cmp (hash_of w) (hash_of s))) ws ≡ false → some_text ws s ≡ false
+without_hash s [] h = refl
+without_hash s (w ∷ ws) h = let parts = or_parts _ _ h in
     or_from (bytes_eq w s) (some_text ws s)
-    (false_from_ne_true _ (λ e. both_ways _ parts.0 (same_word e))) (without_word s ws parts.1)
+    (false_from_ne_true _ (λ e. both_ways _ parts.0 (same_hash e))) (without_hash s ws parts.1)
   where
-    same_word : bytes_eq w s ≡ true → is_eq (nat_cmp (word_of w) (word_of s)) ≡ true
-    same_word e =
-        subst (λ x. is_eq (nat_cmp (word_of x) (word_of s)) ≡ true) (sym ((bytes_eq-Decides w s).0 e))
-        (word_same (word_of s))
+    same_hash : bytes_eq w s ≡ true → is_eq (nat_cmp (hash_of w) (hash_of s)) ≡ true
+    same_hash e =
+        subst (λ x. is_eq (nat_cmp (hash_of x) (hash_of s)) ≡ true) (sym ((bytes_eq-Decides w s).0 e))
+        (number_same (hash_of s))
 
--- a search for its word finds none
-pub no_word : (s : List ℕ) (ws : List (List ℕ)) (i : ℕ) → IsSorted text_order ws
-    → IsBinarySearchResult (λ w. nat_cmp (word_of w) (word_of s)) ws (Err i) → IsSearchInRange (Err i) (length ws)
+-- a search for its hash finds none
+pub no_hash : (s : List ℕ) (ws : List (List ℕ)) (i : ℕ) → IsSorted text_order ws
+    → IsBinarySearchResult (λ w. nat_cmp (hash_of w) (hash_of s)) ws (Err i) → IsSearchInRange (Err i) (length ws)
     → some_text ws s ≡ false
-no_word s ws i sorted e h =
-    without_word s ws (sym (searched (λ w. is_eq (nat_cmp (word_of w) (word_of s)))
-    (λ w. nat_cmp (word_of w) (word_of s)) (λ w. refl) ws (Err i)
-    (searchable_from_sorted nat_cmp_total word_of ws (word_of s)
+no_hash s ws i sorted e h =
+    without_hash s ws (sym (searched (λ w. is_eq (nat_cmp (hash_of w) (hash_of s)))
+    (λ w. nat_cmp (hash_of w) (hash_of s)) (λ w. refl) ws (Err i)
+    (searchable_from_sorted nat_cmp_total hash_of ws (hash_of s)
     (λ k d a b. lt_first _ _ (sorted k d a b))) h e))
 
 -- ---- integers

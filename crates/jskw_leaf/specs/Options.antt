@@ -12,7 +12,7 @@ use Rattle.serde_json.specs.Data.{Data, array, Items, no_items, item}
 use Rattle.serde_json.specs.Find as json
 use Rattle.serde_json.specs.Find.{as_null, as_str, as_i64}
 use Rattle.jskw_value.specs.Number.{Num, exact, num_equal}
-use Rattle.jskw_value.specs.PropertyName.{head_of, word}
+use Rattle.jskw_value.specs.PropertyName.{hash, head_of}
 use Rattle.jskw_value.specs.Serde.{tree_of}
 use Rattle.jskw_value.specs.Tree.{Tree, as_number, as_string, is_null}
 use Rattle.jskw_value.specs.Types.{insert, json_type}
@@ -33,13 +33,13 @@ not_among d = Enum (Listed (array (options_of d)))
 abbrev pub some_text : List (List ℕ) → List ℕ → Bool
 some_text names s = list_any (λ n. bytes_eq n s) names
 
--- the number beside a text in a table, which differs for most different texts
-abbrev pub word_of : List ℕ → ℕ
-word_of s = word (head_of s)
+-- the hash of a text: of its length, and its first and last eight bytes
+abbrev pub hash_of : List ℕ → ℕ
+hash_of s = hash (head_of s)
 
--- texts by these numbers, and by their bytes where two have the same
+-- texts by their hashes, and by their bytes where two have the same hash
 abbrev pub text_order : List ℕ → List ℕ → Ordering
-text_order = then_cmp (on word_of nat_cmp) (slice_cmp nat_cmp)
+text_order = then_cmp (on hash_of nat_cmp) (slice_cmp nat_cmp)
 
 -- a string that is one of the texts
 abbrev pub has_text : List (List ℕ) → Tree → Bool

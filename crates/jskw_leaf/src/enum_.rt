@@ -14,11 +14,11 @@ ghost use Rattle.jskw_number.specs.QuickSet.{Accepts};
 ghost use Rattle.jskw_leaf.specs.Options.{not_among, options_of, option_types};
 
 mod compilation;
+mod hashed_text;
 mod integers;
 mod strings;
 mod table;
 mod values;
-mod worded_text;
 
 use crate::const_::equal_integers;
 pub use compilation::compile;

@@ -18,6 +18,6 @@ head_of s =
       last = from_le_bytes w64 (padded (drop (length s - 8) s));
     }
 
--- a number that differs for most different heads
-unfoldable pub word : KeyHead → ℕ
-word h = bit_xor (bit_xor h.first (h.last * 11400714819323198485 % 2 ^ 64)) h.length
+-- a hash of the head
+unfoldable pub hash : KeyHead → ℕ
+hash h = bit_xor (bit_xor h.first (h.last * 11400714819323198485 % 2 ^ 64)) h.length

@@ -2,7 +2,7 @@
 ghost use Rattle.std.specs.Prelude.{◌≡◌, ◌≤◌, ◌<◌, length, get_or, IfOk};
 ghost use Rattle.std.specs.Int.{w64, from_le_bytes};
 ghost use Rattle.std.specs.Str.{bytes_eq};
-ghost use Rattle.jskw_value.specs.PropertyName.{head_of, padded, word};
+ghost use Rattle.jskw_value.specs.PropertyName.{hash, head_of, padded};
 
 use std::alloc::{AllocError, Global};
 use std::marker::Model;
@@ -42,11 +42,11 @@ impl KeyHead {
         }
     }
 
-    /// Returns a number that differs for most different heads.
+    /// Returns a hash of the head: a number that differs for most different heads.
     #[inline(always)]
-    #[tactic(auto, unfolding(crate::specs::PropertyName::word))]
-    pub fn word(&self) -> u64
-        ensures { result ≡ word self.now }
+    #[tactic(auto, unfolding(crate::specs::PropertyName::hash))]
+    pub fn hash(&self) -> u64
+        ensures { result ≡ hash self.now }
     {
         self.first ^ self.last.wrapping_mul(SPREAD) ^ self.length as u64
     }

@@ -5,8 +5,8 @@ ghost use Rattle.serde_json.specs.Find.{as_str};
 ghost use Rattle.serde_json.specs.View.{items_view};
 ghost use Rattle.jskw_leaf.specs.Options.{has_null, has_text, is_text, picked, some_text, text_order};
 
+use super::hashed_text::{HashedText, has_text, sorted};
 use super::table::{OptionTable, TableEnumValidator};
-use super::worded_text::{WordedText, has_text, sorted};
 use jskw_number::QuickSet;
 use jskw_value::{Json, Node, PropertyName, is_same_name};
 use serde_json::Value;
@@ -54,7 +54,7 @@ impl OptionTable for FewStrings {
 /// A table of more than 10 strings, sorted for a binary search.
 #[derive(Debug, Drop)]
 pub struct SortedStrings {
-    texts: Vec<WordedText>,
+    texts: Vec<HashedText>,
     ghost sorted: { IsSorted text_order texts.items },
 }
 
@@ -118,13 +118,13 @@ fn names_of(alloc: Global, items: &[Value]) -> Result<Vec<PropertyName>, AllocEr
 }
 
 // Returns the strings among the items.
-fn texts_of(alloc: Global, items: &[Value]) -> Result<Vec<WordedText>, AllocError>
+fn texts_of(alloc: Global, items: &[Value]) -> Result<Vec<HashedText>, AllocError>
     ensures { IfOk result (λ v. v.items ≡ picked as_str (items_view items.now)) }
 {
     let mut texts = Vec::new(alloc);
     for item in items {
         if let Some(text) = item.as_str() {
-            texts.push(WordedText::new(alloc, text)?)?;
+            texts.push(HashedText::new(alloc, text)?)?;
         }
     }
     Ok(texts)

@@ -1,7 +1,7 @@
-//! Which of the required names an object has. Names that are kept in order are looked for beside the
-//! members first, which tells if these come in the same order. Else an object of at most
-//! `KEYS_PER_LOOKUP` members for each name is walked over once, and in a larger one each name is looked
-//! up. The walk that finds which names are missing is for at most 16 names.
+//! Which of the required names an object has. Sorted names are first compared with the members one by
+//! one, which suffices if these come in the same order. If not, an object of at most `KEYS_PER_LOOKUP`
+//! members for each name is walked over once, and in a larger one each name is looked up. The walk that
+//! finds which names are missing is for at most 16 names.
 ghost use Rattle.std.specs.Prelude.{◌≡◌, ◌<◌, ◌≤◌, ◌==◌, ◌^◌, [], IfSome, Some, IsTrue, is_some};
 ghost use Rattle.std.specs.Prelude.{not, length, slice_get, slice_index_or, string_bytes, take, true};
 ghost use Rattle.std.specs.Int.{bit_at};
@@ -16,7 +16,7 @@ use jskw_value::{Json, Object, is_same_name};
 // every name, and marks a name by a bit.
 const MAX_SCANNED_REQUIRED: usize = 16;
 
-// An object with more members for each name is not walked over beside them: lookups are faster.
+// Sorted names are not compared with more members than this for each name: lookups are faster.
 const MEMBERS_A_NAME: usize = 16;
 
 // Returns whether the object has all names. Walks over it if that is not slower than the lookups,
@@ -31,10 +31,10 @@ pub(crate) fn has_all<F: Json, L: Names<F>>(names: &L, object: &F::Node) -> bool
     if members < count {
         return false;
     }
-    if members <= MEMBERS_A_NAME.saturating_mul(count) {
-        if let Some(answer) = told_by_table(names, object) {
-            return answer;
-        }
+    if members <= MEMBERS_A_NAME.saturating_mul(count)
+        && let Some(answer) = has_all_in_order(names, object)
+    {
+        return answer;
     }
     if members <= F::KEYS_PER_LOOKUP.saturating_mul(count) {
         walk_finds_all(names, object)
@@ -43,30 +43,31 @@ pub(crate) fn has_all<F: Json, L: Names<F>>(names: &L, object: &F::Node) -> bool
     }
 }
 
-// Returns the same by the names in their order, or `None` if they are not kept so, or do not tell.
+// `has_all` by the sorted names. Returns `None` if the names are not kept sorted, or if the members
+// come in another order and no name is known to be missing.
 #[inline(always)]
 #[tactic(auto, using(crate::proofs::FoundNames::all_in_table))]
-fn told_by_table<F: Json, L: Names<F>>(names: &L, object: &F::Node) -> Option<bool>
+fn has_all_in_order<F: Json, L: Names<F>>(names: &L, object: &F::Node) -> Option<bool>
     requires { IsTrue (is_object (F.Node.tree object.now)) }
     ensures { IfSome result (λ answer. answer
         ≡ list_all (has_name (F.Node.tree object.now)) (L.names names.now)) }
 {
     match names.table() {
-        Some(table) => has_table::<F>(table, object),
+        Some(table) => has_sorted::<F>(table, object),
         None => None,
     }
 }
 
-// Returns whether the object has the names of the table, which are in the order of their bytes, or
-// `None` if its members come in another order and no name is known to be missing.
+// Returns whether the object has the names of the table, which are sorted by their bytes, or `None` if
+// its members come in another order and no name is known to be missing.
 #[inline(never)]
 #[tactic(auto, using(crate::proofs::FoundNames::all_beside, crate::proofs::FoundNames::one_missing))]
-fn has_table<F: Json>(table: &[String], object: &F::Node) -> Option<bool>
+fn has_sorted<F: Json>(table: &[String], object: &F::Node) -> Option<bool>
     requires { IsTrue (is_object (F.Node.tree object.now)) }
     ensures { IfSome result (λ answer. answer
         ≡ list_all (λ name. has_name (F.Node.tree object.now) (string_bytes name)) table.now) }
 {
-    let found = found_beside::<F>(table, object);
+    let found = count_in_order::<F>(table, object);
     let Some(name) = table.get(found) else {
         return Some(true);
     };
@@ -76,11 +77,10 @@ fn has_table<F: Json>(table: &[String], object: &F::Node) -> Option<bool>
     None
 }
 
-// Walks over the object beside the table. Returns how many names are found: the first ones, each behind
-// the one before it.
+// Walks over the object once. Returns how many of the first names of the table it meets in their order.
 #[inline(always)]
 #[tactic(auto, using(crate::proofs::FoundNames::one_more, crate::proofs::FoundNames::own_names))]
-fn found_beside<F: Json>(table: &[String], object: &F::Node) -> usize
+fn count_in_order<F: Json>(table: &[String], object: &F::Node) -> usize
     requires { IsTrue (is_object (F.Node.tree object.now)) }
     ensures within { result ≤ length table.now }
     ensures found { list_all (λ name. has_name (F.Node.tree object.now) (string_bytes name))

@@ -5,7 +5,7 @@ use Rattle.std.specs.List.{list_all}
 use Rattle.std.specs.Map.{keys_of}
 use Rattle.jskw_value.specs.Tree.{has_name}
 use Rattle.jskw_leaf.proofs.FoundNames.{one_more}
-use Rattle.jskw_leaf.proofs.required.lookup.found_beside.Goals as goal
+use Rattle.jskw_leaf.proofs.required.lookup.count_in_order.Goals as goal
 
 pub loop-name-preserved-then-is_same_name : goal.loop-name-preserved-then-is_same_name
 loop-name-preserved-then-is_same_name g c =

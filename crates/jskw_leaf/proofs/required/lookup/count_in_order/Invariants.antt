@@ -3,7 +3,7 @@ use Rattle.std.specs.List.{list_all}
 use Rattle.std.specs.Map.{keys_of}
 use Rattle.jskw_value.specs.Tree.{has_name}
 use Rattle.jskw_value.specs.Walk.{left}
-use Rattle.jskw_leaf.proofs.required.lookup.found_beside.Given as goal
+use Rattle.jskw_leaf.proofs.required.lookup.count_in_order.Given as goal
 
 -- the members that are left are the object's, and so are the names that were found
 abbrev pub invariant-loop-name : goal.invariant-loop-name

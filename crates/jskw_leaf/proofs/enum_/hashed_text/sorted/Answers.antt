@@ -1,7 +1,7 @@
 use Rattle.std.proofs.Common.{rules}
 use Rattle.std.proofs.lemmas.List.Sorted.{answers_always}
 use Rattle.jskw_leaf.proofs.SortedTables.{text_order_ranks}
-use Rattle.jskw_leaf.proofs.enum_.worded_text.sorted.Goals as goal
+use Rattle.jskw_leaf.proofs.enum_.hashed_text.sorted.Goals as goal
 
 pub returns-clause-sorted : goal.returns-clause-sorted
 returns-clause-sorted c =
