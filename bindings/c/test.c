@@ -19,12 +19,15 @@ static void check(const char *what, int holds) {
     if (holds) passed++; else failed++, printf("FAILED: %s\n", what);
 }
 
-/* ---- allocations: the one with the number `refused` fails, and with `and_later` all that follow */
+/* ---- allocations: the one with the number `refused` fails, and with `and_later` all that follow; `size_seen` is the
+ * size in bytes of the last */
 
 static unsigned long seen, refused, and_later;
+static size_t size_seen;
 
-static int refuses(void) {
+static int refuses(size_t size) {
     seen++;
+    size_seen = size;
     return refused && (seen == refused || (and_later && seen > refused));
 }
 
@@ -33,12 +36,16 @@ void *__real_realloc(void *, size_t);
 void *__real_calloc(size_t, size_t);
 void *__real_aligned_alloc(size_t, size_t);
 int __real_posix_memalign(void **, size_t, size_t);
-void *__wrap_malloc(size_t size) { return refuses() ? NULL : __real_malloc(size); }
-void *__wrap_realloc(void *old, size_t size) { return refuses() ? NULL : __real_realloc(old, size); }
-void *__wrap_calloc(size_t count, size_t size) { return refuses() ? NULL : __real_calloc(count, size); }
-void *__wrap_aligned_alloc(size_t align, size_t size) { return refuses() ? NULL : __real_aligned_alloc(align, size); }
+void *__wrap_malloc(size_t size) { return refuses(size) ? NULL : __real_malloc(size); }
+void *__wrap_realloc(void *old, size_t size) { return refuses(size) ? NULL : __real_realloc(old, size); }
+void *__wrap_calloc(size_t count, size_t size) {
+    return refuses(count * size) ? NULL : __real_calloc(count, size);
+}
+void *__wrap_aligned_alloc(size_t align, size_t size) {
+    return refuses(size) ? NULL : __real_aligned_alloc(align, size);
+}
 int __wrap_posix_memalign(void **to, size_t align, size_t size) {
-    return refuses() ? ENOMEM : __real_posix_memalign(to, align, size);
+    return refuses(size) ? ENOMEM : __real_posix_memalign(to, align, size);
 }
 
 /* ---- texts, each in a block of exactly its size */
@@ -428,7 +435,7 @@ static void shares(void) {
     seen = 0, refused = 1, and_later = 1;
     uint32_t told = jskw_share(&first, &third);
     refused = 0;
-    check("share, memory refused", told == JSKW_NO_MEMORY && seen == 1 && has_schema(&first)
+    check("share, memory refused", told == JSKW_NO_MEMORY && seen == 1 && size_seen == 264 && has_schema(&first)
         && jskw_is_valid(&third, BYTES("1")) == JSKW_INVALID);
     check("share, in its place", jskw_share(&first, &third) == JSKW_VALID && has_schema(&third));
     check("share, again", jskw_share(&first, &third) == JSKW_VALID && has_schema(&third));
