@@ -12,7 +12,7 @@ ghost use Rattle.jskw_documents.specs.Documents.{verdict_if, verdict_on};
 ghost use Rattle.jskw_documents.specs.Reports.{IsReportAs, first_of};
 ghost use Rattle.jskw_documents.specs.Streams.{worse_of};
 
-use crate::broken::{offset_of_inexact, why_broken};
+use crate::broken::why_broken;
 use crate::checker::Checker;
 use crate::errors::report;
 use crate::options::Output;
@@ -65,7 +65,7 @@ pub fn answer_to(
         }
         Err(ReadFault::Inexact(location)) => {
             let output = checker.options.output;
-            let offset = offset_of_inexact(alloc, document)?;
+            let offset = reader.offset_of_inexact().min(document.len());
             let why = "the number has no exact decimal";
             let location = Some(location.as_str());
             refuse(alloc, output, file, line, document, offset, location, why)

@@ -1,10 +1,5 @@
-//! Why a document is not JSON, and where its first number is that is not exact.
-ghost use Rattle.std.specs.Prelude.{◌≤◌, IfOk, length};
-
+//! Why a document is not JSON.
 use crate::surrogate::has_lone_surrogate;
-use jskw_text::parse_decimal;
-use json::{Reader, Scratch, Token};
-use std::alloc::{AllocError, Global};
 
 // How deep arrays and objects may nest.
 const MAX_DEPTH: usize = 127;
@@ -50,25 +45,4 @@ fn depth_of(text: &[u8]) -> usize {
         }
     }
     depth
-}
-
-// Returns the offset of the first number of a document of JSON that is not exact, or the length if
-// there is none. Where a number begins is the reader's word: no clause says it.
-#[cold]
-pub(crate) fn offset_of_inexact(alloc: Global, document: &[u8]) -> Result<usize, AllocError>
-    ensures { IfOk result (λ offset. offset ≤ length document.now) }
-{
-    let Ok(text) = simdutf8::compat::from_utf8(document) else {
-        return Ok(document.len());
-    };
-    let mut scratch = Scratch::new(alloc);
-    let mut reader = Reader::new(text, &mut scratch)?;
-    'tokens: loop {
-        let offset = reader.offset().min(document.len());
-        match reader.next() {
-            Some(Token::Number(number)) if parse_decimal(number).is_none() => return Ok(offset),
-            Some(_) => {}
-            None => return Ok(document.len()),
-        }
-    }
 }

@@ -40,6 +40,11 @@ impl<'a> Cursor<'a> {
         Cursor { text, at: 0 }
     }
 
+    // Returns the offset.
+    pub(crate) fn offset(&self) -> usize {
+        self.at
+    }
+
     // Returns whether nothing is left.
     pub(crate) fn is_at_end(&self) -> bool
         ensures { IsTrue result → self.now ≡ [] }

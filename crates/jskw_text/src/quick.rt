@@ -1,5 +1,6 @@
 //! The tree of a text in one pass. It gives a text up that is refused, and does not say why.
-ghost use Rattle.std.specs.Prelude.{◌≡◌, ◌≤◌, [], ◌∷◌, Some, Ok, IfOk, OnOk, length, map, string_bytes};
+ghost use Rattle.std.specs.Prelude.{◌≡◌, ◌≤◌, [], ◌∷◌, Some, Ok, IfOk, IsTrue, OnOk, length, map, string_bytes};
+ghost use Rattle.std.specs.Str.{is_utf8};
 ghost use Rattle.json.specs.Lex.{token};
 ghost use Rattle.json.specs.Token.{string};
 ghost use Rattle.json.specs.Word.{head};
@@ -36,12 +37,16 @@ impl<T: Drop> From<AllocFailed<T>> for Unread {
     }
 }
 
-// Reads the tree that a text denotes, or gives up.
-pub(crate) fn read_quickly(text: &str, spare: &mut Spare) -> Result<DecimalTree, Unread>
-    ensures { IfOk result (λ tree. reading text.now ≡ Some (Ok (decimal_tree tree))) }
+// Reads the tree that a text denotes, or gives up and leaves the cursor where it does: if the text is
+// JSON, at its first number that is not exact.
+pub(crate) fn read_quickly(
+    cursor: &mut Cursor<'_>,
+    spare: &mut Spare,
+) -> Result<DecimalTree, Unread>
+    requires { IsTrue (is_utf8 cursor.old) }
+    ensures { IfOk result (λ tree. reading cursor.old ≡ Some (Ok (decimal_tree tree))) }
 {
-    let mut cursor = Cursor::new(text);
-    let tree = read(&mut cursor, spare, MAX_DEPTH)?;
+    let tree = read(cursor, spare, MAX_DEPTH)?;
     cursor.skip_spaces();
     if !cursor.is_at_end() {
         return Err(Unread::Text);

@@ -6,9 +6,8 @@ ghost use Rattle.jskw_text.specs.Reading.{reading};
 
 use crate::fault::ReadFault;
 use crate::spare::Spare;
-use crate::tree::read_with;
+use crate::tree::{Refusal, read_with};
 use jskw_value::DecimalTree;
-use json::Scratch;
 use std::alloc::Global;
 use std::fmt;
 
@@ -16,15 +15,15 @@ use std::fmt;
 const LONGEST: usize = 1_000_000;
 
 /// Reads texts one after another. It keeps up to 4 MB of the room of trees that are no longer needed,
-/// and what a text that is refused is read with, but neither behind a long text.
+/// and the room that a refused text is read with. After a long text it keeps neither.
 #[derive(Drop)]
 pub struct TreeReader {
     alloc: Global,
     spare: Spare,
-    // What a text that is refused is read with, once there was one.
-    scratch: Option<Box<Scratch>>,
+    refusal: Refusal,
+    // The most bytes of a text whose room is kept.
     longest: usize,
-    // Whether the text that was read last is longer.
+    // Whether the text that was read last has more.
     is_long: bool,
 }
 
@@ -35,17 +34,18 @@ impl fmt::Debug for TreeReader {
 }
 
 impl TreeReader {
-    /// Creates a reader whose trees are allocated with `alloc`. It keeps room of texts of up to 1 MB.
+    /// Creates a reader whose trees are allocated with `alloc`. It keeps the room of texts of up to
+    /// 1,000,000 bytes.
     pub fn new(alloc: Global) -> TreeReader {
         TreeReader::keeping(alloc, LONGEST)
     }
 
-    /// Creates a reader that keeps room of texts of up to so many bytes.
+    /// Creates a reader that keeps the room of texts of up to `longest` bytes.
     pub fn keeping(alloc: Global, longest: usize) -> TreeReader {
         TreeReader {
             alloc,
             spare: Spare::new(alloc),
-            scratch: None,
+            refusal: Refusal::none(),
             longest,
             is_long: false,
         }
@@ -61,11 +61,17 @@ impl TreeReader {
         ensures fault { IfErr result (IsFaultOf bytes.now) }
     {
         self.is_long = bytes.len() > self.longest;
-        let tree = read_with(self.alloc, bytes, &mut self.spare, &mut self.scratch);
+        let tree = read_with(self.alloc, bytes, &mut self.spare, &mut self.refusal);
         if self.is_long {
-            self.scratch = None;
+            self.refusal.scratch = None;
         }
         tree
+    }
+
+    /// Returns the offset of the first number that is not exact, if [`read`](TreeReader::read) has just
+    /// returned [`ReadFault::Inexact`]; else an offset of no meaning.
+    pub fn offset_of_inexact(&self) -> usize {
+        self.refusal.offset
     }
 
     /// Takes a tree that is no longer needed. Trees that are read later use its room, so that it need

@@ -26,7 +26,11 @@ pub(crate) fn put(
         ≡ put (string_bytes member.name) (decimal_tree member.value) (members_seen (lasts found.old.items))) }
 {
     if in_order && let Some(place) = place_of(found.as_slice(), member.name.as_str()) {
-        found.insert(place, member)?;
+        if place < found.len() {
+            found.insert(place, member)?;
+            return Ok(true);
+        }
+        found.push(member)?;
         return Ok(true);
     }
     found.push(member)?;

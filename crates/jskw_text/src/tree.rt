@@ -13,6 +13,7 @@ ghost use Rattle.jskw_text.specs.Stop.{IsStopOf, Explains, IsAt, IsOutside, loca
 ghost use Rattle.jskw_text.specs.Reading.{document, reading, tree_of, items_of, members_of};
 
 use crate::broken::offset_of_break;
+use crate::cursor::Cursor;
 use crate::fault::{ReadFault, Stop};
 use crate::number::parse_decimal;
 use crate::quick::{Unread, read_quickly};
@@ -35,22 +36,41 @@ pub fn read_bytes(alloc: Global, bytes: &[u8]) -> Result<DecimalTree, ReadFault>
     ensures tree { IfOk result (λ tree. reading bytes.now ≡ Some (Ok (decimal_tree tree))) }
     ensures fault { IfErr result (IsFaultOf bytes.now) }
 {
-    read_with(alloc, bytes, &mut Spare::new(alloc), &mut None)
+    read_with(alloc, bytes, &mut Spare::new(alloc), &mut Refusal::none())
 }
 
-// Reads the tree that bytes denote as JSON text, in room of trees that are no longer needed. Puts the
-// `Scratch` into `kept` if the text is refused.
+// What is left of the reading of a text that is refused.
+#[derive(Drop)]
+pub(crate) struct Refusal {
+    // The room that such a text is read with once more, to find why. It has 16 KB, which are cleared
+    // when it is made: so it is made for the first one, and kept for the next.
+    pub(crate) scratch: Option<Box<Scratch>>,
+    // Where the text was given up.
+    pub(crate) offset: usize,
+}
+
+impl Refusal {
+    // Nothing.
+    pub(crate) fn none() -> Refusal {
+        Refusal {
+            scratch: None,
+            offset: 0,
+        }
+    }
+}
+
+// Reads the tree that bytes denote as JSON text, in room of trees that are no longer needed.
 pub(crate) fn read_with(
     alloc: Global,
     bytes: &[u8],
     spare: &mut Spare,
-    kept: &mut Option<Box<Scratch>>,
+    refusal: &mut Refusal,
 ) -> Result<DecimalTree, ReadFault>
     ensures tree { IfOk result (λ tree. reading bytes.now ≡ Some (Ok (decimal_tree tree))) }
     ensures fault { IfErr result (IsFaultOf bytes.now) }
 {
     match simdutf8::compat::from_utf8(bytes) {
-        Ok(text) => read_text(alloc, text, spare, kept),
+        Ok(text) => read_text(alloc, text, spare, refusal),
         Err(e) => Err(ReadFault::NotJson(e.valid_up_to())),
     }
 }
@@ -60,21 +80,24 @@ fn read_text(
     alloc: Global,
     text: &str,
     spare: &mut Spare,
-    kept: &mut Option<Box<Scratch>>,
+    refusal: &mut Refusal,
 ) -> Result<DecimalTree, ReadFault>
     requires { IsTrue (is_utf8 text.now) }
     ensures tree { IfOk result (λ tree. reading text.now ≡ Some (Ok (decimal_tree tree))) }
     ensures fault { IfErr result (IsFaultOf text.now) }
 {
-    match read_quickly(text, spare) {
+    let mut cursor = Cursor::new(text);
+    match read_quickly(&mut cursor, spare) {
         Ok(tree) => Ok(tree),
-        Err(Unread::Text) => read_slowly(alloc, text, kept),
+        Err(Unread::Text) => {
+            refusal.offset = cursor.offset();
+            read_slowly(alloc, text, &mut refusal.scratch)
+        }
         Err(Unread::Memory(e)) => Err(ReadFault::Memory(e)),
     }
 }
 
-// Reads the tree that a text denotes, or finds why it is refused. A `Scratch` has 16 KB, which are
-// cleared when it is made: so it is made for the first such text, and kept for the next one.
+// Reads the tree that a text denotes, or finds why it is refused.
 #[cold]
 #[inline(never)]
 fn read_slowly(
@@ -94,7 +117,7 @@ fn read_slowly(
 }
 
 // Returns the `Scratch` that is kept, and makes it if there is none.
-#[inline(never)]
+#[inline(always)]
 fn scratch_in(alloc: Global, kept: &mut Option<Box<Scratch>>) -> Result<&mut Scratch, AllocError> {
     let scratch = match kept.take() {
         Some(scratch) => scratch,

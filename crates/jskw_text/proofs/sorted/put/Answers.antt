@@ -6,10 +6,14 @@ use Rattle.jskw_text.proofs.sorted.put.Goals as goal
 
 pub returns-2 : goal.returns-2
 returns-2 c =
-    ap (λ ms. members_seen (lasts ms)) c.in_ok-push.ensures.items ∙ last_seen c.args.found.now.items c.args.member
+    ap (λ ms. members_seen (lasts ms)) c.in_ok-push-2.ensures.items ∙ last_seen c.args.found.now.items c.args.member
 
 pub returns : goal.returns
 returns c =
+    ap (λ ms. members_seen (lasts ms)) c.in_ok-push.ensures.items ∙ last_seen c.args.found.now.items c.args.member
+
+pub returns-then-place-len : goal.returns-then-place-len
+returns-then-place-len c =
     let ms = c.args.found.now.items in
     let place = c.in-Some.place in
     let behind = subst (λ k. AreBehind k ms place) c.as_str.ensures.value
