@@ -265,6 +265,27 @@ for size in [*range(1, 18), 24]:
     asked = {"const": names}
     GROUPS.append(at_once(f"members with names of {size} letters", asked, [names], bad, asked))
 
+# texts with the same first and last letters
+ALIKE = [LETTERS[:place] + "z" + LETTERS[place + 1 :] for place in range(4, 20)]
+bad = [LETTERS, *(it.replace("z", "~") for it in ALIKE), ALIKE[0] + "z", ALIKE[-1][1:]]
+for count in 9, 10, 11, 16:
+    asked = {"enum": ALIKE[16 - count :]}
+    GROUPS.append(at_once(f"{count} texts that begin and end alike", asked, asked["enum"], bad, asked))
+
+for count in 3, 16, 17, 33:
+    for what, names in ("", [f"n{place:02}:" for place in range(count)]), (", asked for in reverse", [f"m{count - place:02}:" for place in range(count)]):
+        whole = {name: 0 for name in names}
+        more = {"": 0, **whole, names[0] + "~": 1, "~": 2}
+        # more than 16 members for a name
+        many = {f"{name}{place:02}:": 0 for name in ["a", "z"] for place in range(30)} if count == 3 else {"z": 0}
+        tests = [test("all are there", {"valid": True}, each=[whole, more, {**whole, **many}])]
+        for place in sorted({0, 1, count // 2, 15, count - 2, count - 1} & {*range(count)}):
+            left = {name: 0 for name in names if name != names[place]}
+            each = [left, {**left, names[place] + ":": 0}, {**left, **many}]
+            tests.append(test(f"that at {place} is not there", {"errors": [{"required": names[place]}]}, each=each))
+        schema = {"required": names}
+        GROUPS.append({"description": f"{count} names{what}", "schema": schema, "tests": tests})
+
 for size in 1, 2, 5, 9:
     numbers = [*range(11, 11 + size)]
     bad = [numbers[:place] + [it] + numbers[place + 1 :] for place in range(size) for it in (0, "a", None, [place + 11])]
@@ -327,4 +348,25 @@ for digits in DIGITS:
                 tests[text] = test("", {"valid": True}, data=written(*number)) | {"text": text, "description": text}
 GROUPS.append({"description": "texts of 18 to 22 digits with a point", "schema": {"type": "number"}, "tests": [*tests.values()]})
 
-print("[\n" + ",\n".join(json.dumps(it) for it in GROUPS) + "\n]")
+ESCAPES = {
+    r"\n": "\n", r"\r": "\r", r"\t": "\t", r"\b": "\b", r"\f": "\f", r"\"": '"', r"\\": "\\", r"\/": "/", r"\u0041": "A",
+    r"\u00e9": "\u00e9", r"\u00E9": "\u00e9", r"\u0000": "\0", r"\u20AC": "\u20ac", r"\uaBcD": "\uabcd", r"\uFfFf": "\uffff",
+    r"\ud7ff": "\ud7ff", r"\ue000": "\ue000", r"\ud83d\ude00": "\U0001f600", r"\uD800\uDC00": "\U00010000",
+    r"\udbff\udfff": "\U0010ffff", r"\ud801\udc37": "\U00010437",
+}
+tests = []
+for escape, letter in ESCAPES.items():
+    for front, back in ("", ""), ("x", "y"), ("x" * 15, "y" * 17):
+        text, data = f'"{front}{escape}{back}{escape}{back}"', f"{front}{letter}{back}{letter}{back}"
+        tests.append(test(text, {"valid": True}, data=data) | {"text": text})
+GROUPS.append({"description": "escapes in texts", "schema": {"type": "string"}, "tests": tests})
+
+
+
+def text_of(group):
+    """The text of a group, a line for each test."""
+    tests = ",\n        ".join(map(json.dumps, group.pop("tests")))
+    return f"    {json.dumps(group)[:-1]}, \"tests\": [\n        {tests}\n    ]}}"
+
+
+print("[\n" + ",\n".join(map(text_of, GROUPS)) + "\n]")
