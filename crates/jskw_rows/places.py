@@ -363,6 +363,28 @@ GROUPS.append({"description": "escapes in texts", "schema": {"type": "string"}, 
 
 
 
+# texts whose members come in another order, and the names that are asked for
+PLAIN = [f"n{place:02}:" for place in range(40)]
+ORDERS = {
+    "in reverse": PLAIN[::-1],
+    "the second half first": PLAIN[20:] + PLAIN[:20],
+    "one behind 39 greater ones, and one more": PLAIN[1:39] + PLAIN[:1] + PLAIN[39:],
+    "by turns": PLAIN[::2] + PLAIN[1::2],
+    "each twice, in reverse behind the first": PLAIN + PLAIN[::-1],
+}
+GROUPS.append(
+    {
+        "description": "members of a text in another order",
+        "schema": {"required": ["n00:", "n19:", "n38:", "n39:"], "minProperties": 40},
+        "tests": [
+            test(name, {"valid": True}, data={it: len(order) - 1 - order[::-1].index(it) for it in PLAIN})
+            | {"text": "{" + ",".join(f'"{it}":{place}' for place, it in enumerate(order)) + "}"}
+            for name, order in ORDERS.items()
+        ],
+    }
+)
+
+
 def text_of(group):
     """The text of a group, a line for each test."""
     tests = ",\n        ".join(map(json.dumps, group.pop("tests")))
