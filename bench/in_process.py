@@ -2,6 +2,7 @@
 
 import math
 import subprocess
+import sys
 
 from program import ROOT, case_of
 
@@ -21,7 +22,8 @@ FROM_C, FROM_PYTHON = "`jskw_is_valid` from C", "from Python"
 
 def build():
     """Builds the library, and returns its folder."""
-    subprocess.run([ROOT / "bindings" / "build"], check=True)
+    if subprocess.run([ROOT / "bindings" / "build"], check=False).returncode:
+        sys.exit(3)
     return ROOT / "bindings" / "out"
 
 
