@@ -29,7 +29,7 @@ def build():
 
 def ours(library, folder):
     """The commands that call the library in a folder from C and from Python."""
-    source, made = ROOT / "bench" / "peer" / "jskw.c", folder / "jskw"
+    source, made = ROOT / "bench" / "drivers" / "jskw.c", folder / "jskw"
     subprocess.run(["cc", "-O2", f"-I{ROOT / 'include'}", "-o", made, source, library / "libjskw.a"], check=True)
     setting = [f"JSKW={library / 'libjskw.so'}", f"PYTHONPATH={ROOT / 'bindings' / 'python' / 'src'}"]
     return {FROM_C: [made], FROM_PYTHON: ["env", *setting, "/usr/bin/python3", "-B", source.parent / "jskw_ctypes.py"]}
