@@ -2,6 +2,7 @@
 # What the scripts that build have in common; they are to set `name`, which begins each line that they say, and `root`.
 
 child=
+clock=
 # what the line of an interrupt says further
 kept=
 
@@ -25,6 +26,7 @@ need() {
 stop() {
     trap '' INT TERM HUP
     [ -z "$child" ] || { kill -TERM "$child" && wait "$child"; } 2>/dev/null
+    stop_clock
     say "interrupted$kept"
     exit "$1"
 }
@@ -36,18 +38,23 @@ stop_on_signals() {
     trap 'stop 129' HUP
 }
 
-# Says every minute how long something takes already.
+# Says every minute how long something takes already, as long as this script is there.
 count_minutes() {
     local minutes=0
-    while sleep 60 >/dev/null 2>&1; do
+    while sleep 60 >/dev/null 2>&1 && kill -0 $$ 2>/dev/null; do
         minutes=$((minutes + 1))
         say "$(date +%H:%M:%S) $1: $minutes min so far"
     done
 }
 
+stop_clock() {
+    [ -z "$clock" ] || { kill "$clock" && wait "$clock"; } 2>/dev/null
+    clock=
+}
+
 # Runs a command with its output at the end of a log, and says each minute that it runs; an interrupt ends it.
 run() {
-    local log=$1 what=$2 clock status
+    local log=$1 what=$2 status
     shift 2
     count_minutes "$what" &
     clock=$!
@@ -56,7 +63,7 @@ run() {
     wait "$child"
     status=$?
     child=
-    { kill "$clock" && wait "$clock"; } 2>/dev/null
+    stop_clock
     return "$status"
 }
 
