@@ -2,6 +2,7 @@
 
 import math
 import subprocess
+import sys
 
 from program import ROOT, case_of
 
@@ -21,13 +22,14 @@ FROM_C, FROM_PYTHON = "`jskw_is_valid` from C", "from Python"
 
 def build():
     """Builds the library, and returns its folder."""
-    subprocess.run([ROOT / "bindings" / "build"], check=True)
+    if subprocess.run([ROOT / "bindings" / "build"], check=False).returncode:
+        sys.exit(3)
     return ROOT / "bindings" / "out"
 
 
 def ours(library, folder):
     """The commands that call the library in a folder from C and from Python."""
-    source, made = ROOT / "bench" / "peer" / "jskw.c", folder / "jskw"
+    source, made = ROOT / "bench" / "drivers" / "jskw.c", folder / "jskw"
     subprocess.run(["cc", "-O2", f"-I{ROOT / 'include'}", "-o", made, source, library / "libjskw.a"], check=True)
     setting = [f"JSKW={library / 'libjskw.so'}", f"PYTHONPATH={ROOT / 'bindings' / 'python' / 'src'}"]
     return {FROM_C: [made], FROM_PYTHON: ["env", *setting, "/usr/bin/python3", "-B", source.parent / "jskw_ctypes.py"]}

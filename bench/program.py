@@ -39,6 +39,9 @@ def under(draft, overridden=()):
 
 
 def build():
+    if not shutil.which("rt"):
+        print("bench: `rt`, the command of the Rattle kit, is not on the PATH", file=sys.stderr)
+        sys.exit(3)
     with open(CRATE / "stdin", "rb") as cases:
         built = subprocess.run(["rt", "run"], cwd=CRATE, stdin=cases, capture_output=True, text=True)
     if built.returncode:

@@ -32,7 +32,9 @@
  * -2^63 to 2^64-1.
  *
  * Versions. Within a minor version (0.2.*) no function, number or word of a line is changed or taken away, so that a
- * program need not be compiled again; words may be added at the end of a line. */
+ * program need not be compiled again; words may be added at the end of a line. Another minor version may differ in all
+ * of it, and its file has the same name, libjskw.so.1: a program that can meet another one compares JSKW_VERSION with
+ * what jskw_version writes. */
 #ifndef JSKW_H
 #define JSKW_H
 
@@ -152,7 +154,7 @@ uint32_t jskw_errors(jskw_schema *schema, const uint8_t *bytes, size_t size, uin
 uint32_t jskw_evaluate(jskw_schema *schema, const uint8_t *bytes, size_t size, uint8_t *buffer, size_t buffer_size,
                        size_t *length);
 
-/* Frees the schema of a handle, which is empty then and can be used again. An empty handle stays as it is. */
+/* Frees the schema of a handle, which is empty then and can be used again. An empty handle is unchanged. */
 void jskw_free(jskw_schema *schema);
 
 #ifdef __cplusplus

@@ -45,6 +45,7 @@ fn installed() -> Option<PathBuf> {
 
 fn pkg_config(question: &str) -> Option<String> {
     let asked = Command::new("pkg-config").args([question, "jskw"]).output().ok()?;
-    let answer = String::from_utf8(asked.stdout).ok()?.trim().to_string();
+    // it writes a space as the shell reads it
+    let answer = String::from_utf8(asked.stdout).ok()?.trim().replace("\\ ", " ");
     (asked.status.success() && !answer.is_empty()).then_some(answer)
 }
