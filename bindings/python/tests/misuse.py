@@ -4,12 +4,7 @@ from __future__ import annotations
 
 import contextlib
 import copy
-import os
-import pathlib
 import pickle
-import subprocess
-import sys
-import threading
 from concurrent.futures import ProcessPoolExecutor
 from typing import Any
 
@@ -17,18 +12,14 @@ import jskw
 from checks import check, raised
 
 CLOSED = "the validator is closed"
-SOURCE = str(pathlib.Path(jskw.__file__).resolve().parents[1])
 
 
 def run() -> None:
     an_error_in_a_worker()
     a_copy_outlives_its_original()
-    another_thread_asks()
-    another_thread_drops()
     after_close()
     names_that_are_no_strings()
     the_path_of_a_schema_error()
-    without_a_library()
     forgotten_arguments()
     changed_afterwards()
 
@@ -50,22 +41,6 @@ def a_copy_outlives_its_original() -> None:
         got = type(other), other.draft, other.overridden, other.is_valid({"a": 1}), other.is_valid({})
         check("a copy", got, (jskw.Draft7Validator, "7", ("items",), True, False))
         check("its schema", other.schema, {"required": ["a"]})
-
-
-def another_thread_asks() -> None:
-    validator, told = jskw.Validator({"type": "null"}), []
-    thread = threading.Thread(target=lambda: told.append((validator.is_valid(None), validator.is_valid(1))))
-    thread.start()
-    thread.join()
-    check("another thread", told, [(True, False)])
-
-
-def another_thread_drops() -> None:
-    held = [jskw.Validator({"type": "null"})]
-    thread = threading.Thread(target=held.clear)
-    thread.start()
-    thread.join()
-    check("dropped", held, [])
 
 
 def after_close() -> None:
@@ -101,16 +76,6 @@ def the_path_of_a_schema_error() -> None:
     error = raised(lambda: jskw.Validator({"items": {"prefixItems": [True, 1]}}))
     check("a subschema", (list(error.path), error.instance), (["items", "prefixItems", 1], 1))
     check("no ValidationError", isinstance(error, jskw.ValidationError), False)
-
-
-def without_a_library() -> None:
-    for path, word in ("/none/libjskw.so", "cannot be loaded as the library jskw"), ("/dev/null", "cannot be loaded"):
-        environment = {**os.environ, "PYTHONPATH": SOURCE, "JSKW": path}
-        command = [sys.executable, "-c", "import jskw"]
-        done = subprocess.run(command, capture_output=True, text=True, env=environment, check=False)
-        last = done.stderr.strip().split("\n")[-1]
-        check(f"without {path}", (done.returncode, last.startswith("ImportError: jskw: ")), (1, True))
-        check(f"without {path}, why", word in last, True)
 
 
 def forgotten_arguments() -> None:

@@ -48,7 +48,6 @@ def run() -> None:
             check(f"{name} {schema} {value}", seen(got), seen(wanted))
             check(f"{name} {schema} {value}, verdict", ours.is_valid(value), not wanted)
             check_tree(got, wanted)
-    best()
 
 
 def seen(errors: Any) -> list[str]:
@@ -63,14 +62,6 @@ def check_tree(got: Any, wanted: Any) -> None:
         # of equally good ones it takes the first, and the orders differ
         ours, theirs = (exceptions.relevance(exceptions.best_match(errors)) for errors in (got, wanted))
         check("the best error", ours, theirs)
-
-
-def best() -> None:
-    schema = {"items": {"type": "object", "required": ["a"]}, "maxItems": 1}
-    errors: Any = list(jskw.Validator(schema).iter_errors([{}, 1]))
-    check("best_match", exceptions.best_match(errors).validator, "maxItems")
-    tree = exceptions.ErrorTree(errors)
-    check("ErrorTree", (tree.total_errors, sorted(tree), tree[0].errors["required"].path[0]), (3, [0, 1], 0))
 
 
 def schema_of(rng: random.Random, name: str, depth: int) -> dict[str, Any]:

@@ -2,6 +2,8 @@
 
 from __future__ import annotations
 
+import pickle
+from collections import OrderedDict
 from decimal import Decimal
 from typing import Any, Callable
 
@@ -9,6 +11,7 @@ import jskw
 from checks import check, check_raises, raised
 
 NOT_JSON = "is not JSON in UTF-8"
+SURROGATE = "has the escape of a lone surrogate, which JSON allows and jskw does not"
 CALLS: list[tuple[str, Callable[..., Any]]] = [("instance", jskw.Validator(True).is_valid), ("schema", jskw.Validator)]
 
 
@@ -16,6 +19,7 @@ def run() -> None:
     settings()
     texts()
     values()
+    numbers()
     drafts()
 
 
@@ -35,14 +39,13 @@ def settings() -> None:
         check_raises(jskw.BadSetting, message, jskw.Validator, True, **given)
     check_raises(jskw.BadSetting, "draft='6' is not one of '7'", jskw.Draft7Validator, True, "6")
     for limit in 0, -1, 2**64, "1", 1.5:
-        message = f"limit={limit!r} is not None or from 1 to 2^64-1"
+        message = f"limit={limit!r} is not None or from 1 to 2^64-1; evolve(schema=..) takes another schema"
         check_raises(jskw.BadSetting, message, jskw.Validator(True).iter_errors, 1, limit)
 
 
 def texts() -> None:
     """What JSON does not have, and what it has and is refused: each says which, where, and in which text."""
     deep = "nests more than 127 levels, which JSON allows and jskw does not"
-    surrogate = "has the escape of a lone surrogate, which JSON allows and jskw does not"
     rows = [
         (b"", NOT_JSON, 1),
         (b"{", NOT_JSON, 1),
@@ -59,9 +62,9 @@ def texts() -> None:
         (b"[" * 128 + b"]" * 128, deep, 1),
         (b"[" * 1_000_000, deep, 1),
         (b"\n" + b'{"a":' * 127 + b"[]" + b"}" * 127, deep, 2),
-        (b'["\\ud800"]', surrogate, 1),
-        (b'["ok",\n "\\udc00x"]', surrogate, 2),
-        (b'{"\\ud83d\\ude00": "\\ud800\\u0061"}', surrogate, 1),
+        (b'["\\ud800"]', SURROGATE, 1),
+        (b'["ok",\n "\\udc00x"]', SURROGATE, 2),
+        (b'{"\\ud83d\\ude00": "\\ud800\\u0061"}', SURROGATE, 1),
     ]
     for text, reason, line in rows:
         for what, call in CALLS:
@@ -77,7 +80,7 @@ def texts() -> None:
     check("1e400 in an instance", (type(error), list(getattr(error, "path", ""))), (jskw.InexactNumber, ["a", 1]))
     error = raised(jskw.Validator(True).is_valid, b"[1e18, 2e18]")
     wanted = "of at most 18 decimals, at least one if it has a point or an exponent, and without its point from"
-    check("2e18", str(error), f"the number at '/1' is not exact: {wanted} -2^63 to 2^64-1")
+    check("2e18", str(error), f"the number 2e18 at '/1' is not exact: {wanted} -2^63 to 2^64-1")
     error = raised(jskw.Validator(True).is_valid, b'{"a": [1, ' + b"1" * 5000 + b"]}")
     check("5,000 digits", (type(error), list(getattr(error, "path", ""))), (jskw.InexactNumber, ["a", 1]))
     check("no JSON behind it", type(raised(jskw.Validator(True).is_valid, b"[1e400,")), jskw.NotJson)
@@ -86,34 +89,67 @@ def texts() -> None:
 
 
 def values() -> None:
-    rows: list[tuple[Any, str]] = [
-        ({1: 2}, "is not JSON: the name 1 of a member is no string"),
-        ({"a": [{None: 1}]}, "is not JSON: the name None of a member is no string"),
-        ({"a": Decimal(1), True: 1}, "is not JSON: the name True of a member is no string"),
-        (float("nan"), "is not JSON: Out of range float values are not JSON compliant"),
-        ([Decimal("Infinity")], "is not JSON: the Decimal Infinity is no number"),
-        ({"a": {1}}, "is not JSON: set is no type of JSON"),
-        ([b"a"], "is not JSON: bytes is no type of JSON"),
-        ("\ud800", "has the escape of a lone surrogate, which JSON allows and jskw does not"),
-    ]
-    for value, reason in rows:
-        for what, call in CALLS:
-            check_raises(jskw.NotJson, f"the {what} {reason}", call, value)
-    ring: list[Any] = []
-    ring += [ring, ring]
-    check("a ring", type(raised(jskw.Validator(True).is_valid, ring)), jskw.NotJson)
-    ring.append(Decimal(1))
-    check("a ring with a Decimal", type(raised(jskw.Validator(True).is_valid, ring)), jskw.NotJson)
-    check("5,000 digits", type(raised(jskw.Validator(True).is_valid, 10**5000)), jskw.NotJson)
+    """What a value has that JSON does not: each says which, and where."""
+    ring: dict[str, Any] = {"a": [Decimal(1)]}
+    ring["a"].append(ring)
     deep: Any = 1
     for _ in range(500):
         deep = [deep]
-    message = "the instance nests more than 127 levels, which JSON allows and jskw does not"
-    check_raises(jskw.NotJson, message, jskw.Validator(True).is_valid, deep)
+    nests = "nests more than 127 levels, which JSON allows and jskw does not"
+    rows: list[tuple[Any, list[Any], str]] = [
+        ({1: 2}, [], "is not JSON: the name 1 of a member is no string"),
+        ({"a": [{None: 1}]}, ["a", 0], "is not JSON: the name None of a member is no string"),
+        ({"a": Decimal(1), True: 1}, [], "is not JSON: the name True of a member is no string"),
+        (float("nan"), [], "is not JSON: the float nan is no number"),
+        ([0.0, float("-inf")], [1], "is not JSON: the float -inf is no number"),
+        ([Decimal("Infinity")], [0], "is not JSON: the Decimal Infinity is no number"),
+        ({"a": {1}}, ["a"], "is not JSON: set is no type of JSON"),
+        ([b"a"], [0], "is not JSON: bytes is no type of JSON"),
+        (OrderedDict(a=(0, object)), ["a", 1], "is not JSON: type is no type of JSON"),
+        ("\ud800", [], SURROGATE),
+        ({"a": {"\udc00": 1}}, ["a", "\udc00"], SURROGATE),
+        (ring, ["a", 1] * 63 + ["a"], nests),
+        (deep, [0] * 127, nests),
+    ]
+    for value, path, reason in rows:
+        pointer = "".join(f"/{step}" for step in path)
+        place = f" (at {pointer if len(pointer) <= 80 else pointer[:80] + '..'!r})" if path else ""
+        for what, call in CALLS:
+            error = raised(call, value)
+            got = type(error), list(getattr(error, "path", ())), str(error)
+            check(f"{what} {reason}", got, (jskw.NotJson, path, f"the {what} {reason}{place}"))
+    for number in 10**5000, -(10**5000), 10**200, -(2**63) - 1:
+        error = raised(jskw.Validator(True).is_valid, {"a": number})
+        check("too many digits", (type(error), error.instance), (jskw.InexactNumber, number))
+        check("its text", len(str(error)) < 300, True)
+    check("5,000 digits in a schema", type(raised(jskw.Validator, {"const": 10**5000})), jskw.NotJson)
+
+
+def numbers() -> None:
+    """Numbers that the standard allows in a schema, and jskw does not take."""
+    rows: list[tuple[Any, list[Any], str]] = [
+        ({"minimum": 0.5}, ["minimum"], "0.5"),
+        (b'{"items": {"maximum": 1.0}}', ["items", "maximum"], "1.0"),
+        (b'{"multipleOf": 1E-2}', ["multipleOf"], "1E-2"),
+        ({"minItems": 2.0}, ["minItems"], "2.0"),
+        ({"maxItems": 2**64}, ["maxItems"], str(2**64)),
+        ({"enum": [0, "2.5", {"a": [Decimal("2.50")]}]}, ["enum", 2, "a", 0], "2.50"),
+        (b'{"const": [-0]}', ["const", 0], "-0"),
+    ]
+    rest = "limits and the numbers of `const` and `enum` are whole numbers here, from -2^63 to 2^64-1, without"
+    for schema, path, number in rows:
+        error = raised(jskw.Validator, schema)
+        got = type(error), list(error.path), error.number, error.message
+        wanted = jskw.UnsupportedNumber, path, number, f"jskw does not take the number {number}: {rest} exponent"
+        check(f"{schema} has a number", got, wanted)
+        again = pickle.loads(pickle.dumps(error))
+        check("its pickle", (type(again), again.number, str(again)), (type(error), number, str(error)))
+    for schema in {"minItems": 2.5}, {"minItems": -2.0}, {"type": 2.0}, {"minimum": "2.0"}, {"multipleOf": 0}:
+        check(f"{schema} is wrong", type(raised(jskw.Validator, schema)), jskw.SchemaError)
 
 
 def drafts() -> None:
-    classes = {
+    classes: dict[str, type[jskw.Validator]] = {
         "http://json-schema.org/draft-04/schema#": jskw.Draft4Validator,
         "http://json-schema.org/draft-06/schema": jskw.Draft6Validator,
         "http://json-schema.org/draft-07/schema#": jskw.Draft7Validator,

@@ -2,10 +2,8 @@
 
 from __future__ import annotations
 
-import gc
 import json
 import multiprocessing
-import sys
 import threading
 from concurrent.futures import Executor, ProcessPoolExecutor, ThreadPoolExecutor
 from typing import Any
@@ -19,7 +17,6 @@ LONG = json.dumps([*range(3000), "a"]).encode()
 def run() -> None:
     pools()
     closes_while_asked()
-    leaks_nothing()
 
 
 def pools() -> None:
@@ -73,38 +70,3 @@ def closes_while_asked() -> None:
         for thread in threads:
             thread.join()
     check("closed while asked", told, ["the validator is closed"] * 80)
-
-
-def leaks_nothing() -> None:
-    """Handles of threads that have ended are freed, and validators that other threads drop."""
-    schema = {"enum": [[i, str(i)] for i in range(10000)]}
-    validator = jskw.Validator(schema)
-
-    def compile_and_drop() -> None:
-        jskw.Validator(schema).is_valid(1)
-
-    def ask() -> None:
-        validator.is_valid(1)
-
-    before = 0
-    for turn in range(40):
-        held = [jskw.Validator(schema)]
-        for call in compile_and_drop, ask, held.clear:
-            thread = threading.Thread(target=call)
-            thread.start()
-            thread.join()
-        gc.collect()
-        if turn == 9:
-            before = memory()
-    # a schema of these takes 3 MB and more: 30 turns that leak one would take 90 MB
-    check("memory is freed", memory() - before < 30_000, True)
-
-
-def memory() -> int:
-    """Returns the resident memory in kB."""
-    with open("/proc/self/statm", encoding="ascii") as file:
-        return int(file.read().split()[1]) * 4
-
-
-if __name__ == "__main__":
-    sys.exit("run the folder: python3 bindings/python/tests")

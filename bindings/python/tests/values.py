@@ -3,11 +3,15 @@
 from __future__ import annotations
 
 import enum
+import json
+import random
 from collections import OrderedDict
 from decimal import Decimal
 from typing import Any
 
 import jskw
+from jskw._jskw import text_of
+
 from checks import check, raised
 
 
@@ -28,6 +32,7 @@ def run() -> None:
         check(f"the schema {schema!r}", jskw.Validator(schema).is_valid(None), True)
         check("its value", jskw.Validator(schema).schema, {"type": "null"})
     fractions()
+    as_json_writes()
 
 
 def fractions() -> None:
@@ -54,3 +59,32 @@ def fractions() -> None:
     for value, path in rows:
         error = raised(jskw.Validator(True).is_valid, value)
         check(f"{value!r} is not exact", (type(error), list(getattr(error, "path", "?"))), (jskw.InexactNumber, path))
+
+
+def as_json_writes() -> None:
+    """The text of a value is that of the module `json`, but for its spaces and escapes."""
+    rng, wrong = random.Random(3), []
+    for _ in range(5000):
+        value = random_value(rng, 4)
+        # as a text, 0.0 and -0.0 differ
+        if repr(json.loads(text_of(value, "value"))) != repr(json.loads(json.dumps(value))):
+            wrong.append(value)
+    check("texts", wrong, [])
+
+
+def random_value(rng: random.Random, depth: int) -> Any:
+    kind = rng.random()
+    if depth and kind < 0.5:
+        below = [random_value(rng, depth - 1) for _ in range(rng.randrange(5))]
+        return rng.choice([list, tuple])(below) if kind < 0.25 else {random_string(rng): one for one in below}
+    if kind < 0.7:
+        return random_string(rng)
+    digits = rng.randrange(-(10 ** rng.randrange(1, 22)), 10 ** rng.randrange(1, 22))
+    fraction = rng.random() * 10.0 ** rng.randrange(-300, 300)
+    return rng.choice([digits, digits / 10 ** rng.randrange(12), fraction, -0.0, True, False, None])
+
+
+def random_string(rng: random.Random) -> str:
+    most = rng.choice([0x80, 0x100, 0xD800, 0x10FFFF])
+    codes = [rng.randrange(most) for _ in range(rng.choice([0, 1, 5, 8, 300]))]
+    return "".join(chr(code) for code in codes if not 0xD800 <= code < 0xE000)

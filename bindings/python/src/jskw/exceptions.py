@@ -5,25 +5,72 @@ from __future__ import annotations
 import json
 import re
 from collections import deque
-from collections.abc import Iterable, Sequence
+from collections.abc import Callable, Iterable, Iterator, Sequence
 from decimal import Decimal
-from typing import Any, NamedTuple
+from typing import TYPE_CHECKING, Any, NamedTuple, NoReturn, TypeVar
+
+from ._jskw import Schema
 
 __all__ = [
     "BadSetting",
+    "ErrorTree",
     "InexactNumber",
     "NotJson",
     "SchemaError",
     "UncheckedError",
     "UncheckedMember",
+    "UnsupportedNumber",
     "ValidationError",
+    "best_match",
+    "relevance",
 ]
+
+# what users of `jsonschema` may look for, and why it is not here
+FORMATS = "jskw checks no formats: what asserts one is in `unchecked`"
+REFERENCES = "jskw follows no references: what has one is in `unchecked`"
+FIXED = "the keywords and types of jskw are fixed: the setting `overridden` leaves keywords out"
+META_SCHEMAS = "jskw reads no meta-schema: check_schema(schema) compiles the schema"
+_LACKING = {
+    **dict.fromkeys(["FormatChecker", "draft7_format_checker"], FORMATS),
+    **dict.fromkeys(["RefResolver", "RefResolutionError"], REFERENCES),
+    **dict.fromkeys(["TypeChecker", "create", "extend", "validates"], FIXED),
+    "Draft3Validator": "jskw begins with Draft 4",
+}
+
+
+def lack(name: str) -> NoReturn:
+    """Says why a module of this package lacks a name that `jsonschema` has, also where it is imported."""
+    if name in _LACKING:
+        raise ImportError(f"there is no {name}: {_LACKING[name]}")
+    raise AttributeError(f"there is no {name} in this module of jskw")
+
+
+if not TYPE_CHECKING:  # which is to find wrong names
+    __getattr__ = lack
+
+
+class Lacking:
+    """An attribute that validators of `jsonschema` have and these do not."""
+
+    def __init__(self, why: str) -> None:
+        self.why = why
+
+    def __get__(self, one: object, kind: object = None) -> Any:
+        raise AttributeError(self.why)
+
+
+_EXACT = "at least one if it has a point or an exponent, and without its point from -2^63 to 2^64-1"
+_WHOLE = "limits and the numbers of `const` and `enum` are whole numbers here, from -2^63 to 2^64-1, without exponent"
+DEPTH = 127
+ALLOWED = "which JSON allows and jskw does not"
+
+# a string, which may lack its end, or a bracket
+_TOKEN = re.compile(rb'"(?:[^"\\]|\\.)*"?|[][{}]', re.DOTALL)
 
 _PLAIN_NAME = re.compile("^[a-zA-Z][a-zA-Z0-9_]*$")
 
-_TYPES: dict[str, Any] = {"array": (list, tuple), "boolean": bool, "null": type(None), "object": dict, "string": str}
-
 Path = Sequence["str | int"]
+_Self = TypeVar("_Self", bound="_Error")
 
 
 class _Error(Exception):
@@ -59,6 +106,16 @@ class _Error(Exception):
     def __repr__(self) -> str:
         return f"<{type(self).__name__}: {self.message!r}>"
 
+    @classmethod
+    def create_from(cls: type[_Self], other: _Error) -> _Self:
+        """Returns an error with what another one has."""
+        return cls(**other._contents())
+
+    def _contents(self) -> dict[str, Any]:
+        # `create_from` of the package `jsonschema` asks this
+        names = "message cause context validator validator_value path schema_path instance schema parent"
+        return {name: getattr(self, name) for name in names.split()}
+
     @property
     def instance_location(self) -> str:
         """The absolute path as a JSON pointer."""
@@ -90,8 +147,9 @@ class _Error(Exception):
         # `best_match` of the package `jsonschema` asks this
         if not isinstance(self.schema, dict) or "type" not in self.schema:
             return False
-        types = self.schema["type"]
-        return any(_is_of_type(self.instance, name) for name in ([types] if isinstance(types, str) else types))
+        schema = Schema()
+        schema._call("compile", {"type": self.schema["type"]}, 2020, 7)
+        return schema._call("first_error", self.instance)[0] == 0
 
 
 class ValidationError(_Error):
@@ -118,20 +176,41 @@ class SchemaError(_Error):
         return f"{self.message} (schema {self.instance_location!r})"
 
 
+class UnsupportedNumber(SchemaError):
+    """A schema that the standard allows, with a number that jskw does not take: a limit, a divisor, or a number in
+    `const` or `enum` is a whole number from -2^63 to 2^64-1, written without a point or an exponent. `path` leads to
+    the number, `number` is its text and `instance` its value."""
+
+    number: str
+
+
 class NotJson(ValueError):
     """A text that is not JSON in UTF-8, or nests more than 127 levels, or has what is refused though JSON allows it;
     `reason` says which. `text` is "schema", "instance" or "request". `offset` counts bytes from 0, `line` and `column`
-    count from 1; they are None for a value of Python."""
+    count from 1; of a value of Python they are None, and `path` leads to what is refused."""
 
     def __init__(
-        self, text: str, reason: str, offset: int | None = None, line: int | None = None, column: int | None = None
+        self,
+        text: str,
+        reason: str,
+        offset: int | None = None,
+        line: int | None = None,
+        column: int | None = None,
+        path: Iterable[str | int] = (),
     ) -> None:
-        super().__init__(text, reason, offset, line, column)
         self.text, self.reason, self.offset, self.line, self.column = text, reason, offset, line, column
+        self.path = deque(path)
+        super().__init__(text, reason, offset, line, column, self.path)
 
     def __str__(self) -> str:
         where = "" if self.offset is None else f" at line {self.line}, column {self.column} (byte {self.offset})"
-        return f"the {self.text} {self.reason}{where}"
+        at = f" (at {_cut(_pointer(self.path))!r})" if self.path else ""
+        return f"the {self.text} {self.reason}{where}{at}"
+
+
+def refuse_value(text: str, reason: str, path: list[str | int]) -> None:
+    """Raises why a value of Python is refused. The path goes from its end to its beginning; the module in C calls."""
+    raise NotJson(text, reason, path=reversed(path))
 
 
 class BadSetting(ValueError):
@@ -140,18 +219,25 @@ class BadSetting(ValueError):
 
 class InexactNumber(ValueError):
     """The instance has a number that is not exact: it is no c / 10^k with c from -2^63 to 2^64-1 and k from 0 to 18, or
-    from 1 to 18 if it is written with a point or an exponent. `instance_location` is the location of the first, and
-    `path` the same as a deque."""
+    from 1 to 18 if it is written with a point or an exponent. `instance_location` is the location of the first, `path`
+    the same as a deque, and `instance` the number, as it is written in a text."""
 
-    def __init__(self, instance_location: str, path: Iterable[str | int] = ()) -> None:
-        super().__init__(instance_location, deque(path))
-        self.instance_location, self.path = instance_location, deque(path)
+    def __init__(self, instance_location: str, path: Iterable[str | int] = (), instance: Any = None) -> None:
+        super().__init__(instance_location, deque(path), instance)
+        self.instance_location, self.path, self.instance = instance_location, deque(path), instance
 
     def __str__(self) -> str:
-        return (
-            f"the number at {self.instance_location!r} is not exact: of at most 18 decimals, at least one if it "
-            "has a point or an exponent, and without its point from -2^63 to 2^64-1"
-        )
+        place = f"the number {_shown(self.instance)} at {self.instance_location!r} is not exact"
+        return f"{place}: of at most 18 decimals, {_EXACT}"
+
+
+def _shown(number: Any) -> str:
+    """Returns the digits of a number, if they are not too many."""
+    return f"of {number.bit_length()} bits" if isinstance(number, int) and abs(number) >> 256 else _cut(str(number))
+
+
+def _cut(text: str) -> str:
+    return text if len(text) <= 80 else text[:80] + ".."
 
 
 class UncheckedMember(NamedTuple):
@@ -186,12 +272,75 @@ class UncheckedError(ValueError):
         return "the schema has what is not checked: " + ", ".join(shown) + (f" and {more} more" if more else "")
 
 
+class _Number(str):
+    """A number of a JSON text as it is written there."""
+
+    def is_taken(self) -> bool:
+        """Returns whether a schema may have it."""
+        return self != "-0" and self.lstrip("-").isdecimal() and -(2**63) <= int(self) < 2**64
+
+
+class ErrorTree:
+    """Errors by the places where they stand: `tree[0]["name"]` has those of `/0/name` and below, and `errors`, by their
+    keywords, those of its own place. It has the steps of its errors as its own, and `len` of it counts the errors."""
+
+    def __init__(self, errors: Iterable[_Error] = ()) -> None:
+        self.errors: dict[str | None, _Error] = {}
+        self._below: dict[str | int, ErrorTree] = {}
+        self._instance: Any = None
+        for error in errors:
+            tree = self
+            for step in error.path:
+                tree = tree._below.setdefault(step, ErrorTree())
+            tree.errors[error.validator], tree._instance = error, error.instance
+
+    def __contains__(self, step: object) -> bool:
+        return step in self._below
+
+    def __getitem__(self, step: str | int) -> ErrorTree:
+        if step not in self._below and self._instance is not None:
+            self._instance[step]  # that the instance does not have is an error
+        return self._below.get(step) or ErrorTree()
+
+    def __iter__(self) -> Iterator[str | int]:
+        return iter(self._below)
+
+    def __len__(self) -> int:
+        return len(self.errors) + sum(map(len, self._below.values()))
+
+    @property
+    def total_errors(self) -> int:
+        """The number of errors, here and below."""
+        return len(self)
+
+
+def relevance(error: _Error) -> Any:
+    """Returns what errors can be ordered by: those that stand higher in the instance are greater, and of these those
+    whose instance is not of the schema's type."""
+    return -len(error.path), not error._matches_type()
+
+
+def best_match(errors: Iterable[_Self], key: Callable[[_Error], Any] = relevance) -> _Self | None:
+    """Returns the greatest error, or None if there is none."""
+    every = list(errors)
+    return max(every, key=key) if every else None
+
+
 class Document:
     """A JSON value, of which each location that was asked for is kept."""
 
     def __init__(self, root: Any) -> None:
         self.root = root
         self._found: dict[str, tuple[tuple[str | int, ...], Any]] = {"": ((), root)}
+
+    @classmethod
+    def of(cls, given: Any, as_written: bool = False) -> Document:
+        """Returns the document of a value, or of a JSON text in bytes: its numbers may be left as they are written."""
+        if not isinstance(given, (bytes, bytearray, memoryview)):
+            return cls(given)
+        if not as_written:
+            return cls(json.loads(bytes(given)))
+        return cls(json.loads(bytes(given), parse_int=_Number, parse_float=_Number))
 
     def at(self, pointer: str) -> tuple[tuple[str | int, ...], Any]:
         """Returns the path of a location, and the value there: None if the location is not in the value."""
@@ -234,12 +383,30 @@ def _failed_keyword(kind: str, location: str, expected: str, schema: Document) -
     return {"validator": str(path[-1]), "validator_value": value, "schema": within, **common}
 
 
-def schema_error(line: list[str], schema: Document) -> SchemaError:
+def schema_error(line: list[str], text: bytes) -> SchemaError:
     """Returns the error of the line of a refusal: kind, keyword location, message, expected value."""
     kind, location, message, expected, *_ = line
-    limit = json.loads(expected) if expected else None
+    limit, schema = json.loads(expected) if expected else None, Document.of(text)
     path, value = schema.at(location)
-    return SchemaError(message, kind, path, validator_value=limit, instance=value, schema=schema.root, expected=limit)
+    settings = {"validator_value": limit, "schema": schema.root, "expected": limit}
+    if kind == "compileError" or limit == "integer":
+        for below, number in _numbers(Document.of(text, as_written=True).at(location)[1], path):
+            # the standard has its own word on 2.5 items
+            if not number.is_taken() and (kind == "compileError" or Decimal(number) >= 0 == Decimal(number) % 1):
+                message = f"jskw does not take the number {_shown(number)}: {_WHOLE}"
+                error = UnsupportedNumber(message, kind, below, instance=schema.at(_pointer(below))[1], **settings)
+                error.number = number
+                return error
+    return SchemaError(message, kind, path, instance=value, **settings)
+
+
+def _numbers(value: Any, path: tuple[str | int, ...]) -> Iterator[tuple[tuple[str | int, ...], _Number]]:
+    """Returns the numbers in a value, with their paths."""
+    if isinstance(value, _Number):
+        yield path, value
+    elif isinstance(value, (dict, list)):
+        for step, below in value.items() if isinstance(value, dict) else enumerate(value):
+            yield from _numbers(below, (*path, step))
 
 
 def unchecked_members(lines: list[list[str]], schema: Document) -> list[UncheckedMember]:
@@ -261,13 +428,45 @@ def _json_path_step(step: str | int) -> str:
     return f"['{escaped}']"
 
 
-def _is_of_type(instance: Any, name: str) -> bool:
-    if name == "integer":
-        return isinstance(instance, int) and not isinstance(instance, bool) or _is_whole(instance)
-    if name == "number":
-        return isinstance(instance, (int, float, Decimal)) and not isinstance(instance, bool)
-    return isinstance(instance, _TYPES.get(name, ()))
+def words(text: str) -> list[list[str]]:
+    """Returns the words of each line of an answer, without their escapes."""
+    lines = [line.split("\t") for line in text.split("\n")[:-1]]
+    return [[_plain(word) for word in line] for line in lines] if "\\" in text else lines
 
 
-def _is_whole(number: Any) -> bool:
-    return isinstance(number, (float, Decimal)) and number == int(number)
+def _plain(word: str) -> str:
+    return "\\".join(part.replace("\\t", "\t").replace("\\n", "\n") for part in word.split("\\\\"))
+
+
+def refusal(what: str, text: bytes, lines: list[list[str]]) -> NotJson:
+    """Returns the error of a text that is refused: the line has the offset, line and column."""
+    if not lines:
+        return NotJson(what, f"has a number that is too large for a double, {ALLOWED}")
+    offset, line, column = map(int, lines[0][:3])
+    return NotJson(what, _reason(text, offset), offset, line, column)
+
+
+def _reason(text: bytes, offset: int) -> str:
+    """Returns why a text is refused at an offset."""
+    depth = 0
+    for token in _TOKEN.finditer(text):
+        word = token.group()
+        depth += (word in (b"[", b"{")) - (word in (b"]", b"}"))
+        if depth > DEPTH:
+            return f"nests more than {DEPTH} levels, {ALLOWED}"
+        if token.end() >= offset and word.startswith(b'"') and _has_lone_surrogate(word):
+            return f"has the escape of a lone surrogate, {ALLOWED}"
+        if token.start() > offset:
+            break
+    return "is not JSON in UTF-8"
+
+
+def _has_lone_surrogate(word: bytes) -> bool:
+    try:
+        json.loads(word).encode()
+    except UnicodeEncodeError:
+        return True
+    except ValueError:
+        pass
+    return False
+
