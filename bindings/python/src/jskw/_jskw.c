@@ -8,19 +8,25 @@
 
 #include "jskw.h"
 
-/* In the stable ABI from 3.10 on; 3.9 has it as well. */
+/* Both are in the stable ABI from 3.10 on, and 3.9, of which there will be no other version, has them as well. */
 PyAPI_FUNC(const char *) PyUnicode_AsUTF8AndSize(PyObject *text, Py_ssize_t *size);
+#ifndef METH_FASTCALL
+#define METH_FASTCALL 0x0080
+#endif
 
 enum {
     DEPTH = 127,   /* the most levels that the library reads */
     LONG = 2048,   /* a text of so many bytes is checked without the interpreter's lock; to hand the lock over takes
                     * longer than to check a shorter one */
-    KEPT = 1 << 20 /* the most bytes of a buffer that are kept between calls */
+    KEPT = 1 << 20, /* the most bytes of a buffer that are kept between calls */
+    MANY = 1 << 18  /* for so many errors there is room at once */
 };
 
 static const char ALLOWED[] = "which JSON allows and jskw does not";
+static const char CHANGED[] = "a dict was changed while it was written";
 
-static PyTypeObject *decimal;
+/* The class Decimal, its own `__str__`, and the name of an attribute of errors. */
+static PyObject *decimal, *decimal_text, *told_name;
 
 /* ---- buffers */
 
@@ -89,10 +95,23 @@ static int at_step(struct writer *writer, PyObject *step) {
     return 0;
 }
 
+/* The bytes that stand for themselves in a string. */
+static const char PLAIN[256] = {[' ' ... '!'] = 1, ['#' ... '['] = 1, [']' ... 255] = 1};
+
+/* Returns whether eight bytes do. */
+static inline int are_plain(const unsigned char *at) {
+    const uint64_t each = 0x0101010101010101u;
+    uint64_t bytes;
+    memcpy(&bytes, at, 8);
+    uint64_t quotes = bytes ^ each * '"', slashes = bytes ^ each * '\\';
+    uint64_t found = ((bytes - each * ' ') & ~bytes) | ((quotes - each) & ~quotes) | ((slashes - each) & ~slashes);
+    return !(found & each << 7);
+}
+
 static int write_string(struct writer *writer, PyObject *string) {
     Py_ssize_t size;
-    const unsigned char *utf8 = (const unsigned char *)PyUnicode_AsUTF8AndSize(string, &size);
-    if (utf8 == NULL) {
+    const unsigned char *at = (const unsigned char *)PyUnicode_AsUTF8AndSize(string, &size), *end = at + size;
+    if (at == NULL) {
         if (!PyErr_ExceptionMatches(PyExc_UnicodeEncodeError)) return 0;
         PyErr_Clear();
         return refuse(writer, "has the escape of a lone surrogate, %s", ALLOWED);
@@ -100,12 +119,10 @@ static int write_string(struct writer *writer, PyObject *string) {
     struct block *out = writer->out;
     if (!reserve(out, size + 2)) return 0;
     uint8_t *to = out->bytes + out->size;
-    *to++ = '"';
-    for (const unsigned char *at = utf8, *end = utf8 + size; at < end; at++) {
-        if (*at >= ' ' && *at != '"' && *at != '\\') {
-            *to++ = *at;
-            continue;
-        }
+    for (*to++ = '"';; at++) {
+        for (; end - at >= 8 && are_plain(at); at += 8, to += 8) memcpy(to, at, 8);
+        for (; at < end && PLAIN[*at]; at++) *to++ = *at;
+        if (at == end) break;
         out->size = to - out->bytes;
         if (!reserve(out, end - at + 7)) return 0;
         to = out->bytes + out->size;
@@ -171,15 +188,25 @@ static int write_float(struct writer *writer, PyObject *value) {
     return written;
 }
 
+/* Writes a value of exactly one of Python's types that have no parts: that runs no program's own code while it reads
+ * the value, so it needs no reference to it. Returns -1 for any other. */
+static inline int write_leaf(struct writer *writer, PyObject *value) {
+    PyTypeObject *type = Py_TYPE(value);
+    if (type == &PyUnicode_Type) return write_string(writer, value);
+    if (type == &PyLong_Type) return write_integer(writer, value);
+    if (type == &PyFloat_Type) return write_float(writer, value);
+    if (value == Py_None) return append(writer->out, "null", 4);
+    if (value == Py_True) return append(writer->out, "true", 4);
+    if (value == Py_False) return append(writer->out, "false", 5);
+    return -1;
+}
+
 static int write_array(struct writer *writer, PyObject *array, int is_list, int depth) {
     char before = '[';
     for (Py_ssize_t i = 0; i < (is_list ? PyList_Size(array) : PyTuple_Size(array)); i++) {
+        if (!put(writer->out, before)) return 0;
         PyObject *value = is_list ? PyList_GetItem(array, i) : PyTuple_GetItem(array, i);
-        /* to write a value may run a program's own code, which may take it out of the array */
-        Py_INCREF(value);
-        int written = put(writer->out, before) && write_value(writer, value, depth);
-        Py_DECREF(value);
-        if (!written) return at_step(writer, PyLong_FromSsize_t(i));
+        if (!write_value(writer, value, depth)) return at_step(writer, PyLong_FromSsize_t(i));
         before = ',';
     }
     return (before == ',' || put(writer->out, before)) && put(writer->out, ']');
@@ -188,17 +215,20 @@ static int write_array(struct writer *writer, PyObject *array, int is_list, int 
 static int write_object(struct writer *writer, PyObject *object, int depth) {
     char before = '{';
     PyObject *name, *value;
-    Py_ssize_t at = 0;
+    Py_ssize_t at = 0, size = PyDict_Size(object);
     while (PyDict_Next(object, &at, &name, &value)) {
-        if (!PyUnicode_Check(name)) return refuse(writer, "is not JSON: the name %R of a member is no string", name);
         Py_INCREF(name);
-        Py_INCREF(value);
-        int written = put(writer->out, before) && write_string(writer, name) && put(writer->out, ':') &&
-                      write_value(writer, value, depth);
-        Py_DECREF(value);
-        if (!written) return at_step(writer, name);
+        if (!PyUnicode_Check(name)) {
+            refuse(writer, "is not JSON: the name %R of a member is no string", name);
+            Py_DECREF(name);
+            return 0;
+        }
+        if (!put(writer->out, before) || !write_string(writer, name) || !put(writer->out, ':') ||
+            !write_value(writer, value, depth))
+            return at_step(writer, name);
         Py_DECREF(name);
         before = ',';
+        if (PyDict_Size(object) != size) return PyErr_Format(PyExc_RuntimeError, CHANGED) != NULL;
     }
     return (before == ',' || put(writer->out, before)) && put(writer->out, '}');
 }
@@ -210,7 +240,8 @@ static int write_other(struct writer *writer, PyObject *value, int depth) {
     if (PyUnicode_Check(value)) return write_string(writer, value);
     if (PyLong_Check(value)) return write_integer(writer, value);
     if (PyFloat_Check(value)) return write_float(writer, value);
-    if (PyType_IsSubtype(Py_TYPE(value), decimal)) return write_text(writer, PyObject_Str(value), "Decimal");
+    if (PyType_IsSubtype(Py_TYPE(value), (PyTypeObject *)decimal))
+        return write_text(writer, PyObject_CallFunctionObjArgs(decimal_text, value, NULL), "Decimal");
     if (PyList_Check(value) || PyTuple_Check(value)) {
         plain = PySequence_List(value);
         written = plain && write_value(writer, plain, depth);
@@ -219,26 +250,30 @@ static int write_other(struct writer *writer, PyObject *value, int depth) {
         written = plain && PyDict_Update(plain, value) == 0 && write_value(writer, plain, depth);
     } else {
         PyObject *name = PyObject_GetAttrString((PyObject *)Py_TYPE(value), "__name__");
-        if (name) refuse(writer, "is not JSON: %U is no type of JSON", name);
+        if (name) refuse(writer, "is not JSON: %S is no type of JSON", name);
         Py_XDECREF(name);
     }
     Py_XDECREF(plain);
     return written;
 }
 
-/* Appends the text of a value that stands `depth` levels deep. */
+/* Appends the text of a value that stands `depth` levels deep, to which the caller may have no reference. */
 static int write_value(struct writer *writer, PyObject *value, int depth) {
+    int written = write_leaf(writer, value);
+    if (written >= 0) return written;
     PyTypeObject *type = Py_TYPE(value);
-    if (type == &PyUnicode_Type) return write_string(writer, value);
-    if (type == &PyLong_Type) return write_integer(writer, value);
-    if (type == &PyFloat_Type) return write_float(writer, value);
-    if (value == Py_None) return append(writer->out, "null", 4);
-    if (value == Py_True) return append(writer->out, "true", 4);
-    if (value == Py_False) return append(writer->out, "false", 5);
-    int is_dict = type == &PyDict_Type, is_list = type == &PyList_Type;
-    if (!is_dict && !is_list && type != &PyTuple_Type) return write_other(writer, value, depth);
-    if (depth == DEPTH) return refuse(writer, "nests more than %d levels, %s", DEPTH, ALLOWED);
-    return is_dict ? write_object(writer, value, depth + 1) : write_array(writer, value, is_list, depth + 1);
+    /* to write a part may run a program's own code, which may take the value out of where it stands */
+    Py_INCREF(value);
+    if (type != &PyDict_Type && type != &PyList_Type && type != &PyTuple_Type)
+        written = write_other(writer, value, depth);
+    else if (depth == DEPTH)
+        written = refuse(writer, "nests more than %d levels, %s", DEPTH, ALLOWED);
+    else if (type == &PyDict_Type)
+        written = write_object(writer, value, depth + 1);
+    else
+        written = write_array(writer, value, type == &PyList_Type, depth + 1);
+    Py_DECREF(value);
+    return written;
 }
 
 /* Lets the package raise its NotJson for what was refused, unless there is an exception already. */
@@ -305,8 +340,9 @@ static struct caller *take_caller(Schema *self) {
 }
 
 static void put_back(Schema *self, struct caller *caller) {
-    if (self->state != OPEN) return drop_caller(caller);
+    /* the last reference to an object of the caller's class may run its code, which may close the schema */
     Py_CLEAR(caller->owner);
+    if (self->state != OPEN) return drop_caller(caller);
     drop_block(&caller->written, KEPT);
     drop_block(&caller->answer, KEPT);
     caller->next = self->idle;
@@ -375,17 +411,14 @@ static void lock(PyThreadState *thread) {
     if (thread) PyEval_RestoreThread(thread);
 }
 
-static PyObject *is_valid(Schema *self, PyObject *args, PyObject *names) {
-    static char *words[] = {"instance", NULL};
-    PyObject *instance;
-    if (names == NULL && PyTuple_Size(args) == 1)
-        instance = PyTuple_GetItem(args, 0);
-    else if (!PyArg_ParseTupleAndKeywords(args, names, "O:is_valid", words, &instance))
-        return NULL;
+static PyObject *is_valid(Schema *self, PyObject *const *args, Py_ssize_t count, PyObject *names) {
+    Py_ssize_t named = names ? PyTuple_Size(names) : 0;
+    if (count + named != 1 || (named && PyUnicode_CompareWithASCIIString(PyTuple_GetItem(names, 0), "instance") != 0))
+        return PyErr_Format(PyExc_TypeError, "is_valid() takes one argument, the instance");
     struct caller *caller = take_caller(self);
     if (caller == NULL) return NULL;
     uint32_t status = JSKW_NO_MEMORY;
-    int is_taken = take_text(caller, instance, "instance");
+    int is_taken = take_text(caller, args[0], "instance");
     if (is_taken) {
         PyThreadState *thread = unlock(caller->size);
         status = jskw_is_valid(&caller->schema, caller->bytes, caller->size);
@@ -395,82 +428,223 @@ static PyObject *is_valid(Schema *self, PyObject *args, PyObject *names) {
     if (!is_taken) return NULL;
     if (status <= JSKW_INVALID) return PyBool_FromLong(status == JSKW_VALID);
     /* raises why there is no verdict, unless another thread has changed the value meanwhile */
-    PyObject *told = PyObject_CallMethod((PyObject *)self, "_ask", "sO", "first_error", instance);
-    int valid = told ? PyObject_Not(told) : -1;
-    Py_XDECREF(told);
+    PyObject *errors = PyObject_CallMethod((PyObject *)self, "_ask", "sO", "first_error", args[0]);
+    int valid = errors ? PyObject_Not(errors) : -1;
+    Py_XDECREF(errors);
     return valid < 0 ? NULL : PyBool_FromLong(valid);
 }
 
-static const char *const CALLS[] = {"version", "answer", "compile", "unchecked", "first_error", "errors", "evaluate"};
+/* ---- answers */
 
-enum { VERSION, ANSWER, COMPILE, UNCHECKED, FIRST_ERROR, ERRORS, EVALUATE, COUNT };
+/* Returns where a word that begins at `at` ends: before a byte, or at the end. */
+static const char *stop_of(const char *at, const char *end, char stop) {
+    const char *found = memchr(at, stop, end - at);
+    return found ? found : end;
+}
 
-/* What is asked of a text: `number` is a draft or a limit. */
+/* Returns a word without its escapes: those of a line begin with a backslash, those of a location's step with `~`. */
+static PyObject *unescaped(const char *at, const char *end, char escape) {
+    const char *meant = "t\tn\n1/0~";
+    if (stop_of(at, end, escape) == end) return PyUnicode_DecodeUTF8(at, end - at, NULL);
+    char *plain = PyMem_Malloc(end - at), *to = plain;
+    if (plain == NULL) return PyErr_NoMemory();
+    for (; at < end; at++) {
+        const char *found = *at == escape && at + 1 < end ? strchr(meant, *++at) : NULL;
+        *to++ = found && *found ? found[1] : *at;
+    }
+    PyObject *word = PyUnicode_DecodeUTF8(plain, to - plain, NULL);
+    PyMem_Free(plain);
+    return word;
+}
+
+/* Returns what stands in a value at a step, or None if nothing does, as borrowed from the value, and the step. It runs
+ * no method of the caller's classes: one with `__missing__` would get a new member. */
+static PyObject *below(PyObject *value, const char *at, const char *end, PyObject **step) {
+    int is_list = PyList_Check(value), is_array = is_list || PyTuple_Check(value);
+    const char *digit = at;
+    Py_ssize_t index = 0;
+    PyObject *found = NULL;
+    for (; is_array && digit < end && *digit >= '0' && *digit <= '9' && index < PY_SSIZE_T_MAX / 16; digit++)
+        index = 10 * index + (*digit - '0');
+    if (at < digit && digit == end) {
+        *step = PyLong_FromSsize_t(index);
+        found = is_list ? PyList_GetItem(value, index) : PyTuple_GetItem(value, index);
+        if (found == NULL) PyErr_Clear();
+    } else if ((*step = unescaped(at, end, '~')) && PyDict_Check(value)) {
+        found = PyDict_GetItemWithError(value, *step);
+    }
+    return *step == NULL || PyErr_Occurred() ? NULL : found ? found : Py_None;
+}
+
+/* Returns a tuple of some places that are still empty, what stands in a value at a location, and the path there. */
+static PyObject *found_at(PyObject *value, PyObject *location, Py_ssize_t empty) {
+    Py_ssize_t size, count = empty + 1;
+    const char *at = PyUnicode_AsUTF8AndSize(location, &size), *end = at + size;
+    if (at == NULL) return NULL;
+    for (const char *byte = at; byte < end; byte++) count += *byte == '/';
+    PyObject *found = PyTuple_New(count);
+    if (found == NULL) return NULL;
+    Py_INCREF(value);
+    for (Py_ssize_t i = empty + 1; value && i < count; i++) {
+        const char *stop = stop_of(++at, end, '/');
+        PyObject *step = NULL, *next = below(value, at, stop, &step);
+        Py_XINCREF(next);
+        Py_DECREF(value);
+        value = next;
+        if (step) PyTuple_SetItem(found, i, step);
+        at = stop;
+    }
+    if (value == NULL)
+        Py_CLEAR(found);
+    else
+        PyTuple_SetItem(found, empty, value);
+    return found;
+}
+
+static PyObject *find(PyObject *module, PyObject *args) {
+    PyObject *value, *location;
+    (void)module;
+    return PyArg_ParseTuple(args, "OU:find", &value, &location) ? found_at(value, location, 0) : NULL;
+}
+
+/* What is asked of a text, and what the errors of the answer are made of: their class, what all errors of a keyword
+ * have, the instance, and if that is a text what reads it, else None. */
 struct question {
-    int call;
-    unsigned long long number;
+    const char *name;
+    unsigned long long number; /* a draft or a limit */
     unsigned int vocabularies;
     const char *overridden;
-    Py_ssize_t overridden_size;
+    Py_ssize_t overridden_size, skipped; /* so many lines are passed over */
+    PyObject *type, *keywords, *instance, *reader;
 };
 
+/* Returns what all errors of a keyword have, as it is kept by the words that say which, or as the package makes it. */
+static PyObject *keyword_of(PyObject *keywords, const char *const *words, struct block *key) {
+    key->size = 0;
+    for (int i = 0; i <= 4; i += 2) /* kind, keyword location and expected value */
+        if (!append(key, words[i], words[i + 1] - words[i])) return NULL;
+    PyObject *name = PyBytes_FromStringAndSize((const char *)key->bytes, key->size);
+    PyObject *keyword = name ? PyDict_GetItemWithError(keywords, name) : NULL;
+    Py_XINCREF(keyword);
+    if (name && keyword == NULL && !PyErr_Occurred())
+        keyword = PyObject_CallMethod(keywords, "add", "ONNN", name, unescaped(words[0], words[1] - 1, '\\'),
+                                      unescaped(words[2], words[3] - 1, '\\'), unescaped(words[4], words[5] - 1, '\\'));
+    Py_XDECREF(name);
+    return keyword;
+}
+
+/* Returns the error of a line. Until an attribute is asked for, it has what all errors of its keyword have, None, the
+ * value at fault and its path; or what reads the text, and the location. */
+static PyObject *error_of(const struct question *with, const char *const *words, struct block *key) {
+    newfunc make = (newfunc)PyType_GetSlot((PyTypeObject *)with->type, Py_tp_new);
+    PyObject *location = unescaped(words[1], words[2] - 1, '\\'), *message = unescaped(words[3], words[4] - 1, '\\');
+    PyObject *keyword = location && message ? keyword_of(with->keywords, words, key) : NULL;
+    PyObject *given = keyword ? PyTuple_Pack(1, message) : NULL, *told = NULL, *error = NULL;
+    if (given && with->reader != Py_None) {
+        told = PyTuple_Pack(3, keyword, with->reader, location);
+    } else if (given && (told = found_at(with->instance, location, 2))) {
+        Py_INCREF(keyword);
+        PyTuple_SetItem(told, 0, keyword);
+        Py_INCREF(Py_None);
+        PyTuple_SetItem(told, 1, Py_None);
+    }
+    if (told && make) error = make((PyTypeObject *)with->type, given, NULL);
+    if (error && PyObject_SetAttr(error, told_name, told) < 0) Py_CLEAR(error);
+    Py_XDECREF(location);
+    Py_XDECREF(message);
+    Py_XDECREF(keyword);
+    Py_XDECREF(given);
+    Py_XDECREF(told);
+    return error;
+}
+
+/* Returns the words of a line, of which each ends one byte before the next. */
+static PyObject *words_of(const char *const *words, int count) {
+    PyObject *found = PyTuple_New(count);
+    for (int i = 0; found && i < count; i++) {
+        PyObject *word = unescaped(words[i], words[i + 1] - 1, '\\');
+        if (word == NULL || PyTuple_SetItem(found, i, word) < 0) Py_CLEAR(found);
+    }
+    return found;
+}
+
+/* Returns the words of each line of an answer, at most five, or the errors of the lines behind the first. */
+static PyObject *lines_of(const struct block *answer, const struct question *with, uint32_t status) {
+    const char *at = (const char *)answer->bytes, *end = at + answer->size, *words[6];
+    int has_errors = with->type && status == JSKW_INVALID, count;
+    Py_ssize_t skipped = has_errors ? with->skipped : 0;
+    struct block key = {0};
+    PyObject *lines = PyList_New(0);
+    for (const char *stop; lines && at < end; at = stop + 1) {
+        stop = stop_of(at, end, '\n');
+        if (skipped-- > 0) continue;
+        for (words[0] = at, count = 0; count < 5 && words[count] <= stop; count++)
+            words[count + 1] = stop_of(words[count], stop, '\t') + 1;
+        PyObject *line = has_errors && count == 5 ? error_of(with, words, &key) : words_of(words, count);
+        if (line == NULL || PyList_Append(lines, line) < 0) Py_CLEAR(lines);
+        Py_XDECREF(line);
+    }
+    drop_block(&key, 0);
+    return lines;
+}
+
+static int is_call(const struct question *with, const char *name) { return strcmp(with->name, name) == 0; }
+
+/* Calls jskw_NAME. */
 static uint32_t ask(const struct question *with, struct caller *caller) {
     jskw_schema *schema = &caller->schema;
     const uint8_t *bytes = caller->bytes, *names = (const uint8_t *)with->overridden;
     uint8_t *to = caller->answer.bytes;
-    size_t size = caller->size, names_size = with->overridden_size;
-    size_t room = caller->answer.room, *told = &caller->answer.size;
+    size_t size = caller->size, many = with->overridden_size, room = caller->answer.room, *told = &caller->answer.size;
     uint32_t draft = (uint32_t)with->number, chosen = with->vocabularies;
-    switch (with->call) {
-        case VERSION: return jskw_version(to, room, told);
-        case ANSWER: return jskw_answer(bytes, size, to, room, told);
-        case COMPILE: return jskw_compile(draft, chosen, names, names_size, bytes, size, schema, to, room, told);
-        case UNCHECKED: return jskw_unchecked(draft, chosen, names, names_size, bytes, size, to, room, told);
-        case FIRST_ERROR: return jskw_first_error(schema, bytes, size, to, room, told);
-        case ERRORS: return jskw_errors(schema, bytes, size, with->number, to, room, told);
-        default: return jskw_evaluate(schema, bytes, size, to, room, told);
-    }
+    if (is_call(with, "errors")) return jskw_errors(schema, bytes, size, with->number, to, room, told);
+    if (is_call(with, "first_error")) return jskw_first_error(schema, bytes, size, to, room, told);
+    if (is_call(with, "evaluate")) return jskw_evaluate(schema, bytes, size, to, room, told);
+    if (is_call(with, "compile")) return jskw_compile(draft, chosen, names, many, bytes, size, schema, to, room, told);
+    if (is_call(with, "unchecked")) return jskw_unchecked(draft, chosen, names, many, bytes, size, to, room, told);
+    if (is_call(with, "answer")) return jskw_answer(bytes, size, to, room, told);
+    return jskw_version(to, room, told);
 }
 
-/* Returns the status and the answer, after a schema is compiled with its handle. */
+/* Returns the status and the answer, a text, lines or errors, after a schema is compiled with its handle. */
 static PyObject *answered(Schema *self, const struct question *with, struct caller *caller) {
     struct block *answer = &caller->answer;
     uint32_t status;
+    /* at first room for lines of usual length, then the length for which that was too small */
+    size_t room = 128 * (!is_call(with, "errors") ? 8 : with->number < MANY ? with->number : MANY);
     do {
-        /* the length for which the room was too small, or none */
-        size_t length = answer->size;
         answer->size = 0;
-        if (!reserve(answer, length + 1)) return NULL;
+        if (!reserve(answer, room)) return NULL;
         PyThreadState *thread = unlock(caller->size);
         status = ask(with, caller);
         lock(thread);
+        room = answer->size;
     } while (status == JSKW_TOO_SMALL);
-    if (with->call == COMPILE && status == JSKW_VALID && self->state == EMPTY) {
+    if (is_call(with, "compile") && status == JSKW_VALID && self->state == EMPTY) {
         status = jskw_share(&caller->schema, &self->first);
         if (status == JSKW_VALID) self->state = OPEN;
     }
-    size_t length = answer->size;
-    answer->size = 0;
     if (status == JSKW_NO_MEMORY) return PyErr_NoMemory();
-    return Py_BuildValue("is#", (int)status, (const char *)answer->bytes, (Py_ssize_t)length);
+    int is_text = is_call(with, "answer") || (is_call(with, "evaluate") && status <= JSKW_INVALID);
+    PyObject *told = is_text ? PyUnicode_DecodeUTF8((const char *)answer->bytes, answer->size, NULL)
+                             : lines_of(answer, with, status);
+    answer->size = 0;
+    return Py_BuildValue("iN", (int)status, told);
 }
 
 static PyObject *call(Schema *self, PyObject *args) {
-    struct question with = {COUNT, 0, 0, "", 0};
-    const char *name;
+    struct question with = {.overridden = ""};
     PyObject *value, *told = NULL;
-    if (!PyArg_ParseTuple(args, "sO|KIy#:_call", &name, &value, &with.number, &with.vocabularies, &with.overridden,
-                          &with.overridden_size))
+    if (!PyArg_ParseTuple(args, "sO|KIy#n(O!O!OO):_call", &with.name, &value, &with.number, &with.vocabularies,
+                          &with.overridden, &with.overridden_size, &with.skipped, &PyType_Type, &with.type,
+                          &PyDict_Type, &with.keywords, &with.instance, &with.reader))
         return NULL;
-    for (int i = 0; i < COUNT; i++)
-        if (strcmp(CALLS[i], name) == 0) with.call = i;
-    if (with.call == COUNT) return PyErr_Format(PyExc_ValueError, "there is no call %s", name);
-    if (with.call == COMPILE && self->state != EMPTY)
+    if (is_call(&with, "compile") && self->state != EMPTY)
         return PyErr_Format(PyExc_ValueError, "the validator has its schema already");
-    int is_checked = with.call >= FIRST_ERROR;
+    int is_checked = is_call(&with, "errors") || is_call(&with, "first_error") || is_call(&with, "evaluate");
     struct caller *caller = is_checked ? take_caller(self) : new_caller();
     if (caller == NULL) return NULL;
-    if (take_text(caller, value, is_checked ? "instance" : with.call == ANSWER ? "request" : "schema"))
+    if (take_text(caller, value, is_checked ? "instance" : is_call(&with, "answer") ? "request" : "schema"))
         told = answered(self, &with, caller);
     if (is_checked)
         put_back(self, caller);
@@ -485,8 +659,11 @@ static PyObject *text_of(PyObject *module, PyObject *args) {
     (void)module;
     if (!PyArg_ParseTuple(args, "Os:text_of", &value, &what)) return NULL;
     struct caller *caller = new_caller();
-    if (caller && take_text(caller, value, what))
-        text = PyBytes_FromStringAndSize((const char *)caller->bytes, caller->size);
+    if (caller && take_text(caller, value, what)) {
+        text = caller->owner && PyBytes_CheckExact(caller->owner) ? caller->owner : NULL;
+        Py_XINCREF(text);
+        if (text == NULL) text = PyBytes_FromStringAndSize((const char *)caller->bytes, caller->size);
+    }
     drop_caller(caller);
     return text;
 }
@@ -494,11 +671,12 @@ static PyObject *text_of(PyObject *module, PyObject *args) {
 /* ---- the module */
 
 static PyMethodDef schema_methods[] = {
-    {"is_valid", (PyCFunction)(void (*)(void))is_valid, METH_VARARGS | METH_KEYWORDS,
+    {"is_valid", (PyCFunction)(void (*)(void))is_valid, METH_FASTCALL | METH_KEYWORDS,
      "is_valid($self, instance)\n--\n\nReturns whether the instance is valid.\n\n"
      "This and the other calls raise NotJson, InexactNumber if the instance has such a number, ValueError if the\n"
      "validator is closed, and MemoryError."},
-    /* calls jskw_NAME of a text or a value, and returns the status and the answer */
+    /* calls jskw_NAME of a text or a value, and returns the status and the answer: a text, the words of its lines, or
+     * the errors that these are */
     {"_call", (PyCFunction)(void (*)(void))call, METH_VARARGS, NULL},
     {"close", (PyCFunction)(void (*)(void))close_schema, METH_NOARGS, NULL},
     /* returns another object of the class with the compiled schema, and with nothing else */
@@ -520,6 +698,7 @@ static PyType_Spec schema_spec = {"jskw._jskw.Schema", sizeof(Schema), 0, Py_TPF
 static PyMethodDef module_methods[] = {
     {"text_of", text_of, METH_VARARGS,
      "Returns the JSON text of a value, which is the value itself if it is one in bytes."},
+    {"find", find, METH_VARARGS, "Returns what stands in a value at a location, or None, and the location's path."},
     {NULL, NULL, 0, NULL},
 };
 
@@ -527,12 +706,13 @@ static PyModuleDef module_definition = {
     .m_base = PyModuleDef_HEAD_INIT, .m_name = "jskw._jskw", .m_size = -1, .m_methods = module_methods};
 
 PyMODINIT_FUNC PyInit__jskw(void) {
-    PyObject *decimals = PyImport_ImportModule("decimal"), *module, *schema;
-    if (decimals == NULL) return NULL;
-    decimal = (PyTypeObject *)PyObject_GetAttrString(decimals, "Decimal");
-    Py_DECREF(decimals);
-    module = decimal ? PyModule_Create(&module_definition) : NULL;
-    schema = module ? PyType_FromSpec(&schema_spec) : NULL;
+    PyObject *decimals = PyImport_ImportModule("decimal"), *module = NULL, *schema = NULL;
+    decimal = decimals ? PyObject_GetAttrString(decimals, "Decimal") : NULL;
+    decimal_text = decimal ? PyObject_GetAttrString(decimal, "__str__") : NULL;
+    told_name = PyUnicode_InternFromString("_told");
+    Py_XDECREF(decimals);
+    if (decimal_text && told_name) module = PyModule_Create(&module_definition);
+    if (module) schema = PyType_FromSpec(&schema_spec);
     if (schema == NULL || PyModule_AddObject(module, "Schema", schema) < 0) {
         Py_XDECREF(schema);
         Py_CLEAR(module);

@@ -4,29 +4,15 @@ from __future__ import annotations
 
 import json
 from collections.abc import Iterable, Iterator
+from functools import cache, partial
+from itertools import chain
 from typing import TYPE_CHECKING, Any, ClassVar, TypeVar
 
-from ._jskw import Schema, text_of
+from ._jskw import Schema, find, text_of
 from .exceptions import (
-    FIXED,
-    FORMATS,
-    META_SCHEMAS,
-    REFERENCES,
-    BadSetting,
-    Document,
-    InexactNumber,
-    Lacking,
-    NotJson,
-    UncheckedError,
-    UncheckedMember,
-    ValidationError,
-    lack,
-    refusal,
-    schema_error,
-    unchecked_members,
-    validation_errors,
-    words,
-)
+    FIXED, FORMATS, META_SCHEMAS, REFERENCES, BadSetting, InexactNumber, Keywords, NotJson, UncheckedError,
+    UncheckedMember, ValidationError, lack, refusal, repeated_names, schema_error, value_of,
+)  # fmt: skip
 
 if TYPE_CHECKING:
     from typing_extensions import Literal, TypedDict, Unpack
@@ -49,24 +35,28 @@ else:
 
 
 __all__ = [
-    "Draft4Validator",
-    "Draft6Validator",
-    "Draft7Validator",
-    "Draft201909Validator",
-    "Draft202012Validator",
-    "Validator",
-    "answer",
-    "validate",
-    "validator_for",
-    "version",
-]
+    "Draft4Validator", "Draft6Validator", "Draft7Validator", "Draft201909Validator", "Draft202012Validator",
+    "Validator", "answer", "validate", "validator_for", "version",
+]  # fmt: skip
 
 # what include/jskw.h names JSKW_..
 INVALID, NOT_JSON, INEXACT, BAD_SCHEMA, BAD_SETTING = 1, 3, 4, 5, 6
 DRAFTS: dict[str, int] = {"4": 4, "6": 6, "7": 7, "2019-09": 2019, "2020-12": 2020}
 VOCABULARIES = {"core": 1, "applicator": 2, "validation": 4}
 
+FIRST, FURTHER = 64, 16  # so many errors are looked for at first, then each time so many times as many
+
 _Self = TypeVar("_Self", bound="Validator")
+
+
+class Lacking:
+    """An attribute that validators of `jsonschema` have and these do not."""
+
+    def __init__(self, why: str) -> None:
+        self.why = why
+
+    def __get__(self, one: object, kind: object = None) -> Any:
+        raise AttributeError(self.why)
 
 
 class Validator(Schema):
@@ -106,38 +96,35 @@ class Validator(Schema):
         self.vocabularies = frozenset(_one_of("vocabularies", name, VOCABULARIES) for name in names)
         self.overridden = tuple(_names("overridden", overridden))
         self._text = text_of(schema, "schema")
-        self._document: Document | None = None
+        self._keywords = Keywords(self._text)
         self._is_closed = False
-        status, told = self._call_schema("compile")
+        status, lines = self._call_schema("compile")
         if status == BAD_SCHEMA:
-            raise schema_error(words(told)[0], self._text)
+            raise schema_error(lines[0], self._text)
         if status == NOT_JSON:
-            raise refusal("schema", self._text, words(told))
+            raise refusal("schema", self._text, lines)
         if status == BAD_SETTING:
             raise BadSetting(f"overridden={self.overridden!r} is no list of names")
         if strict and (unchecked := self.unchecked):
             raise UncheckedError(unchecked)
 
-    def _call_schema(self, name: str) -> tuple[int, str]:
+    def _call_schema(self, name: str) -> tuple[int, Any]:
         chosen = sum(VOCABULARIES[name] for name in self.vocabularies)
         return self._call(name, self._text, DRAFTS[self.draft], chosen, json.dumps(self.overridden).encode())
 
     @property
     def unchecked(self) -> list[UncheckedMember]:
-        """The members of the schema, and of the subschemas that keywords of jskw apply, that are not checked. What
-        stands below one is not looked at. If the list is empty, all that the schema says is asserted."""
-        told = self._call_schema("unchecked")[1]
-        return unchecked_members(words(told), self._read_schema()) if told else []
+        """The members of the schema, and of the subschemas that keywords of jskw apply, that are not checked, and the
+        names that its text repeats. What stands below a member is not looked at, but for such names. If the list is
+        empty, all that the schema says is asserted."""
+        lines = self._call_schema("unchecked")[1]
+        members = [(find(self.schema, location)[1:], reason) for location, reason, *_ in lines]
+        return [UncheckedMember(str(path[-1]), path, reason) for path, reason in members] + repeated_names(self._text)
 
     @property
     def schema(self) -> Any:
         """The schema as a value, read from its text."""
-        return self._read_schema().root
-
-    def _read_schema(self) -> Document:
-        if self._document is None:
-            self._document = Document(json.loads(self._text))
-        return self._document
+        return self._keywords.schema
 
     @classmethod
     def check_schema(cls, schema: Any, **settings: Unpack[Settings]) -> None:
@@ -158,14 +145,14 @@ class Validator(Schema):
     def validate(self, instance: Any) -> None:
         """Raises the first error, if there is one."""
         if not self.is_valid(instance):
-            for error in self._errors("first_error", instance):
+            for error in self._errors("first_error", instance, 1):
                 raise error
 
     def iter_errors(self, instance: Any, limit: int | None = None) -> Iterator[ValidationError]:
         """Returns an iterator over the errors, or over the first `limit` of them, in the order of the keywords."""
         if limit is not None and not (isinstance(limit, int) and 0 < limit < 2**64):
             raise BadSetting(f"limit={limit!r} is not None or from 1 to 2^64-1; evolve(schema=..) takes another schema")
-        return iter(self._errors("errors", instance, limit or 0))
+        return self._errors("errors", instance, limit or 2**64 - 1)
 
     def evaluate(self, instance: Any) -> dict[str, Any]:
         """Returns the evaluation tree: `valid`, `keywordLocation`, `instanceLocation`, `annotation`, `errors` and
@@ -173,18 +160,34 @@ class Validator(Schema):
         tree: dict[str, Any] = json.loads(self._ask("evaluate", instance))
         return tree
 
-    def _errors(self, name: str, instance: Any, limit: int = 0) -> list[ValidationError]:
-        lines = words(self._ask(name, instance, limit))
-        return validation_errors(lines, Document.of(instance), self._read_schema()) if lines else []
+    def _errors(self, name: str, instance: Any, limit: int) -> Iterator[ValidationError]:
+        pages = self._pages(name, instance, limit)
+        return chain(next(pages, ()), chain.from_iterable(pages))
 
-    def _ask(self, name: str, instance: Any, limit: int = 0) -> str:
-        """Returns what a call tells of an instance, if it is one that can be checked."""
-        status, told = self._call(name, instance, limit)
+    def _pages(self, name: str, instance: Any, limit: int) -> Iterator[list[ValidationError]]:
+        """Returns the errors some at a time, so many that to pass over those before costs little."""
+        text = text_of(instance, "instance")
+        is_text = isinstance(instance, (bytes, bytearray, memoryview))
+        read = cache(partial(json.loads, text)) if is_text else None
+        given, asked, asker = 0, min(FIRST, limit), self
+        source = ValidationError, self._keywords, instance, read
+        while errors := asker._ask(name, instance, text, asked, given, source):
+            if len(errors) == asked - given and asker is self:
+                asker = self._share()  # which no one closes
+            yield errors
+            if len(errors) < asked - given or asked == limit:
+                return
+            given, asked = asked, min(FURTHER * asked, limit)
+
+    def _ask(self, name: str, instance: Any, text: Any = None, limit: int = 0, skipped: int = 0, *source: Any) -> Any:
+        """Returns what a call tells of an instance, or of its text, if it is one that can be checked."""
+        status, told = self._call(name, instance if text is None else text, limit, 0, b"", skipped, *source)
         if status == NOT_JSON:
-            raise refusal("instance", bytes(instance), words(told))
+            raise refusal("instance", text_of(instance, "instance"), told)
         if status == INEXACT:
-            location = words(told)[0][0]
-            raise InexactNumber(location, *Document.of(instance, as_written=True).at(location))
+            location = told[0][0]
+            number, *path = find(value_of(instance, as_written=True), location)
+            raise InexactNumber(location, path, number)
         return told
 
     def close(self) -> None:
@@ -194,7 +197,8 @@ class Validator(Schema):
         self._is_closed = True
 
     def __enter__(self: _Self) -> _Self:
-        return self._share() and self
+        self._share()  # which is an error of one that is closed
+        return self
 
     def __exit__(self, *_: object) -> None:
         self.close()
@@ -249,7 +253,7 @@ def validator_for(schema: Any, default: type[Validator] | None = None) -> type[V
     """Returns the class for the draft that `$schema` names, with or without a `#` at its end; without `$schema` the
     default, which is that of Draft 2020-12. Raises BadSetting for another `$schema`, unless there is a default."""
     try:
-        value = Document.of(schema).root
+        value = value_of(schema)
     except (ValueError, RecursionError) as error:
         raise NotJson("schema", f"is not JSON: {error}") from error
     if not isinstance(value, dict) or "$schema" not in value:
@@ -272,7 +276,7 @@ def validate(instance: Any, schema: Any, cls: type[Validator] | None = None, **s
 
 def version() -> list[str]:
     """Returns the versions of the library and of the logic that it is proved in."""
-    return Schema()._call("version", b"")[1].split("\n")[:2]
+    return [line for line, *_ in Schema()._call("version", b"")[1][:2]]
 
 
 def answer(request: Any) -> tuple[int, str]:
