@@ -8,44 +8,57 @@ crates), JSKW_CHECK another program than ../../crates/jskw_check/out/jskw_check.
 import os
 import pathlib
 import shutil
+import sysconfig
 
 from setuptools import Extension, setup
 from setuptools.command.build_py import build_py
+from setuptools.command.sdist import sdist
+
+try:
+    from setuptools.command.bdist_wheel import bdist_wheel
+except ModuleNotFoundError:  # before setuptools 70.1
+    from wheel.bdist_wheel import bdist_wheel
 
 HERE = pathlib.Path(__file__).resolve().parent
 ROOT = HERE.parents[1]
 PROGRAM = pathlib.Path(os.environ.get("JSKW_CHECK") or ROOT / "crates" / "jskw_check" / "out" / "jskw_check")
 
 
-def library():
-    """Returns the folder of the header, and the library."""
-    made = pathlib.Path(os.environ.get("JSKW_DIR") or ROOT / "bindings" / "out") / "libjskw.a"
-    if not made.exists():
-        raise SystemExit(f"jskw: there is no library {made}: run ./install or bindings/build first")
-    header = ROOT / "include"
-    return header if (header / "jskw.h").exists() else made.parents[1] / "include", made
+def copy_licenses(folder):
+    """Copies those that an sdist, the environment and the repository have."""
+    for source in filter(os.path.isdir, [HERE / "licenses", os.environ.get("JSKW_LICENSES", "")]):
+        shutil.copytree(source, folder, dirs_exist_ok=True)
+    for license in filter(pathlib.Path.exists, [ROOT / "LICENSE", ROOT / "LICENSE-jsonschema"]):
+        os.makedirs(folder, exist_ok=True)
+        shutil.copy(license, folder)
+
+
+class Wheel(bdist_wheel):
+    def egg2dist(self, egginfo_path, distinfo_path):
+        super().egg2dist(egginfo_path, distinfo_path)
+        copy_licenses(os.path.join(distinfo_path, "licenses"))
+
+
+class Source(sdist):
+    def make_release_tree(self, base_dir, files):
+        super().make_release_tree(base_dir, files)
+        copy_licenses(os.path.join(base_dir, "licenses"))
 
 
 class Build(build_py):
-    """Copies beside the package's modules what the repository has for it."""
-
     def run(self):
         super().run()
-        if getattr(self, "editable_mode", False):
-            return
-        package, further = pathlib.Path(self.build_lib, "jskw"), os.environ.get("JSKW_LICENSES")
-        if further:
-            shutil.copytree(further, package / "licenses", dirs_exist_ok=True)
-        for name in "LICENSE", "LICENSE-jsonschema":
-            if (ROOT / name).exists():
-                (package / "licenses").mkdir(exist_ok=True)
-                shutil.copy(ROOT / name, package / "licenses")
-        if PROGRAM.exists():
-            shutil.copy2(PROGRAM, package / "jskw-check")
+        if PROGRAM.exists() and not getattr(self, "editable_mode", False):
+            shutil.copy2(PROGRAM, pathlib.Path(self.build_lib, "jskw", "jskw-check"))
 
 
 if __name__ == "__main__":
-    header, archive = library()
+    if sysconfig.get_config_var("Py_GIL_DISABLED"):
+        raise SystemExit("jskw: a free-threaded Python has no stable ABI: use one with the interpreter's lock")
+    archive = pathlib.Path(os.environ.get("JSKW_DIR") or ROOT / "bindings" / "out") / "libjskw.a"
+    if not archive.exists():
+        raise SystemExit(f"jskw: there is no library {archive}: run ./install or bindings/build first")
+    header = ROOT / "include" if (ROOT / "include" / "jskw.h").exists() else archive.parents[1] / "include"
     module = Extension(
         "jskw._jskw",
         ["src/jskw/_jskw.c"],
@@ -57,4 +70,4 @@ if __name__ == "__main__":
         depends=[str(archive)],
         py_limited_api=True,
     )
-    setup(ext_modules=[module], cmdclass={"build_py": Build})
+    setup(ext_modules=[module], cmdclass={"build_py": Build, "bdist_wheel": Wheel, "sdist": Source})

@@ -2,7 +2,15 @@
 
 from __future__ import annotations
 
+import importlib
 from typing import Any, Callable
+
+# what errors of the package `jsonschema` have too, and then what they have not
+ATTRIBUTES = [
+    "message", "validator", "validator_value", "instance", "schema", "path", "relative_path", "absolute_path",
+    "schema_path", "relative_schema_path", "absolute_schema_path", "json_path", "context", "cause", "parent", "kind",
+    "expected", "instance_location", "keyword_location",
+]  # fmt: skip
 
 count = 0
 failed: list[str] = []
@@ -14,6 +22,14 @@ def check(what: str, got: Any, wanted: Any) -> None:
     if got != wanted:
         failed.append(what)
         print(f"FAILED: {what}: {got!r}, wanted {wanted!r}")
+
+
+def theirs(name: str) -> Any:
+    """Returns a module of the package `jsonschema`, or None if that is not installed."""
+    try:
+        return importlib.import_module(name)
+    except ModuleNotFoundError:
+        return None
 
 
 def raised(call: Callable[..., Any], *given: Any, **settings: Any) -> Any:

@@ -15,36 +15,32 @@ LONG = json.dumps([*range(3000), "a"]).encode()
 
 
 def run() -> None:
-    pools()
-    closes_while_asked()
-
-
-def pools() -> None:
     validator = jskw.Validator({"items": {"type": "integer"}})
-    with ThreadPoolExecutor(8) as pool:
+    with ThreadPoolExecutor(8) as pool, ThreadPoolExecutor(8) as others:
         check_pool("threads", pool, validator)
-        with ThreadPoolExecutor(8) as others:
-            others_asked = others.map(validator.is_valid, [b"[1]"] * 50)
-            check("two pools", list(others_asked) + list(pool.map(validator.is_valid, [b"[1]"] * 50)), [True] * 100)
+        asked = [*others.map(validator.is_valid, [b"[1]"] * 50), *pool.map(validator.is_valid, [b"[1]"] * 50)]
+        check("two pools", asked, [True] * 100)
     for method in "fork", "spawn":
-        context = multiprocessing.get_context(method)
-        with ProcessPoolExecutor(2, mp_context=context) as processes:
+        with ProcessPoolExecutor(2, mp_context=multiprocessing.get_context(method)) as processes:
             check_pool(f"processes by {method}", processes, validator)
+    closes_while_asked()
 
 
 def check_pool(what: str, pool: Executor, validator: jskw.Validator) -> None:
     asked = list(pool.map(validator.is_valid, [[1, 2], [1, "a"], LONG] * 20))
     check(f"{what}: is_valid", asked, [True, False, False] * 20)
-    raising = [pool.submit(validator.validate, instance) for instance in ([1, "a"], LONG)]
+    rows: list[tuple[Any, Any, type[Exception], list[Any]]] = [
+        (validator.validate, [1, "a"], jskw.ValidationError, [1]),
+        (validator.validate, LONG, jskw.ValidationError, [3000]),
+        (validator.validate, b"{", jskw.NotJson, []),
+        (validator.validate, {"a": [1e300]}, jskw.InexactNumber, ["a", 0]),
+        (jskw.Validator, {"minItems": -1}, jskw.SchemaError, ["minItems"]),
+    ]
+    raising = [pool.submit(call, given) for call, given, *_ in rows]
     errors: list[Any] = [future.exception() for future in raising]
     got = [(type(error), list(error.path)) for error in errors]
-    check(f"{what}: an error comes back", got, [(jskw.ValidationError, [1]), (jskw.ValidationError, [3000])])
-    refused: Any = pool.submit(validator.validate, b"{").exception()
-    check(f"{what}: a refusal comes back", (type(refused), refused.text), (jskw.NotJson, "instance"))
-    inexact: Any = pool.submit(validator.validate, {"a": [1e300]}).exception()
-    check(f"{what}: an inexact number comes back", (type(inexact), list(inexact.path)), (jskw.InexactNumber, ["a", 0]))
-    wrong: Any = pool.submit(jskw.Validator, {"minItems": -1}).exception()
-    check(f"{what}: a schema error comes back", (type(wrong), list(wrong.path)), (jskw.SchemaError, ["minItems"]))
+    check(f"{what}: errors come back", got, [(kind, path) for *_, kind, path in rows])
+    check(f"{what}: a refusal comes back", errors[2].text, "instance")
     made = pool.submit(jskw.Validator, {"type": "null"}, "7").result()
     check(f"{what}: a validator comes back", (made.is_valid(None), made.is_valid(1), made.draft), (True, False, "7"))
 

@@ -11,7 +11,11 @@ Names and habits are those of the package `jsonschema`. A schema and an instance
 `bytes`, `bytearray` or `memoryview`. Of a value the text counts that `json.dumps` writes: the float 0.1 is the decimal
 0.1, exactly, and a Decimal is taken as it is written."""
 
+import sys
 from typing import TYPE_CHECKING
+
+if "t" in getattr(sys, "abiflags", ""):
+    raise ImportError("jskw: a free-threaded Python has no stable ABI: use one with the interpreter's lock")
 
 from . import exceptions, validators
 from .exceptions import *

@@ -323,7 +323,8 @@ def relevance(error: _Error) -> Any:
 
 def best_match(errors: Iterable[_Self], key: Callable[[_Error], Any] = relevance) -> _Self | None:
     """Returns the greatest error, or None if there is none."""
-    return max(errors, key=key, default=None)
+    every = list(errors)
+    return max(every, key=key) if every else None
 
 
 class Keywords(dict[bytes, Any]):
@@ -359,7 +360,7 @@ def value_of(given: Any, as_written: bool = False) -> Any:
     """Returns a value, or that of a JSON text in bytes: its numbers may be left as they are written."""
     if not isinstance(given, (bytes, bytearray, memoryview)):
         return given
-    settings = dict.fromkeys(["parse_int", "parse_float"] * as_written, _Number)
+    settings: dict[str, Any] = dict.fromkeys(["parse_int", "parse_float"] * as_written, _Number)
     return json.loads(text_of(given, "value"), **settings)
 
 
