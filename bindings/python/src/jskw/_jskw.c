@@ -15,9 +15,9 @@ PyAPI_FUNC(const char *) PyUnicode_AsUTF8AndSize(PyObject *text, Py_ssize_t *siz
 #endif
 
 enum {
-    DEPTH = 127,   /* the most levels that the library reads */
-    LONG = 2048,   /* a text of so many bytes is checked without the interpreter's lock; to hand the lock over takes
-                    * longer than to check a shorter one */
+    DEPTH = 127,    /* the most levels that the library reads */
+    LONG = 2048,    /* a text of so many bytes is checked without the interpreter's lock; to pass the lock on takes
+                     * longer than to check a shorter one */
     KEPT = 1 << 20, /* the most bytes of a buffer that are kept between calls */
     MANY = 1 << 18  /* for so many errors there is room at once */
 };
@@ -110,12 +110,13 @@ static inline int are_plain(const unsigned char *at) {
 
 static int write_string(struct writer *writer, PyObject *string) {
     Py_ssize_t size;
-    const unsigned char *at = (const unsigned char *)PyUnicode_AsUTF8AndSize(string, &size), *end = at + size;
+    const unsigned char *at = (const unsigned char *)PyUnicode_AsUTF8AndSize(string, &size);
     if (at == NULL) {
         if (!PyErr_ExceptionMatches(PyExc_UnicodeEncodeError)) return 0;
         PyErr_Clear();
         return refuse(writer, "has the escape of a lone surrogate, %s", ALLOWED);
     }
+    const unsigned char *end = at + size;
     struct block *out = writer->out;
     if (!reserve(out, size + 2)) return 0;
     uint8_t *to = out->bytes + out->size;
@@ -479,8 +480,9 @@ static PyObject *below(PyObject *value, const char *at, const char *end, PyObjec
 /* Returns a tuple of some places that are still empty, what stands in a value at a location, and the path there. */
 static PyObject *found_at(PyObject *value, PyObject *location, Py_ssize_t empty) {
     Py_ssize_t size, count = empty + 1;
-    const char *at = PyUnicode_AsUTF8AndSize(location, &size), *end = at + size;
+    const char *at = PyUnicode_AsUTF8AndSize(location, &size);
     if (at == NULL) return NULL;
+    const char *end = at + size;
     for (const char *byte = at; byte < end; byte++) count += *byte == '/';
     PyObject *found = PyTuple_New(count);
     if (found == NULL) return NULL;
