@@ -14,8 +14,8 @@ if importlib.util.find_spec("jskw") is None:
 
 if __name__ == "__main__":
     for name in sys.argv[1:] or (
-        "documents", "rows", "unchecked", "errors", "peers", "idioms", "values", "refusals", "misuse", "hostile",
-        "threads", "memory", "command",
+        "documents", "rows", "unchecked", "errors", "peers", "values", "refusals", "misuse", "hostile",
+        "threads", "memory",
     ):  # fmt: skip
         importlib.import_module(name).run()
     print(f"{checks.count - len(checks.failed)} passed, {len(checks.failed)} failed")

@@ -2,7 +2,8 @@
 
 from __future__ import annotations
 
-import importlib
+import os
+import sys
 from typing import Any, Callable
 
 # what errors of the package `jsonschema` have too, and then what they have not
@@ -12,6 +13,8 @@ ATTRIBUTES = [
     "expected", "instance_location", "keyword_location",
 ]  # fmt: skip
 
+# whether memory or references are watched, so that calls take longer, and what is freed may be kept
+IS_WATCHED = hasattr(sys, "gettotalrefcount") or "ASAN_OPTIONS" in os.environ
 count = 0
 failed: list[str] = []
 
@@ -22,14 +25,6 @@ def check(what: str, got: Any, wanted: Any) -> None:
     if got != wanted:
         failed.append(what)
         print(f"FAILED: {what}: {got!r}, wanted {wanted!r}")
-
-
-def theirs(name: str) -> Any:
-    """Returns a module of the package `jsonschema`, or None if that is not installed."""
-    try:
-        return importlib.import_module(name)
-    except ModuleNotFoundError:
-        return None
 
 
 def raised(call: Callable[..., Any], *given: Any, **settings: Any) -> Any:

@@ -17,9 +17,7 @@ DRAFTS = "'4', '6', '7', '2019-09', '2020-12'"
 is_valid = jskw.Validator(True).is_valid
 CALLS: list[tuple[str, Callable[..., Any]]] = [("instance", is_valid), ("schema", jskw.Validator)]
 SETTINGS: list[tuple[dict[str, Any], str]] = [
-    ({"draft": 7}, f"draft=7 is not one of {DRAFTS}"),
-    ({"draft": "3"}, f"draft='3' is not one of {DRAFTS}"),
-    ({"draft": ["7"]}, f"draft=['7'] is not one of {DRAFTS}"),
+    *(({"draft": draft}, f"draft={draft!r} is not one of {DRAFTS}") for draft in (7, "3", ["7"])),
     ({"vocabularies": ["core", "f"]}, "vocabularies='f' is not one of 'core', 'applicator', 'validation'"),
     ({"vocabularies": "core"}, "vocabularies='core' is not a list of names"),
     ({"vocabularies": 7}, "vocabularies=7 is not a list of names"),
@@ -52,25 +50,20 @@ VALUES: list[tuple[Any, list[Any], str]] = [
     ({"a": {1}}, ["a"], "is not JSON: set is no type of JSON"),
     ([b"a"], [0], "is not JSON: bytes is no type of JSON"),
     (OrderedDict(a=(0, object)), ["a", 1], "is not JSON: type is no type of JSON"),
-    ("\ud800", [], SURROGATE),
-    ({"a": {"\udc00": 1}}, ["a", "\udc00"], SURROGATE),
-    (RING, ["a", 1] * 63 + ["a"], NESTS),
-    (DEEP, [0] * 127, NESTS),
-]
+    ("\ud800", [], SURROGATE), ({"a": {"\udc00": 1}}, ["a", "\udc00"], SURROGATE),
+    (RING, ["a", 1] * 63 + ["a"], NESTS), (DEEP, [0] * 127, NESTS),
+]  # fmt: skip
 INEXACT: list[tuple[Any, list[Any]]] = [
     ({"a": [1e300]}, ["a", 0]), (2**64, []), (Decimal("1e-19"), []), ([0.1, 1.0000000000000002e-7], [1]),
     (b'{"a": [1, 1e400]}', ["a", 1]), (b'{"a": [1, ' + b"1" * 5000 + b"]}", ["a", 1]),
 ]  # fmt: skip
 # numbers that the standard allows in a schema, and jskw does not take
 NUMBERS: list[tuple[Any, list[Any], str]] = [
-    ({"minimum": 0.5}, ["minimum"], "0.5"),
-    (b'{"items": {"maximum": 1.0}}', ["items", "maximum"], "1.0"),
-    (b'{"multipleOf": 1E-2}', ["multipleOf"], "1E-2"),
-    ({"minItems": 2.0}, ["minItems"], "2.0"),
-    ({"maxItems": 2**64}, ["maxItems"], str(2**64)),
+    ({"minimum": 0.5}, ["minimum"], "0.5"), (b'{"items": {"maximum": 1.0}}', ["items", "maximum"], "1.0"),
+    (b'{"multipleOf": 1E-2}', ["multipleOf"], "1E-2"), ({"minItems": 2.0}, ["minItems"], "2.0"),
+    ({"maxItems": 2**64}, ["maxItems"], str(2**64)), (b'{"const": [-0]}', ["const", 0], "-0"),
     ({"enum": [0, "2.5", {"a": [Decimal("2.50")]}]}, ["enum", 2, "a", 0], "2.50"),
-    (b'{"const": [-0]}', ["const", 0], "-0"),
-]
+]  # fmt: skip
 META: dict[str, type[jskw.Validator]] = {
     "http://json-schema.org/draft-04/schema#": jskw.Draft4Validator,
     "http://json-schema.org/draft-06/schema": jskw.Draft6Validator,

@@ -76,7 +76,7 @@ struct writer {
     PyObject *reason, *path;
 };
 
-static int write_value(struct writer *writer, PyObject *value, int depth);
+static int write_whole(struct writer *writer, PyObject *value, int depth);
 
 /* Returns 0, as all that fails to write does: with a reason, or an exception of its own. */
 static int refuse(struct writer *writer, const char *format, ...) {
@@ -191,7 +191,7 @@ static int write_float(struct writer *writer, PyObject *value) {
 
 /* Writes a value of exactly one of Python's types that have no parts: that runs no program's own code while it reads
  * the value, so it needs no reference to it. Returns -1 for any other. */
-static inline int write_leaf(struct writer *writer, PyObject *value) {
+static int write_leaf(struct writer *writer, PyObject *value) {
     PyTypeObject *type = Py_TYPE(value);
     if (type == &PyUnicode_Type) return write_string(writer, value);
     if (type == &PyLong_Type) return write_integer(writer, value);
@@ -200,6 +200,12 @@ static inline int write_leaf(struct writer *writer, PyObject *value) {
     if (value == Py_True) return append(writer->out, "true", 4);
     if (value == Py_False) return append(writer->out, "false", 5);
     return -1;
+}
+
+/* Appends the text of a value that stands `depth` levels deep, to which the caller may have no reference. */
+static inline int write_value(struct writer *writer, PyObject *value, int depth) {
+    int written = write_leaf(writer, value);
+    return written >= 0 ? written : write_whole(writer, value, depth);
 }
 
 static int write_array(struct writer *writer, PyObject *array, int is_list, int depth) {
@@ -258,11 +264,10 @@ static int write_other(struct writer *writer, PyObject *value, int depth) {
     return written;
 }
 
-/* Appends the text of a value that stands `depth` levels deep, to which the caller may have no reference. */
-static int write_value(struct writer *writer, PyObject *value, int depth) {
-    int written = write_leaf(writer, value);
-    if (written >= 0) return written;
+/* Writes a value that is no leaf. */
+static int write_whole(struct writer *writer, PyObject *value, int depth) {
     PyTypeObject *type = Py_TYPE(value);
+    int written;
     /* to write a part may run a program's own code, which may take the value out of where it stands */
     Py_INCREF(value);
     if (type != &PyDict_Type && type != &PyList_Type && type != &PyTuple_Type)
@@ -577,8 +582,7 @@ static PyObject *lines_of(const struct block *answer, const struct question *wit
     Py_ssize_t skipped = has_errors ? with->skipped : 0;
     struct block key = {0};
     PyObject *lines = PyList_New(0);
-    for (const char *stop; lines && at < end; at = stop + 1) {
-        stop = stop_of(at, end, '\n');
+    for (const char *stop; lines && (stop = memchr(at, '\n', end - at)); at = stop + 1) {
         if (skipped-- > 0) continue;
         for (words[0] = at, count = 0; count < 5 && words[count] <= stop; count++)
             words[count + 1] = stop_of(words[count], stop, '\t') + 1;

@@ -17,23 +17,24 @@ __all__ = [
     "UnsupportedNumber", "ValidationError", "best_match", "relevance",
 ]  # fmt: skip
 
-# what users of `jsonschema` may look for, and why it is not here
+# why something is not here that users of `jsonschema` may look for, and its names
 FORMATS = "jskw checks no formats: what asserts one is in `unchecked`"
 REFERENCES = "jskw follows no references: what has one is in `unchecked`"
 FIXED = "the keywords and types of jskw are fixed: the setting `overridden` leaves keywords out"
 META_SCHEMAS = "jskw reads no meta-schema: check_schema(schema) compiles the schema"
 _LACKING = {
-    **dict.fromkeys(["FormatChecker", "draft7_format_checker"], FORMATS),
-    **dict.fromkeys(["RefResolver", "RefResolutionError"], REFERENCES),
-    **dict.fromkeys(["TypeChecker", "create", "extend", "validates"], FIXED),
-    "Draft3Validator": "jskw begins with Draft 4",
+    FORMATS: ["FormatChecker", "draft7_format_checker"],
+    REFERENCES: ["RefResolver", "RefResolutionError"],
+    FIXED: ["TypeChecker", "create", "extend", "validates"],
+    "jskw begins with Draft 4": ["Draft3Validator"],
 }
 
 
 def lack(name: str) -> NoReturn:
     """Says why a module of this package lacks a name that `jsonschema` has, also where it is imported."""
-    if name in _LACKING:
-        raise ImportError(f"there is no {name}: {_LACKING[name]}")
+    for why, names in _LACKING.items():
+        if name in names:
+            raise ImportError(f"there is no {name}: {why}")
     raise AttributeError(f"there is no {name} in this module of jskw")
 
 
@@ -56,21 +57,11 @@ class _Error(Exception):
     __slots__ = ("_told",)  # what the module in C makes an error of
 
     def __init__(
-        self,
-        message: str,
-        validator: str | None = None,
-        path: Iterable[Step] = (),
-        cause: Exception | None = None,
-        context: Iterable[_Error] = (),
-        validator_value: Any = None,
-        instance: Any = None,
-        schema: Any = None,
-        schema_path: Iterable[Step] = (),
-        parent: _Error | None = None,
-        *,
-        kind: str | None = None,
-        expected: Any = None,
-    ) -> None:
+        self, message: str, validator: str | None = None, path: Iterable[Step] = (), cause: Exception | None = None,
+        context: Iterable[_Error] = (), validator_value: Any = None, instance: Any = None, schema: Any = None,
+        schema_path: Iterable[Step] = (), parent: _Error | None = None,
+        *, kind: str | None = None, expected: Any = None,
+    ) -> None:  # fmt: skip
         super().__init__(message)
         self.message, self.validator, self.validator_value = message, validator, validator_value
         self.kind, self.expected = kind if kind is not None else validator, expected
@@ -86,20 +77,21 @@ class _Error(Exception):
         def __getattr__(self, name: str) -> Any:
             """Makes the attributes of an error of the module in C when one of them is first asked for. Two threads may
             do so at once: what the first of them sets stays."""
-            if name == "_told" or not hasattr(self, "_told"):
-                raise AttributeError(f"{type(self).__name__!r} object has no attribute {name!r}")
-            (expected, settings), read, *found = self._told
-            instance, *path = find(read(), *found) if read else found
-            expected = json.loads(expected) if expected else None
-            made = type(self)(*self.args, path=path, instance=instance, expected=expected, **settings)
-            for each in vars(made).items():
-                vars(self).setdefault(*each)
-            if name not in vars(self):
-                raise AttributeError(f"{type(self).__name__!r} object has no attribute {name!r}")
-            return vars(self)[name]
+            told = None if name == "_told" else getattr(self, "_told", None)
+            if told:
+                (expected, settings), read, *found = told
+                instance, *path = find(read(), *found) if read else found
+                expected = json.loads(expected) if expected else None
+                made = type(self)(*self.args, path=path, instance=instance, expected=expected, **settings)
+                for each in vars(made).items():
+                    vars(self).setdefault(*each)
+                self._told = None
+            if name in vars(self):
+                return vars(self)[name]
+            raise AttributeError(f"{type(self).__name__!r} object has no attribute {name!r}")
 
     def __reduce__(self) -> Any:
-        assert self.path is not None  # all attributes are made
+        self._contents()  # makes all attributes
         return super().__reduce__()
 
     def __repr__(self) -> str:
@@ -198,14 +190,9 @@ class NotJson(ValueError):
     count from 1; of a value of Python they are None, and `path` leads to what is refused."""
 
     def __init__(
-        self,
-        text: str,
-        reason: str,
-        offset: int | None = None,
-        line: int | None = None,
-        column: int | None = None,
+        self, text: str, reason: str, offset: int | None = None, line: int | None = None, column: int | None = None,
         path: Iterable[Step] = (),
-    ) -> None:
+    ) -> None:  # fmt: skip
         self.text, self.reason, self.offset, self.line, self.column = text, reason, offset, line, column
         self.path = deque(path)
         super().__init__(text, reason, offset, line, column, self.path)
@@ -413,12 +400,9 @@ def pointer(path: Iterable[Step]) -> str:
 
 
 def _json_path_step(step: Step) -> str:
-    if isinstance(step, int):
-        return f"[{step}]"
-    if re.match("^[a-zA-Z][a-zA-Z0-9_]*$", step):
+    if isinstance(step, str) and re.match("^[a-zA-Z][a-zA-Z0-9_]*$", step):
         return f".{step}"
-    escaped = step.replace("\\", "\\\\").replace("'", r"\'")
-    return f"['{escaped}']"
+    return f"[{step}]" if isinstance(step, int) else "['" + re.sub(r"([\\'])", r"\\\1", step) + "']"
 
 
 def refusal(what: str, text: bytes, lines: list[list[str]]) -> NotJson:

@@ -45,7 +45,7 @@ DRAFTS: dict[str, int] = {"4": 4, "6": 6, "7": 7, "2019-09": 2019, "2020-12": 20
 VOCABULARIES = {"core": 1, "applicator": 2, "validation": 4}
 
 FIRST, FURTHER = 64, 16  # so many errors are looked for at first, then each time so many times as many
-
+TEXT = bytes, bytearray, memoryview
 _Self = TypeVar("_Self", bound="Validator")
 
 
@@ -76,17 +76,10 @@ class Validator(Schema):
     FORMAT_CHECKER, resolver = Lacking(FORMATS), Lacking(REFERENCES)
 
     def __init__(
-        self,
-        schema: Any,
-        draft: str | None = None,
-        vocabularies: Iterable[str] = tuple(VOCABULARIES),
-        overridden: Iterable[str] = (),
-        *,
-        strict: bool = False,
-        format_checker: None = None,
-        resolver: None = None,
+        self, schema: Any, draft: str | None = None, vocabularies: Iterable[str] = tuple(VOCABULARIES),
+        overridden: Iterable[str] = (), *, strict: bool = False, format_checker: None = None, resolver: None = None,
         registry: None = None,
-    ) -> None:
+    ) -> None:  # fmt: skip
         if format_checker is not None:
             raise BadSetting(f"format_checker={format_checker!r}: {FORMATS}")
         if resolver is not None or registry is not None:
@@ -144,9 +137,8 @@ class Validator(Schema):
 
     def validate(self, instance: Any) -> None:
         """Raises the first error, if there is one."""
-        if not self.is_valid(instance):
-            for error in self._errors("first_error", instance, 1):
-                raise error
+        for error in () if self.is_valid(instance) else self._errors("first_error", instance, 1):
+            raise error
 
     def iter_errors(self, instance: Any, limit: int | None = None) -> Iterator[ValidationError]:
         """Returns an iterator over the errors, or over the first `limit` of them, in the order of the keywords."""
@@ -167,8 +159,7 @@ class Validator(Schema):
     def _pages(self, name: str, instance: Any, limit: int) -> Iterator[list[ValidationError]]:
         """Returns the errors some at a time, so many that to pass over those before costs little."""
         text = text_of(instance, "instance")
-        is_text = isinstance(instance, (bytes, bytearray, memoryview))
-        read = cache(partial(json.loads, text)) if is_text else None
+        read = cache(partial(json.loads, text)) if isinstance(instance, TEXT) else None
         given, asked, asker = 0, min(FIRST, limit), self
         source = ValidationError, self._keywords, instance, read
         while errors := asker._ask(name, instance, text, asked, given, source):
@@ -286,12 +277,9 @@ def answer(request: Any) -> tuple[int, str]:
 
 def _names(setting: str, names: Iterable[str]) -> list[str]:
     """Returns the names of a setting."""
-    if isinstance(names, (str, bytes)):
+    if isinstance(names, (str, bytes)) or not isinstance(names, Iterable):
         raise BadSetting(f"{setting}={names!r} is not a list of names")
-    try:
-        found = list(names)
-    except TypeError:
-        raise BadSetting(f"{setting}={names!r} is not a list of names") from None
+    found = list(names)
     for name in found:
         if not isinstance(name, str):
             raise BadSetting(f"{setting}: {name!r} is not a name")
