@@ -81,9 +81,10 @@ class _Error(Exception):
             if told:
                 (expected, settings), read, *found = told
                 instance, *path = find(read(), *found) if read else found
-                expected = json.loads(expected) if expected else None
-                made = type(self)(*self.args, path=path, instance=instance, expected=expected, **settings)
-                for each in vars(made).items():
+                made = {"message": self.args[0], "instance": instance, "path": deque(path), **settings}
+                made |= {"expected": json.loads(expected) if expected else None}
+                made |= {"schema_path": deque(made["schema_path"]), "context": [], "cause": None, "parent": None}
+                for each in made.items():
                     vars(self).setdefault(*each)
                 self._told = None
             if name in vars(self):
@@ -328,7 +329,7 @@ class Keywords(dict[bytes, Any]):
     def add(self, key: bytes, kind: str, location: str, expected: str) -> Any:
         """Adds the keyword of the line of an error, which the module in C looks up by the key from then on."""
         value, *path = find(self.schema, location)
-        settings = {"schema_path": path, "kind": kind, "schema": value}
+        settings = {"schema_path": path, "kind": kind, "schema": value, "validator": None, "validator_value": None}
         if kind != "falseSchema":
             within = find(self.schema, location.rpartition("/")[0])[0]
             settings.update(validator=str(path[-1]), validator_value=value, schema=within)
