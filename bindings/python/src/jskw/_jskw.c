@@ -616,8 +616,8 @@ static uint32_t ask(const struct question *with, struct caller *caller) {
 static PyObject *answered(Schema *self, const struct question *with, struct caller *caller) {
     struct block *answer = &caller->answer;
     uint32_t status;
-    /* at first room for lines of usual length, then the length for which that was too small */
-    size_t room = 128 * (!is_call(with, "errors") ? 8 : with->number < MANY ? with->number : MANY);
+    /* at first room for some lines of usual length, then the length for which that was too small */
+    size_t room = 1024 + 128 * (!is_call(with, "errors") ? 0 : with->number < MANY ? with->number : MANY);
     do {
         answer->size = 0;
         if (!reserve(answer, room)) return NULL;
