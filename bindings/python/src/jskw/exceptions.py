@@ -79,13 +79,13 @@ class _Error(Exception):
             do so at once: what the first of them sets stays."""
             told = None if name == "_told" else getattr(self, "_told", None)
             if told:
-                (expected, settings), read, *found = told
+                settings, read, *found = told
                 instance, *path = find(read(), *found) if read else found
-                made = {"message": self.args[0], "instance": instance, "path": deque(path), **settings}
-                made |= {"expected": json.loads(expected) if expected else None}
-                made |= {"schema_path": deque(made["schema_path"]), "context": [], "cause": None, "parent": None}
-                for each in made.items():
-                    vars(self).setdefault(*each)
+                paths = {"path": deque(path), "schema_path": deque(settings["schema_path"])}
+                made = {"message": self.args[0], "instance": instance, "context": [], "cause": None, "parent": None}
+                own = vars(self)
+                for each in {**made, **settings, **paths}.items():
+                    own.setdefault(*each)
                 self._told = None
             if name in vars(self):
                 return vars(self)[name]
@@ -329,11 +329,12 @@ class Keywords(dict[bytes, Any]):
     def add(self, key: bytes, kind: str, location: str, expected: str) -> Any:
         """Adds the keyword of the line of an error, which the module in C looks up by the key from then on."""
         value, *path = find(self.schema, location)
-        settings = {"schema_path": path, "kind": kind, "schema": value, "validator": None, "validator_value": None}
+        settings = {"kind": kind, "schema_path": path, "expected": json.loads(expected) if expected else None}
+        settings.update(validator=None, validator_value=None, schema=value)
         if kind != "falseSchema":
             within = find(self.schema, location.rpartition("/")[0])[0]
             settings.update(validator=str(path[-1]), validator_value=value, schema=within)
-        return self.setdefault(key, (expected, settings))
+        return self.setdefault(key, settings)
 
 
 class _Number(str):
