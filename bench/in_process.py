@@ -31,8 +31,8 @@ def ours(library, folder):
     """The commands that call the library in a folder from C and from Python."""
     source, made = ROOT / "bench" / "drivers" / "jskw.c", folder / "jskw"
     subprocess.run(["cc", "-O2", f"-I{ROOT / 'include'}", "-o", made, source, library / "libjskw.a"], check=True)
-    setting = [f"JSKW={library / 'libjskw.so'}", f"PYTHONPATH={ROOT / 'bindings' / 'python' / 'src'}"]
-    return {FROM_C: [made], FROM_PYTHON: ["env", *setting, "/usr/bin/python3", "-B", source.parent / "jskw_ctypes.py"]}
+    python = ["env", f"PYTHONPATH={library / 'python'}", "/usr/bin/python3", "-B"]
+    return {FROM_C: [made], FROM_PYTHON: [*python, source.parent / "jskw_python.py"]}
 
 
 def measured(commands, calls):

@@ -9,8 +9,8 @@ import textwrap
 from program import ROOT
 
 
-# Sections of docs/PEERS.md. bench/check writes that of lines.
-LINES = "## Lines of a stream"
+# Sections of docs/PEERS.md. bench/check writes that of lines, bench/values that of values.
+LINES, VALUES = "## Lines of a stream", "## Values in Python"
 IN_PROCESS, MEASURED = "## Calls in process, the text parsed in each", "## How it was measured"
 
 

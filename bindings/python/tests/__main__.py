@@ -1,4 +1,5 @@
-"""Tests the package `jskw`: `python3 bindings/python/tests`. The last line is `N passed, M failed`."""
+"""Tests the package `jskw`: `python3 bindings/python/tests [NAME ..]`, in all files or in those of these names. The
+last line is `N passed, M failed`."""
 
 import importlib
 import importlib.util
@@ -7,13 +8,14 @@ import sys
 
 import checks
 
-# an installed package is tested, or else that of this repository
+# an installed package is tested, or else that which bindings/build made
 if importlib.util.find_spec("jskw") is None:
-    sys.path.append(str(pathlib.Path(__file__).resolve().parents[1] / "src"))
+    sys.path.append(str(pathlib.Path(__file__).resolve().parents[2] / "out" / "python"))
 
 if __name__ == "__main__":
-    for name in (
-        "documents", "rows", "unchecked", "errors", "peers", "values", "refusals", "misuse", "threads", "command",
+    for name in sys.argv[1:] or (
+        "documents", "rows", "unchecked", "errors", "peers", "values", "refusals", "misuse", "hostile",
+        "threads", "memory",
     ):  # fmt: skip
         importlib.import_module(name).run()
     print(f"{checks.count - len(checks.failed)} passed, {len(checks.failed)} failed")

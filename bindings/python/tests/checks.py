@@ -2,8 +2,19 @@
 
 from __future__ import annotations
 
+import os
+import sys
 from typing import Any, Callable
 
+# what errors of the package `jsonschema` have too, and then what they have not
+ATTRIBUTES = [
+    "message", "validator", "validator_value", "instance", "schema", "path", "relative_path", "absolute_path",
+    "schema_path", "relative_schema_path", "absolute_schema_path", "json_path", "context", "cause", "parent", "kind",
+    "expected", "instance_location", "keyword_location",
+]  # fmt: skip
+
+# whether memory or references are watched, so that calls take longer, and what is freed may be kept
+IS_WATCHED = hasattr(sys, "gettotalrefcount") or "ASAN_OPTIONS" in os.environ
 count = 0
 failed: list[str] = []
 

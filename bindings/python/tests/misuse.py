@@ -4,40 +4,30 @@ from __future__ import annotations
 
 import contextlib
 import copy
-import os
-import pathlib
 import pickle
 import subprocess
 import sys
-import threading
 from concurrent.futures import ProcessPoolExecutor
 from typing import Any
 
 import jskw
-from checks import check, raised
+from checks import check, check_raises, raised
 
 CLOSED = "the validator is closed"
-SOURCE = str(pathlib.Path(jskw.__file__).resolve().parents[1])
 
 
 def run() -> None:
-    an_error_in_a_worker()
-    a_copy_outlives_its_original()
-    another_thread_asks()
-    another_thread_drops()
-    after_close()
-    names_that_are_no_strings()
-    the_path_of_a_schema_error()
-    without_a_library()
-    forgotten_arguments()
-    changed_afterwards()
-
-
-def an_error_in_a_worker() -> None:
     with ProcessPoolExecutor(1) as pool:
         future = pool.submit(jskw.validate, {}, {"required": ["a"]})
         check("an error in a worker", type(future.exception()), jskw.ValidationError)
         check("the pool lives", pool.submit(jskw.validate, 1, True).result(), None)
+    a_copy_outlives_its_original()
+    after_close()
+    the_path_of_a_schema_error()
+    forgotten_arguments()
+    changed_afterwards()
+    told = subprocess.run([sys.executable, "-c", "import sys; sys.abiflags = 't'; import jskw"], capture_output=True)
+    check("a free-threaded Python", b"ImportError: jskw: a free-threaded Python has no stable ABI" in told.stderr, True)
 
 
 def a_copy_outlives_its_original() -> None:
@@ -47,88 +37,57 @@ def a_copy_outlives_its_original() -> None:
         other = copied(validator)
         validator.close()
         del validator
-        got = type(other), other.draft, other.overridden, other.is_valid({"a": 1}), other.is_valid({})
-        check("a copy", got, (jskw.Draft7Validator, "7", ("items",), True, False))
-        check("its schema", other.schema, {"required": ["a"]})
-
-
-def another_thread_asks() -> None:
-    validator, told = jskw.Validator({"type": "null"}), []
-    thread = threading.Thread(target=lambda: told.append((validator.is_valid(None), validator.is_valid(1))))
-    thread.start()
-    thread.join()
-    check("another thread", told, [(True, False)])
-
-
-def another_thread_drops() -> None:
-    held = [jskw.Validator({"type": "null"})]
-    thread = threading.Thread(target=held.clear)
-    thread.start()
-    thread.join()
-    check("dropped", held, [])
+        got = type(other), other.draft, other.overridden, other.is_valid({"a": 1}), other.is_valid({}), other.schema
+        check("a copy", got, (jskw.Draft7Validator, "7", ("items",), True, False, {"required": ["a"]}))
 
 
 def after_close() -> None:
     with jskw.Validator(True) as validator:
         check("open", validator.is_valid(1), True)
-    calls: dict[str, Any] = {
-        "is_valid": lambda: validator.is_valid(1),
-        "validate": lambda: validator.validate(1),
-        "iter_errors": lambda: validator.iter_errors(1),
-        "evaluate": lambda: validator.evaluate(1),
-        "pickle": lambda: pickle.dumps(validator),
-        "copy": lambda: copy.copy(validator).is_valid(1),
-        "with": lambda: validator.__enter__(),
-    }
-    for name, call in calls.items():
-        check(f"{name} after close", repr(raised(call)), repr(ValueError(CLOSED)))
+    for name in "is_valid", "validate", "iter_errors", "evaluate":
+        check_raises(ValueError, CLOSED, getattr(validator, name), 1)
+    calls: list[Any] = [pickle.dumps, copy.copy, jskw.Validator.__enter__]
+    for call in calls:
+        check_raises(ValueError, CLOSED, call, validator)
     check("schema and unchecked after close", (validator.schema, validator.unchecked), (True, []))
     validator.close()
     check("its repr", repr(validator), "<Validator draft='2020-12' schema=true, closed>")
 
 
-def names_that_are_no_strings() -> None:
-    error = raised(lambda: jskw.Validator({"maxProperties": 1}).is_valid({1: 0, "1": 0}))
-    check("two names", str(error), "the instance is not JSON: the name 1 of a member is no string")
-
-
 def the_path_of_a_schema_error() -> None:
-    error: Any = raised(lambda: jskw.Validator({"items": {"items": {"type": "foo"}}}))
-    check("path", (list(error.path), error.instance), (["items", "items", "type"], "foo"))
-    error = raised(lambda: jskw.Validator({"required": ["a", 1]}))
-    told = list(error.path), error.instance, error.message
-    check("the keyword's value", told, (["required"], ["a", 1], '1 is not of type "string"'))
-    error = raised(lambda: jskw.Validator({"items": {"prefixItems": [True, 1]}}))
-    check("a subschema", (list(error.path), error.instance), (["items", "prefixItems", 1], 1))
-    check("no ValidationError", isinstance(error, jskw.ValidationError), False)
-
-
-def without_a_library() -> None:
-    for path, word in ("/none/libjskw.so", "cannot be loaded as the library jskw"), ("/dev/null", "cannot be loaded"):
-        environment = {**os.environ, "PYTHONPATH": SOURCE, "JSKW": path}
-        command = [sys.executable, "-c", "import jskw"]
-        done = subprocess.run(command, capture_output=True, text=True, env=environment, check=False)
-        last = done.stderr.strip().split("\n")[-1]
-        check(f"without {path}", (done.returncode, last.startswith("ImportError: jskw: ")), (1, True))
-        check(f"without {path}, why", word in last, True)
+    rows: list[tuple[Any, list[Any], Any]] = [
+        ({"items": {"items": {"type": "foo"}}}, ["items", "items", "type"], "foo"),
+        ({"required": ["a", 1]}, ["required"], ["a", 1]),
+        ({"items": {"prefixItems": [True, 1]}}, ["items", "prefixItems", 1], 1),
+    ]
+    for schema, path, instance in rows:
+        error = raised(jskw.Validator, schema)
+        check(f"{schema}, its path", (list(error.path), error.instance), (path, instance))
+        check("no ValidationError", isinstance(error, jskw.ValidationError), False)
+    check("a part", raised(jskw.Validator, {"required": ["a", 1]}).message, '1 is not of type "string"')
 
 
 def forgotten_arguments() -> None:
     rows: list[Any] = [(None, {}), ((), {"draft": None})]
-    check("None is no schema", type(raised(lambda: jskw.Validator(None))), jskw.SchemaError)
+    check("None is no schema", type(raised(jskw.Validator, None)), jskw.SchemaError)
     check("no draft is the newest", jskw.Validator(True, draft=None).draft, "2020-12")
-    check("a list is no schema", type(raised(lambda: jskw.Validator(rows))), jskw.SchemaError)
+    check("a list is no schema", type(raised(jskw.Validator, rows)), jskw.SchemaError)
     with contextlib.suppress(TypeError):
         jskw.Validator()  # type: ignore[call-arg]
         check("a schema is needed", True, False)
+    ask: Any = jskw.Validator({"type": "null"}).is_valid
+    check("by name", ask(instance=None), True)
+    rows = [((), {}), ((1, 2), {}), ((), {"x": 1}), ((1,), {"instance": 1})]
+    for given, named in rows:
+        check_raises(TypeError, "is_valid() takes one argument, the instance", ask, *given, **named)
 
 
 def changed_afterwards() -> None:
     """A validator and its errors do not follow what is changed afterwards."""
     schema: dict[str, Any] = {"items": {"type": "string"}}
-    validator, instance = jskw.Validator(schema), [[1], 2]
+    validator, instance = jskw.Validator(schema), [[1], *range(100)]
     errors = validator.iter_errors(instance)
     instance.clear()
     schema.clear()
-    check("errors", [list(error.path) for error in errors], [[0], [1]])
+    check("errors", [list(error.path) for error in errors], [[i] for i in range(101)])
     check("the validator", validator.is_valid([1]), False)

@@ -1,31 +1,23 @@
-"""Errors beside those of the package `jsonschema`, if it is installed: the same attributes but for messages, and its
-`best_match` and `ErrorTree` take ours."""
+"""The idioms of ../IDIOMS.md, run with the package `jsonschema` too, if it is installed, and errors beside its errors:
+the same attributes but for messages, and its `best_match` and `ErrorTree` take ours."""
 
 from __future__ import annotations
 
+import copy
 import importlib
+import pathlib
 import random
+import re
 from typing import Any
 
 import jskw
-from checks import check
+from checks import ATTRIBUTES, check, raised
 
-
-def _module(name: str) -> Any:
-    """Returns a module, or nothing if it is not installed. Whether its types are known makes no difference."""
-    try:
-        return importlib.import_module(name)
-    except ModuleNotFoundError:
-        return None
-
-
-jsonschema, exceptions = _module("jsonschema"), _module("jsonschema.exceptions")
-
-ATTRIBUTES = [
-    "validator", "validator_value", "instance", "schema", "path", "relative_path", "absolute_path", "schema_path",
-    "relative_schema_path", "absolute_schema_path", "json_path", "context", "cause", "parent",
-]  # fmt: skip
-
+jsonschema: Any = None
+try:
+    jsonschema = importlib.import_module("jsonschema")  # whether its types are known makes no difference
+except ModuleNotFoundError:
+    print("the package `jsonschema` is not installed: idioms are run, and errors made, with this package alone")
 CLASSES = ["Draft4Validator", "Draft6Validator", "Draft7Validator", "Draft201909Validator", "Draft202012Validator"]
 KEYWORDS: list[dict[str, Any]] = [
     {"type": "integer"}, {"type": "number"}, {"type": ["string", "null"]}, {"type": "object"}, {"type": "array"},
@@ -35,12 +27,14 @@ KEYWORDS: list[dict[str, Any]] = [
 ]  # fmt: skip
 
 
+S: dict[str, Any] = {"type": "array", "items": {"type": "object", "required": ["a"]}, "maxItems": 1}
+NAMES = {"S": S, "X": [{}, 5], "raised": raised, "copy": copy}
+
+
 def run() -> None:
-    if jsonschema is None:
-        print("the package `jsonschema` is not installed: errors are not compared with its errors")
-        return
+    idioms()
     rng = random.Random(7)
-    for name in CLASSES:
+    for name in CLASSES if jsonschema else ():
         for _ in range(60):
             schema, value = schema_of(rng, name, 3), value_of(rng, 3)
             ours, theirs = getattr(jskw, name)(schema), getattr(jsonschema, name)(schema)
@@ -48,29 +42,36 @@ def run() -> None:
             check(f"{name} {schema} {value}", seen(got), seen(wanted))
             check(f"{name} {schema} {value}, verdict", ours.is_valid(value), not wanted)
             check_tree(got, wanted)
-    best()
+
+
+def idioms() -> None:
+    table = pathlib.Path(__file__).resolve().parents[1].joinpath("IDIOMS.md").read_text(encoding="utf-8")
+    rows = re.findall(r"^\| `(.*)` \| (.*) \|$", table, re.MULTILINE)
+    check("the idioms", (len(rows), [wanted for _, wanted in rows].count("alike")), (44, 31))
+    for idiom, wanted in rows:
+        try:
+            got = repr(eval(idiom, {"J": jskw, **NAMES}))
+        except (AttributeError, ImportError, jskw.BadSetting) as error:
+            got = str(error)
+        if wanted != "alike":
+            check(idiom, got[: len(wanted)], wanted)
+        elif jsonschema:
+            check(idiom, got, repr(eval(idiom, {"J": jsonschema, **NAMES})))
 
 
 def seen(errors: Any) -> list[str]:
-    return sorted(str([(name, getattr(error, name)) for name in ATTRIBUTES]) for error in errors)
+    return sorted(str([(name, getattr(error, name)) for name in ATTRIBUTES[1:15]]) for error in errors)
 
 
 def check_tree(got: Any, wanted: Any) -> None:
     """Both trees have the same errors, and the best error of both lists is as good."""
-    ours, theirs = exceptions.ErrorTree(got), exceptions.ErrorTree(wanted)
+    of = jsonschema.exceptions
+    ours, theirs = of.ErrorTree(got), of.ErrorTree(wanted)
     check("a tree of errors", (len(ours), sorted(map(str, ours))), (len(theirs), sorted(map(str, theirs))))
     if wanted:
         # of equally good ones it takes the first, and the orders differ
-        ours, theirs = (exceptions.relevance(exceptions.best_match(errors)) for errors in (got, wanted))
+        ours, theirs = (of.relevance(of.best_match(errors)) for errors in (got, wanted))
         check("the best error", ours, theirs)
-
-
-def best() -> None:
-    schema = {"items": {"type": "object", "required": ["a"]}, "maxItems": 1}
-    errors: Any = list(jskw.Validator(schema).iter_errors([{}, 1]))
-    check("best_match", exceptions.best_match(errors).validator, "maxItems")
-    tree = exceptions.ErrorTree(errors)
-    check("ErrorTree", (tree.total_errors, sorted(tree), tree[0].errors["required"].path[0]), (3, [0, 1], 0))
 
 
 def schema_of(rng: random.Random, name: str, depth: int) -> dict[str, Any]:

@@ -2,6 +2,8 @@
 
 from __future__ import annotations
 
+import pickle
+from collections import OrderedDict
 from decimal import Decimal
 from typing import Any, Callable
 
@@ -9,133 +11,145 @@ import jskw
 from checks import check, check_raises, raised
 
 NOT_JSON = "is not JSON in UTF-8"
-CALLS: list[tuple[str, Callable[..., Any]]] = [("instance", jskw.Validator(True).is_valid), ("schema", jskw.Validator)]
+NESTS = "nests more than 127 levels, which JSON allows and jskw does not"
+SURROGATE = "has the escape of a lone surrogate, which JSON allows and jskw does not"
+DRAFTS = "'4', '6', '7', '2019-09', '2020-12'"
+is_valid = jskw.Validator(True).is_valid
+CALLS: list[tuple[str, Callable[..., Any]]] = [("instance", is_valid), ("schema", jskw.Validator)]
+SETTINGS: list[tuple[dict[str, Any], str]] = [
+    *(({"draft": draft}, f"draft={draft!r} is not one of {DRAFTS}") for draft in (7, "3", ["7"])),
+    ({"vocabularies": ["core", "f"]}, "vocabularies='f' is not one of 'core', 'applicator', 'validation'"),
+    ({"vocabularies": "core"}, "vocabularies='core' is not a list of names"),
+    ({"vocabularies": 7}, "vocabularies=7 is not a list of names"),
+    ({"overridden": "items"}, "overridden='items' is not a list of names"),
+    ({"overridden": [1]}, "overridden: 1 is not a name"),
+]
+# what JSON does not have, or has and is refused, and the line where it stands
+TEXTS = [
+    (b"", NOT_JSON, 1), (b"{", NOT_JSON, 1), (b"[1,\n 2,\n x]", NOT_JSON, 3), (b'{"a": 1,}', NOT_JSON, 1),
+    (b"NaN", NOT_JSON, 1), (b"[01]", NOT_JSON, 1), (b'"\xff"', NOT_JSON, 1), (b'"\x00"', NOT_JSON, 1),
+    (b"\xef\xbb\xbf1", NOT_JSON, 1), (b"1 2", NOT_JSON, 1), (b'"' + b"[" * 200, NOT_JSON, 1), (b'["\\', NOT_JSON, 1),
+    (b"[" * 128 + b"]" * 128, NESTS, 1), (b"[" * 1_000_000, NESTS, 1),
+    (b"\n" + b'{"a":' * 127 + b"[]" + b"}" * 127, NESTS, 2), (b'["[[' + b'",[' * 3 + b'""' + b"[" * 127, NOT_JSON, 1),
+    (b'["\\ud800"]', SURROGATE, 1), (b'["ok",\n "\\udc00x"]', SURROGATE, 2),
+    (b'{"\\ud83d\\ude00": "\\ud800\\u0061"}', SURROGATE, 1), (b'{"\\ud800": 1}', SURROGATE, 1),
+]  # fmt: skip
+RING: dict[str, Any] = {"a": [Decimal(1)]}
+RING["a"].append(RING)
+DEEP: Any = 1
+for _ in range(500):
+    DEEP = [DEEP]
+# what a value has that JSON does not, and where
+VALUES: list[tuple[Any, list[Any], str]] = [
+    ({1: 2}, [], "is not JSON: the name 1 of a member is no string"),
+    ({"a": [{None: 1}]}, ["a", 0], "is not JSON: the name None of a member is no string"),
+    ({"a": Decimal(1), True: 1}, [], "is not JSON: the name True of a member is no string"),
+    (float("nan"), [], "is not JSON: the float nan is no number"),
+    ([0.0, float("-inf")], [1], "is not JSON: the float -inf is no number"),
+    ([Decimal("Infinity")], [0], "is not JSON: the Decimal Infinity is no number"),
+    ({"a": {1}}, ["a"], "is not JSON: set is no type of JSON"),
+    ([b"a"], [0], "is not JSON: bytes is no type of JSON"),
+    (OrderedDict(a=(0, object)), ["a", 1], "is not JSON: type is no type of JSON"),
+    ("\ud800", [], SURROGATE), ({"a": {"\udc00": 1}}, ["a", "\udc00"], SURROGATE),
+    (RING, ["a", 1] * 63 + ["a"], NESTS), (DEEP, [0] * 127, NESTS),
+]  # fmt: skip
+INEXACT: list[tuple[Any, list[Any]]] = [
+    ({"a": [1e300]}, ["a", 0]), (2**64, []), (Decimal("1e-19"), []), ([0.1, 1.0000000000000002e-7], [1]),
+    (b'{"a": [1, 1e400]}', ["a", 1]), (b'{"a": [1, ' + b"1" * 5000 + b"]}", ["a", 1]),
+]  # fmt: skip
+# numbers that the standard allows in a schema, and jskw does not take
+NUMBERS: list[tuple[Any, list[Any], str]] = [
+    ({"minimum": 0.5}, ["minimum"], "0.5"), (b'{"items": {"maximum": 1.0}}', ["items", "maximum"], "1.0"),
+    (b'{"multipleOf": 1E-2}', ["multipleOf"], "1E-2"), ({"minItems": 2.0}, ["minItems"], "2.0"),
+    ({"maxItems": 2**64}, ["maxItems"], str(2**64)), (b'{"const": [-0]}', ["const", 0], "-0"),
+    ({"enum": [0, "2.5", {"a": [Decimal("2.50")]}]}, ["enum", 2, "a", 0], "2.50"),
+]  # fmt: skip
+META: dict[str, type[jskw.Validator]] = {
+    "http://json-schema.org/draft-04/schema#": jskw.Draft4Validator,
+    "http://json-schema.org/draft-06/schema": jskw.Draft6Validator,
+    "http://json-schema.org/draft-07/schema#": jskw.Draft7Validator,
+    "https://json-schema.org/draft/2019-09/schema": jskw.Draft201909Validator,
+    "https://json-schema.org/draft/2020-12/schema": jskw.Draft202012Validator,
+}
 
 
 def run() -> None:
-    settings()
-    texts()
-    values()
-    drafts()
-
-
-def settings() -> None:
-    names = "'4', '6', '7', '2019-09', '2020-12'"
-    rows: list[tuple[dict[str, Any], str]] = [
-        ({"draft": 7}, f"draft=7 is not one of {names}"),
-        ({"draft": "3"}, f"draft='3' is not one of {names}"),
-        ({"draft": ["7"]}, f"draft=['7'] is not one of {names}"),
-        ({"vocabularies": ["core", "f"]}, "vocabularies='f' is not one of 'core', 'applicator', 'validation'"),
-        ({"vocabularies": "core"}, "vocabularies='core' is not a list of names"),
-        ({"vocabularies": 7}, "vocabularies=7 is not a list of names"),
-        ({"overridden": "items"}, "overridden='items' is not a list of names"),
-        ({"overridden": [1]}, "overridden: 1 is not a name"),
-    ]
-    for given, message in rows:
+    for given, message in SETTINGS:
         check_raises(jskw.BadSetting, message, jskw.Validator, True, **given)
     check_raises(jskw.BadSetting, "draft='6' is not one of '7'", jskw.Draft7Validator, True, "6")
     for limit in 0, -1, 2**64, "1", 1.5:
-        message = f"limit={limit!r} is not None or from 1 to 2^64-1"
+        message = f"limit={limit!r} is not None or from 1 to 2^64-1; evolve(schema=..) takes another schema"
         check_raises(jskw.BadSetting, message, jskw.Validator(True).iter_errors, 1, limit)
+    not_json()
+    numbers()
+    drafts()
 
 
-def texts() -> None:
-    """What JSON does not have, and what it has and is refused: each says which, where, and in which text."""
-    deep = "nests more than 127 levels, which JSON allows and jskw does not"
-    surrogate = "has the escape of a lone surrogate, which JSON allows and jskw does not"
-    rows = [
-        (b"", NOT_JSON, 1),
-        (b"{", NOT_JSON, 1),
-        (b"[1,\n 2,\n x]", NOT_JSON, 3),
-        (b'{"a": 1,}', NOT_JSON, 1),
-        (b"NaN", NOT_JSON, 1),
-        (b"[01]", NOT_JSON, 1),
-        (b'"\xff"', NOT_JSON, 1),
-        (b'"\x00"', NOT_JSON, 1),
-        (b"\xef\xbb\xbf1", NOT_JSON, 1),
-        (b"1 2", NOT_JSON, 1),
-        (b'"' + b"[" * 200, NOT_JSON, 1),
-        (b'["\\', NOT_JSON, 1),
-        (b"[" * 128 + b"]" * 128, deep, 1),
-        (b"[" * 1_000_000, deep, 1),
-        (b"\n" + b'{"a":' * 127 + b"[]" + b"}" * 127, deep, 2),
-        (b'["\\ud800"]', surrogate, 1),
-        (b'["ok",\n "\\udc00x"]', surrogate, 2),
-        (b'{"\\ud83d\\ude00": "\\ud800\\u0061"}', surrogate, 1),
-    ]
-    for text, reason, line in rows:
-        for what, call in CALLS:
+def not_json() -> None:
+    for what, call in CALLS:
+        for text, reason, line in TEXTS:
             error = raised(call, text)
-            got = [getattr(error, name, None) for name in ("text", "reason", "line")]
-            check(f"{what} {text[:40]!r}", (type(error), got), (jskw.NotJson, [what, reason, line]))
+            got = type(error), [getattr(error, name, None) for name in ("text", "reason", "line")]
+            check(f"{what} {text[:40]!r}", got, (jskw.NotJson, [what, reason, line]))
             check("its text", str(error).startswith(f"the {what} {reason} at line {line}, column "), True)
-    check("127 levels", jskw.Validator(True).is_valid(b"[" * 127 + b"]" * 127), True)
+        for value, path, reason in VALUES:
+            pointer = "".join(f"/{step}" for step in path)
+            place = f" (at {pointer if len(pointer) <= 80 else pointer[:80] + '..'!r})" if path else ""
+            error = raised(call, value)
+            told = type(error), list(getattr(error, "path", ())), str(error)
+            check(f"{what} {reason}", told, (jskw.NotJson, path, f"the {what} {reason}{place}"))
+    check("127 levels", is_valid(b"[" * 127 + b"]" * 127), True)
+    error = raised(is_valid, b"[1,\n  ?]")
+    check("a place", [getattr(error, name, None) for name in ("offset", "line", "column")], [6, 2, 3])
+    check("no JSON behind it", type(raised(is_valid, b"[1e400,")), jskw.NotJson)
     error = raised(jskw.Validator, b'{"minimum": 1e400}')
     wanted = "has a number that is too large for a double, which JSON allows and jskw does not"
     check("1e400 in a schema", (type(error), getattr(error, "reason", "")), (jskw.NotJson, wanted))
-    error = raised(jskw.Validator(True).is_valid, b'{"a": [1, 1e400]}')
-    check("1e400 in an instance", (type(error), list(getattr(error, "path", ""))), (jskw.InexactNumber, ["a", 1]))
-    error = raised(jskw.Validator(True).is_valid, b"[1e18, 2e18]")
+    check("5,000 digits in a schema", type(raised(jskw.Validator, {"const": 10**5000})), jskw.NotJson)
+
+
+def numbers() -> None:
+    for value, path in INEXACT:
+        for name in "is_valid", "validate", "iter_errors", "evaluate":
+            error = raised(getattr(jskw.Validator(True), name), value)
+            check(f"{str(value)[:40]} is not exact", (type(error), list(error.path)), (jskw.InexactNumber, path))
+    for number in 10**5000, -(10**5000), 10**200, -(2**63) - 1:
+        error = raised(is_valid, {"a": number})
+        many = type(error), error.instance == number, len(str(error)) < 300
+        check("too many digits", many, (jskw.InexactNumber, True, True))
     wanted = "of at most 18 decimals, at least one if it has a point or an exponent, and without its point from"
-    check("2e18", str(error), f"the number at '/1' is not exact: {wanted} -2^63 to 2^64-1")
-    error = raised(jskw.Validator(True).is_valid, b'{"a": [1, ' + b"1" * 5000 + b"]}")
-    check("5,000 digits", (type(error), list(getattr(error, "path", ""))), (jskw.InexactNumber, ["a", 1]))
-    check("no JSON behind it", type(raised(jskw.Validator(True).is_valid, b"[1e400,")), jskw.NotJson)
-    error = raised(jskw.Validator(True).is_valid, b"[1,\n  ?]")
-    check("a place", [getattr(error, name, None) for name in ("offset", "line", "column")], [6, 2, 3])
-
-
-def values() -> None:
-    rows: list[tuple[Any, str]] = [
-        ({1: 2}, "is not JSON: the name 1 of a member is no string"),
-        ({"a": [{None: 1}]}, "is not JSON: the name None of a member is no string"),
-        ({"a": Decimal(1), True: 1}, "is not JSON: the name True of a member is no string"),
-        (float("nan"), "is not JSON: Out of range float values are not JSON compliant"),
-        ([Decimal("Infinity")], "is not JSON: the Decimal Infinity is no number"),
-        ({"a": {1}}, "is not JSON: set is no type of JSON"),
-        ([b"a"], "is not JSON: bytes is no type of JSON"),
-        ("\ud800", "has the escape of a lone surrogate, which JSON allows and jskw does not"),
-    ]
-    for value, reason in rows:
-        for what, call in CALLS:
-            check_raises(jskw.NotJson, f"the {what} {reason}", call, value)
-    ring: list[Any] = []
-    ring += [ring, ring]
-    check("a ring", type(raised(jskw.Validator(True).is_valid, ring)), jskw.NotJson)
-    ring.append(Decimal(1))
-    check("a ring with a Decimal", type(raised(jskw.Validator(True).is_valid, ring)), jskw.NotJson)
-    check("5,000 digits", type(raised(jskw.Validator(True).is_valid, 10**5000)), jskw.NotJson)
-    deep: Any = 1
-    for _ in range(500):
-        deep = [deep]
-    message = "the instance nests more than 127 levels, which JSON allows and jskw does not"
-    check_raises(jskw.NotJson, message, jskw.Validator(True).is_valid, deep)
+    text = f"the number 2e18 at '/1' is not exact: {wanted} -2^63 to 2^64-1"
+    check("2e18", str(raised(is_valid, b"[1e18, 2e18]")), text)
+    rest = "limits and the numbers of `const` and `enum` are whole numbers here, from -2^63 to 2^64-1, without"
+    for schema, path, digits in NUMBERS:
+        error = raised(jskw.Validator, schema)
+        got = type(error), list(error.path), error.number, error.message
+        text = f"jskw does not take the number {digits}: {rest} exponent"
+        check(f"{schema} has a number", got, (jskw.UnsupportedNumber, path, digits, text))
+        again = pickle.loads(pickle.dumps(error))
+        check("its pickle", (type(again), again.number, str(again)), (type(error), digits, str(error)))
+    for wrong in {"minItems": 2.5}, {"minItems": -2.0}, {"type": 2.0}, {"minimum": "2.0"}, {"multipleOf": 0}:
+        check(f"{wrong} is wrong", type(raised(jskw.Validator, wrong)), jskw.SchemaError)
 
 
 def drafts() -> None:
-    classes = {
-        "http://json-schema.org/draft-04/schema#": jskw.Draft4Validator,
-        "http://json-schema.org/draft-06/schema": jskw.Draft6Validator,
-        "http://json-schema.org/draft-07/schema#": jskw.Draft7Validator,
-        "https://json-schema.org/draft/2019-09/schema": jskw.Draft201909Validator,
-        "https://json-schema.org/draft/2020-12/schema": jskw.Draft202012Validator,
-    }
-    for name, wanted in classes.items():
-        check(name, jskw.validator_for({"$schema": name}), wanted)
-        check(f"{name}, its draft", wanted(True).draft, wanted.DRAFTS[0])
+    for name, wanted in META.items():
+        got = jskw.validator_for({"$schema": name}), wanted(True).draft
+        check(name, got, (wanted, wanted.DRAFTS[0]))
     check("no $schema", jskw.validator_for({}), jskw.Draft202012Validator)
     check("a boolean", jskw.validator_for(b"true", jskw.Draft7Validator), jskw.Draft7Validator)
     check("a default", jskw.validator_for({"$schema": "x"}, jskw.Draft7Validator), jskw.Draft7Validator)
-    check("another $schema", type(raised(jskw.validator_for, {"$schema": "x"})), jskw.BadSetting)
-    twice = {"$schema": "http://json-schema.org/draft-07/schema##"}
-    check("two #", type(raised(jskw.validator_for, twice)), jskw.BadSetting)
-    check("another type", type(raised(jskw.validator_for, {"$schema": 1})), jskw.BadSetting)
-    check("no JSON", type(raised(jskw.validator_for, b"{")), jskw.NotJson)
-    check("too deep", type(raised(jskw.validator_for, b"[" * 100_000)), jskw.NotJson)
+    others: list[Any] = ["x", "http://json-schema.org/draft-07/schema##", 1]
+    for other in others:
+        check(f"$schema {other}", type(raised(jskw.validator_for, {"$schema": other})), jskw.BadSetting)
+    for text in b"{", b"[" * 100_000:
+        check("no JSON", type(raised(jskw.validator_for, text)), jskw.NotJson)
     draft4 = {"$schema": "http://json-schema.org/draft-04/schema#", "minimum": 1, "exclusiveMinimum": True}
-    check("validate, valid", raised(jskw.validate, 2, draft4), None)
-    check("validate, invalid", type(raised(jskw.validate, 1, draft4)), jskw.ValidationError)
-    check("validate, no schema", type(raised(jskw.validate, 1, {"minItems": -1})), jskw.SchemaError)
-    check("validate, a class", raised(jskw.validate, [1], {"items": [True]}, cls=jskw.Draft7Validator), None)
+    rows: list[tuple[Any, ...]] = [
+        (type(None), 2, draft4), (jskw.ValidationError, 1, draft4), (jskw.SchemaError, 1, {"minItems": -1}),
+        (type(None), [1], {"items": [True]}, jskw.Draft7Validator),
+    ]  # fmt: skip
+    for outcome, *given in rows:
+        check(f"validate{given}", type(raised(jskw.validate, *given)), outcome)
     check("check_schema", raised(jskw.Draft7Validator.check_schema, {"minItems": 1}), None)
     check("check_schema, wrong", type(raised(jskw.Draft7Validator.check_schema, {"minItems": "1"})), jskw.SchemaError)

@@ -15,13 +15,13 @@ ROWS = pathlib.Path(__file__).resolve().parents[2] / "rows.txt"
 NUMBERS = {str(number): name for name, number in DRAFTS.items()}
 
 
-def validator_of(draft: str, vocabularies: str, overridden: str, schema: str, **strict: bool) -> jskw.Validator:
+def validator_of(draft: str, vocabularies: str, overridden: str, schema: str, *, strict: Any = False) -> jskw.Validator:
     names = [name for name, bit in VOCABULARIES.items() if int(vocabularies) & bit]
     names += ["no such vocabulary"] * (int(vocabularies) > 7)
     given: Any = json.loads(overridden)
     # an object would be taken for its names
     given = given if isinstance(given, list) else None
-    return jskw.Validator(schema.encode(), NUMBERS.get(draft, draft), names, given, **strict)
+    return jskw.Validator(schema.encode(), NUMBERS.get(draft, draft), names, given, strict=strict)
 
 
 def outcome(draft: str, vocabularies: str, overridden: str, schema: str, instance: str) -> tuple[str, str]:

@@ -2,10 +2,8 @@
 
 from __future__ import annotations
 
-import gc
 import json
 import multiprocessing
-import sys
 import threading
 from concurrent.futures import Executor, ProcessPoolExecutor, ThreadPoolExecutor
 from typing import Any
@@ -17,37 +15,32 @@ LONG = json.dumps([*range(3000), "a"]).encode()
 
 
 def run() -> None:
-    pools()
-    closes_while_asked()
-    leaks_nothing()
-
-
-def pools() -> None:
     validator = jskw.Validator({"items": {"type": "integer"}})
-    with ThreadPoolExecutor(8) as pool:
+    with ThreadPoolExecutor(8) as pool, ThreadPoolExecutor(8) as others:
         check_pool("threads", pool, validator)
-        with ThreadPoolExecutor(8) as others:
-            others_asked = others.map(validator.is_valid, [b"[1]"] * 50)
-            check("two pools", list(others_asked) + list(pool.map(validator.is_valid, [b"[1]"] * 50)), [True] * 100)
+        asked = [*others.map(validator.is_valid, [b"[1]"] * 50), *pool.map(validator.is_valid, [b"[1]"] * 50)]
+        check("two pools", asked, [True] * 100)
     for method in "fork", "spawn":
-        context = multiprocessing.get_context(method)
-        with ProcessPoolExecutor(2, mp_context=context) as processes:
+        with ProcessPoolExecutor(2, mp_context=multiprocessing.get_context(method)) as processes:
             check_pool(f"processes by {method}", processes, validator)
+    closes_while_asked()
 
 
 def check_pool(what: str, pool: Executor, validator: jskw.Validator) -> None:
     asked = list(pool.map(validator.is_valid, [[1, 2], [1, "a"], LONG] * 20))
     check(f"{what}: is_valid", asked, [True, False, False] * 20)
-    raising = [pool.submit(validator.validate, instance) for instance in ([1, "a"], LONG)]
+    rows: list[tuple[Any, Any, type[Exception], list[Any]]] = [
+        (validator.validate, [1, "a"], jskw.ValidationError, [1]),
+        (validator.validate, LONG, jskw.ValidationError, [3000]),
+        (validator.validate, b"{", jskw.NotJson, []),
+        (validator.validate, {"a": [1e300]}, jskw.InexactNumber, ["a", 0]),
+        (jskw.Validator, {"minItems": -1}, jskw.SchemaError, ["minItems"]),
+    ]
+    raising = [pool.submit(call, given) for call, given, *_ in rows]
     errors: list[Any] = [future.exception() for future in raising]
     got = [(type(error), list(error.path)) for error in errors]
-    check(f"{what}: an error comes back", got, [(jskw.ValidationError, [1]), (jskw.ValidationError, [3000])])
-    refused: Any = pool.submit(validator.validate, b"{").exception()
-    check(f"{what}: a refusal comes back", (type(refused), refused.text), (jskw.NotJson, "instance"))
-    inexact: Any = pool.submit(validator.validate, {"a": [1e300]}).exception()
-    check(f"{what}: an inexact number comes back", (type(inexact), list(inexact.path)), (jskw.InexactNumber, ["a", 0]))
-    wrong: Any = pool.submit(jskw.Validator, {"minItems": -1}).exception()
-    check(f"{what}: a schema error comes back", (type(wrong), list(wrong.path)), (jskw.SchemaError, ["minItems"]))
+    check(f"{what}: errors come back", got, [(kind, path) for *_, kind, path in rows])
+    check(f"{what}: a refusal comes back", errors[2].text, "instance")
     made = pool.submit(jskw.Validator, {"type": "null"}, "7").result()
     check(f"{what}: a validator comes back", (made.is_valid(None), made.is_valid(1), made.draft), (True, False, "7"))
 
@@ -73,38 +66,3 @@ def closes_while_asked() -> None:
         for thread in threads:
             thread.join()
     check("closed while asked", told, ["the validator is closed"] * 80)
-
-
-def leaks_nothing() -> None:
-    """Handles of threads that have ended are freed, and validators that other threads drop."""
-    schema = {"enum": [[i, str(i)] for i in range(10000)]}
-    validator = jskw.Validator(schema)
-
-    def compile_and_drop() -> None:
-        jskw.Validator(schema).is_valid(1)
-
-    def ask() -> None:
-        validator.is_valid(1)
-
-    before = 0
-    for turn in range(40):
-        held = [jskw.Validator(schema)]
-        for call in compile_and_drop, ask, held.clear:
-            thread = threading.Thread(target=call)
-            thread.start()
-            thread.join()
-        gc.collect()
-        if turn == 9:
-            before = memory()
-    # a schema of these takes 3 MB and more: 30 turns that leak one would take 90 MB
-    check("memory is freed", memory() - before < 30_000, True)
-
-
-def memory() -> int:
-    """Returns the resident memory in kB."""
-    with open("/proc/self/statm", encoding="ascii") as file:
-        return int(file.read().split()[1]) * 4
-
-
-if __name__ == "__main__":
-    sys.exit("run the folder: python3 bindings/python/tests")

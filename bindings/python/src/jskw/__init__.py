@@ -11,46 +11,21 @@ Names and habits are those of the package `jsonschema`. A schema and an instance
 `bytes`, `bytearray` or `memoryview`. Of a value the text counts that `json.dumps` writes: the float 0.1 is the decimal
 0.1, exactly, and a Decimal is taken as it is written."""
 
-from .exceptions import (
-    BadSetting,
-    InexactNumber,
-    NotJson,
-    SchemaError,
-    UncheckedError,
-    UncheckedMember,
-    ValidationError,
-)
-from .validators import (
-    Draft4Validator,
-    Draft6Validator,
-    Draft7Validator,
-    Draft201909Validator,
-    Draft202012Validator,
-    Validator,
-    answer,
-    validate,
-    validator_for,
-    version,
-)
+import sys
+from typing import TYPE_CHECKING
 
-__all__ = [
-    "BadSetting",
-    "Draft201909Validator",
-    "Draft202012Validator",
-    "Draft4Validator",
-    "Draft6Validator",
-    "Draft7Validator",
-    "InexactNumber",
-    "NotJson",
-    "SchemaError",
-    "UncheckedError",
-    "UncheckedMember",
-    "ValidationError",
-    "Validator",
-    "answer",
-    "validate",
-    "validator_for",
-    "version",
-]
+if "t" in getattr(sys, "abiflags", ""):
+    raise ImportError("jskw: a free-threaded Python has no stable ABI: use one with the interpreter's lock")
+
+from . import exceptions, validators
+from .exceptions import *
+from .validators import *
+
+__all__: list[str] = []
+__all__ += exceptions.__all__
+__all__ += validators.__all__
 
 __version__ = "0.2.0"
+
+if not TYPE_CHECKING:
+    __getattr__ = exceptions.lack

@@ -4,82 +4,140 @@ from __future__ import annotations
 
 import json
 import re
-from collections import deque
-from collections.abc import Iterable, Sequence
+from collections import Counter, deque
+from collections.abc import Callable, Iterable, Iterator, Sequence
 from decimal import Decimal
-from typing import Any, NamedTuple
+from functools import cached_property
+from typing import TYPE_CHECKING, Any, NamedTuple, NoReturn, TypeVar, Union
+
+from ._jskw import Schema, find, text_of
 
 __all__ = [
-    "BadSetting",
-    "InexactNumber",
-    "NotJson",
-    "SchemaError",
-    "UncheckedError",
-    "UncheckedMember",
-    "ValidationError",
-]
+    "BadSetting", "ErrorTree", "InexactNumber", "NotJson", "SchemaError", "UncheckedError", "UncheckedMember",
+    "UnsupportedNumber", "ValidationError", "best_match", "relevance",
+]  # fmt: skip
 
-_PLAIN_NAME = re.compile("^[a-zA-Z][a-zA-Z0-9_]*$")
+# why something is not here that users of `jsonschema` may look for, and its names
+FORMATS = "jskw checks no formats: what asserts one is in `unchecked`"
+REFERENCES = "jskw follows no references: what has one is in `unchecked`"
+FIXED = "the keywords and types of jskw are fixed: the setting `overridden` leaves keywords out"
+META_SCHEMAS = "jskw reads no meta-schema: check_schema(schema) compiles the schema"
+_LACKING = {
+    FORMATS: ["FormatChecker", "draft7_format_checker"],
+    REFERENCES: ["RefResolver", "RefResolutionError"],
+    FIXED: ["TypeChecker", "create", "extend", "validates"],
+    "jskw begins with Draft 4": ["Draft3Validator"],
+}
 
-_TYPES: dict[str, Any] = {"array": (list, tuple), "boolean": bool, "null": type(None), "object": dict, "string": str}
 
-Path = Sequence["str | int"]
+def lack(name: str) -> NoReturn:
+    """Says why a module of this package lacks a name that `jsonschema` has, also where it is imported."""
+    for why, names in _LACKING.items():
+        if name in names:
+            raise ImportError(f"there is no {name}: {why}")
+    raise AttributeError(f"there is no {name} in this module of jskw")
+
+
+if not TYPE_CHECKING:  # which is to find wrong names
+    __getattr__ = lack
+
+DEPTH = 127
+_ALLOWED = "which JSON allows and jskw does not"
+_EXACT = "at least one if it has a point or an exponent, and without its point from -2^63 to 2^64-1"
+_WHOLE = "limits and the numbers of `const` and `enum` are whole numbers here, from -2^63 to 2^64-1, without exponent"
+_STRING = re.compile(rb'"(?:[^"\\]|\\.)*"', re.DOTALL)
+
+Step = Union[str, int]
+_Self = TypeVar("_Self", bound="_Error")
 
 
 class _Error(Exception):
     """What ValidationError and SchemaError have, as their namesakes of the package `jsonschema` do."""
 
+    __slots__ = ("_told",)  # what the module in C makes an error of
+
     def __init__(
-        self,
-        message: str,
-        validator: str | None = None,
-        path: Iterable[str | int] = (),
-        cause: Exception | None = None,
-        context: Iterable[_Error] = (),
-        validator_value: Any = None,
-        instance: Any = None,
-        schema: Any = None,
-        schema_path: Iterable[str | int] = (),
-        parent: _Error | None = None,
-        *,
-        kind: str | None = None,
-        expected: Any = None,
-    ) -> None:
+        self, message: str, validator: str | None = None, path: Iterable[Step] = (), cause: Exception | None = None,
+        context: Iterable[_Error] = (), validator_value: Any = None, instance: Any = None, schema: Any = None,
+        schema_path: Iterable[Step] = (), parent: _Error | None = None,
+        *, kind: str | None = None, expected: Any = None,
+    ) -> None:  # fmt: skip
         super().__init__(message)
         self.message, self.validator, self.validator_value = message, validator, validator_value
         self.kind, self.expected = kind if kind is not None else validator, expected
         self.instance, self.schema = instance, schema
-        self.path = self.relative_path = deque(path)
-        self.schema_path = self.relative_schema_path = deque(schema_path)
+        self.path, self.schema_path = deque(path), deque(schema_path)
         self.cause = self.__cause__ = cause
         self.context, self.parent = list(context), parent
         for error in self.context:
             error.parent = self
 
+    if not TYPE_CHECKING:
+
+        def __getattr__(self, name: str) -> Any:
+            """Makes the attributes of an error of the module in C when one of them is first asked for. Two threads may
+            do so at once: what the first of them sets stays."""
+            told = None if name == "_told" else getattr(self, "_told", None)
+            if told:
+                settings, read, *found = told
+                instance, *path = find(read(), *found) if read else found
+                paths = {"path": deque(path), "schema_path": deque(settings["schema_path"])}
+                made = {"message": self.args[0], "instance": instance, "context": [], "cause": None, "parent": None}
+                own = vars(self)
+                for each in {**made, **settings, **paths}.items():
+                    own.setdefault(*each)
+                self._told = None
+            if name in vars(self):
+                return vars(self)[name]
+            raise AttributeError(f"{type(self).__name__!r} object has no attribute {name!r}")
+
+    def __reduce__(self) -> Any:
+        self._contents()  # makes all attributes
+        return super().__reduce__()
+
     def __repr__(self) -> str:
         return f"<{type(self).__name__}: {self.message!r}>"
 
-    @property
-    def instance_location(self) -> str:
-        """The absolute path as a JSON pointer."""
-        return _pointer(self.absolute_path)
+    @classmethod
+    def create_from(cls: type[_Self], other: _Error) -> _Self:
+        """Returns an error with what another one has."""
+        return cls(**other._contents())
+
+    def _contents(self) -> dict[str, Any]:
+        # `create_from` of the package `jsonschema` asks this
+        names = "message cause context validator validator_value path schema_path instance schema parent"
+        return {name: getattr(self, name) for name in names.split()}
 
     @property
-    def keyword_location(self) -> str:
-        """The absolute schema path as a JSON pointer."""
-        return _pointer(self.absolute_schema_path)
+    def relative_path(self) -> Sequence[Step]:
+        """The same as `path`."""
+        return self.path
 
     @property
-    def absolute_path(self) -> Path:
+    def relative_schema_path(self) -> Sequence[Step]:
+        """The same as `schema_path`."""
+        return self.schema_path
+
+    @property
+    def absolute_path(self) -> Sequence[Step]:
         """The path from the whole instance."""
         return self.path if self.parent is None else deque([*self.parent.absolute_path, *self.path])
 
     @property
-    def absolute_schema_path(self) -> Path:
+    def absolute_schema_path(self) -> Sequence[Step]:
         """The path from the whole schema."""
-        if self.parent is None:
-            return self.schema_path
-        return deque([*self.parent.absolute_schema_path, *self.schema_path])
+        above = self.parent
+        return self.schema_path if above is None else deque([*above.absolute_schema_path, *self.schema_path])
+
+    @property
+    def instance_location(self) -> str:
+        """The absolute path as a JSON pointer."""
+        return pointer(self.absolute_path)
+
+    @property
+    def keyword_location(self) -> str:
+        """The absolute schema path as a JSON pointer."""
+        return pointer(self.absolute_schema_path)
 
     @property
     def json_path(self) -> str:
@@ -90,8 +148,9 @@ class _Error(Exception):
         # `best_match` of the package `jsonschema` asks this
         if not isinstance(self.schema, dict) or "type" not in self.schema:
             return False
-        types = self.schema["type"]
-        return any(_is_of_type(self.instance, name) for name in ([types] if isinstance(types, str) else types))
+        schema = Schema()
+        schema._call("compile", {"type": self.schema["type"]}, 2020, 7)
+        return schema._call("first_error", self.instance)[0] == 0
 
 
 class ValidationError(_Error):
@@ -118,20 +177,36 @@ class SchemaError(_Error):
         return f"{self.message} (schema {self.instance_location!r})"
 
 
+class UnsupportedNumber(SchemaError):
+    """A schema that the standard allows, with a number that jskw does not take: a limit, a divisor, or a number in
+    `const` or `enum` is a whole number from -2^63 to 2^64-1, written without a point or an exponent. `path` leads to
+    the number, `number` is its text and `instance` its value."""
+
+    number: str
+
+
 class NotJson(ValueError):
     """A text that is not JSON in UTF-8, or nests more than 127 levels, or has what is refused though JSON allows it;
     `reason` says which. `text` is "schema", "instance" or "request". `offset` counts bytes from 0, `line` and `column`
-    count from 1; they are None for a value of Python."""
+    count from 1; of a value of Python they are None, and `path` leads to what is refused."""
 
     def __init__(
-        self, text: str, reason: str, offset: int | None = None, line: int | None = None, column: int | None = None
-    ) -> None:
-        super().__init__(text, reason, offset, line, column)
+        self, text: str, reason: str, offset: int | None = None, line: int | None = None, column: int | None = None,
+        path: Iterable[Step] = (),
+    ) -> None:  # fmt: skip
         self.text, self.reason, self.offset, self.line, self.column = text, reason, offset, line, column
+        self.path = deque(path)
+        super().__init__(text, reason, offset, line, column, self.path)
 
     def __str__(self) -> str:
         where = "" if self.offset is None else f" at line {self.line}, column {self.column} (byte {self.offset})"
-        return f"the {self.text} {self.reason}{where}"
+        at = f" (at {_cut(pointer(self.path))!r})" if self.path else ""
+        return f"the {self.text} {self.reason}{where}{at}"
+
+
+def refuse_value(text: str, reason: str, path: list[Step]) -> None:
+    """Raises why a value of Python is refused. The path goes from its end to its beginning; the module in C calls."""
+    raise NotJson(text, reason, path=reversed(path))
 
 
 class BadSetting(ValueError):
@@ -140,18 +215,25 @@ class BadSetting(ValueError):
 
 class InexactNumber(ValueError):
     """The instance has a number that is not exact: it is no c / 10^k with c from -2^63 to 2^64-1 and k from 0 to 18, or
-    from 1 to 18 if it is written with a point or an exponent. `instance_location` is the location of the first, and
-    `path` the same as a deque."""
+    from 1 to 18 if it is written with a point or an exponent. `instance_location` is the location of the first, `path`
+    the same as a deque, and `instance` the number, as it is written in a text."""
 
-    def __init__(self, instance_location: str, path: Iterable[str | int] = ()) -> None:
-        super().__init__(instance_location, deque(path))
-        self.instance_location, self.path = instance_location, deque(path)
+    def __init__(self, instance_location: str, path: Iterable[Step] = (), instance: Any = None) -> None:
+        super().__init__(instance_location, deque(path), instance)
+        self.instance_location, self.path, self.instance = instance_location, deque(path), instance
 
     def __str__(self) -> str:
-        return (
-            f"the number at {self.instance_location!r} is not exact: of at most 18 decimals, at least one if it "
-            "has a point or an exponent, and without its point from -2^63 to 2^64-1"
-        )
+        place = f"the number {_shown(self.instance)} at {self.instance_location!r} is not exact"
+        return f"{place}: of at most 18 decimals, {_EXACT}"
+
+
+def _shown(number: Any) -> str:
+    """Returns the digits of a number, if they are not too many."""
+    return f"of {number.bit_length()} bits" if isinstance(number, int) and abs(number) >> 256 else _cut(str(number))
+
+
+def _cut(text: str) -> str:
+    return text if len(text) <= 80 else text[:80] + ".."
 
 
 class UncheckedMember(NamedTuple):
@@ -161,16 +243,17 @@ class UncheckedMember(NamedTuple):
     - "notImplemented": a keyword of the draft that asserts or applies something, which jskw does not have;
     - "unknown": no keyword of the draft, such as a misspelt one;
     - "inactive": a keyword of jskw that asserts nothing as it stands: the draft or the vocabularies do not have it, it
-      is overridden, what it goes with is absent, or it passes over such a value."""
+      is overridden, what it goes with is absent, or it passes over such a value;
+    - "repeated": a name that the schema's text has more than once in an object, at any depth: only the last counts."""
 
     keyword: str
-    path: tuple[str | int, ...]
+    path: tuple[Step, ...]
     reason: str
 
     @property
     def keyword_location(self) -> str:
         """The path as a JSON pointer."""
-        return _pointer(self.path)
+        return pointer(self.path)
 
 
 class UncheckedError(ValueError):
@@ -186,88 +269,162 @@ class UncheckedError(ValueError):
         return "the schema has what is not checked: " + ", ".join(shown) + (f" and {more} more" if more else "")
 
 
-class Document:
-    """A JSON value, of which each location that was asked for is kept."""
+class ErrorTree:
+    """Errors by the places where they stand: `tree[0]["name"]` has those of `/0/name` and below, and `errors`, by their
+    keywords, those of its own place. It has the steps of its errors as its own, and `len` of it counts the errors."""
 
-    def __init__(self, root: Any) -> None:
-        self.root = root
-        self._found: dict[str, tuple[tuple[str | int, ...], Any]] = {"": ((), root)}
+    def __init__(self, errors: Iterable[_Error] = ()) -> None:
+        self.errors: dict[str | None, _Error] = {}
+        self._below: dict[Step, ErrorTree] = {}
+        self._instance: Any = None
+        for error in errors:
+            tree = self
+            for step in error.path:
+                tree = tree._below.setdefault(step, ErrorTree())
+            tree.errors[error.validator], tree._instance = error, error.instance
 
-    def at(self, pointer: str) -> tuple[tuple[str | int, ...], Any]:
-        """Returns the path of a location, and the value there: None if the location is not in the value."""
-        found = self._found.get(pointer)
-        if found is None:
-            parent, _, word = pointer.rpartition("/")
-            path, value = self.at(parent)
-            step: str | int = word.replace("~1", "/").replace("~0", "~")
-            below = None
-            # a keyword that fails need not be in the schema, and the caller may have changed its value meanwhile
-            if isinstance(value, dict):
-                below = value.get(step)
-            elif isinstance(value, (list, tuple)) and word.isdecimal():
-                step = int(word)
-                below = value[step] if step < len(value) else None
-            found = self._found[pointer] = (*path, step), below
-        return found
+    def __contains__(self, step: object) -> bool:
+        return step in self._below
 
+    def __getitem__(self, step: Step) -> ErrorTree:
+        if step not in self._below and self._instance is not None:
+            self._instance[step]  # that the instance does not have is an error
+        return self._below.get(step) or ErrorTree()
 
-def validation_errors(lines: list[list[str]], instance: Document, schema: Document) -> list[ValidationError]:
-    """Returns the error of each line: kind, instance location, keyword location, message, expected value."""
-    failed: dict[tuple[str, str, str], dict[str, Any]] = {}
-    errors = []
-    for kind, instance_location, keyword_location, message, expected, *_ in lines:
-        key = kind, keyword_location, expected
-        if key not in failed:
-            failed[key] = _failed_keyword(*key, schema)
-        path, value = instance.at(instance_location)
-        errors.append(ValidationError(message, path=path, instance=value, **failed[key]))
-    return errors
+    def __iter__(self) -> Iterator[Step]:
+        return iter(self._below)
+
+    def __len__(self) -> int:
+        return len(self.errors) + sum(map(len, self._below.values()))
+
+    @property
+    def total_errors(self) -> int:
+        """The number of errors, here and below."""
+        return len(self)
 
 
-def _failed_keyword(kind: str, location: str, expected: str, schema: Document) -> dict[str, Any]:
-    """Returns what all errors of a keyword have."""
-    path, value = schema.at(location)
-    common = {"schema_path": path, "kind": kind, "expected": json.loads(expected) if expected else None}
-    if kind == "falseSchema":
-        return {"schema": value, **common}
-    within = schema.at(location.rpartition("/")[0])[1]
-    return {"validator": str(path[-1]), "validator_value": value, "schema": within, **common}
+def relevance(error: _Error) -> Any:
+    """Returns what errors can be ordered by: those that stand higher in the instance are greater, and of these those
+    whose instance is not of the schema's type."""
+    return -len(error.path), not error._matches_type()
 
 
-def schema_error(line: list[str], schema: Document) -> SchemaError:
+def best_match(errors: Iterable[_Self], key: Callable[[_Error], Any] = relevance) -> _Self | None:
+    """Returns the greatest error, or None if there is none."""
+    every = list(errors)
+    return max(every, key=key) if every else None
+
+
+class Keywords(dict[bytes, Any]):
+    """What all errors of a keyword of a schema have."""
+
+    def __init__(self, text: bytes) -> None:
+        self._text = text
+
+    @cached_property
+    def schema(self) -> Any:
+        """The schema as a value."""
+        return json.loads(self._text)
+
+    def add(self, key: bytes, kind: str, location: str, expected: str) -> Any:
+        """Adds the keyword of the line of an error, which the module in C looks up by the key from then on."""
+        value, *path = find(self.schema, location)
+        settings = {"kind": kind, "schema_path": path, "expected": json.loads(expected) if expected else None}
+        settings.update(validator=None, validator_value=None, schema=value)
+        if kind != "falseSchema":
+            within = find(self.schema, location.rpartition("/")[0])[0]
+            settings.update(validator=str(path[-1]), validator_value=value, schema=within)
+        return self.setdefault(key, settings)
+
+
+class _Number(str):
+    """A number of a JSON text as it is written there."""
+
+    def is_taken(self) -> bool:
+        """Returns whether a schema may have it."""
+        return self != "-0" and self.lstrip("-").isdecimal() and -(2**63) <= int(self) < 2**64
+
+
+def value_of(given: Any, as_written: bool = False) -> Any:
+    """Returns a value, or that of a JSON text in bytes: its numbers may be left as they are written."""
+    if not isinstance(given, (bytes, bytearray, memoryview)):
+        return given
+    settings: dict[str, Any] = dict.fromkeys(["parse_int", "parse_float"] * as_written, _Number)
+    return json.loads(text_of(given, "value"), **settings)
+
+
+def schema_error(line: list[str], text: bytes) -> SchemaError:
     """Returns the error of the line of a refusal: kind, keyword location, message, expected value."""
     kind, location, message, expected, *_ = line
-    limit = json.loads(expected) if expected else None
-    path, value = schema.at(location)
-    return SchemaError(message, kind, path, validator_value=limit, instance=value, schema=schema.root, expected=limit)
+    limit, schema = json.loads(expected) if expected else None, json.loads(text)
+    value, *path = find(schema, location)
+    settings = {"validator_value": limit, "schema": schema, "expected": limit}
+    if kind == "compileError" or limit == "integer":
+        for below, number in nodes(find(value_of(text, as_written=True), location)[0], path):
+            # the standard has its own word on 2.5 items
+            if isinstance(number, _Number) and not number.is_taken():
+                if kind == "compileError" or Decimal(number) >= 0 == Decimal(number) % 1:
+                    message = f"jskw does not take the number {_shown(number)}: {_WHOLE}"
+                    value = find(schema, pointer(below))[0]
+                    error = UnsupportedNumber(message, kind, below, instance=value, **settings)
+                    error.number = number
+                    return error
+    return SchemaError(message, kind, path, instance=value, **settings)
 
 
-def unchecked_members(lines: list[list[str]], schema: Document) -> list[UncheckedMember]:
-    """Returns the member of each line: keyword location, reason."""
-    paths = [(schema.at(location)[0], reason) for location, reason, *_ in lines]
-    return [UncheckedMember(str(path[-1]), path, reason) for path, reason in paths]
+def nodes(value: Any, path: Iterable[Step] = ()) -> Iterator[tuple[tuple[Step, ...], Any]]:
+    """Returns a value and all values in it, with their paths."""
+    yield tuple(path), value
+    if isinstance(value, (dict, list)):
+        for step, below in value.items() if isinstance(value, dict) else enumerate(value):
+            yield from nodes(below, (*path, step))
 
 
-def _pointer(path: Path) -> str:
+def repeated_names(text: bytes) -> list[UncheckedMember]:
+    """Returns the names that a JSON text has more than once in an object."""
+    found: dict[int, tuple[dict[str, Any], list[str]]] = {}
+
+    def of_pairs(pairs: list[tuple[str, Any]]) -> dict[str, Any]:
+        members = dict(pairs)
+        if len(members) < len(pairs):
+            times = Counter(name for name, _ in pairs)
+            found[id(members)] = members, [name for name in members if times[name] > 1]
+        return members
+
+    value = json.loads(text, object_pairs_hook=of_pairs)
+    repeated = [(path, found[id(each)][1]) for path, each in nodes(value) if id(each) in found] if found else []
+    return [UncheckedMember(name, (*path, name), "repeated") for path, names in repeated for name in names]
+
+
+def pointer(path: Iterable[Step]) -> str:
+    """Returns a path as a JSON pointer."""
     return "".join("/" + str(step).replace("~", "~0").replace("/", "~1") for step in path)
 
 
-def _json_path_step(step: str | int) -> str:
-    if isinstance(step, int):
-        return f"[{step}]"
-    if _PLAIN_NAME.match(step):
+def _json_path_step(step: Step) -> str:
+    if isinstance(step, str) and re.match("^[a-zA-Z][a-zA-Z0-9_]*$", step):
         return f".{step}"
-    escaped = step.replace("\\", "\\\\").replace("'", r"\'")
-    return f"['{escaped}']"
+    return f"[{step}]" if isinstance(step, int) else "['" + re.sub(r"([\\'])", r"\\\1", step) + "']"
 
 
-def _is_of_type(instance: Any, name: str) -> bool:
-    if name == "integer":
-        return isinstance(instance, int) and not isinstance(instance, bool) or _is_whole(instance)
-    if name == "number":
-        return isinstance(instance, (int, float, Decimal)) and not isinstance(instance, bool)
-    return isinstance(instance, _TYPES.get(name, ()))
+def refusal(what: str, text: bytes, lines: list[list[str]]) -> NotJson:
+    """Returns the error of a text that is refused: the line has the offset, line and column."""
+    if not lines:
+        return NotJson(what, f"has a number that is too large for a double, {_ALLOWED}")
+    offset, line, column = map(int, lines[0][:3])
+    return NotJson(what, _reason(text, offset), offset, line, column)
 
 
-def _is_whole(number: Any) -> bool:
-    return isinstance(number, (float, Decimal)) and number == int(number)
+def _reason(text: bytes, offset: int) -> str:
+    """Returns why a text is refused at an offset."""
+    before, byte = _STRING.sub(b"", text[:offset]), text[offset : offset + 1]
+    if byte in (b"[", b"{") and sum(map(before.count, b"[{")) - sum(map(before.count, b"]}")) == DEPTH:
+        return f"nests more than {DEPTH} levels, {_ALLOWED}"
+    try:
+        if byte == b'"':
+            json.loads(_STRING.match(text, offset).group()).encode()  # type: ignore[union-attr]
+    except UnicodeEncodeError:
+        return f"has the escape of a lone surrogate, {_ALLOWED}"
+    except (AttributeError, ValueError):
+        pass  # the string has no end, or is not JSON
+    return "is not JSON in UTF-8"
