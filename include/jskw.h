@@ -118,11 +118,12 @@ uint32_t jskw_unchecked(uint32_t draft, uint32_t vocabularies, const uint8_t *ov
 
 /* Puts the schema of the handle `from` into the handle `to` too, without compiling it again, and frees the schema that
  * `to` had. The two are different handles. JSKW_VALID; JSKW_NO_SCHEMA or JSKW_NO_MEMORY, and both are unchanged. It
- * allocates 272 bytes. Calls write to their handles: those of two threads are best 64 bytes apart. */
+ * allocates 280 bytes. Calls write to their handles: those of two threads are best 64 bytes apart. */
 uint32_t jskw_share(jskw_schema *from, jskw_schema *to);
 
 /* Whether an instance is valid: JSKW_VALID, JSKW_INVALID, JSKW_NOT_JSON, JSKW_INEXACT, JSKW_NO_SCHEMA,
- * JSKW_NO_MEMORY. */
+ * JSKW_NO_MEMORY. The whole text is checked, as by the functions below. But memory and most of the time are taken only
+ * for what the schema looks at: of an object its names, unless const, enum or uniqueItems compare it. */
 uint32_t jskw_is_valid(jskw_schema *schema, const uint8_t *bytes, size_t size);
 
 /* The same, and the line of the first error: keyword, instance location, keyword location, message, expected value. It

@@ -1,4 +1,5 @@
 mod CrossingLeaves
+mod CrossingLevels
 mod CrossingReaders
 mod CrossingSchemas
 mod CrossingValues
@@ -7,3 +8,4 @@ mod Limits
 mod Texts
 mod OutcomesOfInstances
 mod OutcomesOfRefusals
+mod Pruned

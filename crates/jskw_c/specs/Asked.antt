@@ -31,6 +31,10 @@ abbrev pub asked_status : Option Schema → List ℕ → ℕ
 asked_status None bytes = NO_SCHEMA
 asked_status (Some s) bytes = status_of_read s (reading bytes)
 
+-- what was read is a tree, and the schema holds of it exactly where it does of t
+abbrev pub ReadsAlike : Schema → Tree → Option (Result Tree Pointer) → Type 0
+ReadsAlike s t read = (u : Tree) × (read ≡ Some (Ok u)) × (holds s t ≡ holds s u)
+
 -- ---- the text
 
 -- where a tree is read the text is as `Says` says; else it is the line of the place where the bytes stop being JSON, or

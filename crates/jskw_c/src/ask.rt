@@ -25,6 +25,7 @@ use jskw_report::{CompileFault, Context, Fault, LazyLocation, ValidationContext,
 use jskw_service::read_value;
 use jskw_text::{ReadFault, read_bytes};
 use jskw_value::{DecimalJson, DecimalTree};
+use jskw_wanted::wanted;
 use std::alloc::{AllocError, Global};
 use std::slice;
 
@@ -56,7 +57,10 @@ pub(crate) fn compile_schema(
     let ctx: Context<'_, DecimalJson> = Context::new(alloc, &settings);
     let ctx = ctx.with_object_layer(false);
     match compile(alloc, &ctx, &value) {
-        Ok(node) => Ok(Ok(CompiledSchema::new(alloc, node)?)),
+        Ok(node) => {
+            let levels = wanted(alloc, &value)?;
+            Ok(Ok(CompiledSchema::new(alloc, node, levels)?))
+        }
         Err(CompileFault::Bad(error)) => Ok(Err(Outcome {
             status: BAD_SCHEMA,
             text: refusal_line(alloc, &error)?,
@@ -121,7 +125,7 @@ pub(crate) fn validity(schema: &mut CompiledSchema, instance: &[u8]) -> Result<u
     ensures status { IfOk result (λ status. status ≡ asked_status (Some schema.old) instance.now) }
     ensures kept { schema.new ≡ schema.old }
 {
-    match schema.read(instance) {
+    match schema.read_wanted(instance) {
         Ok(tree) => {
             let is_valid = schema.node().is_valid(&tree, &mut ValidationContext::new());
             schema.reuse(tree);

@@ -88,3 +88,10 @@ module _ (d : List ℕ) (i n : ℕ) (room : i + n ≤ length d) where
               → cond b 1 0 + 2 * mask_l (map is_stop xs) ≡ 0
           go true e ih = let no : ⊥ = omega arith in absurd no
           go false e ih = omega (arith, ih (omega arith))
+
+-- the plain text from an offset on ends at the first bit of the block there
+pub ends_in_block : (bytes : List ℕ) (i found : ℕ) → i + 16 ≤ length bytes
+    → found ≡ mask_l (map is_stop (chunk i 16 bytes)) → 0 < found
+    → prefix_len is_plain (drop i bytes) ≡ count_trailing_zeros 64 found
+ends_in_block bytes i found room is some =
+    run_stops bytes i 16 room (omega arith) (omega (arith, is)) ∙ ap (count_trailing_zeros 64) (sym is)

@@ -12,3 +12,4 @@ pub mod Numbers
 mod Passing
 pub mod Reading
 mod Utf8
+pub mod Pruned

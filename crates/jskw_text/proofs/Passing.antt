@@ -1,6 +1,7 @@
 -- From what a cursor passes over to the trees that tokens denote.
 use Rattle.std.proofs.Common.{◌≡◌, ℕ, suc, ◌-◌, ◌<◌, ◌≤◌, Bool, true, false, List, [], ◌∷◌, ◌++◌, length}
-use Rattle.std.proofs.Common.{Some, None, Result, Ok, Err, IfOk, option_map, map, refl, sym, ap, ◌∙◌, subst, arith}
+use Rattle.std.proofs.Common.{Some, None, Option, Result, Ok, Err, OnOk, option_map, refl, sym, ap, ◌∙◌, subst}
+use Rattle.std.proofs.Common.{arith}
 use Rattle.std.proofs.lemmas.Bool.{true≢false, false≢true}
 use Rattle.std.specs.Str.{is_utf8}
 use Rattle.json.proofs.Found.{not_found}
@@ -12,16 +13,13 @@ use Rattle.json.specs.Lex.{after_value, after_comma, after_key, may_begin, may_c
 use Rattle.json.specs.Lex.{punctuate}
 use Rattle.json.specs.Token as token
 use Rattle.json.specs.Token.{Token}
-use Rattle.jskw_value.specs.DecimalTree.{decimal_tree, items_from}
+use Rattle.jskw_value.specs.DecimalTree.{items_from}
 use Rattle.jskw_value.specs.Pointer.{Pointer}
-use Rattle.jskw_value.specs.Tree.{Tree, array, object, Items, no_items, item, Members, no_members}
-use Rattle.jskw_value.specs.declared.decimal_tree.DecimalTree.{DecimalTree}
+use Rattle.jskw_value.specs.Tree.{Tree, string, array, object, Items, no_items, item, Members, no_members}
 use Rattle.jskw_text.specs.Passing.{Passes, PassesLeaf, PassesName, Reads, ReadsItems, ReadsMembers, token_tree}
 use Rattle.jskw_text.specs.Reading.{on_found, put, tree_of, items_of, members_of, reading, max_depth}
 use Rattle.jskw_text.proofs.Reading.{parsed_some, leaf_value, array_value, object_value, item_read, items_over}
-use Rattle.jskw_text.proofs.Reading.{member_read}
-use Rattle.jskw_text.proofs.Reading.{members_over, items_before, one_more_item, length-append_one}
-use Rattle.jskw_text.proofs.Reading.{items_before-no_items, none_before}
+use Rattle.jskw_text.proofs.Reading.{member_read, members_over}
 
 -- ---- where a value may begin
 
@@ -112,12 +110,15 @@ pub read_behind : (depth : ℕ) (old inner : List ℕ) (t : Tree) (new : List �
 read_behind depth old inner t new passes reads p may plain =
     ap (λ l. parse_map tree_of (value depth (punctuate p l))) passes.lexed ∙ reads p may plain
 
-pub leaf_behind : {E : Type 0} (r : Result DecimalTree E) (depth : ℕ) (old inner new : List ℕ) → Passes old [] inner
-    → IfOk r (λ tree. PassesLeaf inner (decimal_tree tree) new)
-    → IfOk r (λ tree. Reads depth old (decimal_tree tree) new)
-leaf_behind (Ok tree) depth old inner new passes leaf =
-    read_behind depth old inner (decimal_tree tree) new passes (leaf_read depth inner (decimal_tree tree) new leaf)
-leaf_behind (Err e) depth old inner new passes leaf = tt
+-- a string
+pub text_read : (depth : ℕ) (old s new : List ℕ) → Passes old (token_lexeme (token.string s) ∷ []) new
+    → Reads depth old (string s) new
+text_read depth old s new passes = leaf_read depth old (string s) new (token.string s, passes, refl)
+
+-- what follows where there is a result
+pub if_ok : {A E : Type 0} {P Q : Type 0} (r : Result A E) → (P → Q) → OnOk r P → OnOk r Q
+if_ok (Ok a) f p = f p
+if_ok (Err e) f p = tt
 
 -- ---- arrays and objects
 
@@ -220,12 +221,48 @@ IsLeft Left old cursor =
     (n : ℕ) × (p : Place) × (may_begin p ≡ true) × (length (punctuate p (lex between cursor)) ≤ n)
     × Left n (punctuate p (lex between cursor)) × (length cursor ≤ length old)
 
+-- items, and others behind them
+abbrev ahead : List Tree → Items → Items
+ahead [] rest = rest
+ahead (t ∷ ts) rest = item t (ahead ts rest)
+
+ahead-no_items : (ts : List Tree) → ahead ts no_items ≡ items_from ts
+ahead-no_items [] = refl
+ahead-no_items (t ∷ ts) = ap (item t) (ahead-no_items ts)
+
+length-one_more : (ts : List Tree) (t : Tree) → length (ts ++ t ∷ []) ≡ suc (length ts)
+length-one_more [] t = refl
+length-one_more (u ∷ ts) t = ap suc (length-one_more ts t)
+
+ahead-one_more : (ts : List Tree) (t : Tree) (rest : Items) → ahead ts (item t rest) ≡ ahead (ts ++ t ∷ []) rest
+ahead-one_more [] t rest = refl
+ahead-one_more (u ∷ ts) t rest = ap (item u) (ahead-one_more ts t rest)
+
+one_more : (ts : List Tree) (t : Tree) (x : Result Items Pointer)
+    → on_found (ahead ts) (on_found (item t) x) ≡ on_found (ahead (ts ++ t ∷ [])) x
+one_more ts t (Ok rest) = ap Ok (ahead-one_more ts t rest)
+one_more ts t (Err p) = refl
+
+one_item_more : (ts : List Tree) (t : Tree) (r : Option (Result Items Pointer × List Token))
+    → parse_map (on_found (ahead ts)) (parse_map (on_found (item t)) r)
+    ≡ parse_map (on_found (ahead (ts ++ t ∷ []))) r
+one_item_more ts t None = refl
+one_item_more ts t (Some p) = ap (λ x. Some (x, p.1)) (one_more ts t p.0)
+
+none_found : (x : Result Items Pointer) → x ≡ on_found (λ a. a) x
+none_found (Ok a) = refl
+none_found (Err p) = refl
+
+none_ahead : (r : Option (Result Items Pointer × List Token)) → r ≡ parse_map (on_found (ahead [])) r
+none_ahead None = refl
+none_ahead (Some p) = ap (λ x. Some (x, p.1)) (none_found p.0)
+
 -- what was found of an array, and the items that are left, are the whole array
-abbrev pub ItemsLeft : ℕ → List ℕ → List DecimalTree → ℕ → List Token → Type 0
+abbrev pub ItemsLeft : ℕ → List ℕ → List Tree → ℕ → List Token → Type 0
 ItemsLeft depth old found n ts =
     parse_map (items_of 0)
     (items (value depth) (length (punctuate fresh (lex between old))) (punctuate fresh (lex between old)))
-    ≡ parse_map (on_found (items_before found)) (parse_map (items_of (length found)) (items (value depth) n ts))
+    ≡ parse_map (on_found (ahead found)) (parse_map (items_of (length found)) (items (value depth) n ts))
 
 -- the same of an object
 abbrev pub MembersLeft : ℕ → List ℕ → Members → ℕ → List Token → Type 0
@@ -247,47 +284,38 @@ all_left Left old cursor spaces left =
       omega (arith, spaces.shorter),
     )
 
-pub all_items_left : (depth : ℕ) (old cursor : List ℕ) (found : List DecimalTree) → Passes old [] cursor → found ≡ []
-    → IsLeft (ItemsLeft depth old found) old cursor
-all_items_left depth old cursor found spaces none =
-    subst (λ vs. IsLeft (ItemsLeft depth old vs) old cursor) (sym none)
-    (all_left (ItemsLeft depth old []) old cursor spaces (none_before _))
+pub all_items_left : (depth : ℕ) (old cursor : List ℕ) → Passes old [] cursor
+    → IsLeft (ItemsLeft depth old []) old cursor
+all_items_left depth old cursor spaces = all_left (ItemsLeft depth old []) old cursor spaces (none_ahead _)
 
-pub all_members_left : (depth : ℕ) (old cursor : List ℕ) (found : Members) → Passes old [] cursor → found ≡ no_members
-    → IsLeft (MembersLeft depth old found) old cursor
-all_members_left depth old cursor found spaces none =
-    subst (λ ms. IsLeft (MembersLeft depth old ms) old cursor) (sym none)
-    (all_left (MembersLeft depth old no_members) old cursor spaces refl)
+pub all_members_left : (depth : ℕ) (old cursor : List ℕ) → Passes old [] cursor
+    → IsLeft (MembersLeft depth old no_members) old cursor
+all_members_left depth old cursor spaces = all_left (MembersLeft depth old no_members) old cursor spaces refl
 
 -- one item more, and fewer left
-items_go_on : (depth : ℕ) (old : List ℕ) (found vs : List DecimalTree) (v : DecimalTree) (cursor inner : List ℕ)
+items_go_on : (depth : ℕ) (old : List ℕ) (found : List Tree) (t : Tree) (cursor inner : List ℕ)
     (ls : List Lexeme) (left : IsLeft (ItemsLeft depth old found) old cursor)
-    → Reads depth cursor (decimal_tree v) inner → lex between inner ≡ ls → begins_colon ls ≡ false
-    → vs ≡ found ++ v ∷ [] → ItemsLeft depth old vs (left.0 - 1) (punctuate after_value ls)
+    → Reads depth cursor t inner → lex between inner ≡ ls → begins_colon ls ≡ false
+    → ItemsLeft depth old (found ++ t ∷ []) (left.0 - 1) (punctuate after_value ls)
     × (length (punctuate after_value ls) ≤ left.0 - 1)
-items_go_on depth old found vs v cursor inner ls left reads e plain pushed =
-    let turn =
-    item_turn depth (length found) left.0 left.1 cursor (decimal_tree v) inner ls left.2 left.3 reads e plain in
-    let rest = items (value depth) (left.0 - 1) (punctuate after_value ls) in
-    let longer : length vs ≡ suc (length found) = ap length pushed ∙ length-append_one found v in (
-      left.4 ∙ ap (parse_map (on_found (items_before found))) turn.one ∙ one_more_item found v _
-          ∙ ap (λ us. parse_map (on_found (items_before us)) (parse_map (items_of (suc (length found))) rest))
-          (sym pushed)
-          ∙ ap (λ i. parse_map (on_found (items_before vs)) (parse_map (items_of i) rest)) (sym longer),
+items_go_on depth old found t cursor inner ls left reads e plain =
+    let turn = item_turn depth (length found) left.0 left.1 cursor t inner ls left.2 left.3 reads e plain in
+    let rest = items (value depth) (left.0 - 1) (punctuate after_value ls) in (
+      left.4 ∙ ap (parse_map (on_found (ahead found))) turn.one ∙ one_item_more found t _
+          ∙ ap (λ i. parse_map (on_found (ahead (found ++ t ∷ []))) (parse_map (items_of i) rest))
+          (sym (length-one_more found t)),
       turn.fewer,
     )
 
-members_go_on : (depth : ℕ) (old : List ℕ) (found more : Members) (cursor k named : List ℕ) (t : Tree)
+members_go_on : (depth : ℕ) (old : List ℕ) (found : Members) (cursor k named : List ℕ) (t : Tree)
     (inner : List ℕ) (ls : List Lexeme) (left : IsLeft (MembersLeft depth old found) old cursor)
     → PassesName cursor k named → Reads depth named t inner → lex between inner ≡ ls → begins_colon ls ≡ false
-    → more ≡ put k t found
-    → MembersLeft depth old more (left.0 - 1) (punctuate after_value ls)
+    → MembersLeft depth old (put k t found) (left.0 - 1) (punctuate after_value ls)
     × (length (punctuate after_value ls) ≤ left.0 - 1)
-members_go_on depth old found more cursor k named t inner ls left name reads e plain added =
+members_go_on depth old found cursor k named t inner ls left name reads e plain =
     let turn =
     member_turn depth left.0 left.1 found cursor k named t inner ls left.2 left.3 name reads e plain in
-    let rest = members (value depth) (left.0 - 1) (punctuate after_value ls) in
-    (left.4 ∙ turn.one ∙ ap (λ ms. parse_map (members_of ms) rest) (sym added), turn.fewer)
+    (left.4 ∙ turn.one, turn.fewer)
 
 -- a comma is passed over
 comma_passed : (ls : List Lexeme) → punctuate after_value (comma ∷ ls) ≡ punctuate after_comma ls
@@ -307,21 +335,22 @@ left_behind Left n old inner new taken further fewer left =
       omega (arith, taken.shorter, further),
     )
 
-pub items_left : (depth : ℕ) (old : List ℕ) (found vs : List DecimalTree) (v : DecimalTree) (cursor inner new : List ℕ)
-    → IsLeft (ItemsLeft depth old found) old cursor → Reads depth cursor (decimal_tree v) inner
-    → length inner ≤ length cursor → Passes inner (comma ∷ []) new → vs ≡ found ++ v ∷ []
-    → IsLeft (ItemsLeft depth old vs) old new
-items_left depth old found vs v cursor inner new left reads shorter taken pushed =
-    let turn = items_go_on depth old found vs v cursor inner _ left reads taken.lexed refl pushed in
-    left_behind (ItemsLeft depth old vs) (left.0 - 1) old inner new taken (omega (arith, shorter, left.5)) turn.1 turn.0
+pub items_left : (depth : ℕ) (old : List ℕ) (found : List Tree) (t : Tree) (cursor inner new : List ℕ)
+    → IsLeft (ItemsLeft depth old found) old cursor → Reads depth cursor t inner
+    → length inner ≤ length cursor → Passes inner (comma ∷ []) new
+    → IsLeft (ItemsLeft depth old (found ++ t ∷ [])) old new
+items_left depth old found t cursor inner new left reads shorter taken =
+    let turn = items_go_on depth old found t cursor inner _ left reads taken.lexed refl in
+    left_behind (ItemsLeft depth old (found ++ t ∷ [])) (left.0 - 1) old inner new taken
+    (omega (arith, shorter, left.5)) turn.1 turn.0
 
-pub members_left : (depth : ℕ) (old : List ℕ) (found more : Members) (cursor k named : List ℕ) (t : Tree)
+pub members_left : (depth : ℕ) (old : List ℕ) (found : Members) (cursor k named : List ℕ) (t : Tree)
     (inner new : List ℕ) → IsLeft (MembersLeft depth old found) old cursor → PassesName cursor k named
-    → Reads depth named t inner → length inner ≤ length named → Passes inner (comma ∷ []) new → more ≡ put k t found
-    → IsLeft (MembersLeft depth old more) old new
-members_left depth old found more cursor k named t inner new left name reads shorter taken added =
-    let turn = members_go_on depth old found more cursor k named t inner _ left name reads taken.lexed refl added in
-    left_behind (MembersLeft depth old more) (left.0 - 1) old inner new taken
+    → Reads depth named t inner → length inner ≤ length named → Passes inner (comma ∷ []) new
+    → IsLeft (MembersLeft depth old (put k t found)) old new
+members_left depth old found cursor k named t inner new left name reads shorter taken =
+    let turn = members_go_on depth old found cursor k named t inner _ left name reads taken.lexed refl in
+    left_behind (MembersLeft depth old (put k t found)) (left.0 - 1) old inner new taken
     (omega (arith, shorter, name.shorter, left.5)) turn.1 turn.0
 
 -- ---- the ends
@@ -368,25 +397,26 @@ no_members_read depth old new passes =
     ∙ members_done depth (length (punctuate fresh (token_lexeme token.end_object ∷ lex between new))) fresh no_members
     (lex between new) refl (omega arith)
 
-pub items_read : (depth : ℕ) (old : List ℕ) (found vs : List DecimalTree) (v : DecimalTree) (cursor inner new : List ℕ)
-    → IsLeft (ItemsLeft depth old found) old cursor → Reads depth cursor (decimal_tree v) inner
-    → lex between inner ≡ token_lexeme token.end_array ∷ lex between new → vs ≡ found ++ v ∷ []
-    → ReadsItems depth old (items_from (map decimal_tree vs)) new
-items_read depth old found vs v cursor inner new left reads closes pushed =
-    let turn = items_go_on depth old found vs v cursor inner _ left reads closes refl pushed in
+pub items_read : (depth : ℕ) (old : List ℕ) (found : List Tree) (t : Tree) (cursor inner new : List ℕ)
+    → IsLeft (ItemsLeft depth old found) old cursor → Reads depth cursor t inner
+    → lex between inner ≡ token_lexeme token.end_array ∷ lex between new
+    → ReadsItems depth old (items_from (found ++ t ∷ [])) new
+items_read depth old found t cursor inner new left reads closes =
+    let turn = items_go_on depth old found t cursor inner _ left reads closes refl in
     let rest = lex between new in
+    let ts = found ++ t ∷ [] in
     turn.0
-    ∙ ap (parse_map (on_found (items_before vs)))
-    (items_done depth (length vs) (left.0 - 1) after_value rest refl turn.1)
-    ∙ ap (λ ds. Some (Ok ds, punctuate after_value rest)) (items_before-no_items vs)
+    ∙ ap (parse_map (on_found (ahead ts)))
+    (items_done depth (length ts) (left.0 - 1) after_value rest refl turn.1)
+    ∙ ap (λ ds. Some (Ok ds, punctuate after_value rest)) (ahead-no_items ts)
 
-pub members_read : (depth : ℕ) (old : List ℕ) (found more : Members) (cursor k named : List ℕ) (t : Tree)
+pub members_read : (depth : ℕ) (old : List ℕ) (found : Members) (cursor k named : List ℕ) (t : Tree)
     (inner new : List ℕ) → IsLeft (MembersLeft depth old found) old cursor → PassesName cursor k named
     → Reads depth named t inner → lex between inner ≡ token_lexeme token.end_object ∷ lex between new
-    → more ≡ put k t found → ReadsMembers depth old more new
-members_read depth old found more cursor k named t inner new left name reads closes added =
-    let turn = members_go_on depth old found more cursor k named t inner _ left name reads closes refl added in
-    turn.0 ∙ members_done depth (left.0 - 1) after_value more (lex between new) refl turn.1
+    → ReadsMembers depth old (put k t found) new
+members_read depth old found cursor k named t inner new left name reads closes =
+    let turn = members_go_on depth old found cursor k named t inner _ left name reads closes refl in
+    turn.0 ∙ members_done depth (left.0 - 1) after_value (put k t found) (lex between new) refl turn.1
 
 -- ---- the whole text
 

@@ -8,3 +8,4 @@ pub mod ReadFault
 pub mod Reading
 pub mod Stop
 pub mod Tens
+pub mod Wanted

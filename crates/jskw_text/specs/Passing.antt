@@ -11,9 +11,11 @@ use Rattle.json.specs.Token as token
 use Rattle.json.specs.Word.{ends_word, after_whole, after_fraction, after_exponent}
 use Rattle.jskw_value.specs.Number.{Num}
 use Rattle.jskw_value.specs.Pointer.{Pointer}
-use Rattle.jskw_value.specs.Tree.{Tree, null, boolean, string, Items, Members, no_members}
+use Rattle.jskw_value.specs.Tree.{Tree, null, boolean, string, array, object, Items, Members, no_members}
 use Rattle.jskw_text.specs.NumberText.{number_of, decimal_from}
 use Rattle.jskw_text.specs.Reading.{number_tree, tree_of, items_of, members_of}
+use Rattle.jskw_text.specs.Wanted.{prune, is_name_wanted}
+use Rattle.jskw_text.specs.declared.wanted.Level.{Level}
 
 -- the lexemes of `old` are these and those of `new`, which is shorter by a byte for each at least
 pub record Passes (old : List ℕ) (ls : List Lexeme) (new : List ℕ) : Type 0 where
@@ -83,3 +85,51 @@ ReadsMembers depth old found new =
     parse_map (members_of no_members)
     (members (value depth) (length (punctuate fresh (lex between old))) (punctuate fresh (lex between old)))
     ≡ Some (Ok found, punctuate after_value (lex between new))
+
+-- ---- what is wanted of it
+
+-- a string comes first, and t is one too, with its text where that is wanted
+abbrev pub PassesText : Bool → List ℕ → Tree → List ℕ → Type 0
+PassesText wanted old t new =
+    (s : List ℕ) × Passes old (token_lexeme (token.string s) ∷ []) new × (r : List ℕ) × (t ≡ string r)
+    × (wanted ≡ true → r ≡ s)
+
+-- a name comes first that is not wanted, and its colon
+abbrev pub PassesUnwanted : List Level → List ℕ → List ℕ → Type 0
+PassesUnwanted w old new = (k : List ℕ) × PassesName old k new × (is_name_wanted w k ≡ false)
+
+-- a value comes first, and of its tree and t the same is left
+abbrev pub ReadsWanted : List Level → ℕ → List ℕ → Tree → List ℕ → Type 0
+ReadsWanted w depth old t new = (u : Tree) × Reads depth old u new × (prune w t ≡ prune w u)
+
+-- the same of an array, behind its bracket
+abbrev pub ReadsItemsWanted : List Level → ℕ → List ℕ → Items → List ℕ → Type 0
+ReadsItemsWanted w depth old found new =
+    (us : Items) × ReadsItems depth old us new × (prune w (array found) ≡ prune w (array us))
+
+-- and of an object, behind its brace
+abbrev pub ReadsMembersWanted : List Level → ℕ → List ℕ → Members → List ℕ → Type 0
+ReadsMembersWanted w depth old found new =
+    (us : Members) × ReadsMembers depth old us new × (prune w (object found) ≡ prune w (object us))
+
+-- ---- whatever it is
+
+-- a string, a token that is a value by itself, a name and its colon
+abbrev pub SkipsText : List ℕ → List ℕ → Type 0
+SkipsText old new = (s : List ℕ) × Passes old (token_lexeme (token.string s) ∷ []) new
+
+abbrev pub SkipsLeaf : List ℕ → List ℕ → Type 0
+SkipsLeaf old new = (t : Tree) × PassesLeaf old t new
+
+abbrev pub SkipsName : List ℕ → List ℕ → Type 0
+SkipsName old new = (k : List ℕ) × PassesName old k new
+
+-- a value, items behind the bracket of their array, members behind the brace of their object
+abbrev pub Skips : ℕ → List ℕ → List ℕ → Type 0
+Skips depth old new = (u : Tree) × Reads depth old u new
+
+abbrev pub SkipsItems : ℕ → List ℕ → List ℕ → Type 0
+SkipsItems depth old new = (us : Items) × ReadsItems depth old us new
+
+abbrev pub SkipsMembers : ℕ → List ℕ → List ℕ → Type 0
+SkipsMembers depth old new = (us : Members) × ReadsMembers depth old us new

@@ -85,13 +85,14 @@ impl<'a> Cursor<'a> {
         ensures { MatchBool result (Passes self.old (operator_lexeme byte ∷ []) self.new)
             (Passes self.old [] self.new) }
     {
-        self.skip_spaces();
-        if self.peek() == byte {
-            self.advance();
-            true
-        } else {
-            false
+        if self.peek() != byte {
+            self.skip_spaces();
+            if self.peek() != byte {
+                return false;
+            }
         }
+        self.advance();
+        true
     }
 
     // Passes over the string that comes first and returns it, if it has no escape.

@@ -16,12 +16,15 @@ pub mod position;
 mod quick;
 pub mod reader;
 mod scan;
+mod skip;
 mod sorted;
 mod spare;
 pub mod tree;
+pub mod wanted;
 
 pub use fault::ReadFault;
 pub use number::parse_decimal;
 pub use position::{Position, position_of};
 pub use reader::TreeReader;
 pub use tree::read_bytes;
+pub use wanted::{Level, Names};

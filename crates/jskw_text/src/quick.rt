@@ -1,18 +1,24 @@
-//! The tree of a text in one pass. It gives a text up that is refused, and does not say why.
-ghost use Rattle.std.specs.Prelude.{◌≡◌, ◌≤◌, [], ◌∷◌, Some, Ok, IfOk, IsTrue, OnOk, length, map, string_bytes};
+//! What is wanted of the tree of a text, in one pass. It gives a text up that is refused, and does not
+//! say why.
+ghost use Rattle.std.specs.Prelude.{◌≡◌, ◌≤◌, [], ◌∷◌, IfOk, IfSome, IfNone, IsTrue, OnOk, length, map};
+ghost use Rattle.std.specs.Prelude.{string_bytes};
 ghost use Rattle.std.specs.Str.{is_utf8};
 ghost use Rattle.json.specs.Lex.{token};
 ghost use Rattle.json.specs.Token.{string};
 ghost use Rattle.json.specs.Word.{head};
 ghost use Rattle.jskw_value.specs.DecimalTree.{decimal_tree, items_from};
 ghost use Rattle.jskw_text.specs.Members.{members_seen};
-ghost use Rattle.jskw_text.specs.Passing.{Passes, PassesLeaf, PassesName, Reads, ReadsItems, ReadsMembers};
+ghost use Rattle.jskw_text.specs.Passing.{Passes, PassesLeaf, PassesName, PassesText, PassesUnwanted, ReadsWanted};
+ghost use Rattle.jskw_text.specs.Passing.{ReadsItemsWanted, ReadsMembersWanted};
 ghost use Rattle.jskw_text.specs.Reading.{reading};
+ghost use Rattle.jskw_text.specs.Wanted.{IsRead, is_text_wanted};
 
 use crate::cursor::Cursor;
+use crate::skip::{skip, skip_items, skip_members};
 use crate::sorted::put;
 use crate::spare::Spare;
 use crate::tree::MAX_DEPTH;
+use crate::wanted::{Level, below, is_name_wanted, is_text_wanted, of_values};
 use jskw_value::{DecimalTree, Member, Members};
 use std::alloc::{AllocError, AllocFailed};
 
@@ -37,16 +43,17 @@ impl<T: Drop> From<AllocFailed<T>> for Unread {
     }
 }
 
-// Reads the tree that a text denotes, or gives up and leaves the cursor where it does: if the text is
-// JSON, at its first number that is not exact.
+// Reads what is wanted of the tree that a text denotes, or gives up and leaves the cursor where it does:
+// if the text is JSON, at its first number that is not exact.
 pub(crate) fn read_quickly(
     cursor: &mut Cursor<'_>,
     spare: &mut Spare,
+    wanted: &[Level],
 ) -> Result<DecimalTree, Unread>
     requires { IsTrue (is_utf8 cursor.old) }
-    ensures { IfOk result (λ tree. reading cursor.old ≡ Some (Ok (decimal_tree tree))) }
+    ensures { IfOk result (λ tree. IsRead wanted.now (decimal_tree tree) (reading cursor.old)) }
 {
-    let tree = read(cursor, spare, MAX_DEPTH)?;
+    let tree = read(cursor, spare, wanted, is_text_wanted(wanted), MAX_DEPTH)?;
     cursor.skip_spaces();
     if !cursor.is_at_end() {
         return Err(Unread::Text);
@@ -54,43 +61,55 @@ pub(crate) fn read_quickly(
     Ok(tree)
 }
 
-// Reads the tree of the next value.
+// Reads what is wanted of the tree of the next value. `has_text` says whether the text of a string is.
 #[cycle(read)]
 #[inline(always)]
-fn read(cursor: &mut Cursor<'_>, spare: &mut Spare, depth: usize) -> Result<DecimalTree, Unread>
-    ensures ok { IfOk result (λ tree. Reads depth cursor.old (decimal_tree tree) cursor.new) }
+fn read(
+    cursor: &mut Cursor<'_>,
+    spare: &mut Spare,
+    wanted: &[Level],
+    has_text: bool,
+    depth: usize,
+) -> Result<DecimalTree, Unread>
+    requires { has_text ≡ is_text_wanted wanted.now }
+    ensures ok { IfOk result (λ tree. ReadsWanted wanted.now depth cursor.old (decimal_tree tree) cursor.new) }
     ensures shorter { OnOk result (length cursor.new ≤ length cursor.old) }
 {
     cursor.skip_spaces();
     match cursor.peek() {
-        b'"' => read_text(cursor, spare),
+        b'"' => read_text(cursor, spare, has_text),
         b'[' => {
             if depth == 0 {
                 return Err(Unread::Text);
             }
             cursor.advance();
-            Ok(DecimalTree::Array(read_items(cursor, spare, depth - 1)?))
+            Ok(DecimalTree::Array(read_items(cursor, spare, wanted, depth - 1)?))
         }
         b'{' => {
             if depth == 0 {
                 return Err(Unread::Text);
             }
             cursor.advance();
-            Ok(DecimalTree::Object(read_members(cursor, spare, depth - 1)?))
+            Ok(DecimalTree::Object(read_members(cursor, spare, wanted, depth - 1)?))
         }
         _ => read_word(cursor),
     }
 }
 
-// Reads a string. What a call out of line returns is put into a new result: with one result for both,
-// the value of each item would go through memory.
+// Reads a string, whose text is left out if it is not wanted. What a call out of line returns is put
+// into a new result: with one result for both, the value of each item would go through memory.
 #[inline(always)]
-fn read_text(cursor: &mut Cursor<'_>, spare: &mut Spare) -> Result<DecimalTree, Unread>
+fn read_text(
+    cursor: &mut Cursor<'_>,
+    spare: &mut Spare,
+    is_wanted: bool,
+) -> Result<DecimalTree, Unread>
     requires { head cursor.old ≡ 34 }
-    ensures { IfOk result (λ tree. PassesLeaf cursor.old (decimal_tree tree) cursor.new) }
+    ensures { IfOk result (λ tree. PassesText is_wanted cursor.old (decimal_tree tree) cursor.new) }
 {
     match cursor.string() {
-        Some(text) => Ok(DecimalTree::Text(spare.text(text)?)),
+        Some(text) if is_wanted => Ok(DecimalTree::Text(spare.text(text)?)),
+        Some(_) => Ok(DecimalTree::Text(String::new(spare.alloc))),
         None => Ok(DecimalTree::Text(read_escaped(cursor, spare)?)),
     }
 }
@@ -98,7 +117,7 @@ fn read_text(cursor: &mut Cursor<'_>, spare: &mut Spare) -> Result<DecimalTree, 
 // Reads the content of a string that has escapes.
 #[cold]
 #[inline(never)]
-fn read_escaped(cursor: &mut Cursor<'_>, spare: &mut Spare) -> Result<String, Unread>
+pub(crate) fn read_escaped(cursor: &mut Cursor<'_>, spare: &mut Spare) -> Result<String, Unread>
     requires { head cursor.old ≡ 34 }
     ensures { IfOk result (λ content.
         Passes cursor.old (token (string (string_bytes content)) ∷ []) cursor.new) }
@@ -112,7 +131,7 @@ fn read_escaped(cursor: &mut Cursor<'_>, spare: &mut Spare) -> Result<String, Un
 
 // Reads a number, a boolean or null.
 #[inline(always)]
-fn read_word(cursor: &mut Cursor<'_>) -> Result<DecimalTree, Unread>
+pub(crate) fn read_word(cursor: &mut Cursor<'_>) -> Result<DecimalTree, Unread>
     ensures { IfOk result (λ tree. PassesLeaf cursor.old (decimal_tree tree) cursor.new) }
 {
     if let Some(decimal) = cursor.short_number() {
@@ -130,24 +149,31 @@ fn read_word(cursor: &mut Cursor<'_>) -> Result<DecimalTree, Unread>
     }
 }
 
-// Reads the trees of the items up to the end of an array.
+// Reads what is wanted of the items up to the end of an array.
 #[cycle(read)]
 #[inline(never)]
 fn read_items(
     cursor: &mut Cursor<'_>,
     spare: &mut Spare,
+    wanted: &[Level],
     depth: usize,
 ) -> Result<Vec<DecimalTree>, Unread>
-    ensures ok { IfOk result
-        (λ v. ReadsItems depth cursor.old (items_from (map decimal_tree v.items)) cursor.new) }
+    ensures ok { IfOk result (λ v.
+        ReadsItemsWanted wanted.now depth cursor.old (items_from (map decimal_tree v.items)) cursor.new) }
     ensures shorter { OnOk result (length cursor.new ≤ length cursor.old) }
 {
+    if wanted.is_empty() {
+        skip_items(cursor, spare, depth)?;
+        return Ok(Vec::new(spare.alloc));
+    }
     if cursor.takes(b']') {
         return Ok(Vec::new(spare.alloc));
     }
+    let of_items = below(wanted);
+    let has_text = is_text_wanted(of_items);
     let mut found = spare.list(depth)?;
     'items: loop {
-        let item = read(cursor, spare, depth)?;
+        let item = read(cursor, spare, of_items, has_text, depth)?;
         found.push(item)?;
         if !cursor.takes(b',') {
             break;
@@ -160,22 +186,37 @@ fn read_items(
     Ok(found)
 }
 
-// Reads the members up to the end of an object.
+// Reads what is wanted of the members up to the end of an object.
 #[cycle(read)]
 #[inline(never)]
-fn read_members(cursor: &mut Cursor<'_>, spare: &mut Spare, depth: usize) -> Result<Members, Unread>
-    ensures ok { IfOk result (λ ms. ReadsMembers depth cursor.old (members_seen ms) cursor.new) }
+fn read_members(
+    cursor: &mut Cursor<'_>,
+    spare: &mut Spare,
+    wanted: &[Level],
+    depth: usize,
+) -> Result<Members, Unread>
+    ensures ok { IfOk result (λ ms. ReadsMembersWanted wanted.now depth cursor.old (members_seen ms) cursor.new) }
     ensures shorter { OnOk result (length cursor.new ≤ length cursor.old) }
 {
+    if wanted.is_empty() {
+        skip_members(cursor, spare, depth)?;
+        return Ok(Members::new(spare.alloc));
+    }
     if cursor.takes(b'}') {
         return Ok(Members::new(spare.alloc));
     }
+    let of_value = of_values(wanted);
+    let has_text = is_text_wanted(of_value);
     let mut found = spare.pairs(depth)?;
     let mut in_order = true;
     'members: loop {
-        let name = read_name(cursor, spare)?;
-        let value = read(cursor, spare, depth)?;
-        in_order = put(&mut found, Member { name, value }, in_order)?;
+        match read_name(cursor, spare, wanted)? {
+            Some(name) => {
+                let value = read(cursor, spare, of_value, has_text, depth)?;
+                in_order = put(&mut found, Member { name, value }, in_order)?;
+            }
+            None => skip(cursor, spare, depth)?,
+        }
         if !cursor.takes(b',') {
             break;
         }
@@ -187,19 +228,27 @@ fn read_members(cursor: &mut Cursor<'_>, spare: &mut Spare, depth: usize) -> Res
     Ok(Members::from_last_pairs(found)?)
 }
 
-// Reads a name and its colon.
+// Reads a name and its colon. Returns the name, if it is wanted.
 #[inline(always)]
-fn read_name(cursor: &mut Cursor<'_>, spare: &mut Spare) -> Result<String, Unread>
-    ensures { IfOk result (λ name. PassesName cursor.old (string_bytes name) cursor.new) }
+fn read_name(
+    cursor: &mut Cursor<'_>,
+    spare: &mut Spare,
+    wanted: &[Level],
+) -> Result<Option<String>, Unread>
+    ensures wanted { IfOk result
+        (λ found. IfSome found (λ name. PassesName cursor.old (string_bytes name) cursor.new)) }
+    ensures unwanted { IfOk result
+        (λ found. IfNone found (PassesUnwanted wanted.now cursor.old cursor.new)) }
 {
     cursor.skip_spaces();
     if cursor.peek() != b'"' {
         return Err(Unread::Text);
     }
     match cursor.string() {
-        Some(text) if cursor.takes(b':') => Ok(spare.text(text)?),
-        Some(_) => Err(Unread::Text),
-        None => Ok(read_escaped_name(cursor, spare)?),
+        Some(_) if !cursor.takes(b':') => Err(Unread::Text),
+        Some(name) if is_name_wanted(wanted, name) => Ok(Some(spare.text(name)?)),
+        Some(_) => Ok(None),
+        None => Ok(Some(read_escaped_name(cursor, spare)?)),
     }
 }
 

@@ -3,10 +3,12 @@ ghost use Rattle.std.specs.Prelude.{◌≡◌, Some, Ok, IfOk, IfErr};
 ghost use Rattle.jskw_value.specs.DecimalTree.{decimal_tree};
 ghost use Rattle.jskw_text.specs.ReadFault.{IsFaultOf};
 ghost use Rattle.jskw_text.specs.Reading.{reading};
+ghost use Rattle.jskw_text.specs.Wanted.{IsRead};
 
 use crate::fault::ReadFault;
-use crate::spare::Spare;
+use crate::spare::{Spare, free};
 use crate::tree::{Refusal, read_with};
+use crate::wanted::Level;
 use jskw_value::DecimalTree;
 use std::alloc::Global;
 use std::fmt;
@@ -60,8 +62,27 @@ impl TreeReader {
         ensures tree { IfOk result (λ tree. reading bytes.now ≡ Some (Ok (decimal_tree tree))) }
         ensures fault { IfErr result (IsFaultOf bytes.now) }
     {
+        self.read_wanted(bytes, &[Level::Whole])
+    }
+
+    /// Reads what is wanted of the tree that bytes denote as JSON text. What is not wanted may be there,
+    /// or may be left out, but all of the text is looked at.
+    ///
+    /// # Errors
+    ///
+    /// The same as those of [`read_bytes`](crate::read_bytes).
+    pub fn read_wanted(&mut self, bytes: &[u8], wanted: &[Level]) -> Result<DecimalTree, ReadFault>
+        ensures tree { IfOk result (λ tree. IsRead wanted.now (decimal_tree tree) (reading bytes.now)) }
+        ensures fault { IfErr result (IsFaultOf bytes.now) }
+    {
         self.is_long = bytes.len() > self.longest;
-        let tree = read_with(self.alloc, bytes, &mut self.spare, &mut self.refusal);
+        let tree = read_with(
+            self.alloc,
+            bytes,
+            wanted,
+            &mut self.spare,
+            &mut self.refusal,
+        );
         if self.is_long {
             self.refusal.scratch = None;
         }
@@ -79,6 +100,7 @@ impl TreeReader {
     pub fn reuse(&mut self, tree: DecimalTree) {
         if self.is_long {
             self.spare = Spare::new(self.alloc);
+            free(tree);
         } else {
             self.spare.take(tree);
         }

@@ -42,9 +42,23 @@ pub(crate) fn ends_word(byte: u8) -> bool
     (byte == b',') | (byte == b']') | (byte == b'}') || is_space(byte)
 }
 
-// Returns the offset behind the spaces that begin at an offset.
+// Returns the offset behind the spaces that begin at an offset. Mostly there are none.
 #[inline(always)]
 pub(crate) fn behind_spaces(bytes: &[u8], from: usize) -> usize
+    requires { from ≤ length bytes.now }
+    ensures lexed { lex between (drop from bytes.now) ≡ lex between (drop result bytes.now) }
+    ensures bounds { (from ≤ result) × (result ≤ length bytes.now) }
+{
+    if byte_at(bytes, from) > b' ' {
+        from
+    } else {
+        behind_some_spaces(bytes, from)
+    }
+}
+
+// Returns the same.
+#[inline(never)]
+fn behind_some_spaces(bytes: &[u8], from: usize) -> usize
     requires { from ≤ length bytes.now }
     ensures lexed { lex between (drop from bytes.now) ≡ lex between (drop result bytes.now) }
     ensures bounds { (from ≤ result) × (result ≤ length bytes.now) }
@@ -67,8 +81,25 @@ fn stops(bytes: u8x16) -> u64
 }
 
 // Returns the offset of the first quote, backslash or control byte from an offset on, or the length.
+// Most texts end within a block, for which there is no loop here.
 #[inline(always)]
 pub(crate) fn plain_end(bytes: &[u8], from: usize) -> usize
+    requires { from ≤ length bytes.now }
+    ensures value { result ≡ from + prefix_len is_plain (drop from bytes.now) }
+    ensures bound { result ≤ length bytes.now }
+{
+    if bytes.len() - from >= 16 {
+        let found = stops(u8x16::from_slice(&bytes[from..]));
+        if found != 0 {
+            return from + found.trailing_zeros() as usize;
+        }
+    }
+    plain_end_by_blocks(bytes, from)
+}
+
+// Returns the same, a block at a time.
+#[inline(never)]
+fn plain_end_by_blocks(bytes: &[u8], from: usize) -> usize
     requires { from ≤ length bytes.now }
     ensures value { result ≡ from + prefix_len is_plain (drop from bytes.now) }
     ensures bound { result ≤ length bytes.now }

@@ -142,10 +142,11 @@ impl Spare {
         }
     }
 
-    // Takes the room of a text.
+    // Takes the room of a text, if it has some.
     #[inline(always)]
     fn take_text(&mut self, text: String) {
-        if self.texts.len() < MOST_TEXTS && text.capacity() <= MOST_BYTES {
+        let room = text.capacity();
+        if room != 0 && room <= MOST_BYTES && self.texts.len() < MOST_TEXTS {
             let _ = self.texts.push(text);
         }
     }
@@ -187,5 +188,34 @@ impl Spare {
         if self.objects.len() < MOST_OBJECTS && pairs.capacity() <= MOST_MEMBERS {
             let _ = self.objects.push(pairs);
         }
+    }
+}
+
+// Frees a tree. The items of long arrays are taken apart here, because a drop of each would be a call.
+pub(crate) fn free(tree: DecimalTree) {
+    if let DecimalTree::Array(mut items) = tree {
+        'items: while let Some(item) = items.pop() {
+            match item {
+                DecimalTree::Array(items) => free_items(items),
+                item => free_item(item),
+            }
+        }
+    }
+}
+
+// Frees the items of an array.
+fn free_items(mut items: Vec<DecimalTree>) {
+    'items: while let Some(item) = items.pop() {
+        free_item(item);
+    }
+}
+
+// Frees an item.
+#[inline(always)]
+fn free_item(item: DecimalTree) {
+    match item {
+        DecimalTree::Null | DecimalTree::Bool(_) | DecimalTree::Number(_) => {}
+        DecimalTree::Text(text) => drop(text),
+        DecimalTree::Array(_) | DecimalTree::Object(_) => drop(item),
     }
 }

@@ -11,6 +11,7 @@ ghost use Rattle.jskw_text.specs.Members.{members_seen};
 ghost use Rattle.jskw_text.specs.ReadFault.{IsFaultOf};
 ghost use Rattle.jskw_text.specs.Stop.{IsStopOf, Explains, IsAt, IsOutside, location_of};
 ghost use Rattle.jskw_text.specs.Reading.{document, reading, tree_of, items_of, members_of};
+ghost use Rattle.jskw_text.specs.Wanted.{IsRead};
 
 use crate::broken::offset_of_break;
 use crate::cursor::Cursor;
@@ -18,6 +19,7 @@ use crate::fault::{ReadFault, Stop};
 use crate::number::parse_decimal;
 use crate::quick::{Unread, read_quickly};
 use crate::spare::Spare;
+use crate::wanted::Level;
 use jskw_value::pointer::{push_index, push_name};
 use jskw_value::{DecimalTree, Member, Members};
 use json::{Reader, Scratch, Token};
@@ -36,7 +38,13 @@ pub fn read_bytes(alloc: Global, bytes: &[u8]) -> Result<DecimalTree, ReadFault>
     ensures tree { IfOk result (λ tree. reading bytes.now ≡ Some (Ok (decimal_tree tree))) }
     ensures fault { IfErr result (IsFaultOf bytes.now) }
 {
-    read_with(alloc, bytes, &mut Spare::new(alloc), &mut Refusal::none())
+    read_with(
+        alloc,
+        bytes,
+        &[Level::Whole],
+        &mut Spare::new(alloc),
+        &mut Refusal::none(),
+    )
 }
 
 // What is left of the reading of a text that is refused.
@@ -59,35 +67,38 @@ impl Refusal {
     }
 }
 
-// Reads the tree that bytes denote as JSON text, in room of trees that are no longer needed.
+// Reads what is wanted of the tree that bytes denote as JSON text, in room of trees that are no longer
+// needed.
 pub(crate) fn read_with(
     alloc: Global,
     bytes: &[u8],
+    wanted: &[Level],
     spare: &mut Spare,
     refusal: &mut Refusal,
 ) -> Result<DecimalTree, ReadFault>
-    ensures tree { IfOk result (λ tree. reading bytes.now ≡ Some (Ok (decimal_tree tree))) }
+    ensures tree { IfOk result (λ tree. IsRead wanted.now (decimal_tree tree) (reading bytes.now)) }
     ensures fault { IfErr result (IsFaultOf bytes.now) }
 {
     match simdutf8::compat::from_utf8(bytes) {
-        Ok(text) => read_text(alloc, text, spare, refusal),
+        Ok(text) => read_text(alloc, text, wanted, spare, refusal),
         Err(e) => Err(ReadFault::NotJson(e.valid_up_to())),
     }
 }
 
-// Reads the tree that a text denotes.
+// Reads what is wanted of the tree that a text denotes.
 fn read_text(
     alloc: Global,
     text: &str,
+    wanted: &[Level],
     spare: &mut Spare,
     refusal: &mut Refusal,
 ) -> Result<DecimalTree, ReadFault>
     requires { IsTrue (is_utf8 text.now) }
-    ensures tree { IfOk result (λ tree. reading text.now ≡ Some (Ok (decimal_tree tree))) }
+    ensures tree { IfOk result (λ tree. IsRead wanted.now (decimal_tree tree) (reading text.now)) }
     ensures fault { IfErr result (IsFaultOf text.now) }
 {
     let mut cursor = Cursor::new(text);
-    match read_quickly(&mut cursor, spare) {
+    match read_quickly(&mut cursor, spare, wanted) {
         Ok(tree) => Ok(tree),
         Err(Unread::Text) => {
             refusal.offset = cursor.offset();

@@ -8,6 +8,7 @@ pub returns : goal.returns
 returns c =
     let tree = decimal_tree c.in_ok-tree.tree in
     let new = c.read.new.cursor in
+    let taken = c.in_ok-tree.ensures.ok in
     let ended : lex between new ≡ [] =
     c.skip_spaces.ensures.lexed ∙ nothing_left c.skip_spaces.new.self (c.if-not-is_at_end.ensures refl) in
-    whole_read c.args.cursor.now new tree c.requires c.in_ok-tree.ensures.ok ended
+    (taken.0, whole_read c.args.cursor.now new taken.0 c.requires taken.1 ended, taken.2)

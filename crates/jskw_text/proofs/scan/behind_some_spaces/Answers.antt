@@ -1,7 +1,7 @@
 use Rattle.std.proofs.Common.{◌≡◌, get_or, true, ◌∙◌, arith, rules}
 use Rattle.json.specs.Word.{is_space}
 use Rattle.jskw_text.proofs.Lexemes.{space_passed}
-use Rattle.jskw_text.proofs.scan.behind_spaces.Goals as goal
+use Rattle.jskw_text.proofs.scan.behind_some_spaces.Goals as goal
 
 pub spaces-preserved : goal.spaces-preserved
 spaces-preserved c =

@@ -1,6 +1,6 @@
 use Rattle.std.proofs.Common.{◌≡◌, ◌-◌, ◌≤◌, length, drop}
 use Rattle.json.specs.Lex.{between, lex}
-use Rattle.jskw_text.proofs.scan.behind_spaces.Given as goal
+use Rattle.jskw_text.proofs.scan.behind_some_spaces.Given as goal
 
 abbrev pub invariant-spaces : goal.invariant-spaces
 invariant-spaces l =

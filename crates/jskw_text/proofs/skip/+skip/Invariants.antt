@@ -1,0 +1,25 @@
+use Rattle.std.proofs.Common.{◌+◌, ◌*◌, List, length}
+use Rattle.jskw_value.specs.Tree.{Tree, Members}
+use Rattle.jskw_text.proofs.Passing.{IsLeft, ItemsLeft, MembersLeft}
+use Rattle.jskw_text.proofs.skip.+skip.Given as goal
+
+abbrev pub decreases-skip : goal.decreases-skip
+decreases-skip l = 2 * l.depth
+
+abbrev pub decreases-skip_items : goal.decreases-skip_items
+decreases-skip_items l = 2 * l.depth + 1
+
+abbrev pub decreases-skip_members : goal.decreases-skip_members
+decreases-skip_members l = 2 * l.depth + 1
+
+abbrev pub invariant-skip_items-items : goal.invariant-skip_items-items
+invariant-skip_items-items l = (ts : List Tree) × IsLeft (ItemsLeft l.depth l.fn.cursor ts) l.fn.cursor l.cursor
+
+abbrev pub decreases-skip_items-items : goal.decreases-skip_items-items
+decreases-skip_items-items l = length l.cursor
+
+abbrev pub invariant-skip_members-members : goal.invariant-skip_members-members
+invariant-skip_members-members l = (ms : Members) × IsLeft (MembersLeft l.depth l.fn.cursor ms) l.fn.cursor l.cursor
+
+abbrev pub decreases-skip_members-members : goal.decreases-skip_members-members
+decreases-skip_members-members l = length l.cursor

@@ -1,0 +1,5 @@
+use Rattle.std.proofs.Common.{length}
+use Rattle.jskw_text.proofs.spare.free.Given as goal
+
+abbrev pub decreases-items : goal.decreases-items
+decreases-items l = length l.items.items

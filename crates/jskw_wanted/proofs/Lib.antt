@@ -1,0 +1,4 @@
+pub mod Growth
+pub mod LevelsLeft
+pub mod Pruned
+pub mod Read
