@@ -1,4 +1,5 @@
 pub mod Divisors
+pub mod EmptySets
 pub mod Limits
 pub mod Outlines
 pub mod QuickSets

@@ -4,7 +4,7 @@ ghost use Rattle.std.specs.Prelude.{◌+◌, ◌≡◌, ◌≤ℤ◌, ◌≤◌,
 ghost use Rattle.std.specs.Prelude.{false, get_or, length, not, pos, true};
 ghost use Rattle.std.specs.Option.{option_map_or};
 ghost use Rattle.jskw_value.specs.Number.{Num, is_exact, is_written_as_integer};
-ghost use Rattle.jskw_value.specs.Tree.{Items, Members, array, as_number, is_lawful, items, number};
+ghost use Rattle.jskw_value.specs.Tree.{Items, Members, Tree, array, as_number, is_lawful, items, number};
 ghost use Rattle.jskw_value.specs.Tree.{object};
 ghost use Rattle.jskw_value.specs.declared.types.JsonType.{JsonType};
 ghost use Rattle.std.specs.Int.NonZero.{non_zero_u64_get};
@@ -79,16 +79,15 @@ impl QuickSet {
         self.types[type_index(JsonType::Object)]
     }
 
-    /// Returns whether no value is in the set. May return false for an empty set whose numbers are
-    /// limited.
-    pub fn is_empty(&self) -> bool {
-        !self.types[0]
-            && !self.types[1]
-            && !self.types[2]
-            && !self.types[3]
-            && !self.types[4]
-            && !self.types[5]
-            && (!self.is_limited || self.integers.is_empty())
+    /// Returns true only if no value is in the set: it has no type, and no numbers between its ends. May
+    /// return false for an empty set whose numbers are limited.
+    pub fn is_empty(&self) -> bool
+        ensures { result ≡ true → (t : Tree) → is_in self.now t ≡ false }
+    {
+        if self.types != [false; 6] {
+            return false;
+        }
+        !self.is_limited || self.integers.is_empty()
     }
 
     // Returns whether the number, which must be lawful, is in the set, which must be limited.

@@ -1,6 +1,6 @@
 //! Ranges of integers, with a divisor.
 ghost use Rattle.std.specs.Prelude.{◌&&◌, ◌*ℤ◌, ◌-◌, ◌<◌, ◌<ℤ◌, ◌^◌, ◌≡◌, ◌≤ℤ◌, ◌≤◌};
-ghost use Rattle.std.specs.Prelude.{IfSome, IsTrue, ℕ, ℤ, false, int_le, negsuc, pos, true};
+ghost use Rattle.std.specs.Prelude.{IfSome, IsTrue, ℕ, ℤ, false, int_le, int_lt, negsuc, pos, true};
 ghost use Rattle.jskw_value.specs.Number.{Num, exact, is_exact, is_multiple_of};
 ghost use Rattle.jskw_value.specs.Tree.{number};
 ghost use Rattle.std.specs.Int.NonZero.{non_zero_u64_get};
@@ -32,7 +32,9 @@ impl IntegerRange {
     }
 
     // Returns whether there is nothing between the ends.
-    pub(super) fn is_empty(&self) -> bool {
+    pub(super) fn is_empty(&self) -> bool
+        ensures { result ≡ int_lt self.now.high self.now.low }
+    {
         self.high < self.low
     }
 
