@@ -10,7 +10,7 @@ use Rattle.jskw_array.specs.Words.{ArraysAreValid, Each, IfSome, Keyword, Part, 
 use Rattle.jskw_array.specs.Words.{all_hold, all_needed, arrays_cost, each_holds, each_keyword, each_needed, holds}
 use Rattle.jskw_array.specs.Words.{in_arrays, in_outline, in_rest, in_sets, in_typed, is_array, is_in, items}
 use Rattle.jskw_array.specs.Words.{items_cost, keyword_holds, keyword_needed, keywords_of, list_all, marked}
-use Rattle.jskw_array.specs.Words.{meaning_holds, meaning_needed, needed, part_meaning, rest_cost, rest_keyword}
+use Rattle.jskw_array.specs.Words.{meaning_holds, needed, part_meaning, rest_cost, rest_keyword}
 use Rattle.jskw_array.specs.Words.{schema_object, schemas_of, sum_to_failure}
 use Rattle.jskw_number.specs.QuickSet.{leading}
 use Rattle.jskw_number.specs.declared.outline.Outline.{Outline}
@@ -20,7 +20,7 @@ use Rattle.jskw_array.specs.declared.accepted.SettledParts.{SettledParts}
 use Rattle.jskw_array.proofs.AcceptedValues.{one_needed}
 use Rattle.jskw_array.proofs.PassedItems.{passed_length}
 use Rattle.jskw_array.proofs.PartsLeft.{behind_held, left_holds, left_needed, object_applied, only_holds}
-use Rattle.jskw_array.proofs.WalksOverParts.{keywords_end, passed_at}
+use Rattle.jskw_array.proofs.WalksOverParts.{keywords_end}
 
 -- ---- what a keyword needs of valid items
 
@@ -193,28 +193,6 @@ module _ {F Node Number Key : Type 0} where
       (t : Tree) → in_arrays a t ≡ true
       → (in_outline o t ≡ true) × (all_hold (keywords_of us) t ≡ all_hold (keywords_of (drop i us)) t)
       × (arrays_cost a t + all_needed (keywords_of (drop i us)) t ≤ 1 + all_needed (keywords_of us) t)
-
-  pub narrowed_first : (o own both : Outline) (us : List (Part F Node Number Key)) (f : Vec QuickSet Global)
-      → f.items ≡ []
-      → ((t : Tree) → in_outline both t ≡ true → (in_outline o t && in_outline own t) ≡ true)
-      → Narrowed o us 0 (record { lengths = both; front = f; start = 0; rest = None })
-  narrowed_first o own both us f none parts t h =
-      let all = four (is_array t) (in_outline both t) (in_sets f.items (items t)) true h in
-      let lengths = and_parts (in_outline o t) (in_outline own t) (parts t all.1) in
-      let size = ap length none in
-      (lengths.0, refl, omega (arith, size))
-
-  pub narrowed_next : (o : Outline) (us : List (Part F Node Number Key)) (i : ℕ) (u : Part F Node Number Key)
-      (old new : ItemSets) (k : Keyword) → i < length us → u ≡ get_or us i u
-      → ((t : Tree) → keyword_holds k t ≡ meaning_holds (part_meaning u) t)
-      → ((t : Tree) → keyword_needed k t ≡ meaning_needed (part_meaning u) t)
-      → Narrowed o us i old → AddsKeyword old new k → Narrowed o us (i + 1) new
-  narrowed_next o us i u old new k within is same cost before adds t h =
-      let more = adds t h in
-      let known = before t more.0 in
-      let passed = passed_at us i u within is t (sym (same t) ∙ more.1) in
-      let needs = cost t in
-      (known.0, known.1 ∙ passed.0, omega (arith, known.2, more.2, passed.1, needs))
 
   pub narrowed_end : (o : Outline) (us : List (Part F Node Number Key)) (i : ℕ) (a : ItemSets)
       → length us ≤ i → Narrowed o us i a

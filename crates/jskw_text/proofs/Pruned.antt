@@ -14,7 +14,6 @@ use Rattle.std.specs.Str.{bytes_eq}
 use Rattle.std.specs.declared.cmp.Ordering.{Ordering}
 use Rattle.std.specs.declared.cmp.Ordering.TheVariants.{Less, Equal, Greater}
 use Rattle.jskw_value.specs.DecimalTree.{items_from}
-use Rattle.jskw_value.specs.Pointer.{Pointer}
 use Rattle.jskw_value.specs.Tree.{Tree, string, array, object, item, Members, no_members, member}
 use Rattle.jskw_value.specs.declared.decimal_tree.DecimalTree.{DecimalTree}
 use Rattle.jskw_value.proofs.LastMembers.{one_name}
@@ -23,7 +22,7 @@ use Rattle.jskw_text.specs.Passing.{ReadsWanted}
 use Rattle.jskw_text.specs.Reading.{put}
 use Rattle.jskw_text.specs.Wanted.{of_items, of_values, is_text_wanted, is_whole, map_items, named, names_in, prune}
 use Rattle.jskw_text.specs.Wanted.{wanted_names}
-use Rattle.jskw_text.specs.Wanted.{wants_name, is_name_wanted, IsRead}
+use Rattle.jskw_text.specs.Wanted.{wants_name, is_name_wanted}
 use Rattle.jskw_text.specs.declared.wanted.Level.{Level}
 use Rattle.jskw_text.specs.declared.wanted.Level.TheVariants.{Whole, Part}
 use Rattle.jskw_text.specs.declared.wanted.Names.{Names}
@@ -232,11 +231,6 @@ when_none P (Some b) e p = cc
 when_none P None e p = p
 
 -- ---- the whole text
-
--- what was read of all that is wanted is the tree
-pub whole_is_read : (t : Tree) (ls : List Level) (o : Option (Result Tree Pointer)) → IsRead (Whole ∷ ls) t o
-    → o ≡ Some (Ok t)
-whole_is_read t ls o read = read.1 ∙ ap (λ u. Some (Ok u)) (sym read.2)
 
 pub if_taken : {E : Type 0} {P Q : DecimalTree → Type 0} (r : Result DecimalTree E) → ((t : DecimalTree) → P t → Q t)
     → IfOk r P → IfOk r Q

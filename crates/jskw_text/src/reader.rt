@@ -17,7 +17,7 @@ use std::fmt;
 const LONGEST: usize = 1_000_000;
 
 /// Reads texts one after another. It keeps up to 4 MB of the room of trees that are no longer needed,
-/// and the room that a refused text is read with. After a long text it keeps neither.
+/// and the room that a refused text is read with, of a long text neither.
 #[derive(Drop)]
 pub struct TreeReader {
     alloc: Global,
@@ -89,8 +89,8 @@ impl TreeReader {
         tree
     }
 
-    /// Returns the offset of the first number that is not exact, if [`read`](TreeReader::read) has just
-    /// returned [`ReadFault::Inexact`]; else an offset of no meaning.
+    /// Returns the offset, in bytes, of the first number that is not exact, if the last text was refused
+    /// with [`ReadFault::Inexact`]. Of any other text the number that it returns says nothing.
     pub fn offset_of_inexact(&self) -> usize {
         self.refusal.offset
     }

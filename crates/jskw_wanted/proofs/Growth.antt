@@ -1,6 +1,6 @@
 -- What was asked for still is, where more is.
 use Rattle.std.proofs.Common.{◌≡◌, ℕ, ◌+◌, ◌<◌, List, [], ◌∷◌, ◌++◌, length, get_or, drop, subst}
-use Rattle.std.proofs.Common.{refl, sym, ap, ◌∙◌, Option, Some, None, IfSome}
+use Rattle.std.proofs.Common.{refl, sym, ap, Option, Some, None}
 use Rattle.std.proofs.lemmas.Map.Lookups.{exact_bytes}
 use Rattle.std.specs.Cmp.Lexicographic.{slice_cmp}
 use Rattle.std.specs.Ordering.{nat_cmp, match_ordering}
@@ -16,11 +16,10 @@ use Rattle.jskw_report.proofs.GatheredNodes.{drop_here}
 use Rattle.jskw_report.specs.Setting.{name_of}
 use Rattle.jskw_report.specs.declared.keyword.KeywordName.{KeywordName}
 use Rattle.jskw_report.specs.declared.keyword.KeywordName.TheVariants as keyword_name
-use Rattle.jskw_text.proofs.Pruned.{when_some}
 use Rattle.jskw_text.specs.declared.wanted.Level.{Level}
 use Rattle.jskw_wanted.specs.Asked.{AreEnough, Asks, AsksAll, AsksKeyword, AsksMember, AsksMembers, AsksNamed}
 use Rattle.jskw_wanted.specs.Asked.{AsksNames, AsksOption, AsksOne, AsksOptions, EachEnough, ValueEnough, Grows}
-use Rattle.jskw_wanted.specs.Asked.{asking_keyword, schemas_seen}
+use Rattle.jskw_wanted.specs.Asked.{schemas_seen}
 use Rattle.jskw_wanted.specs.Enough.{IsEnough}
 use Rattle.jskw_wanted.specs.declared.asked.Asked.{Asked}
 
@@ -164,27 +163,6 @@ next_member a b ms k e rest left g asks c h behind =
     here w d Equal is at =
         subst (λ x. AsksKeyword c w x) (ap (held e) at)
         (keyword_grows b c h w e (asks w (exact_bytes (name_of w) k is)))
-
--- what the keyword of a name looks at is asked for
-pub asked_by_name : (a : Asked) (k : List ℕ) (d : Data) (r : Option KeywordName) → r ≡ asking_keyword k
-    → IfSome r (λ v. AsksKeyword a v d) → AsksNamed a k d
-asked_by_name a k d r is asks w e = go w (is ∙ ap asking_keyword (sym e))
-  where
-    found : (v : KeywordName) → r ≡ Some v → AsksKeyword a v d
-    found v h = when_some (λ x. AsksKeyword a x d) r v h asks
-
-    go : (v : KeywordName) → r ≡ asking_keyword (name_of v) → AsksKeyword a v d
-    go keyword_name.MinProperties h = found keyword_name.MinProperties h
-    go keyword_name.MaxProperties h = found keyword_name.MaxProperties h
-    go keyword_name.Required h = found keyword_name.Required h
-    go keyword_name.Const h = found keyword_name.Const h
-    go keyword_name.Enum h = found keyword_name.Enum h
-    go keyword_name.UniqueItems h = found keyword_name.UniqueItems h
-    go keyword_name.Items h = found keyword_name.Items h
-    go keyword_name.PrefixItems h = found keyword_name.PrefixItems h
-    go keyword_name.AdditionalItems h = found keyword_name.AdditionalItems h
-    go keyword_name.Contains h = found keyword_name.Contains h
-    go _ h = tt
 
 -- a value, and the items of an array
 same_items : (es ds : Items) → ◌≡◌ {A = Option Items} (Some ds) (Some es) → es ≡ ds

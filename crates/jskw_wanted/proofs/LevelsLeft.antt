@@ -18,12 +18,6 @@ abbrev pub IsLeft : Value → List Level → List (Bor Value) → Type 0
 IsLeft root levels here =
     (ls : List Level) → AreEnough (schemas_seen here) ls → IsEnough (view root) (levels ++ ls)
 
-pub at_first : (root : Bor Value) (levels : List Level) (here : List (Bor Value)) → levels ≡ [] → here ≡ root ∷ []
-    → IsLeft root.now levels here
-at_first root levels here none one = λ ls e.
-    subst (λ xs. IsEnough (view root.now) (xs ++ ls)) (sym none)
-    (subst (λ vs. AreEnough (schemas_seen vs) ls) one e).0
-
 pub no_schemas : (vs : List (Bor Value)) → true ≡ (length vs == 0) → vs ≡ []
 no_schemas [] e = refl
 no_schemas (v ∷ vs) e = absurd (true≢false (e ∙ eqb-suc-zero (length vs)))
@@ -34,12 +28,6 @@ pub at_end : (root : Value) (levels : List Level) (here : List (Bor Value)) → 
 at_end root levels here none left =
     subst (IsEnough (view root)) (append-nil levels)
     (left [] (subst (λ vs. AreEnough (schemas_seen vs) []) (sym none) tt))
-
--- all of what is left is wanted
-pub at_whole : (root : Value) (levels more : List Level) (here : List (Bor Value)) → more ≡ levels ++ Whole ∷ []
-    → IsLeft root levels here → IsEnough (view root) more
-at_whole root levels more here pushed left =
-    subst (IsEnough (view root)) (sym pushed) (left (Whole ∷ []) (whole_for_all (schemas_seen here) []))
 
 -- one level more
 pub at_next : (root : Value) (levels more : List Level) (here : List (Bor Value)) (a : Asked)
