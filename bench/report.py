@@ -11,7 +11,7 @@ from program import ROOT
 
 # Sections of docs/PEERS.md. bench/check writes that of lines, bench/values that of values.
 LINES, VALUES = "## Lines of a stream", "## Values in Python"
-IN_PROCESS, MEASURED = "## Calls in process, the text parsed in each", "## How it was measured"
+FROM_TEXT, MEASURED = "## From text", "## How it was measured"
 
 
 def section_of(path, heading):
@@ -67,7 +67,7 @@ OTHER = "- the other figures: "
 
 
 def facts_of(path):
-    """Returns what a report says of its conditions, by name; of calls in process, which come first, the rest counts."""
+    """Returns what a report says of its conditions, by name; of sections with conditions of their own, which come first, the last counts."""
     lines = path.read_text(encoding="utf-8").splitlines()
     pairs = [line[2:].split(": ", 1) for line in lines if line.startswith("- ") and ": " in line]
     facts = {name: value for name, value in pairs if name in (*ALIKE, "date")}

@@ -3,7 +3,7 @@
 import json
 import random
 
-import in_process
+import from_text
 
 SIZE = 1_000_000
 
@@ -68,8 +68,8 @@ def kinds():
 
 
 def asked():
-    """A name, the text of a schema and a text: of the calls in process, and of each kind."""
-    small = [(name, compact(schema), compact(value)) for name, schema, value in in_process.CASES]
+    """A name, the text of a schema and a text: small ones of a service, and of each kind."""
+    small = [(name, compact(schema), compact(value)) for name, schema, value in from_text.SMALL]
     return small + [(f"{name}, 1 MB", compact(schema), text) for name, text, schema in kinds()]
 
 

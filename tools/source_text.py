@@ -84,7 +84,7 @@ class Contract:
         return any(word == name if name else re.search(rf"\b{word}\b", words) for name, words in self.owed)
 
     def __str__(self):
-        short = lambda name, words: name or (words if len(words) <= WIDTH else words[: WIDTH - 3] + " ..")
+        short = lambda name, words: name or (re.sub(r"^([A-Z]\w+) .*", r"\1 ..", words) if len(words) > WIDTH else words)
         given = [f"`{short(name, words)}`" for kind, name, words in self.clauses if kind == "requires"]
         owed = [f"`{short(*it)}`" for it in self.owed]
         parts = ["requires " + ", ".join(given)] * bool(given) + [", ".join(owed) or "none"]
