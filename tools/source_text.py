@@ -94,7 +94,8 @@ class Contract:
 class Module:
     """A file of a crate with the modules below it."""
 
-    def __init__(self, file, path):
+    def __init__(self, file, path, alone=False):
+        """`alone`: without the modules below it."""
         self.file, self.path, self.text = file, path, file.read_text(encoding="utf-8")
         self.code, self.lines = blanked(self.text), self.text.split("\n")
         uses = re.findall(r"^ *ghost use [^;]*;", self.code, re.M)
@@ -105,7 +106,7 @@ class Module:
         self.starts, self.below, self.uses = starts, [], []
         for row, line in enumerate(self.code.split("\n")):
             made = re.match(r"(pub )?(?:pub\(crate\) )?mod (\w+);", line)
-            if made and "#[cfg(test)]" not in self.lines[row - 1]:
+            if made and not alone and "#[cfg(test)]" not in self.lines[row - 1]:
                 folder = file.parent if file.stem in ("lib", "main") else file.parent / file.stem
                 self.below.append((bool(made[1]), Module(folder / f"{made[2]}.rt", [*path, made[2]])))
         for used in re.finditer(r"^pub use (?:crate::|self::)?([\w:]+?)(?:::(\w+)|::\{([^}]*)\});", self.code, re.M):

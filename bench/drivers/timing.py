@@ -1,6 +1,6 @@
 """Times calls as timing.js does. Each line of standard input is a name, a schema and an instance, with a tab between
 each two. Without an argument it prints for each the name, the answer, and nanoseconds: a compile, is_valid, the first
-error, all errors; `-` stands for a call that a validator lacks.
+error, all errors; `-` stands for a call that a validator lacks, and the answer is `lacks` if it cannot take the schema.
 
 With a number as argument it times texts: it prints the name, the answer, and the mean nanoseconds of so many calls of
 is_valid, each of which parses the bytes of the instance's text. The schema is compiled before."""
@@ -57,8 +57,11 @@ def answer_lines(calls_of):
     if len(sys.argv) > 1:
         return answer_texts(lambda schema: parsing(calls_of(schema)[1]))
     for name, schema, text in lines():
-        instances = [json.loads(text) for _ in range(COPIES)]
-        compile_schema, is_valid, first, every = calls_of(schema)
+        instances, calls = [json.loads(text) for _ in range(COPIES)], calls_of(schema)
+        if not calls:
+            print(name, "lacks", *"----", sep="\t")
+            continue
+        compile_schema, is_valid, first, every = calls
         times = [fastest([schema], compile_schema) if compile_schema else "-"]
         times += [fastest(instances, call) if call else "-" for call in (is_valid, first, every)]
         print(name, word_of(is_valid(instances[0])), *times, sep="\t")
