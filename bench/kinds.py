@@ -89,3 +89,17 @@ def parsed_workloads():
         Workload(kind.name, "-", kind.schema, {failure: document(kind, size, failure) for failure in KINDS[:2]})
         for kind in asked
     ]
+
+
+def rare_workloads():
+    """What neither the workloads nor the kinds have: long lists of different items, and many required names."""
+    names = [f"member_{index}" for index in range(17)]
+    rows = [[*range(999), index] for index in range(100)]
+    shuffled = [7_919 * index % 10_007 for index in range(10_000)]
+    asked = [
+        ("1,000 different texts", {"uniqueItems": True}, [f"text-{7 * index % 1_000:04}" for index in range(1_000)]),
+        ("10,000 different integers in no order", {"uniqueItems": True}, shuffled),
+        ("100 rows of 1,000 that differ at the end", {"uniqueItems": True}, rows),
+        ("200 objects of 17 required names", array_of({"required": names}), [dict.fromkeys(names, 1)] * 200),
+    ]
+    return [Workload(name, "-", schema, {KINDS[0]: value}) for name, schema, value in asked]
