@@ -87,6 +87,9 @@ checked all the same.
 """
 
 ENDS = "not JSON: the text ends too early"
+WORD = "not JSON: a word that is not true, false or null"
+UTF8 = "not JSON: the bytes are not UTF-8"
+MORE = "not JSON: there is more behind the value"
 MINUS_1 = "-1 is less than the minimum of 0 [/items/minimum]"
 MINUS_2 = "invalid.json: /1: -2 is less than the minimum of 0 [/items/minimum]\n"
 INVALID = MINUS_2 + 'invalid.json: /2: "a" is not of type "integer" [/items/type]\n'
@@ -237,24 +240,24 @@ DOCUMENTS = [
     Case("a newline alone", f"{S} newline.json", "", 2, f"newline.json:2:1: {ENDS}\n"),
     Case("spaces alone", f"{S} spaces.json", "", 2, f"spaces.json:2:3: {ENDS}\n"),
     Case("it ends early", f"{S} broken.json", "", 2, f"broken.json:2:3: {ENDS}\n"),
-    Case("a wrong token", f"{S} token.json", "", 2, "token.json:2:3: not JSON\n"),
-    Case("two values", f"{S} behind.json", "", 2, "behind.json:2:1: not JSON\n"),
-    Case("a column counts characters", f"{S} wide.json", "", 2, "wide.json:1:12: not JSON\n"),
+    Case("a wrong token", f"{S} token.json", "", 2, f"token.json:2:3: {WORD}\n"),
+    Case("two values", f"{S} behind.json", "", 2, f"behind.json:2:1: {MORE}\n"),
+    Case("a column counts characters", f"{S} wide.json", "", 2, f"wide.json:1:12: {WORD}\n"),
     Case("inexact", f"{S} inexact.json", "", 2, "inexact.json:1:5: /1: the number has no exact decimal\n"),
     Case("inexact, deep", f"{S} inexact_deep.json", "", 2,
          "inexact_deep.json:2:2: /a~1b/1: the number has no exact decimal\n"),
     Case("inexact by its exponent", "--schema anything.json tenfold.json", "", 2,
          "tenfold.json:1:36: /2/a: the number has no exact decimal\n"),
-    Case("a NUL byte", f"{S} nul.json", "", 2, "nul.json:1:1: not JSON\n"),
-    Case("a NUL byte in a string", f"{S} nul_within.json", "", 2, "nul_within.json:1:2: not JSON\n"),
-    Case("a NUL byte behind", f"{S} nul_behind.json", "", 2, "nul_behind.json:1:4: not JSON\n"),
+    Case("a NUL byte", f"{S} nul.json", "", 2, f"nul.json:1:1: {WORD}\n"),
+    Case("a NUL byte in a string", f"{S} nul_within.json", "", 2, "nul_within.json:1:2: not JSON: a control character in a string\n"),
+    Case("a NUL byte behind", f"{S} nul_behind.json", "", 2, f"nul_behind.json:1:4: {MORE}\n"),
     Case("a byte order mark", f"{S} mark.json", "", 2,
          "mark.json:1:1: not JSON: the text begins with a byte order mark\n"),
-    Case("not UTF-8", f"{S} latin.json", "", 2, "latin.json:1:3: not JSON\n"),
+    Case("not UTF-8", f"{S} latin.json", "", 2, f"latin.json:1:3: {UTF8}\n"),
     Case("a lone surrogate", f"{S} lone.json", "", 2, f"lone.json:1:2: has the escape of a lone surrogate, {UNREAD}\n"),
     Case("too deep", f"{S} deep.json", "", 2, f"deep.json:1:128: {DEEPER}\n"),
     Case("CRLF", f"{S} crlf.json", "", 1, f"crlf.json: /0: {MINUS_1}\n"),
-    Case("CRLF, a wrong token", f"{S} crlf_token.json", "", 2, "crlf_token.json:3:1: not JSON\n"),
+    Case("CRLF, a wrong token", f"{S} crlf_token.json", "", 2, f"crlf_token.json:3:1: {WORD}\n"),
     Case("control characters are escaped", f"{S} control.json", "", 1,
          'control.json: /0: "é😀\\u0007\\n\\u001b[2J\\u007f" is not of type "integer" [/items/type]\n'),
     Case("control characters of a name", f"{S} 'a\nb\x7f'", "", 2, "a\\u000ab\\u007f: there is no such file\n"),
@@ -273,13 +276,13 @@ STREAMS = [
     Case("an empty line at the end", f"{S} --lines --verbose", "[1]\n\n", 2, f"-:1: valid\n-:2:1: {ENDS}\n"),
     Case("no newline at the end", f"{S} --lines no_newline.jsonl", "", 1, f"no_newline.jsonl:2: /0: {MINUS_1}\n"),
     Case("lines with CRLF", f"{S} --lines crlf.jsonl", "", 2,
-         f"crlf.jsonl:2: /0: {MINUS_1}\ncrlf.jsonl:3:2: {ENDS}\ncrlf.jsonl:4:2: not JSON\n"),
+         f"crlf.jsonl:2: /0: {MINUS_1}\ncrlf.jsonl:3:2: {ENDS}\ncrlf.jsonl:4:2: {WORD}\n"),
     Case("lines with NUL bytes", f"{S} --lines nul.jsonl", "", 2,
-         f"nul.jsonl:2:1: not JSON\nnul.jsonl:3:2: not JSON\nnul.jsonl:4: /0: {MINUS_1}\n"),
+         f"nul.jsonl:2:1: {WORD}\nnul.jsonl:3:2: {WORD}\nnul.jsonl:4: /0: {MINUS_1}\n"),
     Case("lines behind a mark", f"{S} --lines mark.jsonl", "", 2,
          f"mark.jsonl:1:1: not JSON: the text begins with a byte order mark\nmark.jsonl:2: /0: {MINUS_1}\n"),
     Case("lines that are not UTF-8", f"{S} --lines latin.jsonl", "", 2,
-         f"latin.jsonl:1:3: not JSON\nlatin.jsonl:2: /0: {MINUS_1}\n"),
+         f"latin.jsonl:1:3: {UTF8}\nlatin.jsonl:2: /0: {MINUS_1}\n"),
     Case("lines that nest too deep", f"{S} --lines deep.jsonl", "", 2,
          f"deep.jsonl:1:128: {DEEPER}\ndeep.jsonl:2: /0: {MINUS_1}\n"),
     Case("lines of no file", f"{S} --lines none.json {FOLDER} no_newline.jsonl", "", 2,
@@ -294,7 +297,7 @@ STREAMS = [
     Case("quiet, valid", f"{S} --output quiet valid.json", "", 0),
     Case("quiet, invalid", f"{S} --output quiet --verbose valid.json invalid.json", "", 1),
     Case("quiet, not checked", f"{S} --output quiet none.json token.json invalid.json", "", 2,
-         "none.json: there is no such file\ntoken.json:2:3: not JSON\n"),
+         f"none.json: there is no such file\ntoken.json:2:3: {WORD}\n"),
     Case("text by name", f"{S} --output text invalid.json", "", 1, INVALID),
     Case("basic, valid", f"{S} --output basic valid.json", "", 0, '{"file":"valid.json","valid":true}\n'),
     Case("basic, invalid", f"{S} --output basic --max-errors 1 invalid.json", "", 1,
@@ -307,7 +310,7 @@ STREAMS = [
     Case("basic, not checked", f"{S} --output basic none.json token.json inexact.json mark.json {FOLDER} valid.json",
          "", 2,
          '{"file":"none.json","refused":"there is no such file"}\n'
-         '{"file":"token.json","line":2,"column":3,"refused":"not JSON"}\n'
+         '{"file":"token.json","line":2,"column":3,"refused":"' + WORD + '"}\n'
          '{"file":"inexact.json","line":1,"column":5,"instanceLocation":"/1",'
          '"refused":"the number has no exact decimal"}\n'
          '{"file":"mark.json","line":1,"column":1,"refused":"not JSON: the text begins with a byte order mark"}\n'
@@ -317,7 +320,7 @@ STREAMS = [
          '{"file":"crlf.jsonl","line":1,"valid":true}\n'
          f'{{"file":"crlf.jsonl","line":2,{BASIC_MINUS_1}'
          f'{{"file":"crlf.jsonl","line":3,"column":2,"refused":"{ENDS}"}}\n'
-         '{"file":"crlf.jsonl","line":4,"column":2,"refused":"not JSON"}\n'),
+         '{"file":"crlf.jsonl","line":4,"column":2,"refused":"' + WORD + '"}\n'),
     Case("basic, an inexact line", f"{S} --output basic --lines --verbose", '[1]\n{"a\\"": [1e300]}\n', 2,
          '{"file":"-","line":1,"valid":true}\n'
          '{"file":"-","line":2,"column":10,"instanceLocation":"/a\\"/0",'

@@ -75,9 +75,9 @@ pub(crate) fn no_json(alloc: Global, schema: &[u8]) -> Result<Outcome, AllocErro
     ensures { IfOk result (IsOutcome status.NOT_JSON (IsPositionOf schema.now (reading schema.now))) }
 {
     match read_bytes(alloc, schema) {
-        Err(ReadFault::NotJson(offset)) => no_json_at(alloc, schema, offset),
+        Err(ReadFault::NotJson(_, at)) => no_json_at(alloc, schema, at.offset),
         Err(ReadFault::Memory(error)) => Err(error),
-        Ok(_) | Err(ReadFault::Inexact(_)) => Ok(status_alone(alloc, NOT_JSON)),
+        Ok(_) | Err(ReadFault::Inexact(..)) => Ok(status_alone(alloc, NOT_JSON)),
     }
 }
 
@@ -131,8 +131,8 @@ pub(crate) fn validity(schema: &mut CompiledSchema, instance: &[u8]) -> Result<u
             schema.reuse(tree);
             Ok(verdict(is_valid))
         }
-        Err(ReadFault::NotJson(_)) => Ok(NOT_JSON),
-        Err(ReadFault::Inexact(_)) => Ok(INEXACT),
+        Err(ReadFault::NotJson(..)) => Ok(NOT_JSON),
+        Err(ReadFault::Inexact(..)) => Ok(INEXACT),
         Err(ReadFault::Memory(error)) => Err(error),
     }
 }
@@ -162,8 +162,8 @@ pub(crate) fn outcome_of(
             schema.reuse(tree);
             outcome
         }
-        Err(ReadFault::NotJson(offset)) => no_json_at(alloc, instance, offset),
-        Err(ReadFault::Inexact(location)) => Ok(Outcome {
+        Err(ReadFault::NotJson(_, at)) => no_json_at(alloc, instance, at.offset),
+        Err(ReadFault::Inexact(location, _)) => Ok(Outcome {
             status: INEXACT,
             text: word_line(alloc, location.as_str())?,
         }),

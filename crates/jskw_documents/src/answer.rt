@@ -12,7 +12,6 @@ ghost use Rattle.jskw_documents.specs.Documents.{verdict_if, verdict_on};
 ghost use Rattle.jskw_documents.specs.Reports.{IsReportAs, first_of};
 ghost use Rattle.jskw_documents.specs.Streams.{worse_of};
 
-use crate::broken::why_broken;
 use crate::checker::Checker;
 use crate::errors::report;
 use crate::options::Output;
@@ -58,17 +57,17 @@ pub fn answer_to(
             reader.reuse(tree);
             answer
         }
-        Err(ReadFault::NotJson(offset)) => {
-            let output = checker.options.output;
-            let why = why_broken(document, offset);
-            refuse(alloc, output, file, line, document, offset, None, why)
+        Err(ReadFault::NotJson(reason, at)) => {
+            let (output, why) = (checker.options.output, reason.sentence());
+            refuse(alloc, output, file, line, document, at.offset, None, why)
         }
-        Err(ReadFault::Inexact(location)) => {
+        Err(ReadFault::Inexact(location, at)) => {
             let output = checker.options.output;
-            let offset = reader.offset_of_inexact().min(document.len());
             let why = "the number has no exact decimal";
             let location = Some(location.as_str());
-            refuse(alloc, output, file, line, document, offset, location, why)
+            refuse(
+                alloc, output, file, line, document, at.offset, location, why,
+            )
         }
         Err(ReadFault::Memory(error)) => Err(error),
     }

@@ -12,7 +12,6 @@
 #![tactic(auto)]
 
 mod answer;
-mod broken;
 mod checker;
 mod document;
 mod errors;
@@ -23,7 +22,6 @@ mod lines;
 mod options;
 mod place;
 mod schema;
-mod surrogate;
 mod watcher;
 mod words;
 

@@ -14,7 +14,7 @@ use jskw_array::compiler::compile;
 use jskw_report::context::member_of;
 use jskw_report::{CompileFault, Context, Draft, Settings, ValidationError, VocabularySet};
 use jskw_service::{push_bytes, read_value};
-use jskw_text::{ReadFault, position_of, read_bytes};
+use jskw_text::{ReadFault, read_bytes};
 use jskw_unchecked::{UncheckedMember, unchecked};
 use jskw_value::{DecimalJson, SerdeJson};
 use serde_json::Value;
@@ -146,8 +146,7 @@ fn draft_of_meta_schema(name: &str) -> Option<Draft>
 // Returns the line that says where a text is not JSON.
 fn not_json(alloc: Global, file: &str, text: &[u8]) -> Result<Vec<u8>, AllocError> {
     match read_bytes(alloc, text) {
-        Err(ReadFault::NotJson(offset)) => {
-            let position = position_of(text, offset);
+        Err(ReadFault::NotJson(_, position)) => {
             let place = Place {
                 file,
                 line: Some(position.line),
@@ -156,7 +155,7 @@ fn not_json(alloc: Global, file: &str, text: &[u8]) -> Result<Vec<u8>, AllocErro
             refusal(alloc, Output::Text, &place, None, "the schema is not JSON")
         }
         Err(ReadFault::Memory(error)) => Err(error),
-        Ok(_) | Err(ReadFault::Inexact(_)) => {
+        Ok(_) | Err(ReadFault::Inexact(..)) => {
             refuse_schema(alloc, file, "the schema has a number that is out of range")
         }
     }

@@ -2,7 +2,7 @@
 use crate::node_of;
 use lotsibegn::{
     DecimalJson, DecimalTree, LazyLocation, Node, ReadFault, SchemaNode, ValidationContext,
-    position_of, read_bytes,
+    read_bytes,
 };
 use std::io;
 
@@ -24,10 +24,16 @@ fn check_texts(rt: &HostRuntime, node: &SchemaNode<DecimalJson>) -> io::Result<(
 fn check_prices(rt: &HostRuntime, node: &SchemaNode<DecimalJson>, bytes: &[u8]) -> io::Result<()> {
     match read_bytes(rt.alloc(), bytes) {
         Ok(prices) => print_errors(rt, node, &prices),
-        Err(ReadFault::Inexact(at)) => println!(rt; "{at}: no decimal has this value"),
-        Err(ReadFault::NotJson(offset)) => {
-            let at = position_of(bytes, offset);
-            println!(rt; "line {}, column {}: not JSON", at.line, at.column)
+        Err(ReadFault::Inexact(location, at)) => {
+            println!(rt; "line {}, {location}: no decimal has this value", at.line)
+        }
+        Err(ReadFault::NotJson(reason, at)) => {
+            println!(rt;
+                "line {}, column {}: {}",
+                at.line,
+                at.column,
+                reason.sentence()
+            )
         }
         Err(ReadFault::Memory(error)) => Err(error)?,
     }

@@ -1,6 +1,7 @@
 //! Calls that read bytes.
 use crate::Printer;
-use jskw_text::{ReadFault, position_of, read_bytes};
+use jskw_text::{Position, ReadFault, read_bytes};
+use jskw_value::DecimalTree;
 use serde_json::Value;
 
 /// Reads the bytes of texts and numbers, and prints their tree, or why there is none.
@@ -9,16 +10,32 @@ pub fn read(to: &mut Printer, parts: &[Value], takes_memory: bool) {
     to.announce("read_bytes", takes_memory);
     let read = read_bytes(to.lines.alloc, &bytes);
     to.tell(matches!(read, Err(ReadFault::Memory(_))));
-    match &read {
+    push_read(to, &read);
+}
+
+// Prints a tree, or why there is none.
+fn push_read(to: &mut Printer, read: &Result<DecimalTree, ReadFault>) {
+    match read {
         Ok(tree) => to.push_node(tree),
-        Err(ReadFault::NotJson(offset)) => {
-            let at = position_of(&bytes, *offset);
-            write!(to.lines.text, "not JSON at {offset}, ");
-            write!(to.lines.text, "line {}, column {}", at.line, at.column);
+        Err(ReadFault::NotJson(reason, at)) => {
+            write!(to.lines.text, "{}", reason.as_str());
+            push_place(to, *at);
         }
-        Err(ReadFault::Inexact(location)) => write!(to.lines.text, "inexact at {location}"),
+        Err(ReadFault::Inexact(location, at)) => {
+            write!(to.lines.text, "inexact \"{location}\"");
+            push_place(to, *at);
+        }
         Err(ReadFault::Memory(_)) => {}
     }
+}
+
+// Prints a place in the bytes.
+fn push_place(to: &mut Printer, at: Position) {
+    write!(
+        to.lines.text,
+        " at {}, line {}, column {}",
+        at.offset, at.line, at.column
+    );
 }
 
 /// Returns the bytes of texts and of numbers below 256, which all parts have to be.

@@ -10,6 +10,7 @@ mod ShortNumbers
 pub mod Members
 pub mod Numbers
 mod Passing
+pub mod Places
 pub mod Reading
-mod Utf8
+pub mod Utf8
 pub mod Pruned

@@ -1,5 +1,6 @@
 -- Bytes that are no text have no reading.
 use Rattle.std.proofs.Common.{◌≡◌, ℕ, List, Bool, true, false, cond, None, option_map, refl, ap, ◌∙◌, IsUtf8, IsTrue}
+use Rattle.std.proofs.Common.{min, length, subst}
 use Rattle.std.proofs.Common.{arith}
 use Rattle.std.specs.Str.{is_utf8, IsValidUpTo}
 use Rattle.std.proofs.lemmas.Str.{IsUtf8-from_is_utf8, is_utf8-from_IsUtf8}
@@ -19,3 +20,10 @@ broken_bytes bytes offset none up = record {
   within = omega (arith, up.short);
   utf8 = λ e. up;
 }
+
+-- the same, of an offset that a place has
+pub broken_there : (bytes : List ℕ) (offset o : ℕ) → IsBrokenAt bytes offset → o ≡ min offset (length bytes)
+    → IsBrokenAt bytes o
+broken_there bytes offset o h e =
+    let same : offset ≡ o = omega (arith, h.within, e) in
+    subst (IsBrokenAt bytes) same h

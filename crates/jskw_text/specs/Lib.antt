@@ -1,6 +1,7 @@
 pub mod Escapes
 pub mod Laws
 pub mod Members
+pub mod NotJsonReason
 pub mod NumberText
 pub mod Passing
 pub mod Position

@@ -1,5 +1,7 @@
 -- Lines and columns, as editors show them.
-use Rattle.std.specs.Prelude.{ℕ, suc, ◌==◌, ◌&&◌, List, [], ◌∷◌, take, Bool, nat_le, nat_lt, if◌then◌else◌}
+use Rattle.std.specs.Prelude.{◌≡◌, ◌≤◌, ℕ, suc, ◌==◌, ◌&&◌, List, [], ◌∷◌, length, take, Bool, nat_le, nat_lt}
+use Rattle.std.specs.Prelude.{if◌then◌else◌}
+use Rattle.jskw_text.specs.declared.position.Position.{Position}
 
 -- the byte goes on with a character of UTF-8 that began before it
 abbrev pub continues : ℕ → Bool
@@ -21,3 +23,9 @@ line_at offset text = suc (line_feeds (take offset text))
 
 abbrev pub column_at : ℕ → List ℕ → ℕ
 column_at offset text = column_after 1 (take offset text)
+
+-- a place in these bytes, or at their end, with its line and column
+pub record IsPlaceIn (bytes : List ℕ) (p : Position) : Type 0 where
+  pub within : p.offset ≤ length bytes
+  pub line : p.line ≡ line_at p.offset bytes
+  pub column : p.column ≡ column_at p.offset bytes

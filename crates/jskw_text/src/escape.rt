@@ -44,7 +44,7 @@ pub(crate) fn unescape(
 
 // Returns the character that is escaped behind the backslash before an offset, and the offset behind
 // it.
-fn escape_at(bytes: &[u8], at: usize) -> Option<(char, usize)>
+pub(crate) fn escape_at(bytes: &[u8], at: usize) -> Option<(char, usize)>
     ensures { IfSome result (Escape in_escape after_backslash bytes.now at) }
 {
     if at >= bytes.len() {
@@ -103,7 +103,7 @@ fn low_half_at(bytes: &[u8], at: usize, high: u32) -> Option<(char, usize)>
 }
 
 // Returns the code unit that the four hex digits at an offset spell.
-fn unit_at(bytes: &[u8], at: usize) -> Option<u32>
+pub(crate) fn unit_at(bytes: &[u8], at: usize) -> Option<u32>
     ensures { IfSome result (IsUnit bytes.now at) }
 {
     if at > bytes.len() || bytes.len() - at < 4 {

@@ -7,9 +7,10 @@ ghost use Rattle.jskw_text.specs.Wanted.{IsRead};
 
 use crate::fault::ReadFault;
 use crate::spare::{Spare, free};
-use crate::tree::{Refusal, read_with};
+use crate::tree::read_with;
 use crate::wanted::Level;
 use jskw_value::DecimalTree;
+use json::Scratch;
 use std::alloc::Global;
 use std::fmt;
 
@@ -22,7 +23,8 @@ const LONGEST: usize = 1_000_000;
 pub struct TreeReader {
     alloc: Global,
     spare: Spare,
-    refusal: Refusal,
+    // What a refused text is read with.
+    scratch: Option<Box<Scratch>>,
     // The most bytes of a text whose room is kept.
     longest: usize,
     // Whether the text that was read last has more.
@@ -47,7 +49,7 @@ impl TreeReader {
         TreeReader {
             alloc,
             spare: Spare::new(alloc),
-            refusal: Refusal::none(),
+            scratch: None,
             longest,
             is_long: false,
         }
@@ -81,18 +83,12 @@ impl TreeReader {
             bytes,
             wanted,
             &mut self.spare,
-            &mut self.refusal,
+            &mut self.scratch,
         );
         if self.is_long {
-            self.refusal.scratch = None;
+            self.scratch = None;
         }
         tree
-    }
-
-    /// Returns the offset, in bytes, of the first number that is not exact, if the last text was refused
-    /// with [`ReadFault::Inexact`]. Of any other text the number that it returns says nothing.
-    pub fn offset_of_inexact(&self) -> usize {
-        self.refusal.offset
     }
 
     /// Takes a tree that is no longer needed. Trees that are read later use its room, so that it need

@@ -1,6 +1,6 @@
 //! The tree of decimals that a JSON text denotes.
-ghost use Rattle.std.specs.Prelude.{◌≡◌, ◌<◌, ◌++◌, Some, Ok, IfOk, IfErr, OnOk, IsTrue, IsSome, ◌↔◌, length, map};
-ghost use Rattle.std.specs.Prelude.{string_bytes};
+ghost use Rattle.std.specs.Prelude.{◌≡◌, ◌<◌, ◌++◌, Some, None, Ok, IfOk, IfErr, OnOk, IsTrue, IsSome};
+ghost use Rattle.std.specs.Prelude.{◌↔◌, length, map, string_bytes};
 ghost use Rattle.std.specs.Str.{is_utf8};
 ghost use Rattle.json.specs.Json.{value, items, members, parse_map};
 ghost use Rattle.jskw_value.specs.DecimalTree.{decimal_tree, items_from};
@@ -8,15 +8,17 @@ ghost use Rattle.jskw_value.specs.FirstFloat.{below_index, below_name};
 ghost use Rattle.jskw_value.specs.Pointer.{index_token, name_token};
 ghost use Rattle.jskw_value.specs.Tree.{no_members};
 ghost use Rattle.jskw_text.specs.Members.{members_seen};
-ghost use Rattle.jskw_text.specs.ReadFault.{IsFaultOf};
+ghost use Rattle.jskw_text.specs.ReadFault.{IsBrokenAt, IsFaultOf};
 ghost use Rattle.jskw_text.specs.Stop.{IsStopOf, Explains, IsAt, IsOutside, location_of};
 ghost use Rattle.jskw_text.specs.Reading.{document, reading, tree_of, items_of, members_of};
 ghost use Rattle.jskw_text.specs.Wanted.{IsRead};
 
-use crate::broken::offset_of_break;
+use crate::broken::break_of;
 use crate::cursor::Cursor;
 use crate::fault::{ReadFault, Stop};
+use crate::not_json::NotJsonReason;
 use crate::number::parse_decimal;
+use crate::position::{place_in, position_of};
 use crate::quick::{Unread, read_quickly};
 use crate::spare::Spare;
 use crate::wanted::Level;
@@ -43,46 +45,37 @@ pub fn read_bytes(alloc: Global, bytes: &[u8]) -> Result<DecimalTree, ReadFault>
         bytes,
         &[Level::Whole],
         &mut Spare::new(alloc),
-        &mut Refusal::none(),
+        &mut None,
     )
 }
 
-// What is left of the reading of a text that is refused.
-#[derive(Drop)]
-pub(crate) struct Refusal {
-    // The room that such a text is read with once more, to find why. It has 16 KB, which are cleared
-    // when it is made: so it is made for the first one, and kept for the next.
-    pub(crate) scratch: Option<Box<Scratch>>,
-    // Where the text was given up.
-    pub(crate) offset: usize,
-}
-
-impl Refusal {
-    // Nothing.
-    pub(crate) fn none() -> Refusal {
-        Refusal {
-            scratch: None,
-            offset: 0,
-        }
-    }
-}
-
 // Reads what is wanted of the tree that bytes denote as JSON text, in room of trees that are no longer
-// needed.
+// needed. A text that is refused is read once more, to find why, in a `Scratch` of 16 KB. They are cleared
+// when it is made: so it is made for the first one, and kept for the next.
 pub(crate) fn read_with(
     alloc: Global,
     bytes: &[u8],
     wanted: &[Level],
     spare: &mut Spare,
-    refusal: &mut Refusal,
+    kept: &mut Option<Box<Scratch>>,
 ) -> Result<DecimalTree, ReadFault>
     ensures tree { IfOk result (λ tree. IsRead wanted.now (decimal_tree tree) (reading bytes.now)) }
     ensures fault { IfErr result (IsFaultOf bytes.now) }
 {
     match simdutf8::compat::from_utf8(bytes) {
-        Ok(text) => read_text(alloc, text, wanted, spare, refusal),
-        Err(e) => Err(ReadFault::NotJson(e.valid_up_to())),
+        Ok(text) => read_text(alloc, text, wanted, spare, kept),
+        Err(e) => Err(not_utf8(bytes, e.valid_up_to())),
     }
+}
+
+// Returns the fault of bytes that are UTF-8 up to this offset.
+#[cold]
+#[tactic(auto, using(crate::proofs::Places::is_place, crate::proofs::Utf8::broken_there))]
+fn not_utf8(bytes: &[u8], offset: usize) -> ReadFault
+    requires { IsBrokenAt bytes.now offset }
+    ensures { IsFaultOf bytes.now result }
+{
+    ReadFault::NotJson(NotJsonReason::NotUtf8, position_of(bytes, offset))
 }
 
 // Reads what is wanted of the tree that a text denotes.
@@ -91,7 +84,7 @@ fn read_text(
     text: &str,
     wanted: &[Level],
     spare: &mut Spare,
-    refusal: &mut Refusal,
+    kept: &mut Option<Box<Scratch>>,
 ) -> Result<DecimalTree, ReadFault>
     requires { IsTrue (is_utf8 text.now) }
     ensures tree { IfOk result (λ tree. IsRead wanted.now (decimal_tree tree) (reading text.now)) }
@@ -100,20 +93,18 @@ fn read_text(
     let mut cursor = Cursor::new(text);
     match read_quickly(&mut cursor, spare, wanted) {
         Ok(tree) => Ok(tree),
-        Err(Unread::Text) => {
-            refusal.offset = cursor.offset();
-            read_slowly(alloc, text, &mut refusal.scratch)
-        }
+        Err(Unread::Text) => read_slowly(alloc, text, cursor.offset(), kept),
         Err(Unread::Memory(e)) => Err(ReadFault::Memory(e)),
     }
 }
 
-// Reads the tree that a text denotes, or finds why it is refused.
+// Reads the tree that a text denotes, or finds why it is refused. It was given up at this offset.
 #[cold]
 #[inline(never)]
 fn read_slowly(
     alloc: Global,
     text: &str,
+    given_up: usize,
     kept: &mut Option<Box<Scratch>>,
 ) -> Result<DecimalTree, ReadFault>
     requires { IsTrue (is_utf8 text.now) }
@@ -121,9 +112,12 @@ fn read_slowly(
     ensures fault { IfErr result (IsFaultOf text.now) }
 {
     let scratch = scratch_in(alloc, kept)?;
+    if !is_json(text, scratch)? {
+        return Err(broken(text));
+    }
     match read_all(alloc, text, scratch) {
         Ok(tree) => Ok(tree),
-        Err(stop) => Err(fault_of(alloc, text, scratch, stop)?),
+        Err(stop) => Err(fault_of(alloc, text, given_up, stop)?),
     }
 }
 
@@ -137,32 +131,6 @@ fn scratch_in(alloc: Global, kept: &mut Option<Box<Scratch>>) -> Result<&mut Scr
     Ok(kept.insert(scratch))
 }
 
-// Returns the fault of a text that was read up to a stop. Behind an inexact number nothing was read.
-#[cold]
-#[inline(never)]
-fn fault_of(
-    alloc: Global,
-    text: &str,
-    scratch: &mut Scratch,
-    stop: Stop,
-) -> Result<ReadFault, AllocError>
-    requires utf8 { IsTrue (is_utf8 text.now) }
-    requires stop { IsStopOf text.now stop }
-    ensures { IfOk result (IsFaultOf text.now) }
-{
-    match stop {
-        Stop::Memory(e) => Ok(ReadFault::Memory(e)),
-        Stop::Broken => Ok(ReadFault::NotJson(offset_of_break(text, scratch)?)),
-        Stop::Inexact(steps) => {
-            if is_json(text, scratch)? {
-                Ok(ReadFault::Inexact(location_of(alloc, &steps)?))
-            } else {
-                Ok(ReadFault::NotJson(offset_of_break(text, scratch)?))
-            }
-        }
-    }
-}
-
 // Returns whether a text is JSON.
 #[cold]
 fn is_json(text: &str, scratch: &mut Scratch) -> Result<bool, AllocError>
@@ -170,6 +138,36 @@ fn is_json(text: &str, scratch: &mut Scratch) -> Result<bool, AllocError>
 {
     let mut reader = Reader::new(text, scratch)?;
     Ok(reader.skip_value(MAX_DEPTH).is_ok() && reader.next().is_none())
+}
+
+// Returns the fault of a text that is not JSON.
+#[cold]
+fn broken(text: &str) -> ReadFault
+    requires utf8 { IsTrue (is_utf8 text.now) }
+    requires unread { reading text.now ≡ None }
+    ensures { IsFaultOf text.now result }
+{
+    let (reason, offset) = break_of(text.as_bytes());
+    ReadFault::NotJson(reason, place_in(text, offset))
+}
+
+// Returns the fault of a text that is JSON, for a stop.
+#[cold]
+#[inline(never)]
+fn fault_of(alloc: Global, text: &str, given_up: usize, stop: Stop) -> Result<ReadFault, AllocError>
+    requires utf8 { IsTrue (is_utf8 text.now) }
+    requires json { IsSome (document text.now) }
+    requires stop { IsStopOf text.now stop }
+    ensures { IfOk result (IsFaultOf text.now) }
+{
+    match stop {
+        Stop::Memory(e) => Ok(ReadFault::Memory(e)),
+        Stop::Broken => Ok(broken(text)),
+        Stop::Inexact(steps) => {
+            let location = location_of(alloc, &steps)?;
+            Ok(ReadFault::Inexact(location, place_in(text, given_up)))
+        }
+    }
 }
 
 // Reads the tree that a text denotes, up to the first stop.

@@ -25,6 +25,7 @@ pub use Rattle.jskw_report.specs.Setting.{Setting, all_vocabularies, is_active, 
 pub use Rattle.jskw_unchecked.specs.Unchecked.{unchecked}
 -- the modules
 pub use Rattle.jskw_text.specs.Laws
+pub use Rattle.jskw_text.specs.NotJsonReason
 pub use Rattle.jskw_text.specs.NumberText
 pub use Rattle.jskw_text.specs.Position
 pub use Rattle.jskw_text.specs.ReadFault

@@ -17,9 +17,9 @@
 //! - **Evaluation trees**: an [`EvaluationNode`] has [`Annotations`] and [`ErrorDescription`]s.
 //! - **Instances**: [`SerdeJson`], whose nodes are [`Value`]s of `serde_json`, or [`DecimalJson`],
 //!   whose nodes are [`DecimalTree`]s. [`read_bytes`] reads such a tree from JSON text, or returns a
-//!   [`ReadFault`], and [`position_of`] the line and column of an offset. To write another
-//!   representation, implement [`Json`], [`Node`], [`Array`], [`Object`], [`JsonNumber`] and
-//!   [`Rooted`].
+//!   [`ReadFault`], with a [`NotJsonReason`] and a [`Position`]; [`position_of`] returns the line and
+//!   column of an offset. To write another representation, implement [`Json`], [`Node`], [`Array`],
+//!   [`Object`], [`JsonNumber`] and [`Rooted`].
 //!
 //! The crates themselves are re-exported for the rest: `lotsibegn::jskw_leaf::LeafValidator`.
 //!
@@ -44,7 +44,7 @@ pub use jskw_report::{
     ValidationContext, ValidationError, ValidationErrorKind, Vocabulary, VocabularySet,
 };
 pub use jskw_text;
-pub use jskw_text::{Position, ReadFault, parse_decimal, position_of, read_bytes};
+pub use jskw_text::{NotJsonReason, Position, ReadFault, parse_decimal, position_of, read_bytes};
 pub use jskw_unchecked;
 pub use jskw_unchecked::{Reason, UncheckedMember, unchecked};
 pub use jskw_value;
