@@ -1,5 +1,4 @@
 -- The keywords of parts that are put together.
-use Rattle.std.specs.Prelude.{⊤}
 use Rattle.std.proofs.Common.{◌≡◌, ◌≢◌, Result, Ok, Err, ℕ, ◌+◌, ◌<◌, ◌≤◌, List, [], ◌∷◌, ◌++◌, length, get_or, drop}
 use Rattle.std.proofs.Common.{Vec, Global, false, Box, ◌||◌, Option, None, Some, refl, ap, subst, sym, ◌∙◌}
 use Rattle.jskw_array.specs.Words.{ArrayShapeValidator, IfSome, IsBeginning, Keywords, OfKeyword, Part, Schema, Shape}
@@ -12,24 +11,6 @@ use Rattle.std.proofs.lemmas.List.{drop_all}
 use Rattle.jskw_report.proofs.AppendedKeywords.{append_append, append_none}
 use Rattle.jskw_report.proofs.GatheredNodes.{drop_here}
 use Rattle.jskw_array.specs.declared.part.LocatedValidator.{LocatedValidator}
-
-abbrev behind : Keywords → Keywords
-behind no_keywords = no_keywords
-behind (keyword q k ks) = ks
-
-held : (a b : Keywords) → ◌≡◌ {A = Result Keywords Refusal} (Ok a) (Ok b) → a ≡ b
-held a b e = ap kept e
-  where
-    kept : Result Keywords Refusal → Keywords
-    kept (Ok ks) = ks
-    kept (Err x) = a
-
-none≢some : {q : Pointer} {k : Keyword} {ks : Keywords} → no_keywords ≢ keyword q k ks
-none≢some e = subst only e tt
-  where
-    only : Keywords → Type 0
-    only no_keywords = ⊤
-    only (keyword q k ks) = ⊥
 
 -- one part more
 pub keywords_of_more : {F Node Number Key : Type 0} (us : List (Part F Node Number Key)) (u : Part F Node Number Key)
@@ -75,31 +56,16 @@ shape_begins_more us k begins =
     (sym (keywords_of_more us (OfKeyword k)))
     (begins_on (shape_in us) (keywords_of us) more begins))
 
--- ---- `items` of a shape behind the keywords that it checks before
+-- ---- a shape behind the keywords that it checks before `items`
 
-never_none : (ys : Keywords) (q : Pointer) (k : Keyword) → no_keywords ≢ append_keywords ys (keyword q k no_keywords)
-never_none no_keywords q k e = none≢some e
-never_none (keyword r i ys) q k e = none≢some e
-
-last_equal : (xs ys : Keywords) (p q : Pointer) (j k : Keyword)
-    → append_keywords xs (keyword p j no_keywords) ≡ append_keywords ys (keyword q k no_keywords) → xs ≡ ys
-last_equal no_keywords no_keywords p q j k e = refl
-last_equal no_keywords (keyword s l ys) p q j k e = absurd (never_none ys q k (ap behind e))
-last_equal (keyword r i xs) no_keywords p q j k e = absurd (never_none xs p j (sym (ap behind e)))
-last_equal (keyword r i xs) (keyword s l ys) p q j k e = let rest = last_equal xs ys p q j k (ap behind e) in cc
-
--- they are those before the part, and the shape's keywords are all
+-- the shape's keywords are all
 module _ {F Node Number Key : Type 0} (us : List (Part F Node Number Key))
     (v : Box (ArrayShapeValidator F Node Number Key) Global) where
-  pub shape_before : (r : Result Keyword Refusal) (q : Pointer)
-      → map_ok (λ k. append_keywords (keywords_of us) (keyword q k no_keywords)) r ≡ Ok (shape_keywords v.value)
+  pub shape_before : keywords_of us ≡ absorbed_keywords v.value.absorbed
       → shape_keywords v.value ≡ keywords_of (us ++ Shape v ∷ [])
-  shape_before (Ok k) q e =
+  shape_before before =
       let items = keyword v.value.items.location (validator_keyword v.value.items.validator) no_keywords in
-      ap (λ ks. append_keywords ks items) (sym (last_equal (keywords_of us) (absorbed_keywords v.value.absorbed) q
-      v.value.items.location k (validator_keyword v.value.items.validator) (held _ _ e)))
-      ∙ sym (keywords_of_more us (Shape v))
-  shape_before (Err x) q e = cc
+      ap (λ ks. append_keywords ks items) (sym before) ∙ sym (keywords_of_more us (Shape v))
 
   pub shape_begins_all : shape_in us ≡ None → shape_keywords v.value ≡ keywords_of (us ++ Shape v ∷ [])
       → ShapeBegins (us ++ Shape v ∷ [])

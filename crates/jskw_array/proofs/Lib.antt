@@ -6,7 +6,6 @@ pub mod FusedReading
 pub mod ItemsTaken
 pub mod KeywordReadings
 pub mod KeywordsOfParts
-pub mod LengthMarks
 pub mod MatchedItems
 pub mod ObserversAgree
 pub mod ReportingWalks

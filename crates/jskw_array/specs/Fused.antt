@@ -12,10 +12,6 @@ use Rattle.jskw_array.specs.declared.items.array_shape.ArrayShapeValidator.{Arra
 abbrev pub fused_keywords : List KeywordName
 fused_keywords = TypeKeyword ∷ MinItems ∷ MaxItems ∷ Items ∷ []
 
--- those that are checked before the items
-abbrev pub before_items : List KeywordName
-before_items = TypeKeyword ∷ MinItems ∷ MaxItems ∷ []
-
 -- all four keywords
 abbrev pub shape_keywords : {F Node Number Key : Type 0} → ArrayShapeValidator F Node Number Key → Keywords
 shape_keywords v =

@@ -1,5 +1,5 @@
 -- What a compile reads of the members of a schema.
-use Rattle.std.specs.Prelude.{◌≡◌, ℕ, List, Bool, true, false, Option, Some, None, get_or, if◌then◌else◌, length, min}
+use Rattle.std.specs.Prelude.{ℕ, Option, Some, None, if◌then◌else◌}
 use Rattle.serde_json.specs.Data.{Data, Members, array}
 use Rattle.serde_json.specs.Events.{items_len}
 use Rattle.serde_json.specs.Find.{get_member}
@@ -9,10 +9,6 @@ use Rattle.jskw_report.specs.declared.keyword.KeywordName.{KeywordName}
 -- the value of a keyword that is present and active
 abbrev pub active_member : Setting → Members → KeywordName → Option Data
 active_member s ms w = if is_active s w then get_member (name_of w) ms else None
-
--- a name whose length has no mark is absent; the last mark is for all lengths from 16 on
-abbrev pub MarksLengths : List Bool → Members → Type 0
-MarksLengths marks ms = (name : List ℕ) → get_or marks (min (length name) 16) true ≡ false → get_member name ms ≡ None
 
 -- how many schemas stand in the value of a member, if it is an array
 abbrev pub array_schema_count : Option Data → Option ℕ

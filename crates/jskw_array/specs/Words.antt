@@ -54,21 +54,21 @@ pub use Rattle.jskw_report.specs.EvaluationParts.{annotation_of}
 pub use Rattle.jskw_report.specs.EvaluationView.{result_of}
 pub use Rattle.jskw_number.specs.Outline.{AcceptsOutline, in_outline}
 pub use Rattle.jskw_number.specs.QuickSet.{Accepts, is_in}
-pub use Rattle.jskw_leaf.specs.Items.{absorbed_keywords, bare_keyword}
-pub use Rattle.jskw_leaf.specs.Meaning.{leaf_keyword}
+pub use Rattle.jskw_leaf.specs.Items.{absorbed_keywords, bare_keyword, optional}
+pub use Rattle.jskw_leaf.specs.Meaning.{leaf_assertion, leaf_keyword}
 pub use Rattle.jskw_leaf.specs.Names.{is_leaf}
 -- the same of this crate
 pub use Rattle.jskw_array.specs.Meaning.{bounds_of, boxed_bounds, each_keyword, matching_keyword}
 pub use Rattle.jskw_array.specs.Meaning.{rest_keyword, schemas_of, validator_keyword}
 pub use Rattle.jskw_array.specs.Limits.{deciding_count, failing_locations, locations_of, matching_result}
-pub use Rattle.jskw_array.specs.Fused.{IsBeginning, before_items, fused_keywords, shape_keywords, shape_meaning}
+pub use Rattle.jskw_array.specs.Fused.{IsBeginning, fused_keywords, shape_keywords, shape_meaning}
 pub use Rattle.jskw_array.specs.Parts.{ShapeBegins, after, keywords_of, keywords_read, own_keyword, part_delegates}
 pub use Rattle.jskw_array.specs.Parts.{part_meaning, shape_in}
 pub use Rattle.jskw_array.specs.Node.{HasParts, IsLeft, Knows, LeftParts, boolean_schema, marked, schema_of}
 pub use Rattle.jskw_array.specs.Accepted.{AddsKeyword, AllValid, AreSettled, ArraysAreValid, IsKnown, SetsAccept}
 pub use Rattle.jskw_array.specs.Accepted.{arrays_cost, in_arrays, in_rest, in_sets, in_typed, items_cost, rest_cost}
 pub use Rattle.jskw_array.specs.Passed.{CountsBetween, PassesOver, items_between}
-pub use Rattle.jskw_array.specs.Siblings.{MarksLengths, active_member, array_schema_count}
+pub use Rattle.jskw_array.specs.Siblings.{active_member, array_schema_count}
 pub use Rattle.jskw_array.specs.Agreement.{Agree, RejectsNonArrays}
 pub use Rattle.jskw_array.specs.declared.each.Each.{Each}
 pub use Rattle.jskw_array.specs.declared.rest.Rest.{Rest}

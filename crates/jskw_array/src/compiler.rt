@@ -1,10 +1,10 @@
 //! Compiles schemas, keyword by keyword.
-ghost use Rattle.std.specs.Prelude.{◌++◌, ◌∷◌, ◌≡◌, None};
+ghost use Rattle.std.specs.Prelude.{◌++◌, ◌∷◌, ◌≡◌};
 ghost use Rattle.jskw_array.specs.Words.{[], Boolean, CompilesKeyword, CompilesTo, Err, IfOk, IsTrue, Keywords};
 ghost use Rattle.jskw_array.specs.Words.{Object, Reading, Refusal, Result, Schema, after};
-ghost use Rattle.jskw_array.specs.Words.{Keyword, MarksLengths, Ok, Pointer, ShapeBegins, append_keywords};
-ghost use Rattle.jskw_array.specs.Words.{before_items, boolean_schema, each_of, fused_keywords, is_fused};
-ghost use Rattle.jskw_array.specs.Words.{is_handed_on, is_some, keyword, no_keywords, shape_in};
+ghost use Rattle.jskw_array.specs.Words.{Ok, ShapeBegins};
+ghost use Rattle.jskw_array.specs.Words.{boolean_schema, each_of, fused_keywords, is_fused};
+ghost use Rattle.jskw_array.specs.Words.{is_handed_on, is_some, shape_in};
 ghost use Rattle.jskw_array.specs.Words.{items_view, keyword_location, keyword_reading, keywords, keywords_of};
 ghost use Rattle.jskw_array.specs.Words.{map_ok, members_view, object, of_types, read, read_each, schemas_of};
 ghost use Rattle.jskw_array.specs.Words.{shape_keywords, true, validator_keyword, view, wrong, keywords_read};
@@ -13,21 +13,20 @@ mod keyword;
 pub(crate) mod members;
 
 use crate::each::of_schemas;
-use crate::items::{ArrayShapeValidator, array_shape_fusion};
+use crate::items::{ArrayShapeValidator, is_array_shape};
 use crate::node::Subschema;
 use crate::part::Part;
 use crate::schema::SchemaNode;
 use crate::validator::Validator;
 use crate::{additional_items, contains, items, prefix_items};
 use jskw_leaf::required;
-use jskw_report::context::member_of;
 use jskw_report::{
-    CompilationResult, CompileFault, Context, KeywordLocation, KeywordName, LocationSegment,
-    ValidationErrorKind,
+    CompilationResult, CompileFault, Context, KeywordLocation, KeywordName, KeywordValues,
+    LocationSegment, ValidationErrorKind, find_values,
 };
 use jskw_value::{Json, JsonType, JsonTypeSet};
-use keyword::{compile_leaf, compile_required, push_part};
-use members::{active_member, name_lengths};
+use keyword::{compile_leaf, compile_required, push_absorbed, push_part};
+use members::active_member;
 use serde_json::{Map, Value};
 use std::alloc::{AllocError, Global};
 
@@ -94,9 +93,12 @@ fn compile_object<'a, F: Json>(
     ensures { let ms = members_view parent.now.entries in CompilesTo (λ s. s) result
         (read (object ms) ctx.now.setting ctx.now.location) }
 {
-    let delegates = required::is_handed_on(ctx, parent);
+    let mut values = [None; KeywordName::COUNT];
+    find_values(parent, &mut values[..]);
+    let values = KeywordValues::new(parent, &values);
+    let delegates = required::is_delegated(ctx, &values);
     let mut parts = Vec::with_capacity(alloc, parent.len().min(KeywordName::ALL.len()))?;
-    let made = push_parts(alloc, ctx, parent, delegates, &mut parts);
+    let made = push_parts(alloc, ctx, parent, &values, delegates, &mut parts);
     node_of(alloc, ctx, parent, delegates, parts, made)
 }
 
@@ -151,10 +153,12 @@ fn push_parts<'a, F: Json>(
     alloc: Global,
     ctx: &Context<'_, F>,
     parent: &'a Map<String, Value>,
+    values: &KeywordValues<'_, 'a>,
     delegates: bool,
     parts: &mut Vec<Part<F>>,
 ) -> CompilationResult<'a, ()>
     requires empty { parts.old.items ≡ [] }
+    requires values { values.now ≡ members_view parent.now.entries }
     requires delegates { delegates ≡ is_handed_on ctx.now.setting (members_view parent.now.entries) }
     ensures made { CompilesTo (λ _. keywords_of parts.new.items) result
         (keywords_read keywords ctx.now (members_view parent.now.entries)) }
@@ -162,37 +166,34 @@ fn push_parts<'a, F: Json>(
         ≡ is_fused ctx.now.setting (members_view parent.now.entries)) }
     ensures begins { IfOk result (λ _. ShapeBegins parts.new.items) }
 {
-    let lengths = name_lengths(parent);
     let all = &KeywordName::ALL;
-    if !array_shape_fusion(ctx, parent) {
-        return push_keywords(alloc, ctx, parent, delegates, &lengths, all, parts);
+    if !is_array_shape(ctx, values) {
+        return push_keywords(alloc, ctx, parent, values, delegates, all, parts);
     }
-    let (before, behind) = (&all[..FUSED - 1], &all[FUSED..]);
-    push_keywords(alloc, ctx, parent, delegates, &lengths, before, parts)?;
-    push_shape(alloc, ctx, parent, parts)?;
-    push_keywords(alloc, ctx, parent, delegates, &lengths, behind, parts)
+    push_shape(alloc, ctx, parent, values, parts)?;
+    push_keywords(alloc, ctx, parent, values, delegates, &all[FUSED..], parts)
 }
 
-// Appends `items` of an object with the fused shape, within the shape, to the parts of the keywords
-// before it.
+// Appends the parts of the keywords of the fused shape of an object to an empty vector: `items` is
+// within the shape.
 #[inline(never)]
 #[cycle(compile)]
 fn push_shape<'a, F: Json>(
     alloc: Global,
     ctx: &Context<'_, F>,
     parent: &'a Map<String, Value>,
+    values: &KeywordValues<'_, 'a>,
     parts: &mut Vec<Part<F>>,
 ) -> CompilationResult<'a, ()>
+    requires values { values.now ≡ members_view parent.now.entries }
     requires fused { IsTrue (is_fused ctx.now.setting (members_view parent.now.entries)) }
-    requires before { keywords_read before_items ctx.now (members_view parent.now.entries)
-        ≡ Ok (keywords_of parts.old.items) }
-    requires none { shape_in parts.old.items ≡ None }
+    requires empty { parts.old.items ≡ [] }
     ensures made { CompilesTo (λ _. keywords_of parts.new.items) result
         (keywords_read fused_keywords ctx.now (members_view parent.now.entries)) }
     ensures fused { IfOk result (λ _. is_some (shape_in parts.new.items) ≡ true) }
     ensures begins { IfOk result (λ _. ShapeBegins parts.new.items) }
 {
-    let Some(items) = member_of(parent, KeywordName::Items.as_str()) else {
+    let Some(items) = values.get(KeywordName::Items) else {
         unreachable!();
     };
     push_compiled(
@@ -202,25 +203,24 @@ fn push_shape<'a, F: Json>(
     )
 }
 
-// Appends `items` of a fused shape, if that was compiled.
+// Appends the parts of a fused shape to an empty vector, if that was compiled.
 #[inline(never)]
 fn push_compiled<'a, F: Json>(
     alloc: Global,
     compiled: CompilationResult<'a, ArrayShapeValidator<F>>,
     parts: &mut Vec<Part<F>>,
 ) -> CompilationResult<'a, ()>
-    requires { shape_in parts.old.items ≡ None }
-    ensures made { (reading : Result Keyword Refusal) (q : Pointer) → CompilesTo shape_keywords compiled.entry
-        (map_ok (λ k. append_keywords (keywords_of parts.old.items) (keyword q k no_keywords)) reading)
-        → CompilesTo (λ _. keywords_of parts.new.items) result
-        (map_ok (λ k. append_keywords (keywords_of parts.old.items) (keyword q k no_keywords)) reading) }
+    requires { parts.old.items ≡ [] }
+    ensures made { (read : Result Keywords Refusal) → CompilesTo shape_keywords compiled.entry read
+        → CompilesTo (λ _. keywords_of parts.new.items) result read }
     ensures fused { IfOk result (λ _. is_some (shape_in parts.new.items) ≡ true) }
-    ensures begins { (reading : Result Keyword Refusal) (q : Pointer) → CompilesTo shape_keywords compiled.entry
-        (map_ok (λ k. append_keywords (keywords_of parts.old.items) (keyword q k no_keywords)) reading)
-        → IfOk result (λ _. ShapeBegins parts.new.items) }
+    ensures begins { IfOk result (λ _. ShapeBegins parts.new.items) }
 {
-    parts.push(Part::Shape(Box::new(alloc, compiled?)?))?;
-    Ok(())
+    let shape = Box::new(alloc, compiled?)?;
+    // the shape is passed on before this may end the compile
+    let pushed = push_absorbed(&shape.absorbed, parts);
+    parts.push(Part::Shape(shape))?;
+    Ok(pushed?)
 }
 
 // Returns the fault for a value that is neither a boolean nor an object.
@@ -236,20 +236,20 @@ fn no_schema<'a>(alloc: Global, location: &KeywordLocation, value: &'a Value) ->
 }
 
 // Appends a part for each of the given keywords that asserts something, in their order. `delegates`
-// is whether the `required` of the object is delegated, `lengths` are the marks of `name_lengths`.
+// is whether the `required` of the object is delegated, `values` are those of its keywords.
 #[inline(never)]
 #[cycle(compile)]
 fn push_keywords<'a, F: Json>(
     alloc: Global,
     ctx: &Context<'_, F>,
     parent: &'a Map<String, Value>,
+    values: &KeywordValues<'_, 'a>,
     delegates: bool,
-    lengths: &[bool; 17],
     keywords: &[KeywordName],
     parts: &mut Vec<Part<F>>,
 ) -> CompilationResult<'a, ()>
     requires delegates { delegates ≡ is_handed_on ctx.now.setting (members_view parent.now.entries) }
-    requires lengths { MarksLengths lengths.now (members_view parent.now.entries) }
+    requires values { values.now ≡ members_view parent.now.entries }
     requires begins { ShapeBegins parts.old.items }
     ensures made { CompilesTo (λ _. keywords_of parts.new.items) result
         (after (keywords_of parts.old.items)
@@ -258,7 +258,7 @@ fn push_keywords<'a, F: Json>(
     ensures begins { IfOk result (λ _. ShapeBegins parts.new.items) }
 {
     for &keyword in keywords {
-        let Some(schema) = active_member(ctx, parent, lengths, keyword) else {
+        let Some(schema) = active_member(ctx, values, keyword) else {
             continue;
         };
         let compiled = compile_keyword(alloc, ctx, parent, delegates, keyword, schema);

@@ -20,7 +20,7 @@ use jskw_leaf::in_place::bare::{self, is_bare};
 use jskw_leaf::in_place::fusion::is_items_schema;
 pub use jskw_leaf::in_place::{
     AbsorbedKeywords, BareItems, BooleanItems, IntegerItems, IntegerItemsDraft4, ItemType,
-    ItemsTypeValidator, NumberItems, StringItems, array_shape_fusion,
+    ItemsTypeValidator, NumberItems, StringItems, array_shape_fusion, is_array_shape,
 };
 use jskw_report::{CompilationResult, Context, Draft, KeywordName};
 use jskw_value::Json;

@@ -17,3 +17,4 @@ pub mod PassedFaults
 pub mod SortedTables
 pub mod TypeSets
 pub mod TypeWalks
+pub mod Delegation

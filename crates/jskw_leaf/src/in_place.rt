@@ -10,7 +10,7 @@ pub mod no_more;
 
 pub use absorbed::AbsorbedKeywords;
 pub use bare::BareItems;
-pub use fusion::array_shape_fusion;
+pub use fusion::{array_shape_fusion, is_array_shape};
 pub use item_type::{
     BooleanItems, IntegerItems, IntegerItemsDraft4, ItemType, ItemsTypeValidator, NumberItems,
     StringItems,

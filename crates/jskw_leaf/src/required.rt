@@ -12,7 +12,7 @@ mod prepared;
 
 pub use crate::upstream::{Required2Validator, SingleItemRequiredValidator};
 pub use compilation::{compile, compile_checked, compile_with_path};
-pub use delegation::is_handed_on;
+pub use delegation::{is_delegated, is_handed_on};
 use jskw_report::validator::evaluate_errors;
 use jskw_report::{
     EvaluationResult, KeywordLocation, LazyLocation, Report, Stop, Validate, ValidationContext,

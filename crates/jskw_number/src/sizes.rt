@@ -7,7 +7,7 @@
 //! values are refused.
 #![tactic(auto, unfolding(jskw_report::specs::Read::asserted))]
 
-ghost use Rattle.std.specs.Prelude.{◌≡◌, IsTrue, length, true};
+ghost use Rattle.std.specs.Prelude.{◌≡◌, IfOk, IsTrue, length, true};
 ghost use Rattle.serde_json.specs.View.{view, members_view};
 ghost use Rattle.jskw_value.specs.Tree.{Tree, is_array, items};
 ghost use Rattle.jskw_report.specs.Compile.{CompilesKeyword, CompilesTo, keyword_reading};
@@ -25,7 +25,7 @@ use jskw_report::{
 };
 use jskw_value::{Array, Json, Node, Object};
 use serde_json::{Map, Value};
-use std::alloc::Global;
+use std::alloc::{AllocError, Global};
 
 /// The validator of a bound on a size: on the number of items of an array if `OF_ARRAYS`, else on
 /// the number of members of an object; a lower bound if `IS_LEAST`, else an upper bound. It accepts
@@ -76,6 +76,16 @@ impl<const OF_ARRAYS: bool, const IS_LEAST: bool> SizeLimit<OF_ARRAYS, IS_LEAST>
         };
         let (limit, location) = bound_at(alloc, ctx, keyword, schema)?;
         Ok(SizeLimit { limit, location })
+    }
+
+    /// Returns a copy, which shares the text of the location.
+    pub fn copy(&self) -> Result<SizeLimit<OF_ARRAYS, IS_LEAST>, AllocError>
+        ensures { IfOk result (λ v. v ≡ self.now) }
+    {
+        Ok(SizeLimit {
+            limit: self.limit,
+            location: self.location.copy()?,
+        })
     }
 
     /// Returns the bound: an integer from 0 to 2^64-1.

@@ -7,6 +7,7 @@ pub mod EvaluationValidity
 pub mod FailsAlikeBelow
 pub mod FailsAtMostOnce
 pub mod FirstFloats
+pub mod FoundKeywords
 pub mod GatheredNodes
 pub mod HoldsElsewhere
 pub mod HoldsIsNoFailure

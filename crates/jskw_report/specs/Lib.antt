@@ -24,3 +24,4 @@ pub mod EvaluationView
 pub mod LabelTree
 pub mod DataCode
 pub mod SchemaCode
+pub mod Found

@@ -2,6 +2,7 @@
 ghost use Rattle.std.specs.Prelude.{◌≡◌};
 ghost use Rattle.jskw_value.specs.Pointer.{name_token};
 ghost use Rattle.jskw_report.specs.Overridden.{keyword_index};
+ghost use Rattle.jskw_report.specs.Found.{keyword_named};
 ghost use Rattle.jskw_report.specs.Setting.{is_in_draft, name_of, is_active, vocabulary_of};
 
 use crate::context::Context;
@@ -79,14 +80,42 @@ impl KeywordName {
         KeywordName::Required,
     ];
 
-    // The number of keywords.
-    pub(crate) const COUNT: usize = KeywordName::ALL.len();
+    /// The number of keywords.
+    pub const COUNT: usize = KeywordName::ALL.len();
 
     /// Returns the name of the keyword in a schema, such as `minItems`.
     pub fn as_str(self) -> &'static str
         ensures { result.now ≡ name_of self }
     {
         &self.token()[1..]
+    }
+
+    /// Returns the keyword with this name, or `None` if it is the name of none.
+    pub fn named(name: &str) -> Option<KeywordName>
+        ensures { result ≡ keyword_named name.now }
+    {
+        let keyword = match name {
+            "type" => KeywordName::TypeKeyword,
+            "minItems" => KeywordName::MinItems,
+            "maxItems" => KeywordName::MaxItems,
+            "items" => KeywordName::Items,
+            "prefixItems" => KeywordName::PrefixItems,
+            "additionalItems" => KeywordName::AdditionalItems,
+            "contains" => KeywordName::Contains,
+            "uniqueItems" => KeywordName::UniqueItems,
+            "const" => KeywordName::Const,
+            "enum" => KeywordName::Enum,
+            "minimum" => KeywordName::Minimum,
+            "maximum" => KeywordName::Maximum,
+            "exclusiveMinimum" => KeywordName::ExclusiveMinimum,
+            "exclusiveMaximum" => KeywordName::ExclusiveMaximum,
+            "multipleOf" => KeywordName::MultipleOf,
+            "minProperties" => KeywordName::MinProperties,
+            "maxProperties" => KeywordName::MaxProperties,
+            "required" => KeywordName::Required,
+            _ => return None,
+        };
+        Some(keyword)
     }
 
     // Returns the name behind a slash: the reference token of the keyword's member (RFC 6901).

@@ -34,6 +34,7 @@ pub mod context;
 pub mod error;
 pub mod evaluation;
 pub mod keyword;
+pub mod keyword_values;
 pub mod laws;
 mod message;
 pub mod paths;
@@ -49,6 +50,7 @@ pub use error::{
 };
 pub use evaluation::{Annotations, ErrorDescription, EvaluationNode, EvaluationResult};
 pub use keyword::KeywordName;
+pub use keyword_values::{KeywordValues, find_values};
 pub use paths::{KeywordLocation, LazyLocation, Location, LocationSegment};
 pub use report::{ErrorList, Report};
 pub use settings::{Draft, Settings, Vocabulary, VocabularySet};

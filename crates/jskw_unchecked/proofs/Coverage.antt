@@ -16,6 +16,7 @@ use Rattle.serde_json.specs.Events.{items_len}
 use Rattle.serde_json.specs.Find.{get_member}
 use Rattle.jskw_value.specs.Pointer.{Pointer, member_location, item_location}
 use Rattle.jskw_report.proofs.SchemaMembers.{readings_named-get, read_not_standing, read_standing}
+use Rattle.jskw_report.specs.Found.{keyword_named}
 use Rattle.jskw_report.specs.Keyword.{Schema, false_schema, schema_object, Keywords, no_keywords, keyword, Keyword}
 use Rattle.jskw_report.specs.Keyword.{Schemas, no_schemas, schema, Bounds, contains}
 use Rattle.jskw_report.specs.KeywordValue.{Refusal, map_ok, join_ok}
@@ -36,7 +37,7 @@ use Rattle.jskw_unchecked.specs.Covered.{AllCover, AreCovered, CoverEach, Covers
 use Rattle.jskw_unchecked.specs.Covered.{KeywordCovers, accepts_everything, count_at}
 use Rattle.jskw_unchecked.specs.Names.{is_annotation, is_not_implemented}
 use Rattle.jskw_unchecked.specs.Reason.{are_bounds_read, asks_for_nothing, has_active, is_asserted, is_bound}
-use Rattle.jskw_unchecked.specs.Reason.{is_part_of_limit, keyword_named, keyword_reason, member_reason, name_reason}
+use Rattle.jskw_unchecked.specs.Reason.{is_part_of_limit, keyword_reason, member_reason, name_reason}
 use Rattle.jskw_unchecked.specs.Unchecked.{has_subschemas, listed, unchecked, unchecked_among, unchecked_each}
 use Rattle.jskw_unchecked.specs.Unchecked.{unchecked_in, unchecked_member}
 use Rattle.jskw_unchecked.specs.declared.member.UncheckedMember.{UncheckedMember}
@@ -107,7 +108,8 @@ found f (y ∷ ys) x e = go (f y) refl (λ g. found f ys x g) e
     go false h behind g = behind g
 
 has_name : (name : List ℕ) (w : KeywordName) → keyword_named name ≡ Some w → name ≡ name_of w
-has_name name w e = (bytes_eq-Decides name (name_of w)).0 (found (λ v. bytes_eq name (name_of v)) keywords w e)
+has_name name w e =
+    sym ((bytes_eq-Decides (name_of w) name).0 (found (λ v. bytes_eq (name_of v) name) keywords w e))
 
 -- ---- one object
 

@@ -4,6 +4,7 @@ use Rattle.std.specs.Prelude.{Ok, if◌then◌else◌}
 use Rattle.serde_json.specs.Data.{Data, array, object, Items, no_items, item, Members}
 use Rattle.serde_json.specs.Find.{get_member}
 use Rattle.jskw_value.specs.Pointer.{Pointer, member_location}
+use Rattle.jskw_report.specs.Found.{keyword_named}
 use Rattle.jskw_report.specs.Keyword.{Schema, false_schema, schema_object, Keywords, no_keywords, keyword, Keyword}
 use Rattle.jskw_report.specs.Keyword.{assertion, contains, each_of, rest_of, Schemas, no_schemas, schema}
 use Rattle.jskw_report.specs.Read.{read}
@@ -11,7 +12,7 @@ use Rattle.jskw_report.specs.Setting.{Setting, name_of}
 use Rattle.jskw_report.specs.declared.keyword.KeywordName.{KeywordName}
 use Rattle.jskw_report.specs.declared.keyword.KeywordName.TheVariants as keyword_name
 use Rattle.jskw_unchecked.specs.Names.{is_annotation}
-use Rattle.jskw_unchecked.specs.Reason.{keyword_named, asks_for_nothing}
+use Rattle.jskw_unchecked.specs.Reason.{asks_for_nothing}
 use Rattle.jskw_unchecked.specs.Unchecked.{unchecked}
 
 -- the keyword fails at the member at m: the member bounds it, or is a part of it

@@ -1,10 +1,10 @@
 -- Whether a member of a schema is checked, and why not.
-use Rattle.std.specs.Prelude.{ℕ, List, find, Bool, true, false, not, ◌&&◌, ◌||◌, codes, bytes_eq, Option, Some, None}
+use Rattle.std.specs.Prelude.{ℕ, List, Bool, true, false, not, ◌&&◌, ◌||◌, codes, bytes_eq, Option, Some, None}
 use Rattle.std.specs.Prelude.{is_some, if◌then◌else◌}
 use Rattle.serde_json.specs.Data.{Data, Members}
 use Rattle.jskw_value.specs.Pointer.{Pointer}
 use Rattle.jskw_report.specs.Read.{read_keyword, readings, min_contains, max_contains}
-use Rattle.jskw_report.specs.Setting.{Setting, has_vocabulary, is_active, keywords, name_of, is_after_draft_4}
+use Rattle.jskw_report.specs.Setting.{Setting, has_vocabulary, is_active, name_of, is_after_draft_4}
 use Rattle.jskw_report.specs.Setting.{is_after_draft_7}
 use Rattle.jskw_report.specs.Sibling.{is_true, is_false, has_keyword, is_handed_on}
 use Rattle.jskw_report.specs.declared.keyword.KeywordName.{KeywordName}
@@ -20,10 +20,6 @@ reason_name NotImplemented = codes "notImplemented"
 reason_name Unknown = codes "unknown"
 reason_name Inactive = codes "inactive"
 reason_name Delegated = codes "delegated"
-
--- the keyword of this library that has the name
-abbrev pub keyword_named : List ℕ → Option KeywordName
-keyword_named name = find (λ w. bytes_eq name (name_of w)) keywords
 
 -- the keyword is there, and stands
 abbrev pub has_active : Setting → Members → KeywordName → Bool

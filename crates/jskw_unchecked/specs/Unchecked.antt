@@ -2,10 +2,11 @@
 use Rattle.std.specs.Prelude.{ℕ, suc, List, [], ◌∷◌, ◌++◌, Bool, false, Option, Some, None, if◌then◌else◌}
 use Rattle.serde_json.specs.Data.{Data, array, object, Items, no_items, item, Members, no_members, member}
 use Rattle.jskw_value.specs.Pointer.{Pointer, member_location, item_location}
+use Rattle.jskw_report.specs.Found.{keyword_named}
 use Rattle.jskw_report.specs.Setting.{Setting, vocabulary_of}
 use Rattle.jskw_report.specs.declared.keyword.KeywordName.{KeywordName}
 use Rattle.jskw_leaf.specs.Names.{applies}
-use Rattle.jskw_unchecked.specs.Reason.{keyword_named, member_reason}
+use Rattle.jskw_unchecked.specs.Reason.{member_reason}
 use Rattle.jskw_unchecked.specs.declared.reason.Reason.{Reason}
 use Rattle.jskw_unchecked.specs.declared.member.UncheckedMember.{UncheckedMember}
 

@@ -1,23 +1,12 @@
-//! The names of keywords, by draft: those of this library, and those that it has not.
+//! The names of keywords that this library has not, by draft.
 ghost use Rattle.std.specs.Prelude.{◌≡◌, map};
 ghost use Rattle.jskw_report.specs.Setting.{is_after_draft_7};
 ghost use Rattle.jskw_unchecked.specs.Names.{is_after_draft_6, is_one_of, is_annotation};
 ghost use Rattle.jskw_unchecked.specs.Names.{is_identifier, is_in_place, is_not_implemented};
 ghost use Rattle.jskw_unchecked.specs.Names.{is_of_core, is_of_members, is_of_metadata};
 ghost use Rattle.jskw_unchecked.specs.Names.{is_of_strings, is_reference};
-ghost use Rattle.jskw_unchecked.specs.Reason.{keyword_named};
 
-use jskw_report::{Draft, KeywordName};
-
-// Returns the keyword of this library that has the name.
-pub(crate) fn keyword_named(name: &str) -> Option<KeywordName>
-    ensures { result ≡ keyword_named name.now }
-{
-    KeywordName::ALL
-        .iter()
-        .copied()
-        .find(|keyword| name == keyword.as_str())
-}
+use jskw_report::Draft;
 
 // Returns whether the draft has a keyword of this name that asserts or applies something, and that
 // this library has not.

@@ -2,13 +2,13 @@
 ghost use Rattle.std.specs.Prelude.{◌≡◌, ◌++◌, ◌∷◌, [], IfOk};
 ghost use Rattle.serde_json.specs.View.{view, items_view, members_view};
 ghost use Rattle.jskw_value.specs.Pointer.{member_location};
-ghost use Rattle.jskw_unchecked.specs.Reason.{keyword_named, member_reason};
+ghost use Rattle.jskw_report.specs.Found.{keyword_named};
+ghost use Rattle.jskw_unchecked.specs.Reason.{member_reason};
 ghost use Rattle.jskw_unchecked.specs.Unchecked.{has_subschemas, unchecked, unchecked_among};
 ghost use Rattle.jskw_unchecked.specs.Unchecked.{unchecked_each, unchecked_in};
 ghost use Rattle.jskw_unchecked.specs.Unchecked.{unchecked_member};
 
 use crate::member::UncheckedMember;
-use crate::names::keyword_named;
 use crate::reason::{Reason, member_reason};
 use jskw_report::{Context, KeywordName, LocationSegment};
 use jskw_value::Json;
@@ -91,7 +91,7 @@ fn push_member<F: Json>(
         ctx.now.setting ctx.now.location (unchecked_in (view value.now) ctx.now.setting
         (member_location ctx.now.location name.now))) }
 {
-    let keyword = keyword_named(name);
+    let keyword = KeywordName::named(name);
     match member_reason(ctx, parent, keyword, name, value) {
         Some(reason) => push_one(alloc, ctx, name, reason, list),
         None if has_subschemas(keyword) => push_below(alloc, ctx, name, value, list),

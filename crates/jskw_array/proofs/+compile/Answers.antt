@@ -37,55 +37,28 @@ compiler::compile_subschema-returns-in_ok-boolean_node-in-Bool g t c =
 pub compiler::push_parts-push_shape-requires : goal.compiler::push_parts-push_shape-requires
 compiler::push_parts-push_shape-requires g t c κs within =
     let there : is_fused c.args.ctx.now.setting (members_view c.args.parent.now.entries) ≡ true =
-    search (rules, c.array_shape_fusion.ensures, c.if-not-array_shape_fusion.false) in
-    let before = sym (after_empty _ c.requires.empty _) ∙ c.in_ok-push_keywords.ensures.made in
-    let none = c.in_ok-push_keywords.ensures.fused ∙ ap shape_in c.requires.empty in
-    (omega (arith, c.decreases), search (rules, there, before, none))
+    search (rules, c.requires.values, c.is_array_shape.ensures, c.if-not-is_array_shape.false) in
+    (omega (arith, c.decreases), search (rules, there, c.requires))
 
-pub compiler::push_parts-returns-then-not-array_shape_fusion-clause-made
-    : goal.compiler::push_parts-returns-then-not-array_shape_fusion-clause-made
-compiler::push_parts-returns-then-not-array_shape_fusion-clause-made g t c =
+pub compiler::push_parts-returns-then-not-is_array_shape-clause-made
+    : goal.compiler::push_parts-returns-then-not-is_array_shape-clause-made
+compiler::push_parts-returns-then-not-is_array_shape-clause-made g t c =
     let ms = members_view c.args.parent.now.entries in
     let all =
     read_keywords keywords c.args.ctx.now.setting c.args.ctx.now.location ms (λ name. readings_named name ms) in
     subst (CompilesTo (λ _. keywords_of c.push_keywords.new.parts.items) c.push_keywords.result)
     (after_empty _ c.requires.empty all) c.push_keywords.ensures.made
 
-pub compiler::push_parts-returns-then-not-array_shape_fusion-clause-fused
-    : goal.compiler::push_parts-returns-then-not-array_shape_fusion-clause-fused
-compiler::push_parts-returns-then-not-array_shape_fusion-clause-fused g t c =
+pub compiler::push_parts-returns-then-not-is_array_shape-clause-fused
+    : goal.compiler::push_parts-returns-then-not-is_array_shape-clause-fused
+compiler::push_parts-returns-then-not-is_array_shape-clause-fused g t c =
     let lacks : is_fused c.args.ctx.now.setting (members_view c.args.parent.now.entries) ≡ false =
-    search (rules, c.array_shape_fusion.ensures, c.if-not-array_shape_fusion.true) in
+    search (rules, c.requires.values, c.is_array_shape.ensures, c.if-not-is_array_shape.true) in
     ok_then c.push_keywords.result (λ _ same. ap is_some (same ∙ ap shape_in c.requires.empty) ∙ sym lacks)
     c.push_keywords.ensures.fused
 
 pub compiler::push_shape-returns-clause-made : goal.compiler::push_shape-returns-clause-made
-compiler::push_shape-returns-clause-made g t c =
-    let point = c.args.ctx.now in
-    let ms = members_view c.args.parent.now.entries in
-    let d = view c.in-Some.items.now in
-    let found : get_member (name_of keyword_name.Items) ms ≡ Some d =
-    search (rules, c.as_str.ensures, c.in-Some.ensures) in
-    let of_shape =
-    shape_keywords {F = g.row.F.Denot} {Node = g.row.F-Node.Denot} {Number = g.row.F-Node-Number.Denot}
-    {Key = g.row.F-Node-PreparedKey.Denot} in
-    let reads = shape_reads point ms d c.requires.fused found (keywords_of c.args.parts.now.items) c.requires.before in
-    let made = subst (CompilesTo of_shape c.compile.result) reads c.compile.ensures in
-    subst (CompilesTo (λ _. keywords_of c.push_compiled.new.parts.items) c.push_compiled.result) (sym reads)
-    (c.push_compiled.ensures.made _ _ made)
-
-pub compiler::push_shape-returns-clause-begins : goal.compiler::push_shape-returns-clause-begins
-compiler::push_shape-returns-clause-begins g t c =
-    let point = c.args.ctx.now in
-    let ms = members_view c.args.parent.now.entries in
-    let d = view c.in-Some.items.now in
-    let found : get_member (name_of keyword_name.Items) ms ≡ Some d =
-    search (rules, c.as_str.ensures, c.in-Some.ensures) in
-    let of_shape =
-    shape_keywords {F = g.row.F.Denot} {Node = g.row.F-Node.Denot} {Number = g.row.F-Node-Number.Denot}
-    {Key = g.row.F-Node-PreparedKey.Denot} in
-    let reads = shape_reads point ms d c.requires.fused found (keywords_of c.args.parts.now.items) c.requires.before in
-    c.push_compiled.ensures.begins _ _ (subst (CompilesTo of_shape c.compile.result) reads c.compile.ensures)
+compiler::push_shape-returns-clause-made g t c = c.push_compiled.ensures.made _ c.compile.ensures
 
 pub compiler::push_parts-returns-clause-made : goal.compiler::push_parts-returns-clause-made
 compiler::push_parts-returns-clause-made g t c =
@@ -93,22 +66,22 @@ compiler::push_parts-returns-clause-made g t c =
     let all =
     fused_behind fused_keywords (drop 4 keywords) c.args.ctx.now.setting c.args.ctx.now.location
     (members_view c.args.parent.now.entries) js c.in_ok-push_shape.ensures.made in
-    subst (CompilesTo (λ _. keywords_of c.push_keywords-3.new.parts.items) c.push_keywords-3.result) (sym all)
-    c.push_keywords-3.ensures.made
+    subst (CompilesTo (λ _. keywords_of c.push_keywords-2.new.parts.items) c.push_keywords-2.result) (sym all)
+    c.push_keywords-2.ensures.made
 
 pub compiler::push_shape-unreachable-requires : goal.compiler::push_shape-unreachable-requires
 compiler::push_shape-unreachable-requires g t c =
     let s = c.args.ctx.now.setting in
     let ms = members_view c.args.parent.now.entries in
     let lost : get_member (name_of keyword_name.Items) ms ≡ None =
-    search (rules, c.as_str.ensures, c.in_default.ensures) in
+    search (rules, c.requires.values, c.get.ensures, c.in_default.is) in
     is_there s ms keyword_name.Items is_items_schema (fused_items s ms c.requires.fused) lost
 
 pub compiler::push_shape-compile-requires : goal.compiler::push_shape-compile-requires
 compiler::push_shape-compile-requires g t c κs within =
     let ms = members_view c.args.parent.now.entries in
     let found : get_member (name_of keyword_name.Items) ms ≡ Some (view c.in-Some.items.now) =
-    search (rules, c.as_str.ensures, c.in-Some.ensures) in
+    search (rules, c.requires.values, c.get.ensures, c.in-Some.is) in
     let below = member_depth (name_of keyword_name.Items) ms (view c.in-Some.items.now) found in
     (omega (arith, below, c.decreases), search (rules, found, c.requires.fused))
 
@@ -144,7 +117,7 @@ compiler::push_keywords-compile_keyword-compiled-requires g t c κs within =
     let ms = members_view c.args.parent.now.entries in
     let w = get_or c.args.keywords.now c.loop-keyword.keyword-index keyword_name.TypeKeyword in
     let found : active_member c.args.ctx.now.setting ms w ≡ Some (view c.in-Some.schema.now) =
-    search (rules, c.active_member.ensures, c.in-Some.is) in
+    search (rules, c.requires.values, c.active_member.ensures, c.in-Some.is) in
     let below = active_depth w c.args.ctx.now ms (view c.in-Some.schema.now) found in
     (omega (arith, below, c.decreases), search (rules, c.requires))
 
@@ -158,7 +131,7 @@ compiler::push_keywords-loop-keyword-preserved-in_default g t c =
     let l = c.loop-keyword in
     let w = get_or c.args.keywords.now l.keyword-index keyword_name.TypeKeyword in
     let none : active_member c.args.ctx.now.setting (members_view c.args.parent.now.entries) w ≡ None =
-    search (rules, c.active_member.ensures, c.in_default.is) in
+    search (rules, c.requires.values, c.active_member.ensures, c.in_default.is) in
     record {
       left =
           turn_silent _ _ _ _ _ _ c.args.keywords.now l.keyword-index keyword_name.TypeKeyword c.loop-keyword-test.true
@@ -172,7 +145,7 @@ compiler::push_keywords-loop-keyword-preserved g t c =
     let l = c.loop-keyword in
     let w = get_or c.args.keywords.now l.keyword-index keyword_name.TypeKeyword in
     let found : active_member c.args.ctx.now.setting (members_view c.args.parent.now.entries) w
-    ≡ Some (view c.in-Some.schema.now) = search (rules, c.active_member.ensures, c.in-Some.is) in
+    ≡ Some (view c.in-Some.schema.now) = search (rules, c.requires.values, c.active_member.ensures, c.in-Some.is) in
     record {
       left =
           turn_made _ _ _ _ _ _ c.args.keywords.now l.keyword-index keyword_name.TypeKeyword c.loop-keyword-test.true
@@ -191,7 +164,7 @@ compiler::push_keywords-returns-in_err-push_part-clause-made g t c =
     let l = c.loop-keyword in
     let w = get_or c.args.keywords.now l.keyword-index keyword_name.TypeKeyword in
     let found : active_member c.args.ctx.now.setting (members_view c.args.parent.now.entries) w
-    ≡ Some (view c.in-Some.schema.now) = search (rules, c.active_member.ensures, c.in-Some.is) in
+    ≡ Some (view c.in-Some.schema.now) = search (rules, c.requires.values, c.active_member.ensures, c.in-Some.is) in
     let new = λ (u : Unit {0}). keywords_of c.push_part.new.parts.items in
     passed_by_try new new c.in_err-push_part.field-0.0 _ _ _ c.from_residual.ensures.1
     (c.in_err-push_part.ensures.made _ c.compile_keyword-compiled.ensures)

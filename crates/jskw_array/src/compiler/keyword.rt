@@ -1,11 +1,13 @@
 //! A keyword of an object: its validator, if it has no subschemas, and its part of the node.
-ghost use Rattle.std.specs.Prelude.{◌≡◌};
+ghost use Rattle.std.specs.Prelude.{◌≡◌, None};
 ghost use Rattle.jskw_array.specs.Words.{Asserts, CompilesKeyword, CompilesTo, IfOk, Keyword};
 ghost use Rattle.jskw_array.specs.Words.{Members, Ok, Refusal, Result, ShapeBegins, after, before};
 ghost use Rattle.jskw_array.specs.Words.{is_handed_on, is_leaf, shape_in, keyword_location, keyword_reading};
 ghost use Rattle.jskw_array.specs.Words.{keywords_of, leaf_keyword, members_view, no_keywords};
 ghost use Rattle.jskw_array.specs.Words.{true, validator_keyword, view};
+ghost use Rattle.jskw_array.specs.Words.{[], absorbed_keywords, append_keywords, leaf_assertion, optional};
 
+use crate::items::AbsorbedKeywords;
 use crate::part::{LocatedValidator, Part};
 use crate::validator::Validator;
 use jskw_leaf::{LeafValidator, required};
@@ -106,4 +108,44 @@ fn of_leaf<'a, F: Json>(
         → CompilesTo validator_keyword result read }
 {
     Ok(Validator::Leaf(compiled?))
+}
+
+// Appends the parts of `type`, `minItems` and `maxItems` of a fused shape to an empty vector.
+#[inline(never)]
+pub(crate) fn push_absorbed<F: Json>(
+    absorbed: &AbsorbedKeywords,
+    parts: &mut Vec<Part<F>>,
+) -> Result<(), AllocError>
+    requires { parts.old.items ≡ [] }
+    ensures keywords { IfOk result (λ _. keywords_of parts.new.items ≡ absorbed_keywords absorbed.now) }
+    ensures fused { IfOk result (λ _. shape_in parts.new.items ≡ None) }
+{
+    push_leaf(Some(absorbed.type_validator()?), parts)?;
+    push_leaf(absorbed.min_validator()?, parts)?;
+    push_leaf(absorbed.max_validator()?, parts)?;
+    Ok(())
+}
+
+// Appends the part of a keyword without subschemas, if there is one. Its errors are at its location.
+fn push_leaf<F: Json>(
+    leaf: Option<LeafValidator<F>>,
+    parts: &mut Vec<Part<F>>,
+) -> Result<(), AllocError>
+    ensures keywords { IfOk result (λ _. keywords_of parts.new.items
+        ≡ append_keywords (keywords_of parts.old.items) (optional leaf_assertion leaf)) }
+    ensures fused { IfOk result (λ _. shape_in parts.new.items ≡ shape_in parts.old.items) }
+{
+    match leaf {
+        None => Ok(()),
+        Some(leaf) => {
+            let location = leaf.location().copy()?;
+            let validator = Validator::Leaf(leaf);
+            let keyword = LocatedValidator {
+                validator,
+                location,
+            };
+            parts.push(Part::Keyword(keyword))?;
+            Ok(())
+        }
+    }
 }

@@ -11,13 +11,16 @@ ghost use Rattle.jskw_report.specs.Observe.{Reports};
 ghost use Rattle.jskw_report.specs.Paths.{path_of};
 ghost use Rattle.jskw_report.specs.Read.{readings_named, read_keywords};
 ghost use Rattle.jskw_report.specs.Sibling.{is_fused, takes_size};
-ghost use Rattle.jskw_number.specs.Meaning.{sized};
+ghost use Rattle.jskw_number.specs.Meaning.{max_items, min_items, sized};
 ghost use Rattle.jskw_number.specs.Size.{size_of, size_keyword_name};
 ghost use Rattle.jskw_leaf.specs.Items.{AppendsItems, absorbed_bounds, absorbed_keywords, absorbed_type};
 ghost use Rattle.jskw_leaf.specs.Items.{count_of, optional};
+ghost use Rattle.jskw_leaf.specs.Meaning.{leaf_assertion};
 
 use super::assertion_node::evaluate_assertion;
-use crate::type_::ArrayTypeValidator;
+use crate::leaf::LeafValidator;
+use crate::type_::{ArrayTypeValidator, IntegerRule, TypeValidator};
+use jskw_number::NumberValidator;
 use jskw_number::max_items::MaxItemsValidator;
 use jskw_number::min_items::MinItemsValidator;
 use jskw_number::sizes::SizeLimit;
@@ -25,9 +28,9 @@ use jskw_report::assertion::report_assertion;
 use jskw_report::context::member_of;
 use jskw_report::{
     Assertion, CompilationResult, Context, EvaluationNode, KeywordName, LazyLocation, Location,
-    Report, Stop,
+    Report, Stop, TypeKind,
 };
-use jskw_value::{Array, Json, Node};
+use jskw_value::{Array, Json, JsonType, Node};
 use serde_json::{Map, Value};
 use std::alloc::{AllocError, Global};
 
@@ -69,6 +72,38 @@ impl AbsorbedKeywords {
             max_items,
         };
         Ok(Box::new(alloc, absorbed)?)
+    }
+
+    /// Returns a validator of `type` alone. Fails only if memory runs out.
+    pub fn type_validator<F: Json>(&self) -> Result<LeafValidator<F>, AllocError>
+        ensures { IfOk result (λ v. leaf_assertion v ≡ absorbed_type self.now) }
+    {
+        let location = self.type_.location().copy()?;
+        let kind = TypeKind::Single(JsonType::Array);
+        let validator = TypeValidator::new(kind, IntegerRule::ByValue, location);
+        Ok(LeafValidator::Types(validator))
+    }
+
+    /// Returns a validator of `minItems` alone, if the schema has it. Fails only if memory runs out.
+    pub fn min_validator<F: Json>(&self) -> Result<Option<LeafValidator<F>>, AllocError>
+        ensures { IfOk result (λ o. optional leaf_assertion o ≡ optional min_items self.now.min_items) }
+    {
+        let Some(bound) = &self.min_items else {
+            return Ok(None);
+        };
+        let validator = NumberValidator::MinItems(bound.copy()?);
+        Ok(Some(LeafValidator::Number(validator)))
+    }
+
+    /// Returns a validator of `maxItems` alone, if the schema has it. Fails only if memory runs out.
+    pub fn max_validator<F: Json>(&self) -> Result<Option<LeafValidator<F>>, AllocError>
+        ensures { IfOk result (λ o. optional leaf_assertion o ≡ optional max_items self.now.max_items) }
+    {
+        let Some(bound) = &self.max_items else {
+            return Ok(None);
+        };
+        let validator = NumberValidator::MaxItems(bound.copy()?);
+        Ok(Some(LeafValidator::Number(validator)))
     }
 
     /// Returns the number of items if the instance is an array that passes all three, else `None`.

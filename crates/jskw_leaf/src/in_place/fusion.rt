@@ -9,7 +9,7 @@ ghost use Rattle.jskw_report.specs.Sibling.{is_string, takes_size, unfused_names
 
 use jskw_number::helpers::size_limit;
 use jskw_report::context::member_of;
-use jskw_report::{Context, KeywordName};
+use jskw_report::{Context, KeywordName, KeywordValues, find_values};
 use jskw_value::Json;
 use serde_json::{Map, Value};
 
@@ -17,15 +17,24 @@ use serde_json::{Map, Value};
 /// together. They are if `type` is `array`, `items` is an object or `false`, both bounds are absent
 /// or valid, none of the four is inactive, and `prefixItems`, `additionalItems`, `contains`,
 /// `unevaluatedItems` and `uniqueItems` are absent, whatever the draft.
-#[tactic(auto, unfolding(jskw_report::specs::Sibling::is_fused))]
 pub fn array_shape_fusion<F: Json>(ctx: &Context<'_, F>, parent: &Map<String, Value>) -> bool
     ensures { result ≡ is_fused ctx.now.setting (members_view parent.now.entries) }
 {
-    has_type_array(ctx, parent)
-        && has_items(ctx, parent)
-        && takes_size(ctx, parent, KeywordName::MinItems)
-        && takes_size(ctx, parent, KeywordName::MaxItems)
-        && lacks_other_keywords(parent)
+    let mut values = [None; KeywordName::COUNT];
+    find_values(parent, &mut values[..]);
+    is_array_shape(ctx, &KeywordValues::new(parent, &values))
+}
+
+/// Returns what [`array_shape_fusion`] does, of the schema that has these keywords.
+#[tactic(auto, unfolding(jskw_report::specs::Sibling::is_fused))]
+pub fn is_array_shape<F: Json>(ctx: &Context<'_, F>, values: &KeywordValues<'_, '_>) -> bool
+    ensures { result ≡ is_fused ctx.now.setting values.now }
+{
+    has_type_array(ctx, values)
+        && has_items(ctx, values)
+        && takes_size(ctx, values, KeywordName::MinItems)
+        && takes_size(ctx, values, KeywordName::MaxItems)
+        && lacks_other_keywords(values)
 }
 
 /// Returns whether the value of `items` is one schema that asserts something: an object or `false`
@@ -37,22 +46,21 @@ pub fn is_items_schema(value: &Value) -> bool
 }
 
 // Returns whether `type` is present, active and `array`.
-fn has_type_array<F: Json>(ctx: &Context<'_, F>, parent: &Map<String, Value>) -> bool
-    ensures { result ≡ has_keyword ctx.now.setting (members_view parent.now.entries)
-        KeywordName.TypeKeyword (is_string (type_name Array)) }
+fn has_type_array<F: Json>(ctx: &Context<'_, F>, values: &KeywordValues<'_, '_>) -> bool
+    ensures { result ≡ has_keyword ctx.now.setting values.now KeywordName.TypeKeyword
+        (is_string (type_name Array)) }
 {
-    match member_of(parent, KeywordName::TypeKeyword.as_str()) {
+    match values.get(KeywordName::TypeKeyword) {
         Some(value) => value.as_str() == Some("array") && KeywordName::TypeKeyword.is_active(ctx),
         None => false,
     }
 }
 
 // Returns whether `items` is present, active and one schema that asserts something.
-fn has_items<F: Json>(ctx: &Context<'_, F>, parent: &Map<String, Value>) -> bool
-    ensures { result ≡ has_keyword ctx.now.setting (members_view parent.now.entries)
-        KeywordName.Items is_items_schema }
+fn has_items<F: Json>(ctx: &Context<'_, F>, values: &KeywordValues<'_, '_>) -> bool
+    ensures { result ≡ has_keyword ctx.now.setting values.now KeywordName.Items is_items_schema }
 {
-    match member_of(parent, KeywordName::Items.as_str()) {
+    match values.get(KeywordName::Items) {
         Some(value) => is_items_schema(value) && KeywordName::Items.is_active(ctx),
         None => false,
     }
@@ -61,32 +69,24 @@ fn has_items<F: Json>(ctx: &Context<'_, F>, parent: &Map<String, Value>) -> bool
 // Returns whether the keyword is absent, or active and a bound on a size.
 fn takes_size<F: Json>(
     ctx: &Context<'_, F>,
-    parent: &Map<String, Value>,
+    values: &KeywordValues<'_, '_>,
     keyword: KeywordName,
 ) -> bool
-    ensures { result ≡ takes_size ctx.now.setting (members_view parent.now.entries) keyword }
+    ensures { result ≡ takes_size ctx.now.setting values.now keyword }
 {
-    match member_of(parent, keyword.as_str()) {
+    match values.get(keyword) {
         Some(value) => size_limit(value).is_some() && keyword.is_active(ctx),
         None => true,
     }
 }
 
 // Returns whether no other keyword of items is present.
-fn lacks_other_keywords(parent: &Map<String, Value>) -> bool
-    ensures { result ≡ list_all (λ name. is_absent name (members_view parent.now.entries))
-        unfused_names }
+fn lacks_other_keywords(values: &KeywordValues<'_, '_>) -> bool
+    ensures { result ≡ list_all (λ name. is_absent name values.now) unfused_names }
 {
-    is_absent(parent, "prefixItems")
-        && is_absent(parent, "additionalItems")
-        && is_absent(parent, "contains")
-        && is_absent(parent, "unevaluatedItems")
-        && is_absent(parent, "uniqueItems")
-}
-
-// Returns whether no member has the name.
-fn is_absent(parent: &Map<String, Value>, name: &str) -> bool
-    ensures { result ≡ is_absent name.now (members_view parent.now.entries) }
-{
-    member_of(parent, name).is_none()
+    values.get(KeywordName::PrefixItems).is_none()
+        && values.get(KeywordName::AdditionalItems).is_none()
+        && values.get(KeywordName::Contains).is_none()
+        && member_of(values.parent(), "unevaluatedItems").is_none()
+        && values.get(KeywordName::UniqueItems).is_none()
 }

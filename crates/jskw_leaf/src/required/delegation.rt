@@ -2,12 +2,13 @@
 //! it.
 ghost use Rattle.std.specs.Prelude.{◌≡◌, not};
 ghost use Rattle.serde_json.specs.View.{view, members_view};
+ghost use Rattle.jskw_report.specs.Setting.{name_of};
 ghost use Rattle.jskw_report.specs.Sibling.{has_few_members, has_items, is_absent, is_false};
 ghost use Rattle.jskw_report.specs.Sibling.{is_handed_on, is_object_value, member_passes};
 ghost use Rattle.jskw_report.specs.Sibling.{requires_one_of_properties, requires_two_of_properties};
 
 use jskw_report::context::member_of;
-use jskw_report::{Context, KeywordName, Vocabulary};
+use jskw_report::{Context, KeywordName, KeywordValues, Vocabulary, find_values};
 use jskw_value::Json;
 use serde_json::{Map, Value};
 
@@ -26,46 +27,54 @@ const TOO_MANY_PROPERTIES: usize = 15;
 ///   not overridden, and `additionalProperties` is neither `false` nor an object, or is absent.
 ///
 /// The items are counted as they are written: a repeated name counts twice.
-#[tactic(auto, unfolding(jskw_report::specs::Sibling::is_handed_on))]
 pub fn is_handed_on<F: Json>(ctx: &Context<'_, F>, parent: &Map<String, Value>) -> bool
     ensures { result ≡ is_handed_on ctx.now.setting (members_view parent.now.entries) }
+{
+    let mut values = [None; KeywordName::COUNT];
+    find_values(parent, &mut values[..]);
+    is_delegated(ctx, &KeywordValues::new(parent, &values))
+}
+
+/// Returns what [`is_handed_on`] does, of the schema that has these keywords.
+#[tactic(auto, unfolding(jskw_report::specs::Sibling::is_handed_on), using(crate::proofs::Delegation::and_false))]
+pub fn is_delegated<F: Json>(ctx: &Context<'_, F>, values: &KeywordValues<'_, '_>) -> bool
+    ensures { result ≡ is_handed_on ctx.now.setting values.now }
 {
     KeywordName::Required.is_active(ctx)
         && ctx.object_layer()
         && ctx.has_vocabulary(Vocabulary::Applicator)
-        && !has_member(parent, "patternProperties")
-        && (requires_one_of_properties(ctx, parent) || requires_two_of_properties(ctx, parent))
+        && (requires_one_of_properties(ctx, values) || requires_two_of_properties(ctx, values))
+        && !has_member(values.parent(), "patternProperties")
 }
 
 // Returns whether the first case of [`is_handed_on`] applies.
-fn requires_one_of_properties<F: Json>(ctx: &Context<'_, F>, parent: &Map<String, Value>) -> bool
-    ensures { result
-        ≡ requires_one_of_properties ctx.now.setting (members_view parent.now.entries) }
+fn requires_one_of_properties<F: Json>(ctx: &Context<'_, F>, values: &KeywordValues<'_, '_>) -> bool
+    ensures { result ≡ requires_one_of_properties ctx.now.setting values.now }
 {
-    has_items(parent, "required", 1)
+    let parent = values.parent();
+    requires_names(values, 1)
         && has_member(parent, "properties")
         && has_false(parent, "additionalProperties")
         && !ctx.is_keyword_overridden("additionalProperties")
 }
 
 // Returns whether the second case of [`is_handed_on`] applies.
-fn requires_two_of_properties<F: Json>(ctx: &Context<'_, F>, parent: &Map<String, Value>) -> bool
-    ensures { result
-        ≡ requires_two_of_properties ctx.now.setting (members_view parent.now.entries) }
+fn requires_two_of_properties<F: Json>(ctx: &Context<'_, F>, values: &KeywordValues<'_, '_>) -> bool
+    ensures { result ≡ requires_two_of_properties ctx.now.setting values.now }
 {
-    has_items(parent, "required", 2)
+    let parent = values.parent();
+    requires_names(values, 2)
         && has_small_object(parent, "properties")
         && !ctx.is_keyword_overridden("properties")
         && !has_false(parent, "additionalProperties")
         && !has_object(parent, "additionalProperties")
 }
 
-// Returns whether the member `name` is an array of `count` items.
-fn has_items(parent: &Map<String, Value>, name: &str, count: usize) -> bool
-    ensures { result
-        ≡ member_passes (has_items count) name.now (members_view parent.now.entries) }
+// Returns whether `required` is an array of `count` items.
+fn requires_names(values: &KeywordValues<'_, '_>, count: usize) -> bool
+    ensures { result ≡ member_passes (has_items count) (name_of KeywordName.Required) values.now }
 {
-    match member_of(parent, name) {
+    match values.get(KeywordName::Required) {
         Some(value) => is_array_of(value, count),
         None => false,
     }
