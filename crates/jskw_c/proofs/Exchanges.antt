@@ -7,7 +7,7 @@ use base.Fraction.{full_share}
 use base.Logic.{SProp, ent, sep, ex, ex_i, upd_i}
 use base.Fml.{Fml, fsep, feq, ftrue}
 use types.Logic.{Logic, sem}
-use types.Kit.{‵, raw, ◌⊛◌, ◌$◌, ◌∵◌, !, qed, by, move, keep, drop, use1, use2, split, fsplit, fjoin, fpick, feq_i, feq_l}
+use types.Kit.{‵, raw, ◌$◌, ◌∵◌, !, qed, by, move, drop, use1, use2, fsplit, fjoin, fpick, feq_i, feq_l}
 use types.Kit.{rewrite, suffices, show, frame, assume, done}
 use denote.Builtin.{RawPtr}
 use denote.Memory.{cell_at, part_at, lone}
@@ -36,19 +36,25 @@ module _ {M : Type 1} {𝓤 : Ura M} (𝓛 : Logic 𝓤) (b o : ℕ) where
   pub cell_of : (p : Ptr) → ent 𝓤 (sem 𝓛 (handle_at p)) (sep 𝓤 (sem 𝓛 (cell b o p)) (Back 𝓛 b o))
   cell_of p =
       qed 𝓛 (‵ (handle_at p) ∷ []) ∵ feq_i ! (List Val) (ptr_val p ∷ []) (ptr_val p ∷ []) refl $
-      use1 𝓛 (‵ (One.own_val (p, tt) (round (ptr_val p) ∷ []))) (wraps pointer 𝓛 νP [] p (ptr_val p)) $ move ! (1 ∷ 0 ∷ []) $
+      use1 𝓛 (‵ (One.own_val (p, tt) (round (ptr_val p) ∷ []))) (wraps pointer 𝓛 νP [] p (ptr_val p)) $
+      move ! (1 ∷ 0 ∷ []) $
       gather whole ! (p, tt) (round (ptr_val p)) b o $
-      use1 𝓛 (raw (Whole 𝓛 b o p)) (Laid-in One Ptr place.the_row.coded (λ x. (x, tt)) place.the_row.shr_at 𝓛 p b o refl) $
+      use1 𝓛 (raw (Whole 𝓛 b o p))
+      (Laid-in One Ptr place.the_row.coded (λ x. (x, tt)) place.the_row.shr_at 𝓛 p b o refl) $
       by ! (cell_out 𝓛 b o p)
 
   pub cell_back : (p : Ptr) → ent 𝓤 (sep 𝓤 (sem 𝓛 (cell b o p)) (Back 𝓛 b o)) (sem 𝓛 (handle_at p))
   cell_back p =
-      qed 𝓛 (‵ (cell b o p) ∷ raw (Back 𝓛 b o) ∷ []) ∵ use2 𝓛 (‵ (part_at place.the_row full_share p b o)) (cell_in 𝓛 b o p) $
+      qed 𝓛 (‵ (cell b o p) ∷ raw (Back 𝓛 b o) ∷ []) ∵
+      use2 𝓛 (‵ (part_at place.the_row full_share p b o)) (cell_in 𝓛 b o p) $
       use1 𝓛 (‵ (part_at One full_share (p, tt) b o))
       (laid_out One Ptr place.the_row.coded (λ x. (x, tt)) place.the_row.shr_at 𝓛 p b o refl) $
-      spread whole ! (Struct-Lawful 𝓛 (record { name = νP; args = []; types = []; fields = RawPtr ∷ [] }) (rawptr_Lawful 𝓛, tt)) (p, tt) b o (λ v good.
+      spread whole !
+      (Struct-Lawful 𝓛 (record { name = νP; args = []; types = []; fields = RawPtr ∷ [] }) (rawptr_Lawful 𝓛, tt))
+      (p, tt) b o (λ v good.
       move ! (1 ∷ []) $ fpick ! (λ vss. fsplit ! $ feq_l ! (λ eu. fsplit ! $ feq_l ! (λ ep. drop !
-      $ rewrite ! 0 (λ (vs : List Val). ‵ (cell_at full_share Hd.mir vs b o)) (eu ∙ ap (λ (us : List Val). vstruct (of_list (us ++ [])) ∷ []) ep) refl $ done !))))
+      $ rewrite ! 0 (λ (vs : List Val). ‵ (cell_at full_share Hd.mir vs b o))
+      (eu ∙ ap (λ (us : List Val). vstruct (of_list (us ++ [])) ∷ []) ep) refl $ done !))))
 
   -- the pointer p is there, and the step leaves another
   pub asks_owned : (p new : Ptr) → ent 𝓤 (sem 𝓛 (cell b o p))

@@ -1,6 +1,6 @@
 -- `exchange` opens the place of the handle for one step of the machine, which leaves the new pointer there and finds
 -- the old one: what each owns goes with it.
-use Rattle.jskw_c.proofs.Handles.{T, ◌≡◌, ℕ, List, [], ◌∷◌, ◌++◌, refl, sym, ap, lit<, Val, vptr, full_share, SProp, emp}
+use Rattle.jskw_c.proofs.Handles.{◌≡◌, List, [], ◌∷◌, ◌++◌, refl, sym, ap, lit<, Val, vptr, full_share, SProp, emp}
 use Rattle.jskw_c.proofs.Handles.{bare, WpFn, ‵, raw, ◌⊛◌, prop, at_ret, ◌$◌, ◌∵◌, !, qed, by, move, keep, drop, split}
 use Rattle.jskw_c.proofs.Handles.{fsplit, fjoin, regoal, use0, use1, feq_i, feq_l, stop, fld, lit, of_opd, no_more}
 use Rattle.jskw_c.proofs.Handles.{and_then, first, blocks, exec, returns, enter, alloc_all, pass_all, free_all, look_at}
@@ -68,7 +68,8 @@ exchange_spec 𝓤 𝓛 𝓜 𝓡 wired =
     (λ i. are.0.0 i ++ (lowers.val_is d z.0.4.1.0 are.1.0 i ++ [])) refl $
     enter ! 𝓣.C 𝓣.Λ fn _ Post $ alloc_all ! (λ l. pass_all ! refl ((tt, tt), (word_good d.at, tt)) $
     let Ev = env fn.locals l in
-    move ! (1 ∷ 2 ∷ 3 ∷ []) $ opens ! tt Hd b o (λ us. move ! (1 ∷ []) $ peeks ! Hd _ (shows 𝓛 Hd) h us (λ is. fsplit ! $
+    move ! (1 ∷ 2 ∷ 3 ∷ []) $ opens ! tt Hd b o (λ us.
+    move ! (1 ∷ []) $ peeks ! Hd _ (shows 𝓛 Hd) h us (λ is. fsplit ! $
     drop ! $ move ! (1 ∷ []) $
     rewrite ! 0 (λ (ws : List Val). ‵ (cell_at full_share Hd.mir ws b o)) (lowers.val_is h us is) refl $
     use1 𝓛 (‵ (cell b o h.at) ⊛ raw (Back 𝓛 b o)) (cell_of 𝓛 b o h.at) $ split ! $
@@ -93,7 +94,8 @@ exchange_spec 𝓤 𝓛 𝓜 𝓡 wired =
     move ! (3 ∷ []) $ rewrite ! 0 (λ (w : Ptr). ‵ (slot_owns R w h.schema)) (sym same) refl $ handle_in ! p h.schema $
     returns ! (look_at ! 0 refl) $ free_all ! refl $ move ! (3 ∷ []) $
     -- [the token; the result; two parts of self]
-    nothing ! $ move ! (1 ∷ 0 ∷ []) $ join ! $ move ! (2 ∷ 3 ∷ []) $ feq_i ! (List Val) z.0.4.0 (vptr b o ∷ []) are.0.0 $
+    nothing ! $ move ! (1 ∷ 0 ∷ []) $ join ! $ move ! (2 ∷ 3 ∷ []) $
+    feq_i ! (List Val) z.0.4.0 (vptr b o ∷ []) are.0.0 $
     fjoin3 ! $ nothing ! $ nothing ! $ fjoin ! $ move ! (1 ∷ 0 ∷ []) $ fjoin ! $
     use0 𝓛 (raw (fact 𝓤 (d.schema ≡ d.schema))) (fact_i 𝓤 (d.schema ≡ d.schema) (emp 𝓤) refl) $
     use0 𝓛 (raw (fact 𝓤 (h.schema ≡ h.schema))) (fact_i 𝓤 (h.schema ≡ h.schema) (emp 𝓤) refl) $ join ! $
