@@ -259,6 +259,7 @@ static void nulls(void) {
     check("NULL, a request", jskw_answer(NULL, 0, buffer, ROOM, &length) == JSKW_REFUSED);
     check("NULL, the version", jskw_version(NULL, 0, &length) == JSKW_TOO_SMALL && length > 0);
     struct asked asked = asked_of("2020", "7", "", SCHEMA, INVALID), none = asked_of("2020", "7", "", SCHEMA, "");
+    struct text empty = none.instance;
     none.instance.bytes = NULL;
     for (int which = FIRST_ERROR; which <= EVALUATE; which++) {
         uint32_t status = call(which, asked, &handle, buffer, ROOM, &size);
@@ -267,7 +268,7 @@ static void nulls(void) {
         check("NULL, no instance", call(which, none, &handle, buffer, ROOM, &length) == JSKW_NOT_JSON);
     }
     free_asked(asked);
-    none.instance = text_of("");
+    none.instance = empty;
     free_asked(none);
     jskw_free(&handle);
 }
