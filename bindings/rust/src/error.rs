@@ -395,12 +395,7 @@ impl Document {
         self.walk(pointer, |_| (), make)
     }
 
-    fn walk<R>(
-        &self,
-        pointer: &str,
-        mut step: impl FnMut(PathSegment),
-        make: impl FnOnce(&Value) -> R,
-    ) -> Option<R> {
+    fn walk<R>(&self, pointer: &str, mut step: impl FnMut(PathSegment), make: impl FnOnce(&Value) -> R) -> Option<R> {
         let root = self.root();
         let mut value = root.as_deref();
         for word in pointer.split('/').skip(1) {
