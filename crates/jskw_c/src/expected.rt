@@ -82,6 +82,7 @@ fn value_text(alloc: Global, value: &Value) -> Result<Vec<u8>, AllocError>
 
 // Returns whether the value is an array whose commas alone are more than LONGEST bytes. Its text is not
 // written for each error, only to be left out.
+#[tactic(auto, using(crate::proofs::LongValues::has_many))]
 fn has_many_items(value: &Value) -> bool
     ensures { result ≡ true → 1024 < length (compact_text (view value.now)) }
 {
