@@ -8,7 +8,7 @@ use Rattle.serde_json.specs.View.{view, items_view}
 use Rattle.serde_json.specs.Written.{compact_text, items_text}
 use Rattle.serde_json.specs.declared.value.Value.{Value}
 
-count : Items → ℕ
+abbrev count : Items → ℕ
 count no_items = zero
 count (item d ds) = suc (count ds)
 
