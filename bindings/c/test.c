@@ -493,7 +493,7 @@ static void shares(void) {
     seen = 0, refused = 1, and_later = 1;
     uint32_t told = jskw_share(&first, &third);
     refused = 0;
-    check("share, memory refused", told == JSKW_NO_MEMORY && seen == 1 && size_seen == 280 && has_schema(&first)
+    check("share, memory refused", told == JSKW_NO_MEMORY && seen == 1 && size_seen == 272 && has_schema(&first)
         && jskw_is_valid(&third, BYTES("1")) == JSKW_INVALID);
     check("share, in its place", jskw_share(&first, &third) == JSKW_VALID && has_schema(&third));
     check("share, again", jskw_share(&first, &third) == JSKW_VALID && has_schema(&third));
