@@ -118,7 +118,7 @@ uint32_t jskw_unchecked(uint32_t draft, uint32_t vocabularies, const uint8_t *ov
 
 /* Puts the schema of the handle `from` into the handle `to` too, without compiling it again, and frees the schema that
  * `to` had. The two are different handles, and neither is in another call. JSKW_VALID; JSKW_NO_SCHEMA or
- * JSKW_NO_MEMORY, and both are unchanged. It allocates 280 bytes. Calls write to their handles: those of two threads
+ * JSKW_NO_MEMORY, and both are unchanged. It allocates 272 bytes. Calls write to their handles: those of two threads
  * are best 64 bytes apart. */
 uint32_t jskw_share(jskw_schema *from, jskw_schema *to);
 
