@@ -1,6 +1,6 @@
 -- `exchange` opens the place of the handle for one step of the machine, which leaves the new pointer there and finds
 -- the old one: what each owns goes with it.
-use Rattle.jskw_c.proofs.Handles.{◌≡◌, List, [], ◌∷◌, ◌++◌, refl, sym, ap, lit<, Val, vptr, full_share, SProp, emp}
+use Rattle.jskw_c.proofs.Handles.{◌≡◌, ℕ, List, [], ◌∷◌, ◌++◌, refl, sym, ap, lit<, Val, vptr, full_share, SProp, emp}
 use Rattle.jskw_c.proofs.Handles.{bare, WpFn, ‵, raw, ◌⊛◌, prop, at_ret, ◌$◌, ◌∵◌, !, qed, by, move, keep, drop, split}
 use Rattle.jskw_c.proofs.Handles.{fsplit, fjoin, regoal, use0, use1, feq_i, feq_l, stop, fld, lit, of_opd, no_more}
 use Rattle.jskw_c.proofs.Handles.{and_then, first, blocks, exec, returns, enter, alloc_all, pass_all, free_all, look_at}
