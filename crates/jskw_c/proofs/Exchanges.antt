@@ -1,6 +1,6 @@
 -- One step of the machine on the pointer of a handle that is owned: it finds the pointer and leaves another one.
 -- Assumes `Logic`.
-use Rattle.std.proofs.Common.{◌≡◌, ℕ, ◌+◌, List, [], ◌∷◌, refl, sym, ap, add-zero}
+use Rattle.std.proofs.Common.{ℕ, List, [], ◌∷◌, refl, ap}
 use seplogic.Ra.Ura.{Ura}
 use mir.Val.{Val}
 use base.Fraction.{full_share}

@@ -4,7 +4,7 @@ use Rattle.std.proofs.Common.{unwrap_or, arith, length-append}
 use Rattle.std.proofs.lemmas.Option.{none-some}
 use Rattle.serde_json.specs.Data.{Data, Items, no_items, item, null, boolean, number, string, array, object}
 use Rattle.serde_json.specs.Find.{as_array}
-use Rattle.serde_json.specs.View.{view, items_view}
+use Rattle.serde_json.specs.View.{items_view}
 use Rattle.serde_json.specs.Written.{compact_text, items_text}
 use Rattle.serde_json.specs.declared.value.Value.{Value}
 

@@ -1,6 +1,6 @@
 -- `exchange` opens the place of the handle for one step of the machine, which leaves the new pointer there and finds
 -- the old one: what each owns goes with it.
-use Rattle.jskw_c.proofs.Handles.{◌≡◌, ℕ, List, [], ◌∷◌, ◌++◌, refl, sym, ap, lit<, Val, vptr, full_share, SProp, emp}
+use Rattle.jskw_c.proofs.Handles.{◌≡◌, ℕ, List, [], ◌∷◌, ◌++◌, refl, sym, lit<, Val, vptr, full_share, SProp, emp}
 use Rattle.jskw_c.proofs.Handles.{bare, WpFn, ‵, raw, ◌⊛◌, prop, at_ret, ◌$◌, ◌∵◌, !, qed, by, move, keep, drop, split}
 use Rattle.jskw_c.proofs.Handles.{fsplit, fjoin, regoal, use0, use1, feq_i, feq_l, stop, fld, lit, of_opd, no_more}
 use Rattle.jskw_c.proofs.Handles.{and_then, first, blocks, exec, returns, enter, alloc_all, pass_all, free_all, look_at}
@@ -8,12 +8,10 @@ use Rattle.jskw_c.proofs.Handles.{get, get_in, sets, env, agg, sub, whole, fact,
 use Rattle.jskw_c.proofs.Handles.{types_at, plain, nothing, Stays, stay_dropped, walk_of, Goes-blank, after, fm}
 use Rattle.jskw_c.proofs.Handles.{Ptr-Good, proved_at, leaves, Good, Hd, R, word, handle_in, Ptr, block_ptr, null_ptr}
 use Rattle.jskw_c.proofs.Handles.{ptr_val, slot_owns, no, RattleType}
-use base.Logic.{sep}
 use base.Fml.{flft, ftrue, fsep, feq}
 use types.Kit.{mean, fsplit3, fjoin3, use2, join, rewrite}
 use types.Run.{addr, Calls-last}
 use types.ByLocal.{through, lands_last}
-use mir.Syntax.{w8}
 use denote.Builtin.{u8}
 use denote.Laws.{shows}
 use denote.Memory.{cell_at}
