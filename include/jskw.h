@@ -5,9 +5,9 @@
  * proved: that this header agrees with those functions, and the C compiler.
  *
  * What a caller owes; nothing checks it:
- *   - No pointer is NULL, also if its size is 0. `bytes` and `size` are one block of that many bytes, at most
- *     PTRDIFF_MAX, which no one writes during the call.
- *   - A `buffer` has `buffer_size` bytes that can be written. It overlaps no other block, `length` or handle.
+ *   - `bytes` and `size` are one block of that many bytes, at most PTRDIFF_MAX, which no one writes during the call. A
+ *     `buffer` has `buffer_size` bytes that can be written; it overlaps no other block, `length` or handle. Of the size
+ *     0 each of them may be NULL. No other pointer is NULL.
  *   - A jskw_schema begins as JSKW_SCHEMA_EMPTY. After that only these functions read or write it, and it is not
  *     copied: jskw_share makes another handle of its schema. A handle is in one call at a time, also in one that only
  *     checks an instance. It may pass to another thread, by a lock, by that thread's start or join, or by an atomic in
@@ -15,7 +15,8 @@
  *     thread.
  *   - malloc, realloc and free are one allocator, with blocks aligned to 16 bytes as in any C library. No call is made
  *     in a signal handler, or in a forked child of a process with threads.
- *   - There is stack: 1 MB is enough for all JSON text, which nests at most 127 levels.
+ *   - There is stack: 704 KB are enough for all JSON text, which nests at most 127 levels. Of a schema that is so deep
+ *     jskw_compile takes 600 KB, jskw_evaluate 390 KB, and a check 290 KB, with 352 KB more for a long `uniqueItems`.
  *
  * No function keeps a pointer to `bytes` or `buffer`. None ends the process, prints, or waits. A handle that is not
  * freed is lost memory, and nothing else; a schema is freed with the last of its handles. A handle keeps the memory
@@ -31,10 +32,9 @@
  * written with a point or an exponent (docs/USE.md, "Decimals"). Numbers in the keywords of a schema are whole, from
  * -2^63 to 2^64-1.
  *
- * Versions. Within a minor version (0.2.*) no function, number or word of a line is changed or taken away, so that a
+ * Versions. Within a minor version (0.3.*) no function, number or word of a line is changed or taken away, so that a
  * program need not be compiled again; words may be added at the end of a line. Another minor version may differ in all
- * of it, and its file has the same name, libjskw.so.1: a program that can meet another one compares JSKW_VERSION with
- * what jskw_version writes. */
+ * of it, and its file has another name: this one is libjskw.so.0.3. */
 #ifndef JSKW_H
 #define JSKW_H
 
@@ -45,9 +45,9 @@
 extern "C" {
 #endif
 
-#define JSKW_VERSION "0.2.0"
+#define JSKW_VERSION "0.3.0"
 #define JSKW_VERSION_MAJOR 0
-#define JSKW_VERSION_MINOR 2
+#define JSKW_VERSION_MINOR 3
 #define JSKW_VERSION_PATCH 0
 
 enum {
@@ -60,7 +60,7 @@ enum {
     JSKW_INEXACT = 4,     /* the instance contains a number that is not exact; the text is a line with its location */
     JSKW_BAD_SCHEMA = 5,  /* the schema does not compile; the text is the line of the refusal */
     JSKW_BAD_SETTING = 6, /* no such draft or set of vocabularies, or `overridden` is no JSON array of strings */
-    JSKW_NO_SCHEMA = 7,   /* the handle is empty */
+    JSKW_NO_SCHEMA = 7,   /* the handle is empty, or it is in another call, in which it must not be */
     JSKW_NO_MEMORY = 8,   /* malloc refused; handle and buffer are unchanged, *length is 0 */
     JSKW_TOO_SMALL = 9    /* the text is longer than the buffer; handle and buffer are unchanged */
 };
@@ -90,11 +90,11 @@ uint32_t jskw_version(uint8_t *buffer, size_t buffer_size, size_t *length);
  * instance with a float: a number with a point or an exponent, `-0`, or one outside the range of whole numbers. */
 uint32_t jskw_answer(const uint8_t *bytes, size_t size, uint8_t *buffer, size_t buffer_size, size_t *length);
 
-/* Compiles a schema into a handle, and frees the schema that it had. `draft` is 4, 6, 7, 2019 or 2020. `overridden` is
- * a JSON array of the names of overridden keywords, or has the size 0. If the schema does not compile, the handle is
- * unchanged, and the text of JSKW_BAD_SCHEMA is a line: keyword, keyword location, message, expected value. The text of
- * JSKW_NOT_JSON is the line that jskw_first_error has for an instance, or empty if the schema is JSON with a number
- * that is too large for a double, such as 1e999. */
+/* Compiles a schema into a handle, which is in no other call, and frees the schema that it had. `draft` is 4, 6, 7,
+ * 2019 or 2020. `overridden` is a JSON array of the names of overridden keywords, or has the size 0. If the schema does
+ * not compile, the handle is unchanged, and the text of JSKW_BAD_SCHEMA is a line: keyword, keyword location, message,
+ * expected value. The text of JSKW_NOT_JSON is the line that jskw_first_error has for an instance, or empty if the
+ * schema is JSON with a number that is too large for a double, such as 1e999. */
 uint32_t jskw_compile(uint32_t draft, uint32_t vocabularies, const uint8_t *overridden, size_t overridden_size,
                       const uint8_t *bytes, size_t size, jskw_schema *schema, uint8_t *buffer, size_t buffer_size,
                       size_t *length);
@@ -117,13 +117,18 @@ uint32_t jskw_unchecked(uint32_t draft, uint32_t vocabularies, const uint8_t *ov
                         const uint8_t *bytes, size_t size, uint8_t *buffer, size_t buffer_size, size_t *length);
 
 /* Puts the schema of the handle `from` into the handle `to` too, without compiling it again, and frees the schema that
- * `to` had. The two are different handles. JSKW_VALID; JSKW_NO_SCHEMA or JSKW_NO_MEMORY, and both are unchanged. It
- * allocates 280 bytes. Calls write to their handles: those of two threads are best 64 bytes apart. */
+ * `to` had. The two are different handles, and neither is in another call. JSKW_VALID; JSKW_NO_SCHEMA or
+ * JSKW_NO_MEMORY, and both are unchanged. It allocates 272 bytes. Calls write to their handles: those of two threads
+ * are best 64 bytes apart. */
 uint32_t jskw_share(jskw_schema *from, jskw_schema *to);
 
 /* Whether an instance is valid: JSKW_VALID, JSKW_INVALID, JSKW_NOT_JSON, JSKW_INEXACT, JSKW_NO_SCHEMA,
  * JSKW_NO_MEMORY. The whole text is checked, as by the functions below. But memory and most of the time are taken only
- * for what the schema looks at: of an object its names, unless const, enum or uniqueItems compare it. */
+ * for what the schema looks at: of an object its names, unless const, enum or uniqueItems compare it.
+ *
+ * The handle is in no other call, although this one leaves it with the same schema: threads that check at once have a
+ * handle each, by jskw_share. That is so of the next three functions too. Where a caller lets two calls meet on one
+ * handle all the same, one of them finds no schema, which is no verdict: compare a status with JSKW_VALID. */
 uint32_t jskw_is_valid(jskw_schema *schema, const uint8_t *bytes, size_t size);
 
 /* The same, and the line of the first error: keyword, instance location, keyword location, message, expected value. It
@@ -133,8 +138,8 @@ uint32_t jskw_is_valid(jskw_schema *schema, const uint8_t *bytes, size_t size);
  *     additionalItems, maxItems, minItems, maxProperties, minProperties      the limit, from 0 to 2^64-1
  *     maximum, exclusiveMaximum, minimum, exclusiveMinimum                   the limit, from -2^63 to 2^64-1
  *     multipleOf                                                             the divisor, from 1 to 2^64-1
- *     const                                                                  the constant
- *     enum              the array of the options (of a refusal: of the names of the seven types)
+ *     const             the constant, or an empty word if its text is longer than 1,024 bytes: the schema has it
+ *     enum              the array of the options, or an empty word as of const (of a refusal: the seven types' names)
  *     type              the name of the type, as "string", or an array of names in alphabetical order
  *     required          the name that is missing, as "age"
  *     contains, uniqueItems, falseSchema (the schema `false`), compileError (of a refusal)       an empty word
@@ -155,7 +160,8 @@ uint32_t jskw_errors(jskw_schema *schema, const uint8_t *bytes, size_t size, uin
 uint32_t jskw_evaluate(jskw_schema *schema, const uint8_t *bytes, size_t size, uint8_t *buffer, size_t buffer_size,
                        size_t *length);
 
-/* Frees the schema of a handle, which is empty then and can be used again. An empty handle is unchanged. */
+/* Frees the schema of a handle, which is in no other call. It is empty then and can be used again. An empty handle is
+ * unchanged. */
 void jskw_free(jskw_schema *schema);
 
 #ifdef __cplusplus

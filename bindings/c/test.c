@@ -1,5 +1,5 @@
-/* Tests jskw.h: the README's example, lines, empty and shared handles, and the rows of bindings/rows.txt; for each row
- * each call with buffers of every length from 0 to one too many, and with each of its allocations refused in turn. Each
+/* Tests jskw.h: the README's example, lines, empty and shared handles, NULL, and the rows of bindings/rows.txt; for each
+ * row each call with buffers of every length from 0 to one too many, and with each of its allocations refused in turn. Each
  * text and each buffer is a block of its own, so that valgrind notices a byte beside it. The argument is rows.txt. The
  * last line is `N passed, M failed`. Link with
  * -Wl,--wrap=malloc,--wrap=realloc,--wrap=calloc,--wrap=aligned_alloc,--wrap=posix_memalign. */
@@ -215,6 +215,62 @@ static void expected(void) {
         check(rows[i][1], status == wanted && last && !strcmp(last + 1, rows[i][3]));
         jskw_free(&handle);
     }
+}
+
+/* The text of a constant or of options, of so many bytes: in the line, or left out of it. */
+static void long_values(void) {
+    static const char *const around[][2] = {{"{\"const\":", "}"}, {"{\"enum\":", "}"}};
+    for (size_t size = 1000; size < 1030; size++)
+        for (int i = 0; i < 6; i++) {
+            uint8_t buffer[ROOM];
+            char value[ROOM], schema[ROOM];
+            size_t length;
+            jskw_schema handle = JSKW_SCHEMA_EMPTY;
+            /* an array of a string, of numbers (of which an even size has one with two digits), or of objects */
+            memset(value, 'x', size);
+            memcpy(value, "[\"", 2);
+            memcpy(value + size - 2, "\"]", 3);
+            if (i / 2 == 1)
+                for (size_t at = 1; at < size - 1; at++) value[at] = at % 2 || at == size - 2 ? '1' : ',';
+            if (i / 2 == 2) memcpy(value, "[{\"a\":2},\"", 10);
+            snprintf(schema, sizeof schema, "%s%s%s", around[i % 2][0], value, around[i % 2][1]);
+            compile(&handle, schema);
+            uint32_t status = jskw_first_error(&handle, BYTES("0"), buffer, ROOM, &length);
+            buffer[length ? length - 1 : 0] = 0;
+            const char *last = strrchr((char *)buffer, '\t');
+            check("a long value", status == JSKW_INVALID && last && !strcmp(last + 1, size <= 1024 ? value : ""));
+            jskw_free(&handle);
+        }
+}
+
+/* NULL stands for no bytes, and asks for a length. */
+static void nulls(void) {
+    uint8_t buffer[ROOM];
+    size_t length = 1, size;
+    jskw_schema handle = JSKW_SCHEMA_EMPTY;
+    check("NULL, overridden", jskw_compile(2020, JSKW_ALL, NULL, 0, BYTES(SCHEMA), &handle, NULL, 0, &length) == JSKW_VALID
+        && length == 0 && has_schema(&handle));
+    check("NULL, a schema", jskw_compile(2020, JSKW_ALL, NULL, 0, NULL, 0, &handle, NULL, 0, &length) == JSKW_TOO_SMALL
+        && length > 0 && has_schema(&handle));
+    check("NULL, unchecked", jskw_unchecked(2020, JSKW_ALL, NULL, 0, BYTES("{\"a\":1}"), NULL, 0, &length) == JSKW_TOO_SMALL
+        && length == strlen("/a\tunknown\n"));
+    check("NULL, a schema unchecked", jskw_unchecked(2020, JSKW_ALL, NULL, 0, NULL, 0, buffer, ROOM, &length) == JSKW_NOT_JSON);
+    check("NULL, an instance", jskw_is_valid(&handle, NULL, 0) == JSKW_NOT_JSON);
+    check("NULL, a request", jskw_answer(NULL, 0, buffer, ROOM, &length) == JSKW_REFUSED);
+    check("NULL, the version", jskw_version(NULL, 0, &length) == JSKW_TOO_SMALL && length > 0);
+    struct asked asked = asked_of("2020", "7", "", SCHEMA, INVALID), none = asked_of("2020", "7", "", SCHEMA, "");
+    struct text empty = none.instance;
+    none.instance.bytes = NULL;
+    for (int which = FIRST_ERROR; which <= EVALUATE; which++) {
+        uint32_t status = call(which, asked, &handle, buffer, ROOM, &size);
+        check("NULL, a buffer", status == JSKW_INVALID && call(which, asked, &handle, NULL, 0, &length) == JSKW_TOO_SMALL
+            && length == size);
+        check("NULL, no instance", call(which, none, &handle, buffer, ROOM, &length) == JSKW_NOT_JSON);
+    }
+    free_asked(asked);
+    none.instance = empty;
+    free_asked(none);
+    jskw_free(&handle);
 }
 
 /* Where texts stop being JSON: offset, line, column. */
@@ -437,7 +493,7 @@ static void shares(void) {
     seen = 0, refused = 1, and_later = 1;
     uint32_t told = jskw_share(&first, &third);
     refused = 0;
-    check("share, memory refused", told == JSKW_NO_MEMORY && seen == 1 && size_seen == 280 && has_schema(&first)
+    check("share, memory refused", told == JSKW_NO_MEMORY && seen == 1 && size_seen == 272 && has_schema(&first)
         && jskw_is_valid(&third, BYTES("1")) == JSKW_INVALID);
     check("share, in its place", jskw_share(&first, &third) == JSKW_VALID && has_schema(&third));
     check("share, again", jskw_share(&first, &third) == JSKW_VALID && has_schema(&third));
@@ -463,6 +519,8 @@ int main(int count, char **words) {
     unsigned long times[CALLS] = {0};
     readme();
     expected();
+    long_values();
+    nulls();
     places();
     names();
     empty_handles();

@@ -2,6 +2,9 @@
  * thread frees its own before they begin; two others compile, share and free all the while. Every answer is compared.
  *
  *     threads ROUNDS         so many rounds in each thread; under valgrind's helgrind 50 are enough
+ *     threads KB stack       each call in a thread with so much stack, on the deepest schema and instance that there are
+ *     threads ROUNDS meet    what no caller may do: two threads check by one handle, while a third compiles into it and
+ *                            frees it; each call answers, or finds no schema, and the schema is there in the end
  *     threads SECONDS s      as many rounds as each does in so many seconds
  *     threads SECONDS rate   the calls of jskw_is_valid in a second by 1, 2 and 4 threads, the most of several turns:
  *                            threads, the calls by the clock, those by the time that processors spent in the threads,
@@ -86,6 +89,87 @@ static void *make(void *of) {
     return NULL;
 }
 
+/* Appends a text so many times. */
+static void repeat(char *to, const char *text, int times) {
+    for (char *end = to + strlen(to); times > 0; times--) end += sprintf(end, "%s", text);
+}
+
+static void *go_deep(void *of) {
+    enum { LEVELS = 126, ROOM = 1 << 20 };
+    struct job *job = of;
+    char *schema = calloc(1, ROOM), *instance = calloc(1, ROOM);
+    uint8_t *buffer = malloc(ROOM);
+    size_t length;
+    repeat(schema, "{\"items\":", LEVELS);
+    repeat(schema, "{\"uniqueItems\":true}", 1);
+    repeat(schema, "}", LEVELS);
+    repeat(instance, "[", LEVELS + 1);
+    /* as many as are compared on the stack */
+    for (int i = 0; i < 60000; i++) sprintf(instance + LEVELS + 1 + 7 * i, "%6d,", i);
+    repeat(instance, "1", 1);
+    repeat(instance, "]", LEVELS + 1);
+    job->wrong += compile(&job->list, schema) != JSKW_VALID || jskw_is_valid(&job->list, BYTES(instance)) != JSKW_INVALID;
+    job->wrong += jskw_errors(&job->list, BYTES(instance), 0, buffer, ROOM, &length) != JSKW_INVALID;
+    job->wrong += jskw_evaluate(&job->list, BYTES(instance), buffer, ROOM, &length) != JSKW_INVALID;
+    uint32_t unchecked = jskw_unchecked(2020, JSKW_ALL, NULL, 0, BYTES(schema), buffer, ROOM, &length);
+    job->wrong += unchecked != JSKW_VALID || jskw_answer(BYTES(schema), buffer, ROOM, &length) != JSKW_REFUSED;
+    jskw_free(&job->list);
+    free(schema);
+    free(instance);
+    free(buffer);
+    return NULL;
+}
+
+static long deep(long kilobytes) {
+    struct job job = {0};
+    pthread_attr_t with;
+    pthread_attr_init(&with);
+    if (pthread_attr_setstacksize(&with, (size_t)kilobytes << 10)) return 1;
+    return pthread_create(&job.thread, &with, go_deep, &job) || pthread_join(job.thread, NULL) || job.wrong;
+}
+
+/* The handle that threads meet at. */
+static jskw_schema common;
+
+static void *meet(void *of) {
+    struct job *job = of;
+    uint8_t buffer[1024];
+    size_t length;
+    for (long i = 0; i < job->rounds * 100; i++) {
+        uint32_t status = jskw_is_valid(&common, BYTES("{\"name\":\"Ada\",\"age\":36}"));
+        job->wrong += status != JSKW_VALID && status != JSKW_NO_SCHEMA;
+        status = jskw_errors(&common, BYTES("{\"age\":36}"), 0, buffer, sizeof buffer, &length);
+        job->wrong += status != JSKW_INVALID && status != JSKW_NO_SCHEMA;
+    }
+    return NULL;
+}
+
+static void *disturb(void *of) {
+    struct job *job = of;
+    for (long i = 0; i < job->rounds; i++) {
+        job->wrong += compile(&common, MEMBER) != JSKW_VALID;
+        if (i % 3 == 0) jskw_free(&common);
+    }
+    return NULL;
+}
+
+/* Lets threads meet, the first two alone and then all three. */
+static long meetings(long rounds) {
+    long wrong = 0;
+    for (int threads = 2; threads <= 3; threads++) {
+        struct job jobs[3] = {0};
+        wrong += compile(&common, MEMBER) != JSKW_VALID;
+        for (int i = 0; i < threads; i++) {
+            jobs[i].rounds = rounds;
+            wrong += pthread_create(&jobs[i].thread, NULL, i < 2 ? meet : disturb, &jobs[i]) != 0;
+        }
+        for (int i = 0; i < threads; i++) wrong += pthread_join(jobs[i].thread, NULL) != 0 || jobs[i].wrong != 0;
+        if (threads == 2) wrong += jskw_is_valid(&common, BYTES("{\"name\":1,\"age\":2}")) != JSKW_VALID;
+    }
+    jskw_free(&common);
+    return wrong;
+}
+
 static void *count(void *of) {
     struct job *job = of;
     job->done = 0;
@@ -141,12 +225,14 @@ int main(int words, char **word) {
     struct job jobs[THREADS] = {0};
     jskw_schema member = JSKW_SCHEMA_EMPTY, list = JSKW_SCHEMA_EMPTY;
     long wrong = compile(&member, MEMBER) != JSKW_VALID || compile(&list, LIST) != JSKW_VALID;
-    int measures = words > 2 && !strcmp(word[2], "rate");
-    if (measures) wrong += rates(&member, atof(word[1]));
+    const char *mode = words > 2 ? word[2] : "";
+    if (!strcmp(mode, "rate")) wrong += rates(&member, atof(word[1]));
+    if (!strcmp(mode, "meet")) wrong += meetings(atol(word[1]));
+    if (!strcmp(mode, "stack")) wrong += deep(atol(word[1]));
     for (int i = 0; i < THREADS; i++) {
         wrong += jskw_share(&member, &jobs[i].member) != JSKW_VALID || jskw_share(&list, &jobs[i].list) != JSKW_VALID;
         jobs[i].rounds = words == 2 ? atol(word[1]) : 1000;
-        jobs[i].seconds = words > 2 && !measures ? atof(word[1]) : 0;
+        jobs[i].seconds = !strcmp(mode, "s") ? atof(word[1]) : 0;
     }
     jskw_free(&member);
     jskw_free(&list);

@@ -39,7 +39,7 @@ fn has_archive(folder: &Path) -> bool {
 
 /// Returns the folder of an installed library with the interface that this crate calls.
 fn installed() -> Option<PathBuf> {
-    let is_ours = pkg_config("--modversion")?.starts_with("0.2.");
+    let is_ours = pkg_config("--modversion")?.starts_with("0.3.");
     pkg_config("--variable=libdir").filter(|_| is_ours).map(PathBuf::from)
 }
 

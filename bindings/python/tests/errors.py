@@ -61,6 +61,12 @@ def attributes() -> None:
     check("false", got, (None, None, False, [0], ["items"]))
     error = first({"contains": {"type": "null"}, "minContains": 2}, [1])
     check("contains", (error.kind, error.validator, error.validator_value), ("contains", "minContains", 2))
+    for size in 1022, 1023, 5000:  # the text of the first has 1,024 bytes, those of the others are not in the line
+        for limit in "x" * size, [*range(size), {"b": 1, "a": ["\n"]}], {"b": "y" * size, "a": -5}:
+            error = first({"items": {"const": limit}}, [0])
+            check("a long constant", (error.kind, error.expected, error.validator_value), ("const", limit, limit))
+            error = first({"enum": [limit, None]}, 0)
+            check("long options", (error.kind, error.expected), ("enum", [limit, None]))
     for schema, instance, kind, limit in EXPECTED:
         error = first(schema, instance, "7" if kind == "additionalItems" else "2020-12")
         check(f"{schema} expected", (error.kind, error.expected), (kind, limit))

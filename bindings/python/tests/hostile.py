@@ -37,6 +37,10 @@ Text: Any = type("Text", (Decimal,), {"__str__": lambda self: "--"})
 Nameless: Any = type("Nameless", (type,), {"__name__": 5})
 
 
+def below(frames: int, validator: jskw.Validator) -> Any:
+    return below(frames - 1, validator) if frames else validator.evaluate(b"[" * 120 + b"]" * 120)
+
+
 class Key:
     def __repr__(self) -> str:
         KEYS.clear()
@@ -80,6 +84,8 @@ def run() -> None:
     error = raised(asks.is_valid, Nameless("", (), {})())
     check("a class without a name", str(error), "the instance is not JSON: 5 is no type of JSON")
     check("a name that goes", type(raised(asks.is_valid, KEYS)), jskw.NotJson)
+    levels = jskw.Validator(b'{"items":' * 120 + b"{}" + b"}" * 120)
+    check("a tree below 700 frames", below(700, levels), levels.evaluate(b"[" * 120 + b"]" * 120))
     errors = list(asks.iter_errors([1] * 2000))
     seen: list[list[int]] = []
     threads = [threading.Thread(target=lambda: seen.append([id(error.path) for error in errors])) for _ in range(8)]

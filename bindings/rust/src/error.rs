@@ -1,12 +1,13 @@
 //! Errors as data.
 
-use crate::json::{read, Kind, Value};
+use crate::json::{compact, read, Kind, Value};
 use crate::library::{lines, BAD_SCHEMA, INEXACT, NOT_JSON, NO_MEMORY};
 use crate::not_json::{reason_at, NotJsonReason};
 use crate::unchecked::UncheckedMember;
+use std::collections::BTreeMap;
 use std::fmt;
 use std::ops::Range;
-use std::sync::Arc;
+use std::sync::{Arc, Mutex, PoisonError};
 
 /// A type of JSON Schema.
 #[derive(Clone, Copy, Debug, PartialEq, Eq, Hash)]
@@ -30,15 +31,15 @@ pub enum ValidationErrorKind {
     },
     /// A value of a schema cannot be compiled: a number that is not whole, or an unknown name of a type.
     CompileError,
-    /// The value is not the constant, a JSON text.
+    /// The value is not the constant, a JSON text. All errors of the keyword share it.
     Constant {
-        expected_value: String,
+        expected_value: Arc<str>,
     },
     /// Too few or too many items match; the schema path says which bound.
     Contains,
-    /// The value is none of the options, a JSON array.
+    /// The value is none of the options, a JSON array. All errors of the keyword share it.
     Enum {
-        options: String,
+        options: Arc<str>,
     },
     ExclusiveMaximum {
         limit: i128,
@@ -141,15 +142,14 @@ impl fmt::Display for Location {
 }
 
 /// An error of an instance, or of a schema as the instance of JSON Schema's rules for schemas. It is displayed as its
-/// message, a text for people, which may change.
-#[derive(Clone, PartialEq, Eq)]
+/// message, a text for people, which may change. Its locations and its value are made when they are asked for.
+#[derive(Clone)]
 pub struct ValidationError {
     kind: ValidationErrorKind,
-    instance_path: Location,
-    schema_path: Location,
+    at: String,
+    keyword_at: String,
     message: String,
-    text: Arc<str>,
-    range: Range<usize>,
+    document: Arc<Document>,
 }
 
 impl ValidationError {
@@ -161,28 +161,37 @@ impl ValidationError {
     /// Returns the location of the value at fault. (Of [`Error::Schema`]: in the schema, that of the keyword's value or
     /// of the subschema that is no schema. Of `required`, `type`, `enum` and `const` it may be an item of it, or a
     /// value in it, that is at fault.)
-    pub fn instance_path(&self) -> &Location {
-        &self.instance_path
+    pub fn instance_path(&self) -> Location {
+        self.document.find(&self.at).0
     }
 
     /// Returns the location of the keyword in the schema. (Of [`Error::Schema`]: empty, since no meta-schema is read.)
-    pub fn schema_path(&self) -> &Location {
-        &self.schema_path
+    pub fn schema_path(&self) -> Location {
+        keyword_location(&self.keyword_at)
     }
 
     /// Returns the JSON text of the value at [`ValidationError::instance_path`].
     pub fn instance(&self) -> &str {
-        &self.text[self.range.clone()]
+        &self.document.text[self.document.find(&self.at).1]
     }
 }
+
+impl PartialEq for ValidationError {
+    fn eq(&self, other: &Self) -> bool {
+        let places = (&self.at, &self.keyword_at) == (&other.at, &other.keyword_at);
+        places && self.kind == other.kind && self.message == other.message && self.instance() == other.instance()
+    }
+}
+
+impl Eq for ValidationError {}
 
 impl fmt::Debug for ValidationError {
     fn fmt(&self, f: &mut fmt::Formatter<'_>) -> fmt::Result {
         // not the instance, which may be long
         f.debug_struct("ValidationError")
             .field("kind", &self.kind)
-            .field("instance_path", &self.instance_path.to_string())
-            .field("schema_path", &self.schema_path.to_string())
+            .field("instance_path", &self.at)
+            .field("schema_path", &self.keyword_at)
             .field("message", &self.message)
             .finish_non_exhaustive()
     }
@@ -240,8 +249,8 @@ pub enum Error {
 impl fmt::Display for Error {
     fn fmt(&self, f: &mut fmt::Formatter<'_>) -> fmt::Result {
         match self {
-            Error::Invalid(error) => write!(f, "{error} (instance {:?})", error.instance_path.to_string()),
-            Error::Schema(error) => write!(f, "{error} (schema {:?})", error.instance_path.to_string()),
+            Error::Invalid(error) => write!(f, "{error} (instance {:?})", error.at),
+            Error::Schema(error) => write!(f, "{error} (schema {:?})", error.at),
             Error::Unchecked(members) => {
                 let shown: Vec<String> = members.iter().take(10).map(UncheckedMember::to_string).collect();
                 let more = members.len() - shown.len();
@@ -276,17 +285,54 @@ impl std::error::Error for Error {
     }
 }
 
-/// Returns the errors of an instance that a text has, a line each.
-pub(crate) fn errors(text: &str, instance: &[u8]) -> Vec<ValidationError> {
-    if text.is_empty() {
-        return Vec::new();
+/// What makes errors of lines: the instance, and the schema, which has the constants and options that are too long for a
+/// line, each of which is made once.
+#[derive(Debug)]
+pub(crate) struct Maker {
+    document: Arc<Document>,
+    schema: Arc<Document>,
+    long: BTreeMap<String, Arc<str>>,
+}
+
+impl Maker {
+    pub(crate) fn new(instance: &[u8], schema: Arc<Document>) -> Maker {
+        Maker { document: Arc::new(Document::new(instance)), schema, long: BTreeMap::new() }
     }
-    let document = Document::new(instance);
-    let error_of = |words: Vec<String>| {
-        let word = |index: usize| words.get(index).map(String::as_str).unwrap_or_default();
-        document.error(word(0), word(4), word(1), keyword_location(word(2)), word(3))
-    };
-    lines(text).map(error_of).collect()
+
+    /// Returns the text of the instance.
+    pub(crate) fn instance(&self) -> &[u8] {
+        self.document.text.as_bytes()
+    }
+
+    /// Returns the error of a line.
+    pub(crate) fn error(&mut self, words: &[String]) -> ValidationError {
+        let [keyword, at, keyword_at, message, expected] = first_words(words);
+        let expected = match keyword {
+            "const" | "enum" if expected.is_empty() => self.value_at(keyword_at),
+            _ => expected.into(),
+        };
+        ValidationError {
+            kind: kind(keyword, expected),
+            at: at.into(),
+            keyword_at: keyword_at.into(),
+            message: message.into(),
+            document: Arc::clone(&self.document),
+        }
+    }
+
+    /// Returns the compact text of a value of the schema.
+    fn value_at(&mut self, location: &str) -> Arc<str> {
+        let schema = &self.schema;
+        let made = || schema.value_at(location, |value| compact(&schema.text, value)).unwrap_or_default().into();
+        Arc::clone(self.long.entry(location.into()).or_insert_with(made))
+    }
+}
+
+/// Returns the first words of a line; later libraries may write more.
+fn first_words<const COUNT: usize>(words: &[String]) -> [&str; COUNT] {
+    let mut first = [""; COUNT];
+    first.iter_mut().zip(words).for_each(|(to, word)| *to = word);
+    first
 }
 
 /// Returns why there is no verdict.
@@ -296,8 +342,11 @@ pub(crate) fn refusal(text: Text, status: u32, told: &str, given: &[u8]) -> Erro
     let number = |index: usize| word(index).parse::<usize>().ok();
     match status {
         BAD_SCHEMA => {
-            let error = Document::new(given).error(word(0), word(3), word(1), Location::default(), word(2));
-            Error::Schema(Box::new(error))
+            let [keyword, at, message, expected] = first_words(&words);
+            let kind = kind(keyword, expected.into());
+            let document = Arc::new(Document::new(given));
+            let (at, message) = (at.into(), message.into());
+            Error::Schema(Box::new(ValidationError { kind, at, keyword_at: String::new(), message, document }))
         }
         NOT_JSON => {
             let place = (number(0), number(1), number(2));
@@ -314,53 +363,61 @@ pub(crate) fn refusal(text: Text, status: u32, told: &str, given: &[u8]) -> Erro
     }
 }
 
-/// A JSON text, read once for all errors of a call.
+/// A JSON text. Its value is read once, when it is first asked for.
+#[derive(Debug)]
 pub(crate) struct Document {
-    text: Arc<str>,
-    root: Option<Value>,
+    pub(crate) text: String,
+    root: Mutex<Option<Arc<Value>>>,
 }
 
 impl Document {
     pub(crate) fn new(text: &[u8]) -> Document {
-        let text: Arc<str> = String::from_utf8_lossy(text).into();
-        Document { root: read(&text), text }
+        Document { text: String::from_utf8_lossy(text).into_owned(), root: Mutex::new(None) }
     }
 
-    fn error(&self, keyword: &str, expected: &str, at: &str, schema_path: Location, message: &str) -> ValidationError {
-        let (instance_path, range) = self.find(at);
-        ValidationError {
-            kind: kind(keyword, expected),
-            instance_path,
-            schema_path,
-            message: message.to_string(),
-            text: Arc::clone(&self.text),
-            range,
+    fn root(&self) -> Option<Arc<Value>> {
+        let mut root = self.root.lock().unwrap_or_else(PoisonError::into_inner);
+        if root.is_none() {
+            *root = read(&self.text).map(Arc::new);
         }
+        root.clone()
     }
 
     /// Returns the steps of a JSON pointer, and the place of the value there.
     pub(crate) fn find(&self, pointer: &str) -> (Location, Range<usize>) {
-        let (mut segments, mut value) = (Vec::new(), self.root.as_ref());
+        let mut segments = Vec::new();
+        let range = self.walk(pointer, |segment| segments.push(segment), |value| value.range.clone());
+        (Location { segments }, range.unwrap_or(0..0))
+    }
+
+    /// Returns what is made of the value at a JSON pointer.
+    fn value_at<R>(&self, pointer: &str, make: impl FnOnce(&Value) -> R) -> Option<R> {
+        self.walk(pointer, |_| (), make)
+    }
+
+    fn walk<R>(&self, pointer: &str, mut step: impl FnMut(PathSegment), make: impl FnOnce(&Value) -> R) -> Option<R> {
+        let root = self.root();
+        let mut value = root.as_deref();
         for word in pointer.split('/').skip(1) {
             let name = unescaped(word);
             value = match value.map(|value| &value.kind) {
                 Some(Kind::Array(items)) => {
                     let index = name.parse().unwrap_or(usize::MAX);
-                    segments.push(PathSegment::Index(index));
+                    step(PathSegment::Index(index));
                     items.get(index)
                 }
                 Some(Kind::Object(members)) => {
                     let member = members.get(&name);
-                    segments.push(PathSegment::Property(name));
+                    step(PathSegment::Property(name));
                     member
                 }
                 _ => {
-                    segments.push(PathSegment::Property(name));
+                    step(PathSegment::Property(name));
                     None
                 }
             };
         }
-        (Location { segments }, value.map_or(0..0, |value| value.range.clone()))
+        value.map(make)
     }
 }
 
@@ -378,7 +435,7 @@ fn unescaped(word: &str) -> String {
 }
 
 /// Returns the kind of an error by its keyword and the JSON text of the expected value.
-fn kind(keyword: &str, expected: &str) -> ValidationErrorKind {
+fn kind(keyword: &str, expected: Arc<str>) -> ValidationErrorKind {
     use ValidationErrorKind as Kinds;
     let other = || Kinds::Other { keyword: keyword.to_string() };
     let size = |kind: fn(u64) -> Kinds| expected.parse().map_or_else(|_| other(), kind);
@@ -386,9 +443,9 @@ fn kind(keyword: &str, expected: &str) -> ValidationErrorKind {
     match keyword {
         "additionalItems" => size(|limit| Kinds::AdditionalItems { limit }),
         "compileError" => Kinds::CompileError,
-        "const" => Kinds::Constant { expected_value: expected.to_string() },
+        "const" => Kinds::Constant { expected_value: expected },
         "contains" => Kinds::Contains,
-        "enum" => Kinds::Enum { options: expected.to_string() },
+        "enum" => Kinds::Enum { options: expected },
         "exclusiveMaximum" => limit(|limit| Kinds::ExclusiveMaximum { limit }),
         "exclusiveMinimum" => limit(|limit| Kinds::ExclusiveMinimum { limit }),
         "falseSchema" => Kinds::FalseSchema,
@@ -399,11 +456,11 @@ fn kind(keyword: &str, expected: &str) -> ValidationErrorKind {
         "minimum" => limit(|limit| Kinds::Minimum { limit }),
         "minProperties" => size(|limit| Kinds::MinProperties { limit }),
         "multipleOf" => size(|multiple_of| Kinds::MultipleOf { multiple_of }),
-        "required" => match read(expected).map(|value| value.kind) {
+        "required" => match read(&expected).map(|value| value.kind) {
             Some(Kind::String(property)) => Kinds::Required { property },
             _ => other(),
         },
-        "type" => types(expected).map_or_else(other, |types| Kinds::Type { types }),
+        "type" => types(&expected).map_or_else(other, |types| Kinds::Type { types }),
         "uniqueItems" => Kinds::UniqueItems,
         _ => other(),
     }

@@ -26,17 +26,33 @@ pub(crate) fn read(text: &str) -> Option<Value> {
     Reader { text, at: 0 }.value()
 }
 
-/// Returns the JSON text of a string.
+/// Returns the JSON text of a string, with the escapes of the library.
 pub(crate) fn quoted(string: &str) -> String {
     let mut text = String::from("\"");
     for c in string.chars() {
-        match c {
-            '"' | '\\' => text.extend(['\\', c]),
-            '\0'..='\x1f' => text.push_str(&format!("\\u{:04x}", c as u32)),
+        match (c, "\"\\\x08\x0c\n\r\t".find(c)) {
+            (_, Some(at)) => text.extend(['\\', char::from(b"\"\\bfnrt"[at])]),
+            ('\0'..='\x1f', _) => text.push_str(&format!("\\u{:04x}", c as u32)),
             _ => text.push(c),
         }
     }
     text + "\""
+}
+
+/// Returns the JSON text of a value of a text, without spaces and with the members in the order of their names.
+pub(crate) fn compact(text: &str, value: &Value) -> String {
+    match &value.kind {
+        Kind::String(string) => quoted(string),
+        Kind::Array(items) => {
+            let items: Vec<String> = items.iter().map(|item| compact(text, item)).collect();
+            format!("[{}]", items.join(","))
+        }
+        Kind::Object(members) => {
+            let member = |(name, value): (&String, &Value)| format!("{}:{}", quoted(name), compact(text, value));
+            format!("{{{}}}", members.iter().map(member).collect::<Vec<_>>().join(","))
+        }
+        _ => text[value.range.clone()].into(),
+    }
 }
 
 struct Reader<'t> {

@@ -43,6 +43,7 @@
 struct ReadmeExamples;
 
 mod error;
+mod errors;
 mod evaluation;
 mod handles;
 mod json;
@@ -52,14 +53,15 @@ mod settings;
 mod unchecked;
 
 pub use error::{Error, JsonType, Location, PathSegment, Position, Text, ValidationError, ValidationErrorKind};
+pub use errors::Errors;
 pub use evaluation::{Annotation, EvaluationNode};
 pub use not_json::NotJsonReason;
 pub use settings::{Draft, ValidationOptions, Vocabulary};
 pub use unchecked::{UncheckedMember, UncheckedReason};
 
-use error::{errors, refusal};
+use error::{refusal, Document, Maker};
 use handles::Handles;
-use library::{Report, INVALID, VALID};
+use library::{lines, Report, INVALID, VALID};
 use std::fmt;
 use std::num::NonZeroU64;
 use std::sync::Arc;
@@ -73,7 +75,7 @@ pub struct Validator {
 struct Shared {
     handles: Handles,
     options: ValidationOptions,
-    schema: String,
+    schema: Arc<Document>,
 }
 
 impl Validator {
@@ -92,7 +94,7 @@ impl Validator {
     }
 
     fn of(handles: Handles, options: ValidationOptions, schema: &[u8]) -> Validator {
-        let schema = String::from_utf8_lossy(schema).into_owned();
+        let schema = Arc::new(Document::new(schema));
         Validator { shared: Arc::new(Shared { handles, options, schema }) }
     }
 
@@ -103,7 +105,7 @@ impl Validator {
 
     /// Returns the text of the schema.
     pub fn schema(&self) -> &str {
-        &self.shared.schema
+        &self.shared.schema.text
     }
 
     /// Returns the members of the schema that are not checked, as [`ValidationOptions::unchecked`].
@@ -138,17 +140,18 @@ impl Validator {
     /// Also as [`Validator::is_valid`].
     pub fn validate(&self, instance: impl AsRef<[u8]>) -> Result<(), Error> {
         let instance = instance.as_ref();
-        let first = errors(&self.report(Report::FirstError, instance)?, instance).pop();
-        first.map_or(Ok(()), |error| Err(Error::Invalid(Box::new(error))))
+        let first = lines(&self.report(Report::FirstError, instance)?).next();
+        first.map_or(Ok(()), |words| Err(Error::Invalid(Box::new(self.maker(instance).error(&words)))))
     }
 
-    /// Returns an iterator over the errors of the instance, in the order of the keywords.
+    /// Returns an iterator over the errors of the instance, in the order of the keywords. It looks for some of them at
+    /// a time.
     ///
     /// # Errors
     ///
     /// As [`Validator::is_valid`].
-    pub fn iter_errors(&self, instance: impl AsRef<[u8]>) -> Result<std::vec::IntoIter<ValidationError>, Error> {
-        self.errors(0, instance.as_ref())
+    pub fn iter_errors(&self, instance: impl AsRef<[u8]>) -> Result<Errors, Error> {
+        Errors::new(self, instance.as_ref(), u64::MAX)
     }
 
     /// Returns an iterator over the first errors of the instance, at most `limit`; no more are looked for.
@@ -156,12 +159,8 @@ impl Validator {
     /// # Errors
     ///
     /// As [`Validator::is_valid`].
-    pub fn iter_first_errors(
-        &self,
-        instance: impl AsRef<[u8]>,
-        limit: NonZeroU64,
-    ) -> Result<std::vec::IntoIter<ValidationError>, Error> {
-        self.errors(limit.get(), instance.as_ref())
+    pub fn iter_first_errors(&self, instance: impl AsRef<[u8]>, limit: NonZeroU64) -> Result<Errors, Error> {
+        Errors::new(self, instance.as_ref(), limit.get())
     }
 
     /// Returns the evaluation tree of the instance.
@@ -178,8 +177,8 @@ impl Validator {
         Ok(evaluation::tree(&text).expect("the library writes trees as its header says"))
     }
 
-    fn errors(&self, limit: u64, instance: &[u8]) -> Result<std::vec::IntoIter<ValidationError>, Error> {
-        Ok(errors(&self.report(Report::Errors(limit), instance)?, instance).into_iter())
+    fn maker(&self, instance: &[u8]) -> Maker {
+        Maker::new(instance, Arc::clone(&self.shared.schema))
     }
 
     fn report(&self, report: Report, instance: &[u8]) -> Result<String, Error> {
@@ -203,7 +202,7 @@ impl fmt::Debug for Validator {
 /// The versions of the library and of the logic that it is proved in.
 #[derive(Clone, Debug, PartialEq, Eq)]
 pub struct Version {
-    /// As `0.2.0`.
+    /// As `0.3.0`.
     pub library: String,
     /// As `rattle logic ..`; none if the library is not proved.
     pub logic: Option<String>,

@@ -1,6 +1,7 @@
 //! The C library. Nothing compares the declarations below with the library's: they are those of `include/jskw.h`. Each
 //! comment on safety says why a call keeps to what the header asks of callers.
 
+use std::cell::RefCell;
 use std::ffi::c_void;
 use std::ptr::null_mut;
 use std::sync::Once;
@@ -69,7 +70,7 @@ pub(crate) const NO_MEMORY: u32 = 8;
 const TOO_SMALL: u32 = 9;
 
 /// The interface that the declarations are of, as the version begins with it.
-const INTERFACE: &str = "jskw 0.2.";
+const INTERFACE: &str = "jskw 0.3.";
 
 /// A status and a text.
 pub(crate) type Told = (u32, String);
@@ -188,15 +189,25 @@ fn check_interface() {
     });
 }
 
+/// So many bytes a buffer has at first, and at most if it is kept for later calls of the thread.
+const FIRST: usize = 1 << 16;
+const KEPT: usize = 1 << 20;
+
 /// Makes a call with a buffer that is large enough.
 fn asked(mut call: impl FnMut(*mut u8, usize, *mut usize) -> u32) -> Told {
-    let mut buffer = vec![0; 1024];
+    thread_local!(static KEPT_BUFFER: RefCell<Vec<u8>> = RefCell::new(Vec::new()));
+    // a thread that ends has no more values of its own
+    let mut buffer = KEPT_BUFFER.try_with(RefCell::take).unwrap_or_default();
+    buffer.resize(buffer.len().max(FIRST), 0);
     loop {
         let mut length = 0;
         let status = call(buffer.as_mut_ptr(), buffer.len(), &mut length);
         if status != TOO_SMALL {
-            buffer.truncate(length);
-            return (status, String::from_utf8(buffer).expect("the library writes UTF-8"));
+            let text = String::from_utf8(buffer[..length].to_vec()).expect("the library writes UTF-8");
+            if buffer.len() <= KEPT {
+                let _ = KEPT_BUFFER.try_with(|kept| kept.replace(buffer));
+            }
+            return (status, text);
         }
         buffer.resize(length, 0);
     }
@@ -205,7 +216,12 @@ fn asked(mut call: impl FnMut(*mut u8, usize, *mut usize) -> u32) -> Told {
 /// Returns the words of each line of a text, without their escapes.
 pub(crate) fn lines(text: &str) -> impl Iterator<Item = Vec<String>> + '_ {
     // `str::lines` would take a carriage return away, which a name may end with
-    text.split_terminator('\n').map(|line| line.split('\t').map(plain).collect())
+    text.split_terminator('\n').map(words)
+}
+
+/// Returns the words of a line, without their escapes.
+pub(crate) fn words(line: &str) -> Vec<String> {
+    line.split('\t').map(plain).collect()
 }
 
 fn plain(word: &str) -> String {

@@ -3,6 +3,8 @@ use jskw::{
     Annotation, Draft, Error, JsonType, NotJsonReason, PathSegment, Position, Text, UncheckedMember, UncheckedReason,
     ValidationError, ValidationErrorKind, Validator,
 };
+use std::num::NonZeroU64;
+use std::sync::Arc;
 use ValidationErrorKind as Kind;
 
 fn only_error(draft: Draft, schema: &str, instance: &str) -> ValidationError {
@@ -29,9 +31,9 @@ fn kinds() {
         (
             r#"{"const":{"b":[1,"x\t"],"a":0}}"#,
             "1",
-            Kind::Constant { expected_value: text(r#"{"a":0,"b":[1,"x\t"]}"#) },
+            Kind::Constant { expected_value: Arc::from(r#"{"a":0,"b":[1,"x\t"]}"#) },
         ),
-        (r#"{"enum":[1,"b"]}"#, "2", Kind::Enum { options: text(r#"[1,"b"]"#) }),
+        (r#"{"enum":[1,"b"]}"#, "2", Kind::Enum { options: Arc::from(r#"[1,"b"]"#) }),
         (r#"{"minimum":3}"#, "2.99", Kind::Minimum { limit: 3 }),
         (r#"{"maximum":-9223372036854775808}"#, "0", Kind::Maximum { limit: i64::MIN.into() }),
         (r#"{"exclusiveMinimum":18446744073709551615}"#, "0", Kind::ExclusiveMinimum { limit: u64::MAX.into() }),
@@ -75,9 +77,44 @@ fn places() {
     }
     let named = Validator::new("true").and_then(|all| all.is_valid("{\"a\\r\":1e19999}"));
     assert!(matches!(named, Err(Error::Inexact(location)) if location.to_string() == "/a\r"));
-    let many = Validator::new(r#"{"items":false}"#).expect("a schema");
-    let list = format!("[{}0]", "0,".repeat(9999));
-    assert_eq!(many.iter_errors(&list).expect("an instance").count(), 10000);
+}
+
+#[test]
+fn pages() {
+    let none = Validator::new(r#"{"items":false}"#).expect("a schema");
+    for count in [1, 63, 64, 65, 300, 1023, 1024, 1025, 20_000] {
+        let list = format!("[{}0]", "0,".repeat(count - 1));
+        let wanted = |count: usize| (0..count).map(|index| format!("/{index}")).collect::<Vec<_>>();
+        let errors = none.iter_errors(&list).expect("an instance");
+        assert_eq!(errors.map(|error| error.instance_path().to_string()).collect::<Vec<_>>(), wanted(count));
+        for limit in [1, 63, 64, 65, 1000, 1024, 30_000, u64::MAX] {
+            let limit = NonZeroU64::new(limit).expect("not 0");
+            let mut errors = none.iter_first_errors(&list, limit).expect("an instance");
+            let found: Vec<_> = errors.by_ref().map(|error| error.instance_path().to_string()).collect();
+            assert_eq!(found, wanted(count.min(limit.get() as usize)));
+            assert!(errors.next().is_none());
+        }
+    }
+    let errors = Validator::new(r#"{"items":false}"#).and_then(|other| other.iter_errors("[1,2]"));
+    assert_eq!(errors.expect("its own validator").count(), 2);
+}
+
+#[test]
+fn long_values() {
+    // the text of the constant has so many bytes
+    for size in [1023, 1024, 1025, 5000] {
+        let long = "x".repeat(size - 2);
+        let error = only_error(Draft::Draft202012, &format!(r#"{{"items":{{"const" : "{long}"}}}}"#), "[1]");
+        assert_eq!(*error.kind(), Kind::Constant { expected_value: format!("\"{long}\"").into() });
+    }
+    let long = "y".repeat(2000);
+    let schema = format!(r#"{{"items":{{"enum" : [ {{"b":1 , "a\u0001\n\/":[true,-5]}}, null, "{long}" ]}}}}"#);
+    let options = format!(r#"[{{"a\u0001\n/":[true,-5],"b":1}},null,"{long}"]"#);
+    let errors: Vec<_> = Validator::new(schema).and_then(|all| all.iter_errors("[1,2]")).expect("JSON").collect();
+    assert_eq!(errors.len(), 2);
+    for error in errors {
+        assert_eq!(*error.kind(), Kind::Enum { options: options.as_str().into() });
+    }
 }
 
 #[test]
@@ -205,5 +242,5 @@ fn own_words() {
         Validator::options().with_overridden(["type", "a\"\\\n"]).build(r#"{"type":"null"}"#).expect("a schema");
     assert_eq!(validator.is_valid("1"), Ok(true));
     assert_eq!(format!("{validator:?}"), r#"Validator { draft: Draft202012, schema: "{\"type\":\"null\"}", .. }"#);
-    assert!(jskw::version().library.starts_with("0.2."));
+    assert!(jskw::version().library.starts_with("0.3."));
 }

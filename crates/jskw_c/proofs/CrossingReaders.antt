@@ -12,7 +12,6 @@ use Rattle.jskw_value.specs.contracts.decimal_tree.DecimalTree as tree
 use Rattle.jskw_value.proofs.decimal_tree.DecimalTree.TheLaws.TheKnot as tree_knot
 use Rattle.jskw_value.proofs.members.Member.TheSendSync as member'
 use Rattle.jskw_text.specs.contracts.spare.Spare as spare
-use Rattle.jskw_text.specs.contracts.tree.Refusal as refusal
 use Rattle.jskw_text.specs.contracts.reader.TreeReader as reader
 use Rattle.jskw_c.proofs.CrossingValues.{row_send}
 
@@ -28,16 +27,13 @@ scratch_send = search (std.crosses, sendable) depth 60 fits 20000
 kept_send : IsSend (option.the_row (box.the_row (scratch.the_row heap.the_row ghosts) heap.the_row ghosts))
 kept_send = search (std.crosses, scratch_send, sendable) depth 60 fits 20000
 
-refusal_send : IsSend refusal.the_row
-refusal_send = search (std.crosses, kept_send, sendable) depth 60 fits 20000
-
 pub reader_send : IsSend reader.the_row
 reader_send = declared_send reader.the_type (
   row_send std.send,
   (
     row_send spare_send,
     (
-      row_send refusal_send,
+      row_send kept_send,
       (as_row_send usize-field (plain_send _ _ _ _ _), (as_row_send bool-field (plain_send _ _ _ _ _), tt)),
     ),
   ),

@@ -3,8 +3,10 @@ mod CrossingLevels
 mod CrossingReaders
 mod CrossingSchemas
 mod CrossingValues
+mod Exchanges
 mod Handles
 mod Limits
+mod LongValues
 mod Texts
 mod OutcomesOfInstances
 mod OutcomesOfRefusals

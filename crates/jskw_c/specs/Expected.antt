@@ -1,5 +1,6 @@
 -- What a keyword expected, as JSON without spaces.
-use Rattle.std.specs.Prelude.{◌≡◌, ℕ, List, [], ◌∷◌, ◌++◌, false, codes, decimal, filter, map}
+use Rattle.std.specs.Prelude.{◌≡◌, ℕ, List, [], ◌∷◌, ◌++◌, false, codes, decimal, filter, if◌then◌else◌, leb, length}
+use Rattle.std.specs.Prelude.{map}
 use Rattle.std.specs.Fmt.{signed_decimal}
 use Rattle.json.specs.Print.{quoted}
 use Rattle.serde_json.specs.Data.{Data}
@@ -26,9 +27,14 @@ abbrev pub types_text : TypeKind → List ℕ
 types_text (Single j) = quoted (type_name j)
 types_text (Multiple s) = names_text (filter (contains s) all_types)
 
--- a value of the schema. One with a float has no text here; the schemas that compile expect none
+-- a text of at most 1,024 bytes, or nothing in place of a longer one
+abbrev pub if_short : List ℕ → List ℕ
+if_short text = if leb (length text) 1024 then text else []
+
+-- a value of the schema, if its text is short: who asks has the schema. One with a float has no text here; the schemas
+-- that compile expect none
 abbrev pub IsCompact : Data → List ℕ → Type 0
-IsCompact d text = has_float d ≡ false → text ≡ compact_text d
+IsCompact d text = has_float d ≡ false → text ≡ if_short (compact_text d)
 
 -- the options of `enum`, or the names that `type` takes
 abbrev pub IsOptionsText : EnumOptions → List ℕ → Type 0

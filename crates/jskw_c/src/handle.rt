@@ -8,16 +8,19 @@ ghost use Rattle.jskw_c.specs.contracts.compiled.CompiledSchema.{the_row};
 
 use crate::compiled::CompiledSchema;
 use std::alloc::Global;
-use std::marker::Model;
+use std::fmt;
+use std::marker::{Brand, Model};
 use std::ptr::null_mut;
-use std::{fmt, mem};
+use std::sync::atomic::Ordering::SeqCst;
+use std::sync::atomic::raw::ptr::swap;
 
 /// An owner of a compiled schema, or none if the pointer is null. A caller in C keeps it, and
 /// neither follows nor copies the pointer. It may pass the handle to another thread.
 ///
 /// A call takes the owner out of the handle and puts it back, because a pointer that owns memory
 /// cannot be read behind a `&`. So a handle is in one call at a time. Two handles of one schema can
-/// be in calls at once.
+/// be in calls at once. Each exchange is one step of the machine, so that of two calls which a caller
+/// lets meet on one handle, which it must not, one alone has the owner, and the other finds none.
 #[repr(C)]
 pub struct SchemaHandle {
     at: *mut u8,
@@ -63,12 +66,24 @@ impl SchemaHandle {
         unsafe { Some(Box::from_raw(alloc, at as *mut CompiledSchema)) }
     }
 
+    // Puts another schema in, or none, and returns what was there, in one step. Proved by hand, because
+    // it makes a pointer.
+    fn exchange(&mut self, new: SchemaHandle) -> SchemaHandle
+        ensures found { result.schema ≡ self.old.schema }
+        ensures left { self.new.schema ≡ new.schema }
+    {
+        let SchemaHandle { at } = new;
+        let cell = &raw mut self.at as *const *mut u8;
+        let found = unsafe { swap::<u8, Brand>(cell, at, SeqCst) };
+        SchemaHandle { at: found }
+    }
+
     /// Takes the schema out.
     pub fn take(&mut self, alloc: Global) -> Option<Box<CompiledSchema>>
         ensures taken { option_map (λ schema. schema.value) result ≡ self.old.schema }
         ensures left { self.new.schema ≡ None }
     {
-        mem::replace(self, SchemaHandle::of(None)).into_box(alloc)
+        self.exchange(SchemaHandle::of(None)).into_box(alloc)
     }
 
     /// Puts a schema in, and frees the one that is there.
@@ -77,6 +92,6 @@ impl SchemaHandle {
     {
         assert_send::<SchemaHandle>();
         let handle = SchemaHandle::of(Some(schema));
-        drop(mem::replace(self, handle).into_box(alloc));
+        drop(self.exchange(handle).into_box(alloc));
     }
 }

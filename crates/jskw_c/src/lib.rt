@@ -46,12 +46,12 @@ use std::alloc::{AllocError, Global};
 /// Writes the version of this library and that of the logic that it is proved in, a line each.
 #[unsafe(no_mangle)]
 pub extern "C" fn jskw_version(buffer: &mut [u8], length: &mut usize) -> u32
-    ensures { WritesText result 0 (codes "jskw 0.2.0\nrattle logic dac8208d650f15bf\n") buffer.old buffer.new
+    ensures { WritesText result 0 (codes "jskw 0.3.0\nrattle logic dac8208d650f15bf\n") buffer.old buffer.new
         length.new }
 {
     write_text(
         VALID,
-        b"jskw 0.2.0\nrattle logic dac8208d650f15bf\n",
+        b"jskw 0.3.0\nrattle logic dac8208d650f15bf\n",
         buffer,
         length,
     )

@@ -25,7 +25,7 @@ __all__: list[str] = []
 __all__ += exceptions.__all__
 __all__ += validators.__all__
 
-__version__ = "0.2.0"
+__version__ = "0.3.0"
 
 if not TYPE_CHECKING:
     __getattr__ = exceptions.lack

@@ -18,8 +18,10 @@ enum {
     DEPTH = 127,    /* the most levels that the library reads */
     LONG = 2048,    /* a text of so many bytes is checked without the interpreter's lock; to pass the lock on takes
                      * longer than to check a shorter one */
+    FIRST = 1 << 16, /* the bytes of the first buffer for an answer */
     KEPT = 1 << 20, /* the most bytes of a buffer that are kept between calls */
-    MANY = 1 << 18  /* for so many errors there is room at once */
+    MANY = 1 << 18, /* for so many errors there is room at once */
+    NAMES = 32      /* for so many names of members the texts are kept */
 };
 
 static const char ALLOWED[] = "which JSON allows and jskw does not";
@@ -62,6 +64,13 @@ static inline int put(struct block *block, char byte) {
     return 1;
 }
 
+/* The text of a name with its colon, by the object that it is: objects often have the same names. */
+struct name {
+    PyObject *name;
+    size_t size;
+    char text[48];
+};
+
 static void drop_block(struct block *block, size_t most) {
     if (block->room <= most) return;
     PyMem_Free(block->bytes);
@@ -73,6 +82,7 @@ static void drop_block(struct block *block, size_t most) {
 /* A text, and if it is refused the reason and the path, from its end to its beginning. */
 struct writer {
     struct block *out;
+    struct name *names;
     PyObject *reason, *path;
 };
 
@@ -98,14 +108,31 @@ static int at_step(struct writer *writer, PyObject *step) {
 /* The bytes that stand for themselves in a string. */
 static const char PLAIN[256] = {[' ' ... '!'] = 1, ['#' ... '['] = 1, [']' ... 255] = 1};
 
-/* Returns whether eight bytes do. */
-static inline int are_plain(const unsigned char *at) {
+/* Returns whether the eight bytes of a word do. */
+static inline int are_plain(uint64_t bytes) {
     const uint64_t each = 0x0101010101010101u;
-    uint64_t bytes;
-    memcpy(&bytes, at, 8);
     uint64_t quotes = bytes ^ each * '"', slashes = bytes ^ each * '\\';
     uint64_t found = ((bytes - each * ' ') & ~bytes) | ((quotes - each) & ~quotes) | ((slashes - each) & ~slashes);
     return !(found & each << 7);
+}
+
+/* Copies up to eight bytes, and returns whether they do. */
+static inline int copy_plain(uint8_t *to, const unsigned char *at, size_t size) {
+    uint64_t bytes = 0x2020202020202020u;
+    if (size >= 8) {
+        memcpy(&bytes, at, 8);
+    } else if (size >= 4) {
+        memcpy(&bytes, at, 4);
+        memcpy((char *)&bytes + 4, at + size - 4, 4);
+        memcpy(to + size - 4, at + size - 4, 4);
+    } else if (size) {
+        char three[] = {at[0], at[size / 2], at[size - 1]};
+        to[size / 2] = three[1];
+        to[size - 1] = three[2];
+        memcpy(&bytes, three, 3);
+    }
+    memcpy(to, &bytes, size < 4 ? size > 0 : size < 8 ? 4 : 8);
+    return are_plain(bytes);
 }
 
 static int write_string(struct writer *writer, PyObject *string) {
@@ -121,7 +148,7 @@ static int write_string(struct writer *writer, PyObject *string) {
     if (!reserve(out, size + 2)) return 0;
     uint8_t *to = out->bytes + out->size;
     for (*to++ = '"';; at++) {
-        for (; end - at >= 8 && are_plain(at); at += 8, to += 8) memcpy(to, at, 8);
+        for (size_t part; at < end && copy_plain(to, at, part = end - at < 8 ? end - at : 8); at += part) to += part;
         for (; at < end && PLAIN[*at]; at++) *to++ = *at;
         if (at == end) break;
         out->size = to - out->bytes;
@@ -219,22 +246,38 @@ static int write_array(struct writer *writer, PyObject *array, int is_list, int 
     return (before == ',' || put(writer->out, before)) && put(writer->out, ']');
 }
 
+/* Writes a name and its colon. */
+static int write_name(struct writer *writer, PyObject *name) {
+    struct name *kept = writer->names + (uintptr_t)name / 16 % NAMES;
+    if (kept->name == name) return append(writer->out, kept->text, kept->size);
+    size_t begin = writer->out->size;
+    if (!write_string(writer, name) || !put(writer->out, ':')) return 0;
+    size_t size = writer->out->size - begin;
+    if (size <= sizeof kept->text && Py_TYPE(name) == &PyUnicode_Type) {
+        Py_INCREF(name);
+        Py_XDECREF(kept->name);
+        kept->name = name;
+        kept->size = size;
+        memcpy(kept->text, writer->out->bytes + begin, size);
+    }
+    return 1;
+}
+
 static int write_object(struct writer *writer, PyObject *object, int depth) {
     char before = '{';
     PyObject *name, *value;
     Py_ssize_t at = 0, size = PyDict_Size(object);
     while (PyDict_Next(object, &at, &name, &value)) {
-        Py_INCREF(name);
-        if (!PyUnicode_Check(name)) {
-            refuse(writer, "is not JSON: the name %R of a member is no string", name);
-            Py_DECREF(name);
-            return 0;
-        }
-        if (!put(writer->out, before) || !write_string(writer, name) || !put(writer->out, ':') ||
-            !write_value(writer, value, depth))
-            return at_step(writer, name);
-        Py_DECREF(name);
+        int is_named = Py_TYPE(name) == &PyUnicode_Type || PyUnicode_Check(name);
+        int written = is_named && put(writer->out, before) && write_name(writer, name) ? write_leaf(writer, value) : 0;
         before = ',';
+        if (written > 0) continue;
+        /* what follows may run a program's own code */
+        Py_INCREF(name);
+        if (!is_named) refuse(writer, "is not JSON: the name %R of a member is no string", name);
+        if (is_named && !(written && write_whole(writer, value, depth))) return at_step(writer, name);
+        Py_DECREF(name);
+        if (!is_named) return 0;
         if (PyDict_Size(object) != size) return PyErr_Format(PyExc_RuntimeError, CHANGED) != NULL;
     }
     return (before == ',' || put(writer->out, before)) && put(writer->out, '}');
@@ -299,6 +342,7 @@ struct caller {
     jskw_schema schema;
     struct caller *next;
     struct block written, answer;
+    struct name names[NAMES];
     const uint8_t *bytes;
     size_t size;
     PyObject *owner;
@@ -317,6 +361,7 @@ static void drop_caller(struct caller *caller) {
     if (caller == NULL) return;
     jskw_free(&caller->schema);
     Py_XDECREF(caller->owner);
+    for (int i = 0; i < NAMES; i++) Py_XDECREF(caller->names[i].name);
     drop_block(&caller->written, 0);
     drop_block(&caller->answer, 0);
     PyMem_Free(caller);
@@ -402,7 +447,7 @@ static int take_text(struct caller *caller, PyObject *value, const char *what) {
         caller->size = PyBytes_Size(caller->owner);
         return 1;
     }
-    struct writer writer = {&caller->written, NULL, NULL};
+    struct writer writer = {&caller->written, caller->names, NULL, NULL};
     caller->written.size = 0;
     int written = write_value(&writer, value, 0) || raise_refusal(&writer, what);
     caller->bytes = caller->written.bytes;
@@ -617,7 +662,7 @@ static PyObject *answered(Schema *self, const struct question *with, struct call
     struct block *answer = &caller->answer;
     uint32_t status;
     /* at first room for some lines of usual length, then the length for which that was too small */
-    size_t room = 1024 + 128 * (!is_call(with, "errors") ? 0 : with->number < MANY ? with->number : MANY);
+    size_t room = FIRST + 128 * (!is_call(with, "errors") ? 0 : with->number < MANY ? with->number : MANY);
     do {
         answer->size = 0;
         if (!reserve(answer, room)) return NULL;

@@ -329,7 +329,8 @@ class Keywords(dict[bytes, Any]):
     def add(self, key: bytes, kind: str, location: str, expected: str) -> Any:
         """Adds the keyword of the line of an error, which the module in C looks up by the key from then on."""
         value, *path = find(self.schema, location)
-        settings = {"kind": kind, "schema_path": path, "expected": json.loads(expected) if expected else None}
+        limit = json.loads(expected) if expected else value if kind in ("const", "enum") else None  # a long one
+        settings: dict[str, Any] = {"kind": kind, "schema_path": path, "expected": limit}
         settings.update(validator=None, validator_value=None, schema=value)
         if kind != "falseSchema":
             within = find(self.schema, location.rpartition("/")[0])[0]

@@ -149,7 +149,17 @@ class Validator(Schema):
     def evaluate(self, instance: Any) -> dict[str, Any]:
         """Returns the evaluation tree: `valid`, `keywordLocation`, `instanceLocation`, `annotation`, `errors` and
         `details`, the nodes below."""
-        tree: dict[str, Any] = json.loads(self._ask("evaluate", instance))
+        text: str = self._ask("evaluate", instance)
+        # node by node: to read the whole takes four levels of the interpreter's stack for one of the schema's
+        open_lists: list[list[Any]] = [[]]
+        for part in text.split(',"details":['):
+            node = part.lstrip("]},")
+            for _ in range(part[: len(part) - len(node)].count("}")):
+                open_lists.pop()
+            if node:
+                open_lists[-1].append({**json.loads(node + "}"), "details": []})
+                open_lists.append(open_lists[-1][-1]["details"])
+        tree: dict[str, Any] = open_lists[0][0]
         return tree
 
     def _errors(self, name: str, instance: Any, limit: int) -> Iterator[ValidationError]:

@@ -19,7 +19,7 @@
 //! A number counts as it is written: the float `0.1` is the decimal 0.1, exactly, and `1e300` is
 //! [`jskw::Error::Inexact`].
 
-use jskw::{EvaluationNode, ValidationError, ValidationOptions, Validator};
+use jskw::{Errors, EvaluationNode, ValidationOptions, Validator};
 use serde::{de::DeserializeOwned, Serialize};
 use std::fmt;
 
@@ -102,8 +102,7 @@ pub trait CheckValues {
     /// # Errors
     ///
     /// As [`Validator::iter_errors`].
-    fn iter_value_errors<V: Serialize + ?Sized>(&self, value: &V)
-        -> Result<std::vec::IntoIter<ValidationError>, Error>;
+    fn iter_value_errors<V: Serialize + ?Sized>(&self, value: &V) -> Result<Errors, Error>;
 
     /// Returns the evaluation tree of the value.
     ///
@@ -129,10 +128,7 @@ impl CheckValues for Validator {
         Ok(self.validate(serde_json::to_vec(value)?)?)
     }
 
-    fn iter_value_errors<V: Serialize + ?Sized>(
-        &self,
-        value: &V,
-    ) -> Result<std::vec::IntoIter<ValidationError>, Error> {
+    fn iter_value_errors<V: Serialize + ?Sized>(&self, value: &V) -> Result<Errors, Error> {
         Ok(self.iter_errors(serde_json::to_vec(value)?)?)
     }
 
