@@ -1,7 +1,7 @@
 #!/usr/bin/env python3
 """Writes random schemas as rows, with their unchecked members by a plain reading of the standard's lists.
 
-    unchecked.py COUNT SEED > FOLDER/random.json     # then ask them: out/jskw_rows FOLDER
+    unchecked.py COUNT SEED > FOLDER/random.json     # then ask them: tools/rows FOLDER
 """
 import json
 import pathlib

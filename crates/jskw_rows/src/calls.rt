@@ -1,13 +1,17 @@
 //! The calls of a line of standard input, with what each gives and what its arguments hold afterwards.
 //! `README.md` beside `src/` lists their kinds, and says what is printed.
 mod devices;
-mod observers;
+mod reports;
+mod schemas;
 mod validators;
+mod values;
 
-use jskw_lines::members::items;
-use jskw_lines::printer::value;
-use jskw_lines::{Lines, Printer, reports, texts, values};
+use crate::members::{items, value};
+use crate::printer::Printer;
+use jskw_report::Settings;
+use jskw_service::{draft_named, overridden_of, vocabularies_of};
 use serde_json::Value;
+use std::alloc::Global;
 
 /// Prints the name of a line and makes its calls. Returns whether it says what to do.
 pub(crate) fn make(rt: &HostRuntime, line: &str) -> bool {
@@ -22,9 +26,10 @@ fn make_line(rt: &HostRuntime, items: &[Value]) -> bool {
         return false;
     };
     let mut to = Printer::new(rt, kind);
-    write!(to, "{line}\n");
+    to.push(line);
     make_calls(&mut to, arguments);
-    to.end()
+    to.push("\n");
+    to.print()
 }
 
 fn make_calls(to: &mut Printer, arguments: &[Value]) {
@@ -33,39 +38,47 @@ fn make_calls(to: &mut Printer, arguments: &[Value]) {
         "insert" => values::insert(to, arguments),
         "from_pairs" => values::from_pairs(to, arguments),
         "from_last_pairs" => values::from_last_pairs(to, arguments),
-        "read_bytes" => texts::read(to, arguments, true),
-        "read_nothing" => texts::read(to, arguments, false),
+        "read_bytes" => values::read(to, arguments, "asked"),
+        "read_nothing" => values::read(to, arguments, "ready"),
         "reply_to" => devices::reply(to, arguments),
-        "compile" | "schema" | "below" | "leaves" | "unchecked" => observers::ask(to, arguments),
+        "run" => devices::run_bytes(to, arguments),
+        "schema" | "below" | "leaves" | "unchecked" => schemas::ask(to, arguments),
         kind => {
             for case in arguments {
-                write!(to.lines.text, "{case}: ");
-                push_case(&mut to.lines, kind, case);
-                to.print_lines();
+                write!(to, "\n\t{case}: ");
+                push_case(to, kind, case);
             }
         }
     }
 }
 
 // Makes a call of this kind, with an array of arguments, and appends what it returns.
-fn push_case(lines: &mut Lines, kind: &str, case: &Value) {
+fn push_case(to: &mut Printer, kind: &str, case: &Value) {
     match kind {
-        "Decimal::new" => values::push_new(lines, case),
-        "Decimal" => values::push_decimal(lines, case),
-        "equals_value" => values::push_equality(lines, case),
-        "Object" => values::push_object(lines, case),
-        "PropertyName" => values::push_names(lines, items(case, 0)),
-        "fingerprint" => values::push_prints(lines, case),
-        "Location" => reports::push_locations(lines, case),
-        "LazyLocation" => reports::push_stack(lines, items(case, 0)),
-        "ValidationError" => reports::push_messages(lines, value(case, 0)),
-        "AllocError" => reports::push_constants(lines),
-        "EvaluationResult" => reports::push_unit(lines),
-        "StdSource" => devices::push_runs(lines, true),
-        "StdSink" => devices::push_runs(lines, false),
-        "required" => validators::push_required(lines, case),
-        "Limit" => validators::push_limits(lines, value(case, 0)),
-        "new" => validators::push_new(lines, case),
-        _ => validators::push_case(lines, kind, case),
+        "Decimal::new" => values::push_new(to, case),
+        "Decimal" => values::push_decimal(to, case),
+        "equals_value" => values::push_equality(to, case),
+        "Object" => values::push_object(to, case),
+        "PropertyName" => values::push_names(to, items(case, 0)),
+        "fingerprint" => values::push_prints(to, value(case, 0), value(case, 1)),
+        "crowded" => values::push_crowded(to, value(case, 0)),
+        "Location" => reports::push_locations(to, case),
+        "LazyLocation" => reports::push_stack(to, items(case, 0)),
+        "by hand" => reports::push_made(to, case),
+        "devices" => devices::push_runs(to),
+        "required" => validators::push_required(to, case),
+        "Limit" => validators::push_limits(to, value(case, 0)),
+        "new" => validators::push_new(to, case),
+        _ => validators::push_case(to, kind, case),
+    }
+}
+
+// The settings of a draft of this name, if that and what a value says of the others is right.
+fn settings_of(alloc: Global, group: &Value, draft: &str) -> Option<Settings> {
+    let draft = draft_named(draft)?;
+    let vocabularies = vocabularies_of(group.get("vocabularies"))?;
+    match overridden_of(alloc, group.get("overridden")) {
+        Ok(Some(overridden)) => Some(Settings::new(draft, vocabularies, overridden)),
+        _ => None,
     }
 }

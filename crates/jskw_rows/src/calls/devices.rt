@@ -1,6 +1,6 @@
-//! Replies to bytes, and runs over readers and writers that fail.
-use jskw_lines::texts::bytes_of;
-use jskw_lines::{Lines, Printer};
+//! Replies and runs, also over readers and writers that fail.
+use crate::members::bytes_of;
+use crate::printer::Printer;
 use jskw_service::{StdSink, StdSource, reply_to, run, status};
 use serde_json::Value;
 use std::io::{self, ErrorKind, Read, Write};
@@ -8,12 +8,28 @@ use std::io::{self, ErrorKind, Read, Write};
 /// Has a request of the bytes of texts and numbers answered, and prints the verdict and the lines.
 pub(super) fn reply(to: &mut Printer, parts: &[Value]) {
     let bytes = bytes_of(to, parts);
-    to.announce("reply_to", true);
-    let reply = reply_to(to.lines.alloc, &bytes);
+    to.announce("reply_to", "asked");
+    let reply = reply_to(to.alloc, &bytes);
     to.tell(reply.is_err());
     if let Ok(reply) = &reply {
-        let lines = std::str::from_utf8(reply.text()).unwrap_or("no text");
-        write!(to.lines.text, "{:?}\n{lines}", reply.verdict());
+        write!(to, "\n\t{:?}", reply.verdict());
+        push_lines(to, reply.text());
+    }
+}
+
+/// Runs over such bytes, and appends the lines that are written, and the status.
+pub(super) fn run_bytes(to: &mut Printer, parts: &[Value]) {
+    let bytes = bytes_of(to, parts);
+    let mut source = StdSource::new(&bytes[..]);
+    let mut sink = StdSink::new(Vec::new(to.alloc));
+    let status = status(&run(to.alloc, &mut source, &mut sink));
+    push_lines(to, sink.into_inner().as_slice());
+    write!(to, "\n\tstatus {status}");
+}
+
+fn push_lines(to: &mut Printer, bytes: &[u8]) {
+    for line in std::str::from_utf8(bytes).unwrap_or("no text").lines() {
+        write!(to, "\n\t{line}");
     }
 }
 
@@ -58,21 +74,20 @@ impl<W: Write> Write for FailsOnce<W> {
 /// Runs over a reader or a writer that fails after each number of calls up to 9, with an error after
 /// which a call may be tried again, with another one, or without one: then no byte is moved. Appends how
 /// the runs end, their status, and what they write.
-pub(super) fn push_runs(lines: &mut Lines, of_reader: bool) {
+pub(super) fn push_runs(to: &mut Printer) {
     for error in &[Some(ErrorKind::Interrupted), Some(ErrorKind::Other), None] {
         for calls in 0..10 {
-            let reads = if of_reader { calls } else { usize::MAX };
-            let writes = if of_reader { usize::MAX } else { calls };
-            push_run(lines, reads, writes, *error);
+            push_run(to, calls, usize::MAX, *error);
+            push_run(to, usize::MAX, calls, *error);
         }
     }
 }
 
-fn push_run(lines: &mut Lines, reads: usize, writes: usize, error: Option<ErrorKind>) {
+fn push_run(to: &mut Printer, reads: usize, writes: usize, error: Option<ErrorKind>) {
     let mut source = StdSource::new(FailsOnce(REQUEST, reads, error));
-    let mut sink = StdSink::new(FailsOnce(Vec::new(lines.alloc), writes, error));
-    let outcome = run(lines.alloc, &mut source, &mut sink);
+    let mut sink = StdSink::new(FailsOnce(Vec::new(to.alloc), writes, error));
+    let outcome = run(to.alloc, &mut source, &mut sink);
     let (status, written) = (status(&outcome), sink.into_inner().0);
     let written = std::str::from_utf8(written.as_slice()).unwrap_or("?");
-    write!(lines.text, "\n{error:?} {outcome:?} {status} {written:?}");
+    write!(to, "\n\t{error:?} {outcome:?} {status} {written:?}");
 }

@@ -1,8 +1,8 @@
 -- The tree of a node that counts how often it is asked.
 use Rattle.jskw_value.specs.DecimalTree.{items_from}
 use Rattle.jskw_value.specs.Tree.{Tree, null, array}
-use Rattle.jskw_lines.specs.declared.asked.Asked.{Asked, fold-Asked}
-use Rattle.jskw_lines.specs.declared.asked.Asked.TheOpen.{Asked-F}
+use Rattle.jskw_rows.specs.declared.asked.Asked.{Asked, fold-Asked}
+use Rattle.jskw_rows.specs.declared.asked.Asked.TheOpen.{Asked-F}
 
 -- one level, with each tree inside already seen
 abbrev pub asked_step : Asked-F Tree → Tree

@@ -1,7 +1,6 @@
 //! Calls of locations, errors and evaluations, and constants.
-use crate::lines::TYPES;
-use crate::members::items;
-use crate::{Lines, Made};
+use crate::members::{items, value};
+use crate::printer::{Made, Printer};
 use jskw_report::{
     Annotations, CompileFault, EnumOptions, ErrorDescription, EvaluationNode, EvaluationResult,
     Fault, LazyLocation, Location, LocationSegment, ValidationContext, ValidationError,
@@ -14,13 +13,13 @@ use serde_json::Value;
 use std::alloc::{AllocError, Global};
 
 /// The location of steps, and whether it is equal to that of others, as a copy of it is.
-pub fn push_locations(lines: &mut Lines, case: &Value) {
-    let left = joined(lines.alloc, items(case, 0));
-    let right = joined(lines.alloc, items(case, 1));
+pub(super) fn push_locations(to: &mut Printer, case: &Value) {
+    let left = joined(to.alloc, items(case, 0));
+    let right = joined(to.alloc, items(case, 1));
     if let (Ok(left), Ok(right)) = (&left, &right) {
-        let copy = lines.text.made(left.copy());
+        let copy = to.made(left.copy());
         let (is_equal, is_copy) = (left == right, copy.as_ref() == Some(right));
-        write!(lines.text, "{} {is_equal} {is_copy}", left.as_str());
+        write!(to, "{} {is_equal} {is_copy}", left.as_str());
     }
 }
 
@@ -38,56 +37,67 @@ fn joined(alloc: Global, steps: &[Value]) -> Made<Location> {
 }
 
 /// The location of numbers, which are pushed, and texts, each of which pops one.
-pub fn push_stack(lines: &mut Lines, steps: &[Value]) {
-    let mut location = LazyLocation::new(lines.alloc);
+pub(super) fn push_stack(to: &mut Printer, steps: &[Value]) {
+    let mut location = LazyLocation::new(to.alloc);
     for step in steps {
         match step.as_u64() {
-            Some(index) => lines.text.keep(location.push(index as usize)),
+            Some(index) => to.check(location.push(index as usize).is_ok()),
             None => location.pop(),
         }
     }
-    if let Some(location) = &lines.text.made(location.render()) {
-        lines.text.push(location.as_str());
+    if let Some(location) = &to.made(location.render()) {
+        to.push(location.as_str());
     }
 }
 
-/// The messages of errors about null: a limit, options that are no array, sets of one type and of all.
-pub fn push_messages(lines: &mut Lines, options: &Value) {
-    let mut all = JsonTypeSet::empty();
-    for (_, json_type) in &TYPES {
-        all = all.insert(*json_type);
+/// What no schema makes: messages, constants and a unit.
+pub(super) fn push_made(to: &mut Printer, case: &Value) {
+    push_messages(to, value(case, 0), items(case, 1));
+    push_constants(to);
+    push_unit(to);
+}
+
+// The messages of errors about null: a limit, options that are no array, sets of one type and of several.
+fn push_messages(to: &mut Printer, options: &Value, types: &[Value]) {
+    let mut several = JsonTypeSet::empty();
+    for name in types {
+        if let Ok(json_type) = name.as_str().unwrap_or("").parse() {
+            several = several.insert(json_type);
+        }
     }
     let options = EnumOptions::Listed(options);
     for kind in &[
         ValidationErrorKind::Minimum { limit: 2 },
         ValidationErrorKind::Enum { options },
         ValidationErrorKind::of_types(JsonTypeSet::from(JsonType::Array)),
-        ValidationErrorKind::of_types(all),
+        ValidationErrorKind::of_types(several),
     ] {
-        let (at, by) = (Location::new(lines.alloc), Location::new(lines.alloc));
+        let (at, by) = (Location::new(to.alloc), Location::new(to.alloc));
         let error: ValidationError<SerdeJson> = ValidationError::new(*kind, at, &by, &Value::Null);
-        if let Some(message) = &lines.text.made(error.message(lines.alloc)) {
-            write!(lines.text, "{message};");
+        let message = error.message(to.alloc);
+        if let Some(message) = &to.made(message) {
+            write!(to, "\n\t{message}");
         }
     }
 }
 
-/// Whether a lack of memory is a fault of its own; constants of representations and nullabilities.
-pub fn push_constants(lines: &mut Lines) {
+// Whether a lack of memory is a fault of its own; constants of representations and nullabilities.
+fn push_constants(to: &mut Printer) {
     let is_fault = matches!(Fault::<SerdeJson>::from(AllocError), Fault::Memory(_));
     let is_compile_fault = matches!(CompileFault::from(AllocError), CompileFault::Memory(_));
-    write!(lines.text, "{is_fault} {is_compile_fault}");
+    write!(to, "\n\t{is_fault} {is_compile_fault}");
     let (serde, decimals) = (SerdeJson::KEYS_PER_LOOKUP, DecimalJson::KEYS_PER_LOOKUP);
     let (with_null, without) = (Nullable::ACCEPTS_NULL, NotNullable::ACCEPTS_NULL);
-    write!(lines.text, ", {serde} {decimals}, {with_null} {without}");
+    write!(to, "\n\t{serde} {decimals}\n\t{with_null} {without}");
 }
 
-/// The lines of a node that is made by hand; and the counts of a context from 0 on.
-pub fn push_unit(lines: &mut Lines) {
-    lines.push_described(&node_by_hand(lines.alloc));
+// The lines of a node that is made by hand; and the counts of a context from 0 on.
+fn push_unit(to: &mut Printer) {
+    let node = node_by_hand(to.alloc);
+    to.push_tree(&node);
     let mut ctx = ValidationContext::new();
     for _ in 0..3 {
-        write!(lines.text, "{} ", ctx.applications());
+        write!(to, "\n\t{}", ctx.applications());
         ctx.count_one();
     }
 }

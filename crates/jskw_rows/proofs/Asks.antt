@@ -1,10 +1,10 @@
 -- A node that counts how often it is asked, beside its tree.
 use Rattle.std.proofs.Common.{◌≡◌, List, [], ◌∷◌, map, Vec, Global, refl, ap, sym, subst, ◌∙◌, true, false, rules}
 use Rattle.std.proofs.lemmas.Grind.{common_steps}
-use Rattle.jskw_lines.specs.declared.asked.Asked.{Asked, Array, the_lemmas}
-use Rattle.jskw_lines.specs.declared.asked.Asked.TheOpen.{Asked-F}
-use Rattle.jskw_lines.specs.declared.asked.Asked.TheFolds.{map-Asked, ind-Asked, fold-roll-Asked}
-use Rattle.jskw_lines.specs.Asks.{asked_tree, asked_step}
+use Rattle.jskw_rows.specs.declared.asked.Asked.{Asked, Array, the_lemmas}
+use Rattle.jskw_rows.specs.declared.asked.Asked.TheOpen.{Asked-F}
+use Rattle.jskw_rows.specs.declared.asked.Asked.TheFolds.{map-Asked, ind-Asked, fold-roll-Asked}
+use Rattle.jskw_rows.specs.Asks.{asked_tree, asked_step}
 use Rattle.jskw_value.specs.DecimalTree.{items_from}
 use Rattle.jskw_value.specs.Tree as tree
 use Rattle.jskw_value.specs.Tree.{Tree, array, item_list}

@@ -1,0 +1,300 @@
+//! The compile and the observers of schemas and of keywords by themselves, and what is not checked. What was
+//! compiled is passed on at once: where a validator of a known type may be dropped, the checker goes
+//! through all that it may be.
+ghost use Rattle.std.specs.Prelude.{IsTrue};
+ghost use Rattle.jskw_value.specs.Tree.{is_lawful};
+
+use super::settings_of;
+use crate::asked::{Asked, AskedJson};
+use crate::members::{AllKeys, Keys, Members, items};
+use crate::printer::{Made, Printer};
+use jskw_array::SchemaNode;
+use jskw_array::compiler::compile;
+use jskw_array::items::array_shape_fusion;
+use jskw_leaf::is_leaf;
+use jskw_report::{
+    CompilationResult, CompileFault, Context, EvaluationNode, Fault, KeywordName, LazyLocation,
+    Location, LocationSegment, Settings, Validate, ValidationContext, ValidationError,
+    ValidationErrorKind,
+};
+use jskw_text::read_bytes;
+use jskw_unchecked::unchecked;
+use jskw_value::{DecimalJson, DecimalTree, Json, Node, SerdeJson};
+use serde_json::Value;
+
+// What a line asks.
+#[derive(Clone, Copy)]
+struct Case<'c> {
+    settings: &'c Settings,
+    // the rest of the settings, and how the observers are asked
+    group: &'c Value,
+    schema: &'c Value,
+    // the instance, if its nodes count
+    counted: Option<&'c Asked>,
+}
+
+/// Makes the calls of a kind that takes a draft, the rest of the settings, a schema and an instance.
+pub(super) fn ask(to: &mut Printer, arguments: &[Value]) {
+    let [Value::String(draft), group, schema, instance] = arguments else {
+        return to.check(false);
+    };
+    match &settings_of(to.alloc, group, draft) {
+        Some(settings) => {
+            let by = Case {
+                settings,
+                group,
+                schema,
+                counted: None,
+            };
+            ask_of(to, &by, instance);
+        }
+        None => to.check(false),
+    }
+}
+
+// Asks over the representation of the line. A tree of decimals is read from a text.
+fn ask_of(to: &mut Printer, by: &Case, instance: &Value) {
+    match (to.kind, to.over) {
+        ("unchecked", _) => ask_unchecked(to, by),
+        (_, "") => ask_over::<SerdeJson>(to, by, instance),
+        (_, "counted nodes") => ask_counted(to, by, instance),
+        _ => match &read_bytes(to.alloc, instance.as_str().unwrap_or("").as_bytes()) {
+            Ok(tree) => ask_tree(to, by, tree),
+            Err(_) => to.check(false),
+        },
+    }
+}
+
+fn ask_tree(to: &mut Printer, by: &Case, tree: &DecimalTree) {
+    to.push_node(tree);
+    match to.over {
+        "decimals" => ask_over::<DecimalJson>(to, by, tree),
+        "lookups" => ask_over::<Keys<0>>(to, by, tree),
+        "walks" => ask_over::<AllKeys>(to, by, tree),
+        _ => to.check(false),
+    }
+}
+
+fn ask_counted(to: &mut Printer, by: &Case, instance: &Value) {
+    let nodes = Asked::of(to.alloc, instance);
+    if let Some(nodes) = &to.made(nodes) {
+        let by = Case {
+            settings: by.settings,
+            group: by.group,
+            schema: by.schema,
+            counted: Some(nodes),
+        };
+        ask_over::<AskedJson>(to, &by, nodes);
+    }
+}
+
+fn ask_unchecked(to: &mut Printer, by: &Case) {
+    let ctx = context_of::<SerdeJson>(to, by);
+    to.announce("unchecked", "asked");
+    let list = unchecked(to.alloc, &ctx, by.schema);
+    to.tell(list.is_err());
+    if let Ok(list) = &list {
+        for member in list {
+            write!(
+                to,
+                "\n\t{} {}",
+                member.location().as_str(),
+                member.reason().as_str()
+            );
+        }
+    }
+}
+
+// The context of a whole schema.
+fn context_of<'c, F: Json>(to: &Printer, by: &Case<'c>) -> Context<'c, F> {
+    let ctx = Context::new(to.alloc, by.settings);
+    ctx.with_object_layer(by.group.get("noObjectLayer").is_none())
+}
+
+// Asks the keywords of a schema one by one, below a member, and the schema.
+fn ask_over<F: Json>(to: &mut Printer, by: &Case, of: &F::Node) {
+    let ctx = context_of::<F>(to, by);
+    let below = ctx.new_at_location(to.alloc, LocationSegment::Name("a/b"));
+    if let Some(below) = &to.made(below) {
+        if let Value::Object(parent) = by.schema {
+            ask_keywords(to, below, parent, of, by);
+            write!(to, "\nfusion {}", array_shape_fusion(below, parent));
+        }
+        let is_below = to.kind == "below";
+        ask_schema(to, if is_below { below } else { &ctx }, by, of);
+    }
+}
+
+// Compiles each keyword that is read and has no subschemas, and asks it by itself.
+fn ask_keywords<F: Json>(
+    to: &mut Printer,
+    ctx: &Context<F>,
+    parent: &Members,
+    of: &F::Node,
+    by: &Case,
+) {
+    for keyword in KeywordName::ALL {
+        match parent.get(keyword.as_str()) {
+            Some(schema) if is_leaf(keyword) && keyword.is_active(ctx) => {
+                let name = LocationSegment::Name(keyword.as_str());
+                let at = ctx.location().join(to.alloc, name);
+                if let Some(at) = &to.made(at) {
+                    let made = jskw_leaf::compile(to.alloc, ctx, parent, keyword, schema);
+                    ask_keyword(to, &made, at, of, by);
+                }
+            }
+            Some(_) if keyword.is_active(ctx) => to.push("\nwith subschemas"),
+            _ => {}
+        }
+    }
+}
+
+// Asks a keyword at a location by itself. Of `leaves` each holds, and takes no memory.
+fn ask_keyword<F: Json, V: Validate<F>>(
+    to: &mut Printer,
+    made: &Option<CompilationResult<'_, V>>,
+    at: &Location,
+    of: &F::Node,
+    by: &Case,
+) {
+    let word = to.ready_or("called");
+    to.announce(at.as_str(), word);
+    match made {
+        Some(Ok(it)) if of.is_lawful() => observe_keyword(to, it, at, of, by),
+        _ => to.push_refused(made),
+    }
+}
+
+fn observe_keyword<F: Json, V: Validate<F>>(
+    to: &mut Printer,
+    it: &V,
+    at: &Location,
+    of: &F::Node,
+    by: &Case,
+)
+    requires { IsTrue (is_lawful (F.Node.tree of.now)) }
+{
+    let (mut errors, mut ctx) = (Vec::new(to.alloc), ValidationContext::new());
+    let is_valid = it.is_valid(of, &mut ctx);
+    let first = it.validate(of, &mut to.location, &mut ctx);
+    let all = it.collect_errors(of, &mut to.location, &mut ctx, &mut errors);
+    let unit = it.evaluate(to.alloc, of, &mut to.location, &mut ctx);
+    to.tell_at(all.is_err(), &ctx, by.counted);
+    write!(to, "\n\t{is_valid}\n\tfirst");
+    to.push_first(&first);
+    to.push("\n\tall");
+    to.push_errors(&errors);
+    let place = to.location.render();
+    if let (Some(unit), Some(place)) = (to.made(unit), to.made(place)) {
+        let node = EvaluationNode::new(to.alloc, unit, at, &place);
+        to.push_tree(&node);
+    }
+}
+
+fn ask_schema<F: Json>(to: &mut Printer, ctx: &Context<F>, by: &Case, of: &F::Node) {
+    to.announce("compile", "asked");
+    let made = Some(compile(to.alloc, ctx, by.schema));
+    to.tell(matches!(made, Some(Err(CompileFault::Memory(_)))));
+    to.push_refused(&made);
+    if let Some(Ok(node)) = &made {
+        ask_node(to, by, node, of);
+    }
+}
+
+fn ask_node<F: Json>(to: &mut Printer, by: &Case, node: &SchemaNode<F>, of: &F::Node) {
+    let (has_shape, delegates) = (node.array_shape().is_some(), node.hands_on_required());
+    write!(to, "\n\tshape {has_shape}, delegates {delegates}");
+    if of.is_lawful() {
+        ask_whole(to, by, node, of);
+        ask_list(to, by, None, node, of);
+        for limit in items(by.group, "limits") {
+            ask_list(to, by, limit.as_u64(), node, of);
+        }
+        ask_trees(to, by, node, of);
+    } else {
+        let found = of.first_unlawful(to.alloc);
+        match to.made(found) {
+            Some(Some(at)) => write!(to, "\n\tfloat at {at}"),
+            _ => to.push("\n\ta float that is nowhere"),
+        }
+    }
+}
+
+// Asks `is_valid` and `validate`.
+fn ask_whole<F: Json>(to: &mut Printer, by: &Case, node: &SchemaNode<F>, of: &F::Node)
+    requires { IsTrue (is_lawful (F.Node.tree of.now)) }
+{
+    let (mut ctx, mut other) = (counted_one(), counted_one());
+    to.announce("is_valid", "ready");
+    let is_valid = node.is_valid(of, &mut ctx);
+    to.tell_at(false, &ctx, by.counted);
+    write!(to, "\n\t{is_valid}");
+    let word = to.ready_or("asked");
+    to.announce("validate", word);
+    let first = node.validate(of, &mut to.location, &mut other);
+    to.tell_at(matches!(first, Err(Fault::Memory(_))), &other, by.counted);
+    to.push_first(&first);
+}
+
+// Asks for all errors, or for so many of the first, behind an old one.
+fn ask_list<F: Json>(
+    to: &mut Printer,
+    by: &Case,
+    limit: Option<u64>,
+    node: &SchemaNode<F>,
+    of: &F::Node,
+)
+    requires { IsTrue (is_lawful (F.Node.tree of.now)) }
+{
+    let (mut errors, mut ctx) = (Vec::new(to.alloc), counted_one());
+    let (kind, at) = (ValidationErrorKind::UniqueItems, Location::new(to.alloc));
+    let old = errors.push(ValidationError::new(kind, at, node.location(), of));
+    to.check(old.is_ok());
+    let word = to.ready_or("asked");
+    let made = if let Some(limit) = limit {
+        to.announce("collect_first_errors", word);
+        let (limit, at) = (limit as usize, &mut to.location);
+        collect_first(limit, node, of, at, &mut ctx, &mut errors)
+    } else {
+        to.announce("collect_errors", word);
+        node.collect_errors(of, &mut to.location, &mut ctx, &mut errors)
+    };
+    to.tell_at(made.is_err(), &ctx, by.counted);
+    to.push_behind_old(&errors);
+}
+
+/// Collects so many of the first errors at the most. No clause says which, so callers have short proofs.
+fn collect_first<'i, F: Json>(
+    limit: usize,
+    node: &'i SchemaNode<F>,
+    of: &'i F::Node,
+    at: &mut LazyLocation,
+    ctx: &mut ValidationContext,
+    errors: &mut Vec<ValidationError<'i, F>>,
+) -> Made<()>
+    requires { IsTrue (is_lawful (F.Node.tree of.now)) }
+{
+    node.collect_first_errors(limit, of, at, ctx, errors)
+}
+
+// Asks for the trees of the instance as the whole one, and as part of another.
+fn ask_trees<F: Json>(to: &mut Printer, by: &Case, node: &SchemaNode<F>, of: &F::Node)
+    requires { IsTrue (is_lawful (F.Node.tree of.now)) }
+{
+    let (mut ctx, mut other) = (counted_one(), counted_one());
+    to.announce("evaluate_instance", "asked");
+    let tree = node.evaluate_instance(to.alloc, of, &mut ctx);
+    to.tell_at(tree.is_err(), &ctx, by.counted);
+    to.push_tree(&tree);
+    to.announce("evaluate_instance_below", "asked");
+    let tree = node.evaluate_instance_below(to.alloc, of, &mut to.location, &mut other);
+    to.tell_at(tree.is_err(), &other, by.counted);
+    to.push_tree(&tree);
+}
+
+// A context that has counted an application of before.
+fn counted_one() -> ValidationContext {
+    let mut ctx = ValidationContext::new();
+    ctx.count_one();
+    ctx
+}
