@@ -24,13 +24,13 @@ use serde_json::Value;
 
 // What a line asks.
 #[derive(Clone, Copy)]
-struct Case<'c> {
-    settings: &'c Settings,
+struct Case<'s, 'a, 'n> {
+    settings: &'s Settings,
     // the rest of the settings, and how the observers are asked
-    group: &'c Value,
-    schema: &'c Value,
+    group: &'a Value,
+    schema: &'a Value,
     // the instance, if its nodes count
-    counted: Option<&'c Asked>,
+    counted: Option<&'n Asked>,
 }
 
 /// Makes the calls of a kind that takes a draft, the rest of the settings, a schema and an instance.
@@ -78,11 +78,12 @@ fn ask_tree(to: &mut Printer, by: &Case, tree: &DecimalTree) {
 fn ask_counted(to: &mut Printer, by: &Case, instance: &Value) {
     let nodes = Asked::of(to.alloc, instance);
     if let Some(nodes) = &to.made(nodes) {
+        let counted = Some(nodes);
         let by = Case {
             settings: by.settings,
             group: by.group,
             schema: by.schema,
-            counted: Some(nodes),
+            counted,
         };
         ask_over::<AskedJson>(to, &by, nodes);
     }
@@ -106,7 +107,7 @@ fn ask_unchecked(to: &mut Printer, by: &Case) {
 }
 
 // The context of a whole schema.
-fn context_of<'c, F: Json>(to: &Printer, by: &Case<'c>) -> Context<'c, F> {
+fn context_of<'s, F: Json>(to: &Printer, by: &Case<'s, '_, '_>) -> Context<'s, F> {
     let ctx = Context::new(to.alloc, by.settings);
     ctx.with_object_layer(by.group.get("noObjectLayer").is_none())
 }
