@@ -252,8 +252,8 @@ def page(where, texts, times, versions, left_out, given, library):
 def with_text_section(where, section):
     """The page as it is, with another section of calls that are given texts."""
     lines, old = where.read_text(encoding="utf-8").splitlines(), section_of(where, FROM_TEXT)
-    start = lines.index(FROM_TEXT)
-    return [*lines[:start], *section, *lines[start + len(old) :]]
+    start = lines.index(FROM_TEXT if old else MEASURED)
+    return [*lines[:start], *section, *([] if old else [""]), *lines[start + len(old) :]]
 
 
 # ---- the chart
