@@ -15,7 +15,7 @@ use Rattle.jskw_check.specs.declared.trouble.Trouble.TheVariants.{Output, TooLon
 
 -- those of this release
 abbrev pub version_line : List ℕ
-version_line = codes "jskw 0.2.0 (rattle logic dac8208d650f15bf)\n"
+version_line = codes "jskw 0.3.0 (rattle logic dac8208d650f15bf)\n"
 
 abbrev pub usage_error : List ℕ → List ℕ
 usage_error why = USAGE.now ++ (codes "jskw check: error: " ++ (why ++ codes "\n"))

@@ -1,7 +1,7 @@
 //! Texts of the program.
 
 // What `--version` prints.
-pub(crate) const VERSION: &str = "jskw 0.2.0 (rattle logic dac8208d650f15bf)\n";
+pub(crate) const VERSION: &str = "jskw 0.3.0 (rattle logic dac8208d650f15bf)\n";
 
 // How the program is called.
 pub(crate) const USAGE: &str =
