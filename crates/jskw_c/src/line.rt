@@ -9,6 +9,7 @@ ghost use Rattle.jskw_c.specs.Unchecked.{member_line};
 
 use crate::expected::expected_text;
 use jskw_report::ValidationError;
+use jskw_sentence::{schema_sentence, sentence};
 use jskw_text::position_of;
 use jskw_unchecked::UncheckedMember;
 use jskw_value::{DecimalJson, SerdeJson};
@@ -78,7 +79,7 @@ pub(crate) fn refusal_line(
 ) -> Result<Vec<u8>, AllocError>
     ensures { IfOk result (λ text. IsRefusalLine (refusal_of error.now) text.items) }
 {
-    let message = error.message(alloc)?;
+    let message = schema_sentence(alloc, error)?;
     let expected = expected_text(alloc, error.kind())?;
     let mut text = Vec::new(alloc);
     push_word_and(&mut text, error.kind().keyword().as_bytes(), b'\t')?;
@@ -98,7 +99,7 @@ fn push_error(
     ensures { OnOk result ((line : List ℕ) × IsErrorLine (failure_of decimal_tree error.now) line
         × (text.new.items ≡ text.old.items ++ line)) }
 {
-    let message = error.message(alloc)?;
+    let message = sentence(alloc, error)?;
     let expected = expected_text(alloc, error.kind())?;
     push_word_and(text, error.kind().keyword().as_bytes(), b'\t')?;
     push_word_and(text, error.instance_path().as_str().as_bytes(), b'\t')?;

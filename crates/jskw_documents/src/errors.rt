@@ -12,6 +12,7 @@ use crate::options::{Options, Output};
 use crate::place::{Place, push_place, push_place_members};
 use crate::words::{push_quoted_after, push_shown_after};
 use jskw_report::ValidationError;
+use jskw_sentence::sentence;
 use jskw_service::push_bytes;
 use jskw_value::DecimalJson;
 use std::alloc::{AllocError, Global};
@@ -87,7 +88,7 @@ fn push_error_line(
         (place_words place.now.file.now place.now.line place.now.column)
         (failure_of decimal_tree error.now) line × (text.new.items ≡ text.old.items ++ line)) }
 {
-    let message = error.message(alloc)?;
+    let message = sentence(alloc, error)?;
     push_line_of(alloc, text, place, message.as_str(), error)
 }
 
@@ -167,7 +168,7 @@ fn error_object(
     ensures { IfOk result (λ text. IsErrorObject (failure_of decimal_tree error.now) text.items) }
 {
     let mut text = Vec::new(alloc);
-    let message = error.message(alloc)?;
+    let message = sentence(alloc, error)?;
     push_object_of(alloc, &mut text, message.as_str(), error)?;
     Ok(text)
 }

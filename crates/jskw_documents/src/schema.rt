@@ -13,6 +13,7 @@ use jskw_array::SchemaNode;
 use jskw_array::compiler::compile;
 use jskw_report::context::member_of;
 use jskw_report::{CompileFault, Context, Draft, Settings, ValidationError, VocabularySet};
+use jskw_sentence::schema_sentence;
 use jskw_service::{push_bytes, read_value};
 use jskw_text::{ReadFault, read_bytes};
 use jskw_unchecked::{UncheckedMember, unchecked};
@@ -177,7 +178,7 @@ fn bad_schema(
     file: &str,
     error: &ValidationError<'_, SerdeJson>,
 ) -> Result<Vec<u8>, AllocError> {
-    let message = error.message(alloc)?;
+    let message = schema_sentence(alloc, error)?;
     let location = error.schema_path().as_str();
     let why = format!(in alloc; "the schema does not compile: {message} [{location}]")?;
     refuse_schema(alloc, file, why.as_str())

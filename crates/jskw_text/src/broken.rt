@@ -3,7 +3,7 @@ ghost use Rattle.std.specs.Prelude.{◌<◌, ◌≤◌, IfOk, IfSome, length};
 
 use crate::escape::{escape_at, unit_at};
 use crate::not_json::NotJsonReason;
-use crate::scan::{behind_spaces, byte_at, plain_end};
+use crate::scan::{behind_spaces, byte_at, plain_end, short_number_at};
 use crate::tree::MAX_DEPTH;
 use json::is_number;
 use simdutf8::compat::from_utf8;
@@ -231,6 +231,9 @@ fn word_end(text: &[u8], from: usize) -> Result<usize, NotJsonReason>
     requires { from < length text.now }
     ensures { IfOk result (λ end. (from < end) × (end ≤ length text.now)) }
 {
+    if let Some((_, end)) = short_number_at(text, from) {
+        return Ok(end);
+    }
     let mut end = from + 1;
     'bytes: while end < text.len() && !ends_token(text[end]) {
         end += 1;
