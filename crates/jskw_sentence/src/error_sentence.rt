@@ -6,8 +6,8 @@ use crate::bounded::push_piece;
 use crate::types::{push_types, type_name};
 use crate::value::{push_value, write_text, write_value};
 use jskw_report::{EnumOptions, Location, TypeKind, ValidationError, ValidationErrorKind};
-use jskw_value::types::JsonTypeSet;
-use jskw_value::{Array, Json, Node, Object, SerdeJson};
+use jskw_value::types::{JsonType, JsonTypeSet};
+use jskw_value::{Array, Json, JsonNumber, Node, Object, SerdeJson};
 use serde_json::Value;
 use std::alloc::{AllocError, Global};
 
@@ -108,11 +108,7 @@ fn write_demand<N: Node>(
         }
         ValidationErrorKind::Enum { options } => write_options(alloc, text, options),
         ValidationErrorKind::WrongType { kind } => {
-            write!(
-                text,
-                " is of type {}, must be ",
-                type_name(value.json_type())
-            )?;
+            write!(text, " is of type {}, must be ", shown_type(value))?;
             write_types(text, kind)
         }
         ValidationErrorKind::CompileError {
@@ -123,6 +119,16 @@ fn write_demand<N: Node>(
         }
         ValidationErrorKind::CompileError { message } => write!(text, ": {message}"),
         _ => text.push_str(" is not allowed"),
+    }
+}
+
+// Returns the name of the type of a value, `integer` for a number that is written as one.
+fn shown_type<N: Node>(value: &N) -> &'static str {
+    match value.as_number() {
+        Some(number) if number.is_lawful() && number.is_written_as_integer() => type_name(
+            JsonType::Integer,
+        ),
+        _ => type_name(value.json_type()),
     }
 }
 
