@@ -1,5 +1,6 @@
 /* Tests that jskw_is_valid takes no memory for what the schema does not look at, keyword by keyword: no clause says
- * so, since one that reads all is right too. Each `#` of an instance is an object of many members. The last line is
+ * so, since one that reads all is right too; and that it sees what the schema looks at, and what is not JSON in what it
+ * passes over. Each `#` of an instance is an object of many members. The last line is
  * `N passed, M failed`. Link with
  * -Wl,--wrap=malloc,--wrap=realloc,--wrap=calloc,--wrap=aligned_alloc,--wrap=posix_memalign. */
 #include <stdio.h>
@@ -81,6 +82,41 @@ static const struct {
     {"{\"uniqueItems\":true}", "[#,#]"},
 };
 
+/* Instances that are small, and all of which the schema looks at. */
+#define NAMES17 \
+    "\"a\",\"b\",\"c\",\"d\",\"e\",\"f\",\"g\",\"h\",\"i\",\"j\",\"k\",\"l\",\"m\",\"n\",\"o\",\"p\",\"q\""
+#define MEMBERS16 \
+    "\"a\":1,\"b\":1,\"c\":1,\"d\":1,\"e\":1,\"f\":1,\"g\":1,\"h\":1," \
+    "\"i\":1,\"j\":1,\"k\":1,\"l\":1,\"m\":1,\"n\":1,\"o\":1,\"p\":1"
+
+static const struct {
+    uint32_t draft;
+    const char *schema, *instance;
+    int fails;
+} SEEN[] = {
+    {2020, "{\"const\":\"a\"}", "\"a\"", 0},
+    {2020, "{\"const\":\"a\"}", "\"b\"", 1},
+    {2020, "{\"enum\":[1,\"a\"]}", "\"a\"", 0},
+    {2020, "{\"const\":{\"a\":[1]}}", "{\"a\":[2]}", 1},
+    {2020, "{\"enum\":[0,[{\"a\":1}]]}", "[{\"a\":1}]", 0},
+    {2020, "{\"uniqueItems\":true}", "[\"a\",\"b\",{\"c\":1},{\"c\":2}]", 0},
+    {2020, "{\"required\":[" NAMES17 "]}", "{" MEMBERS16 ",\"q\":1}", 0},
+    {2020, "{\"required\":[" NAMES17 "]}", "{" MEMBERS16 "}", 1},
+    {2020, "{\"minProperties\":2}", "{\"a\":1,\"b\":1}", 0},
+    {2020, "{\"maxProperties\":1}", "{\"a\":1,\"b\":1}", 1},
+    {2020, "{\"items\":{\"required\":[\"a\"]}}", "[{\"a\":1}]", 0},
+    {2020, "{\"prefixItems\":[{\"required\":[\"a\"]}]}", "[{\"a\":1}]", 0},
+    {2020, "{\"contains\":{\"required\":[\"a\"]}}", "[1,{\"a\":1}]", 0},
+    {7, "{\"items\":[{}],\"additionalItems\":{\"required\":[\"a\"]}}", "[1,{\"a\":1}]", 0},
+    {7, "{\"items\":[{},{\"required\":[\"a\"]}]}", "[1,{\"a\":1}]", 0},
+};
+
+/* Texts that are not JSON, nor as the value of a member, of which a schema that accepts everything looks at nothing. */
+static const char *const BROKEN[] = {
+    "[2 1]", "[1 1]", "[[1] [1]]", "{\"a\":1]", "[1}", "{\"a\" 1}", "{\"a\":[{\"b\" 1}]}", "{a:1}", "[1,]",
+    "{\"a\":1,}", "[01]", "[tru]", "{\"a\":\"b}", "[\"\\x\"]", "[1", "{\"a\":{}", "[] 1", "{\"a\":1 \"b\":1}",
+};
+
 /* The text of an instance, each `#` of which is an object of many members. */
 static char *text_of(const char *instance) {
     char *text = __real_malloc(strlen(instance) * (MEMBERS * 32 + 2) + 1);
@@ -125,6 +161,20 @@ int main(void) {
         check(CASES[i].draft, CASES[i].schema, CASES[i].instance, CASES[i].fails ? JSKW_INVALID : JSKW_VALID, 0, MOST);
     for (size_t i = 0; i < sizeof WHOLE / sizeof *WHOLE; i++)
         check(2020, WHOLE[i].schema, WHOLE[i].instance, JSKW_INVALID, LEAST_OF_TREE, (size_t)-1);
+    for (size_t i = 0; i < sizeof SEEN / sizeof *SEEN; i++)
+        check(SEEN[i].draft, SEEN[i].schema, SEEN[i].instance, SEEN[i].fails ? JSKW_INVALID : JSKW_VALID, 0, MOST);
+    for (size_t i = 0; i < sizeof BROKEN / sizeof *BROKEN; i++) {
+        char member[64];
+        sprintf(member, "{\"z\":%s}", BROKEN[i]);
+        check(2020, "true", BROKEN[i], JSKW_NOT_JSON, 0, (size_t)-1);
+        check(2020, "true", member, JSKW_NOT_JSON, 0, (size_t)-1);
+    }
+    for (int depth = 127; depth < 129; depth++) {
+        char text[128 * 6 + 2] = "";
+        for (int i = 0; i < depth; i++) strcat(text, i + 1 < depth ? "{\"a\":" : "{");
+        for (int i = 0; i < depth; i++) strcat(text, "}");
+        check(2020, "true", text, depth < 128 ? JSKW_VALID : JSKW_NOT_JSON, 0, (size_t)-1);
+    }
     printf("%d passed, %d failed\n", passed, failed);
     return failed > 0;
 }
