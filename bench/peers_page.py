@@ -31,15 +31,13 @@ OVER_DECIMALS = (
     "`is_valid` over trees of exact decimals, as C, Python, Rust and `jskw check` have them; the others over their own "
     "values. Valid instances."
 )
-OVER_SERDE = "Over `serde_json`'s values, without `is_lawful`."
-# a heading, a call, the kind of instance, and what the section begins with
-SHOWN = [
-    ("Over decimals", "decimals", "valid", OVER_DECIMALS),
-    ("Over serde_json's values", "lawful", "valid", "`is_lawful`, which finds floats, and `is_valid`; valid ones."),
-    ("Compile", "compile", "valid", "From a value of `serde_json`."),
-    ("First error, the last item fails", "first error", "last fails", OVER_SERDE),
-    ("All errors, a tenth of the items fails", "all errors", "a tenth fails", OVER_SERDE),
-]  # fmt: skip
+# the columns of the table of other calls: a call, the kind of instance, what it says, and the others
+OTHER_CALLS = [
+    ("lawful", "valid", "`is_lawful` and `is_valid`", ["ajv"]),
+    ("compile", "valid", "compile", ["ajv", "rapidjson"]),
+    ("first error", "last fails", "first error, the last item fails", ["ajv"]),
+    ("all errors", "a tenth fails", "all errors, a tenth fails", ["ajv"]),
+]
 
 
 def all_workloads():
@@ -151,6 +149,24 @@ def text_section(texts, versions, given):
 # ---- the other sections
 
 
+def cells_of(times, names, call, kind, item):
+    """Our time of a workload, and its ratios to those of others."""
+    own = times.get((OURS, item.name, kind, call))
+    ratios = [ratios_of(times, name, call, kind, [item]).get(item.name) for name in names]
+    return ["-" if own is None else time_of(own), *["-" if it is None else ratio_of(it) for it in ratios]]
+
+
+def other_calls(times, names):
+    """A table of what users call besides, beside the others that are near."""
+    near = [(*asked, [name for name in others if name in names]) for *asked, others in OTHER_CALLS]
+    heads = [f"{words}: {OURS}" + "".join(f" | {name}" for name in others) for _, _, words, others in near]
+    yield f"| Workload | {' | '.join(heads)} |"
+    yield "|---|" + "---|" * sum(1 + len(others) for *_, others in near)
+    for item in all_workloads():
+        cells = [cell for call, kind, _, others in near for cell in cells_of(times, others, call, kind, item)]
+        yield f"| {item.name} | {' | '.join(cells)} |"
+
+
 def table(times, names, call, kind, items=None):
     ratios = {name: ratios_of(times, name, call, kind, items) for name in names}
     shown = [name for name in names if ratios[name]]
@@ -223,10 +239,12 @@ def page(where, texts, times, versions, left_out, given, library):
     yield from summary(times, names)
     yield ""
     yield "![Time of is_valid over the times of others](peers.svg)"
-    for title, call, kind, words in SHOWN:
-        yield from ["", f"### {title}", ""]
-        yield from paragraph(words)
-        yield from table(times, names, call, kind)
+    yield from ["", "### Over decimals", ""]
+    yield from paragraph(OVER_DECIMALS)
+    yield from table(times, names, "decimals", "valid")
+    yield from ["", "### Other calls", ""]
+    yield from paragraph("Over `serde_json`'s values, of which `is_lawful` finds floats; errors without it.")
+    yield from other_calls(times, names)
     yield ""
     yield from by_length(times, names)
     for lines in filter(None, (section_of(where, heading) for heading in (LINES, VALUES))):
@@ -270,9 +288,13 @@ def text_at(x, y, text, anchor="start"):
     return f'<text x="{x:.1f}" y="{y:.1f}" text-anchor="{anchor}">{text}</text>'
 
 
+def shape_of(name):
+    place = list(COLOURS).index(name)
+    return f'<path id="{name.replace(" ", "-")}" d="M0 0{SHAPES[place]}" fill="{COLOURS[name]}" fill-opacity="0.85"/>'
+
+
 def dot_at(x, y, name):
-    shape = SHAPES[list(COLOURS).index(name)]
-    return f'<path d="M{x:.1f} {y:.1f}{shape}" fill="{COLOURS[name]}" fill-opacity="0.85"/>'
+    return f'<use href="#{name.replace(" ", "-")}" x="{x:.0f}" y="{y:.0f}"/>'
 
 
 def chart(times, names):
@@ -280,7 +302,7 @@ def chart(times, names):
     bottom = TOP + STEP * len(items)
     size = f'width="{WIDTH}" height="{bottom + 30}"'
     yield f'<svg xmlns="http://www.w3.org/2000/svg" {size} font-family="sans-serif" font-size="13">'
-    yield f'<rect {size} fill="#ffffff"/>'
+    yield f'<rect {size} fill="#ffffff"/><defs>{"".join(map(shape_of, names))}</defs>'
     said = "Time of is_valid over decimals, over that of others, on valid instances; left of 1: this library is faster"
     yield text_at(10, 20, said)
     for place, name in enumerate(names):

@@ -3,7 +3,6 @@ import hashlib
 import re
 import sys
 
-WIDTH = 76
 ITEM = re.compile(r'pub (?:const |extern "C" )?(struct|enum|trait|type|fn|const) (\w+)')
 MEMBER = re.compile(r"    (pub |final )?(fn|ghost|type|const) (\w+)")
 FUNCTION = re.compile(r'( *)(?:pub(?:\([\w ]+\))? )?(?:(?:const|unsafe|final|extern(?: "C")?) +)*fn (\w+)')
@@ -84,11 +83,12 @@ class Contract:
         return any(word == name if name else re.search(rf"\b{word}\b", words) for name, words in self.owed)
 
     def __str__(self):
-        short = lambda name, words: name or (re.sub(r"^([A-Z]\w+) .*", r"\1 ..", words) if len(words) > WIDTH else words)
-        given = [f"`{short(name, words)}`" for kind, name, words in self.clauses if kind == "requires"]
-        owed = [f"`{short(*it)}`" for it in self.owed]
-        parts = ["requires " + ", ".join(given)] * bool(given) + [", ".join(owed) or "none"]
-        return "; ".join(parts) + (f" ({mark(f'{self.clauses} {self.renames}')})" if self.clauses else "")
+        """Its mark, whether it has a `requires`, and the names of its clauses: nothing if there is one alone without a name."""
+        names = [f"`{name}`" if name else "unnamed" for name, _ in self.owed] or ["none"]
+        given = ["requires"] * any(kind == "requires" for kind, _, _ in self.clauses)
+        parts = given + [", ".join(names)] * (names != ["unnamed"])
+        digits = [mark(f"{self.clauses} {self.renames}")] * bool(self.clauses)
+        return " ".join(digits + [f"({'; '.join(parts)})"] * bool(parts))
 
 
 class Module:

@@ -6,6 +6,7 @@ mod schemas;
 mod validators;
 mod values;
 
+use crate::asked::Asked;
 use crate::members::{items, value};
 use crate::printer::Printer;
 use jskw_report::Settings;
@@ -25,7 +26,11 @@ fn make_line(rt: &HostRuntime, items: &[Value]) -> bool {
     let [Value::String(line), Value::String(kind), arguments @ ..] = items else {
         return false;
     };
-    let mut to = Printer::new(rt, kind);
+    let Ok(nodes) = Asked::of(rt.alloc(), arguments.last().unwrap_or(&Value::Null)) else {
+        return false;
+    };
+    let group = arguments.get(1).unwrap_or(&Value::Null);
+    let mut to = Printer::new(rt, kind, group, &nodes);
     to.push(line);
     make_calls(&mut to, arguments);
     to.push("\n");
@@ -34,7 +39,7 @@ fn make_line(rt: &HostRuntime, items: &[Value]) -> bool {
 
 fn make_calls(to: &mut Printer, arguments: &[Value]) {
     match to.kind {
-        "value" => values::ask(to, arguments),
+        "value" => values::ask(to, arguments.first().unwrap_or(&Value::Null)),
         "insert" => values::insert(to, arguments),
         "from_pairs" => values::from_pairs(to, arguments),
         "from_last_pairs" => values::from_last_pairs(to, arguments),
@@ -77,8 +82,6 @@ fn push_case(to: &mut Printer, kind: &str, case: &Value) {
 fn settings_of(alloc: Global, group: &Value, draft: &str) -> Option<Settings> {
     let draft = draft_named(draft)?;
     let vocabularies = vocabularies_of(group.get("vocabularies"))?;
-    match overridden_of(alloc, group.get("overridden")) {
-        Ok(Some(overridden)) => Some(Settings::new(draft, vocabularies, overridden)),
-        _ => None,
-    }
+    let overridden = overridden_of(alloc, group.get("overridden")).ok()??;
+    Some(Settings::new(draft, vocabularies, overridden))
 }

@@ -5,7 +5,6 @@
 
 mod asked;
 mod calls;
-mod lines;
 mod members;
 mod printer;
 

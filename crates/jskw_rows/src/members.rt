@@ -11,10 +11,12 @@ pub(crate) type Members = Map<String, Value>;
 
 /// The text of a member by its name, or of an item by its index; empty if there is none.
 pub(crate) fn text<I: Index + Drop>(of: &Value, at: I) -> &str {
-    match of.get(at) {
-        Some(Value::String(text)) => text.as_str(),
-        _ => "",
-    }
+    of.get(at).map_or("", |it| text_of(it))
+}
+
+/// The text that a value is; empty if it is none.
+pub(crate) fn text_of(value: &Value) -> &str {
+    value.as_str().unwrap_or("")
 }
 
 /// The items of one; none if it is no array.
@@ -32,7 +34,12 @@ pub(crate) fn value(case: &Value, index: usize) -> &Value {
 
 /// An argument that is the text of a tree; null if it is none.
 pub(crate) fn tree(alloc: Global, case: &Value, index: usize) -> DecimalTree {
-    read_bytes(alloc, text(case, index).as_bytes()).unwrap_or(DecimalTree::Null)
+    tree_of(alloc, case.get(index).unwrap_or(&Value::Null))
+}
+
+/// The tree of a text; null if there is none.
+pub(crate) fn tree_of(alloc: Global, value: &Value) -> DecimalTree {
+    read_bytes(alloc, text_of(value).as_bytes()).unwrap_or(DecimalTree::Null)
 }
 
 /// Returns the bytes of texts and of numbers below 256.
@@ -41,9 +48,7 @@ pub(crate) fn bytes_of(to: &mut Printer, parts: &[Value]) -> Vec<u8> {
     for part in parts {
         let is_read = match part.as_u64() {
             Some(byte @ 0..256) => bytes.push(byte as u8).is_ok(),
-            _ => bytes
-                .extend_from_slice(part.as_str().unwrap_or("").as_bytes())
-                .is_ok(),
+            _ => bytes.extend_from_slice(text_of(part).as_bytes()).is_ok(),
         };
         to.check(is_read);
     }

@@ -1,5 +1,5 @@
 //! Calls of locations, errors and evaluations, and constants.
-use crate::members::{items, value};
+use crate::members::{items, text_of, value};
 use crate::printer::{Made, Printer};
 use jskw_report::{
     Annotations, CompileFault, EnumOptions, ErrorDescription, EvaluationNode, EvaluationResult,
@@ -29,7 +29,7 @@ fn joined(alloc: Global, steps: &[Value]) -> Made<Location> {
     for step in steps {
         let segment = match step.as_u64() {
             Some(index) => LocationSegment::Index(index as usize),
-            None => LocationSegment::Name(step.as_str().unwrap_or("")),
+            None => LocationSegment::Name(text_of(step)),
         };
         location = location.join(alloc, segment)?;
     }
@@ -50,18 +50,30 @@ pub(super) fn push_stack(to: &mut Printer, steps: &[Value]) {
     }
 }
 
-/// What no schema makes: messages, constants and a unit.
+/// What no schema makes: messages; whether a lack of memory is a fault of its own; constants of
+/// representations and nullabilities; the lines of a node that is made by hand; counts from 0 on.
 pub(super) fn push_made(to: &mut Printer, case: &Value) {
     push_messages(to, value(case, 0), items(case, 1));
-    push_constants(to);
-    push_unit(to);
+    let is_fault = matches!(Fault::<SerdeJson>::from(AllocError), Fault::Memory(_));
+    let is_compile_fault = matches!(CompileFault::from(AllocError), CompileFault::Memory(_));
+    write!(to, "\n\t{is_fault} {is_compile_fault}");
+    let (serde, decimals) = (SerdeJson::KEYS_PER_LOOKUP, DecimalJson::KEYS_PER_LOOKUP);
+    let (with_null, without) = (Nullable::ACCEPTS_NULL, NotNullable::ACCEPTS_NULL);
+    write!(to, "\n\t{serde} {decimals}\n\t{with_null} {without}");
+    let node = node_by_hand(to.alloc);
+    to.push_tree(&node);
+    let mut ctx = ValidationContext::new();
+    for _ in 0..3 {
+        write!(to, "\n\t{}", ctx.applications());
+        ctx.count_one();
+    }
 }
 
 // The messages of errors about null: a limit, options that are no array, sets of one type and of several.
 fn push_messages(to: &mut Printer, options: &Value, types: &[Value]) {
     let mut several = JsonTypeSet::empty();
     for name in types {
-        if let Ok(json_type) = name.as_str().unwrap_or("").parse() {
+        if let Ok(json_type) = text_of(name).parse() {
             several = several.insert(json_type);
         }
     }
@@ -78,27 +90,6 @@ fn push_messages(to: &mut Printer, options: &Value, types: &[Value]) {
         if let Some(message) = &to.made(message) {
             write!(to, "\n\t{message}");
         }
-    }
-}
-
-// Whether a lack of memory is a fault of its own; constants of representations and nullabilities.
-fn push_constants(to: &mut Printer) {
-    let is_fault = matches!(Fault::<SerdeJson>::from(AllocError), Fault::Memory(_));
-    let is_compile_fault = matches!(CompileFault::from(AllocError), CompileFault::Memory(_));
-    write!(to, "\n\t{is_fault} {is_compile_fault}");
-    let (serde, decimals) = (SerdeJson::KEYS_PER_LOOKUP, DecimalJson::KEYS_PER_LOOKUP);
-    let (with_null, without) = (Nullable::ACCEPTS_NULL, NotNullable::ACCEPTS_NULL);
-    write!(to, "\n\t{serde} {decimals}\n\t{with_null} {without}");
-}
-
-// The lines of a node that is made by hand; and the counts of a context from 0 on.
-fn push_unit(to: &mut Printer) {
-    let node = node_by_hand(to.alloc);
-    to.push_tree(&node);
-    let mut ctx = ValidationContext::new();
-    for _ in 0..3 {
-        write!(to, "\n\t{}", ctx.applications());
-        ctx.count_one();
     }
 }
 

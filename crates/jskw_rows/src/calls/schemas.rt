@@ -5,8 +5,8 @@ ghost use Rattle.std.specs.Prelude.{IsTrue};
 ghost use Rattle.jskw_value.specs.Tree.{is_lawful};
 
 use super::settings_of;
-use crate::asked::{Asked, AskedJson};
-use crate::members::{AllKeys, Keys, Members, items};
+use crate::asked::AskedJson;
+use crate::members::{AllKeys, Keys, items, tree_of};
 use crate::printer::{Made, Printer};
 use jskw_array::SchemaNode;
 use jskw_array::compiler::compile;
@@ -17,137 +17,84 @@ use jskw_report::{
     Location, LocationSegment, Settings, Validate, ValidationContext, ValidationError,
     ValidationErrorKind,
 };
-use jskw_text::read_bytes;
 use jskw_unchecked::unchecked;
-use jskw_value::{DecimalJson, DecimalTree, Json, Node, SerdeJson};
+use jskw_value::{DecimalJson, Json, Node, SerdeJson};
 use serde_json::Value;
 
-// What a line asks.
-#[derive(Clone, Copy)]
-struct Case<'s, 'a, 'n> {
-    settings: &'s Settings,
-    // the rest of the settings, and how the observers are asked
-    group: &'a Value,
-    schema: &'a Value,
-    // the instance, if its nodes count
-    counted: Option<&'n Asked>,
-}
-
-/// Makes the calls of a kind that takes a draft, the rest of the settings, a schema and an instance.
+/// Makes the calls of a kind that takes a draft, the rest of the settings, a schema and an instance, over
+/// the representation of the line. A tree of decimals is read from a text.
 pub(super) fn ask(to: &mut Printer, arguments: &[Value]) {
-    let [Value::String(draft), group, schema, instance] = arguments else {
+    let [Value::String(draft), _, schema, instance] = arguments else {
         return to.check(false);
     };
-    match &settings_of(to.alloc, group, draft) {
-        Some(settings) => {
-            let by = Case {
-                settings,
-                group,
-                schema,
-                counted: None,
-            };
-            ask_of(to, &by, instance);
-        }
-        None => to.check(false),
+    let Some(settings) = &settings_of(to.alloc, to.group, draft) else {
+        return to.check(false);
+    };
+    let (tree, nodes) = (&tree_of(to.alloc, instance), to.nodes);
+    if matches!(to.over, "decimals" | "lookups" | "walks") {
+        to.push_node(tree);
     }
-}
-
-// Asks over the representation of the line. A tree of decimals is read from a text.
-fn ask_of(to: &mut Printer, by: &Case, instance: &Value) {
     match (to.kind, to.over) {
-        ("unchecked", _) => ask_unchecked(to, by),
-        (_, "") => ask_over::<SerdeJson>(to, by, instance),
-        (_, "counted nodes") => ask_counted(to, by, instance),
-        _ => match &read_bytes(to.alloc, instance.as_str().unwrap_or("").as_bytes()) {
-            Ok(tree) => ask_tree(to, by, tree),
-            Err(_) => to.check(false),
-        },
-    }
-}
-
-fn ask_tree(to: &mut Printer, by: &Case, tree: &DecimalTree) {
-    to.push_node(tree);
-    match to.over {
-        "decimals" => ask_over::<DecimalJson>(to, by, tree),
-        "lookups" => ask_over::<Keys<0>>(to, by, tree),
-        "walks" => ask_over::<AllKeys>(to, by, tree),
+        ("unchecked", _) => ask_unchecked(to, settings, schema),
+        (_, "") => ask_over::<SerdeJson>(to, settings, schema, instance),
+        (_, "decimals") => ask_over::<DecimalJson>(to, settings, schema, tree),
+        (_, "lookups") => ask_over::<Keys<0>>(to, settings, schema, tree),
+        (_, "walks") => ask_over::<AllKeys>(to, settings, schema, tree),
+        (_, "counted nodes") => ask_over::<AskedJson>(to, settings, schema, nodes),
         _ => to.check(false),
     }
 }
 
-fn ask_counted(to: &mut Printer, by: &Case, instance: &Value) {
-    let nodes = Asked::of(to.alloc, instance);
-    if let Some(nodes) = &to.made(nodes) {
-        let counted = Some(nodes);
-        let by = Case {
-            settings: by.settings,
-            group: by.group,
-            schema: by.schema,
-            counted,
-        };
-        ask_over::<AskedJson>(to, &by, nodes);
-    }
-}
-
-fn ask_unchecked(to: &mut Printer, by: &Case) {
-    let ctx = context_of::<SerdeJson>(to, by);
+fn ask_unchecked(to: &mut Printer, settings: &Settings, schema: &Value) {
+    let ctx = context_of::<SerdeJson>(to, settings);
     to.announce("unchecked", "asked");
-    let list = unchecked(to.alloc, &ctx, by.schema);
+    let list = unchecked(to.alloc, &ctx, schema);
     to.tell(list.is_err());
     if let Ok(list) = &list {
         for member in list {
-            write!(
-                to,
-                "\n\t{} {}",
-                member.location().as_str(),
-                member.reason().as_str()
-            );
+            let (at, reason) = (member.location().as_str(), member.reason().as_str());
+            write!(to, "\n\t{at} {reason}");
         }
     }
 }
 
 // The context of a whole schema.
-fn context_of<'s, F: Json>(to: &Printer, by: &Case<'s, '_, '_>) -> Context<'s, F> {
-    let ctx = Context::new(to.alloc, by.settings);
-    ctx.with_object_layer(by.group.get("noObjectLayer").is_none())
+fn context_of<'s, F: Json>(to: &Printer, settings: &'s Settings) -> Context<'s, F> {
+    let ctx = Context::new(to.alloc, settings);
+    ctx.with_object_layer(to.group.get("noObjectLayer").is_none())
 }
 
 // Asks the keywords of a schema one by one, below a member, and the schema.
-fn ask_over<F: Json>(to: &mut Printer, by: &Case, of: &F::Node) {
-    let ctx = context_of::<F>(to, by);
+fn ask_over<F: Json>(to: &mut Printer, settings: &Settings, schema: &Value, of: &F::Node) {
+    let ctx = context_of::<F>(to, settings);
     let below = ctx.new_at_location(to.alloc, LocationSegment::Name("a/b"));
     if let Some(below) = &to.made(below) {
-        if let Value::Object(parent) = by.schema {
-            ask_keywords(to, below, parent, of, by);
-            write!(to, "\nfusion {}", array_shape_fusion(below, parent));
-        }
+        ask_keywords(to, below, schema, of);
         let is_below = to.kind == "below";
-        ask_schema(to, if is_below { below } else { &ctx }, by, of);
+        ask_schema(to, if is_below { below } else { &ctx }, schema, of);
     }
 }
 
 // Compiles each keyword that is read and has no subschemas, and asks it by itself.
-fn ask_keywords<F: Json>(
-    to: &mut Printer,
-    ctx: &Context<F>,
-    parent: &Members,
-    of: &F::Node,
-    by: &Case,
-) {
+fn ask_keywords<F: Json>(to: &mut Printer, ctx: &Context<F>, schema: &Value, of: &F::Node) {
+    let Value::Object(parent) = schema else {
+        return;
+    };
     for keyword in KeywordName::ALL {
         match parent.get(keyword.as_str()) {
-            Some(schema) if is_leaf(keyword) && keyword.is_active(ctx) => {
+            Some(value) if is_leaf(keyword) && keyword.is_active(ctx) => {
                 let name = LocationSegment::Name(keyword.as_str());
                 let at = ctx.location().join(to.alloc, name);
                 if let Some(at) = &to.made(at) {
-                    let made = jskw_leaf::compile(to.alloc, ctx, parent, keyword, schema);
-                    ask_keyword(to, &made, at, of, by);
+                    let made = jskw_leaf::compile(to.alloc, ctx, parent, keyword, value);
+                    ask_keyword(to, &made, at, of);
                 }
             }
             Some(_) if keyword.is_active(ctx) => to.push("\nwith subschemas"),
             _ => {}
         }
     }
+    write!(to, "\nfusion {}", array_shape_fusion(ctx, parent));
 }
 
 // Asks a keyword at a location by itself. Of `leaves` each holds, and takes no memory.
@@ -156,23 +103,16 @@ fn ask_keyword<F: Json, V: Validate<F>>(
     made: &Option<CompilationResult<'_, V>>,
     at: &Location,
     of: &F::Node,
-    by: &Case,
 ) {
     let word = to.ready_or("called");
     to.announce(at.as_str(), word);
     match made {
-        Some(Ok(it)) if of.is_lawful() => observe_keyword(to, it, at, of, by),
+        Some(Ok(it)) if of.is_lawful() => observe_keyword(to, it, at, of),
         _ => to.push_refused(made),
     }
 }
 
-fn observe_keyword<F: Json, V: Validate<F>>(
-    to: &mut Printer,
-    it: &V,
-    at: &Location,
-    of: &F::Node,
-    by: &Case,
-)
+fn observe_keyword<F: Json, V: Validate<F>>(to: &mut Printer, it: &V, at: &Location, of: &F::Node)
     requires { IsTrue (is_lawful (F.Node.tree of.now)) }
 {
     let (mut errors, mut ctx) = (Vec::new(to.alloc), ValidationContext::new());
@@ -180,7 +120,7 @@ fn observe_keyword<F: Json, V: Validate<F>>(
     let first = it.validate(of, &mut to.location, &mut ctx);
     let all = it.collect_errors(of, &mut to.location, &mut ctx, &mut errors);
     let unit = it.evaluate(to.alloc, of, &mut to.location, &mut ctx);
-    to.tell_at(all.is_err(), &ctx, by.counted);
+    to.tell_at(all.is_err(), &ctx);
     write!(to, "\n\t{is_valid}\n\tfirst");
     to.push_first(&first);
     to.push("\n\tall");
@@ -192,26 +132,26 @@ fn observe_keyword<F: Json, V: Validate<F>>(
     }
 }
 
-fn ask_schema<F: Json>(to: &mut Printer, ctx: &Context<F>, by: &Case, of: &F::Node) {
+fn ask_schema<F: Json>(to: &mut Printer, ctx: &Context<F>, schema: &Value, of: &F::Node) {
     to.announce("compile", "asked");
-    let made = Some(compile(to.alloc, ctx, by.schema));
+    let made = Some(compile(to.alloc, ctx, schema));
     to.tell(matches!(made, Some(Err(CompileFault::Memory(_)))));
     to.push_refused(&made);
     if let Some(Ok(node)) = &made {
-        ask_node(to, by, node, of);
+        ask_node(to, node, of);
     }
 }
 
-fn ask_node<F: Json>(to: &mut Printer, by: &Case, node: &SchemaNode<F>, of: &F::Node) {
+fn ask_node<F: Json>(to: &mut Printer, node: &SchemaNode<F>, of: &F::Node) {
     let (has_shape, delegates) = (node.array_shape().is_some(), node.hands_on_required());
     write!(to, "\n\tshape {has_shape}, delegates {delegates}");
     if of.is_lawful() {
-        ask_whole(to, by, node, of);
-        ask_list(to, by, None, node, of);
-        for limit in items(by.group, "limits") {
-            ask_list(to, by, limit.as_u64(), node, of);
+        ask_whole(to, node, of);
+        ask_list(to, &Value::Null, node, of);
+        for limit in items(to.group, "limits") {
+            ask_list(to, limit, node, of);
         }
-        ask_trees(to, by, node, of);
+        ask_trees(to, node, of);
     } else {
         let found = of.first_unlawful(to.alloc);
         match to.made(found) {
@@ -222,51 +162,46 @@ fn ask_node<F: Json>(to: &mut Printer, by: &Case, node: &SchemaNode<F>, of: &F::
 }
 
 // Asks `is_valid` and `validate`.
-fn ask_whole<F: Json>(to: &mut Printer, by: &Case, node: &SchemaNode<F>, of: &F::Node)
+fn ask_whole<F: Json>(to: &mut Printer, node: &SchemaNode<F>, of: &F::Node)
     requires { IsTrue (is_lawful (F.Node.tree of.now)) }
 {
     let (mut ctx, mut other) = (counted_one(), counted_one());
     to.announce("is_valid", "ready");
     let is_valid = node.is_valid(of, &mut ctx);
-    to.tell_at(false, &ctx, by.counted);
+    to.tell_at(false, &ctx);
     write!(to, "\n\t{is_valid}");
     let word = to.ready_or("asked");
     to.announce("validate", word);
     let first = node.validate(of, &mut to.location, &mut other);
-    to.tell_at(matches!(first, Err(Fault::Memory(_))), &other, by.counted);
+    to.tell_at(matches!(first, Err(Fault::Memory(_))), &other);
     to.push_first(&first);
 }
 
 // Asks for all errors, or for so many of the first, behind an old one.
-fn ask_list<F: Json>(
-    to: &mut Printer,
-    by: &Case,
-    limit: Option<u64>,
-    node: &SchemaNode<F>,
-    of: &F::Node,
-)
+fn ask_list<F: Json>(to: &mut Printer, most: &Value, node: &SchemaNode<F>, of: &F::Node)
     requires { IsTrue (is_lawful (F.Node.tree of.now)) }
 {
     let (mut errors, mut ctx) = (Vec::new(to.alloc), counted_one());
     let (kind, at) = (ValidationErrorKind::UniqueItems, Location::new(to.alloc));
     let old = errors.push(ValidationError::new(kind, at, node.location(), of));
     to.check(old.is_ok());
-    let word = to.ready_or("asked");
-    let made = if let Some(limit) = limit {
-        to.announce("collect_first_errors", word);
-        let (limit, at) = (limit as usize, &mut to.location);
-        collect_first(limit, node, of, at, &mut ctx, &mut errors)
-    } else {
-        to.announce("collect_errors", word);
-        node.collect_errors(of, &mut to.location, &mut ctx, &mut errors)
-    };
-    to.tell_at(made.is_err(), &ctx, by.counted);
+    let (limit, word) = (most.as_u64(), to.ready_or("asked"));
+    to.announce(
+        if limit.is_some() {
+            "collect_first_errors"
+        } else {
+            "collect_errors"
+        },
+        word,
+    );
+    let made = collect(limit, node, of, &mut to.location, &mut ctx, &mut errors);
+    to.tell_at(made.is_err(), &ctx);
     to.push_behind_old(&errors);
 }
 
-/// Collects so many of the first errors at the most. No clause says which, so callers have short proofs.
-fn collect_first<'i, F: Json>(
-    limit: usize,
+/// Collects all errors, or so many of the first. No clause says which, so callers have short proofs.
+fn collect<'i, F: Json>(
+    limit: Option<u64>,
     node: &'i SchemaNode<F>,
     of: &'i F::Node,
     at: &mut LazyLocation,
@@ -275,21 +210,24 @@ fn collect_first<'i, F: Json>(
 ) -> Made<()>
     requires { IsTrue (is_lawful (F.Node.tree of.now)) }
 {
-    node.collect_first_errors(limit, of, at, ctx, errors)
+    match limit {
+        Some(limit) => node.collect_first_errors(limit as usize, of, at, ctx, errors),
+        None => node.collect_errors(of, at, ctx, errors),
+    }
 }
 
 // Asks for the trees of the instance as the whole one, and as part of another.
-fn ask_trees<F: Json>(to: &mut Printer, by: &Case, node: &SchemaNode<F>, of: &F::Node)
+fn ask_trees<F: Json>(to: &mut Printer, node: &SchemaNode<F>, of: &F::Node)
     requires { IsTrue (is_lawful (F.Node.tree of.now)) }
 {
     let (mut ctx, mut other) = (counted_one(), counted_one());
     to.announce("evaluate_instance", "asked");
     let tree = node.evaluate_instance(to.alloc, of, &mut ctx);
-    to.tell_at(tree.is_err(), &ctx, by.counted);
+    to.tell_at(tree.is_err(), &ctx);
     to.push_tree(&tree);
     to.announce("evaluate_instance_below", "asked");
     let tree = node.evaluate_instance_below(to.alloc, of, &mut to.location, &mut other);
-    to.tell_at(tree.is_err(), &other, by.counted);
+    to.tell_at(tree.is_err(), &other);
     to.push_tree(&tree);
 }
 

@@ -5,29 +5,26 @@ use super::settings_of;
 use crate::members::{Members, text, tree, value};
 use crate::printer::Printer;
 use jskw_array::additional_items;
-use jskw_array::items::{
-    ArrayShapeValidator, BooleanItems, IntegerItems, IntegerItemsDraft4, ItemType, NumberItems,
-    StringItems, array_shape_fusion,
-};
+use jskw_array::items::{self, ArrayShapeValidator, ItemType, array_shape_fusion};
 use jskw_leaf::boolean::FalseValidator;
-use jskw_leaf::legacy::type_draft_4::IntegerTypeValidator as IntegerTypeDraft4;
+use jskw_leaf::legacy::type_draft_4;
 use jskw_leaf::required::compile_with_path;
-use jskw_leaf::type_::{
-    ArrayTypeValidator, BooleanTypeValidator, IntegerTypeValidator, NullTypeValidator,
-    NumberTypeValidator, ObjectTypeValidator, StringTypeValidator,
-};
+use jskw_leaf::type_;
 use jskw_number::helpers::map_get_u64;
 use jskw_number::minmax::{Above, AtLeast, AtMost, Below, Limit, LimitTest, Whole};
 use jskw_report::Vocabulary::{Applicator, Core, Validation};
 use jskw_report::context::member_of;
 use jskw_report::{
-    Context, Location, LocationSegment, Settings, Validate, ValidationContext, VocabularySet,
+    CompilationResult, Context, Location, LocationSegment, Settings, Validate, ValidationContext,
+    VocabularySet,
 };
 use jskw_service::vocabularies_of;
 use jskw_value::{DecimalJson, DecimalTree, Node};
 use serde_json::Value;
 
 type Ctx<'s> = Context<'s, DecimalJson>;
+
+type Made<'a, V> = Option<CompilationResult<'a, V>>;
 
 /// Makes a call of this kind under the settings that stand first, and appends what it returns.
 pub(super) fn push_case(to: &mut Printer, kind: &str, case: &Value) {
@@ -105,19 +102,19 @@ fn push_limit<T: Whole, R: LimitTest>(to: &mut Printer, limit: T, value: &Value)
 pub(super) fn push_new(to: &mut Printer, case: &Value) {
     let item = &tree(to.alloc, case, 0);
     push_owned(FalseValidator::new(place(to)), to, item);
-    push_owned(ArrayTypeValidator::new(place(to)), to, item);
-    push_owned(BooleanTypeValidator::new(place(to)), to, item);
-    push_owned(IntegerTypeValidator::new(place(to)), to, item);
-    push_owned(IntegerTypeDraft4::new(place(to)), to, item);
-    push_owned(NullTypeValidator::new(place(to)), to, item);
-    push_owned(NumberTypeValidator::new(place(to)), to, item);
-    push_owned(ObjectTypeValidator::new(place(to)), to, item);
-    push_owned(StringTypeValidator::new(place(to)), to, item);
-    push_owned(BooleanItems::compile_type(place(to)), to, item);
-    push_owned(IntegerItems::compile_type(place(to)), to, item);
-    push_owned(IntegerItemsDraft4::compile_type(place(to)), to, item);
-    push_owned(NumberItems::compile_type(place(to)), to, item);
-    push_owned(StringItems::compile_type(place(to)), to, item);
+    push_owned(type_::ArrayTypeValidator::new(place(to)), to, item);
+    push_owned(type_::BooleanTypeValidator::new(place(to)), to, item);
+    push_owned(type_::IntegerTypeValidator::new(place(to)), to, item);
+    push_owned(type_draft_4::IntegerTypeValidator::new(place(to)), to, item);
+    push_owned(type_::NullTypeValidator::new(place(to)), to, item);
+    push_owned(type_::NumberTypeValidator::new(place(to)), to, item);
+    push_owned(type_::ObjectTypeValidator::new(place(to)), to, item);
+    push_owned(type_::StringTypeValidator::new(place(to)), to, item);
+    push_owned(items::BooleanItems::compile_type(place(to)), to, item);
+    push_owned(items::IntegerItems::compile_type(place(to)), to, item);
+    push_owned(items::IntegerItemsDraft4::compile_type(place(to)), to, item);
+    push_owned(items::NumberItems::compile_type(place(to)), to, item);
+    push_owned(items::StringItems::compile_type(place(to)), to, item);
 }
 
 // The location `/a`.
@@ -145,9 +142,14 @@ fn push_said<V: Validate<DecimalJson>>(to: &mut Printer, it: &V, item: &DecimalT
 pub(super) fn push_required(to: &mut Printer, case: &Value) {
     let (at, item) = (Location::new(to.alloc), tree(to.alloc, case, 1));
     let made = compile_with_path::<DecimalJson>(to.alloc, value(case, 0), at);
-    to.push_refused(&made);
-    if let Some(Ok(required)) = &made {
-        push_said(to, required, &item);
+    push_made(to, &made, &item);
+}
+
+// What a validator says, or why there is none.
+fn push_made<V: Validate<DecimalJson>>(to: &mut Printer, made: &Made<'_, V>, item: &DecimalTree) {
+    to.push_refused(made);
+    if let Some(Ok(it)) = made {
+        push_said(to, it, item);
     }
 }
 
@@ -164,10 +166,7 @@ fn push_bound(to: &mut Printer, ctx: &Ctx, parent: &Members, name: &str) {
 fn push_rest(to: &mut Printer, ctx: &Ctx, parent: &Members, of: &DecimalTree) {
     let value = parent.get("additionalItems").unwrap_or(&Value::Null);
     let made = additional_items::compile(to.alloc, ctx, parent, value);
-    to.push_refused(&made);
-    if let Some(Ok(rest)) = &made {
-        push_said(to, rest, of);
-    }
+    push_made(to, &made, of);
 }
 
 // The nodes of `type`, `minItems` and `maxItems` of a fused shape; nothing of a schema without one.

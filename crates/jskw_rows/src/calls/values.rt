@@ -1,22 +1,20 @@
 //! Calls of values: their trees and texts, decimals, nodes, objects, their members, and names; and reads of bytes.
-use crate::members::{bytes_of, items, text, tree, value};
+use crate::members::{bytes_of, items, text, text_of, tree, value};
 use crate::printer::{Made, Printer};
 use jskw_text::{Position, ReadFault, read_bytes};
+use jskw_value::InsertFault::{Memory, Repeated};
 use jskw_value::fingerprint::of_whole;
 use jskw_value::laws::equal_values_have_one_fingerprint;
 use jskw_value::seed::seed_of;
 use jskw_value::{
-    Decimal, DecimalTree, InsertFault, JsonNumber, KeyHead, Member, Members, Node, Object,
-    PropertyName, RepeatedName, Walk,
+    Decimal, DecimalTree, JsonNumber, KeyHead, Member, Members, Node, Object, PropertyName,
+    RepeatedName, Walk,
 };
 use serde_json::Value;
 use std::alloc::Global;
 
 /// Asks a value for its first float, its tree of decimals and its text, which goes behind an old one.
-pub(super) fn ask(to: &mut Printer, arguments: &[Value]) {
-    let [value] = arguments else {
-        return to.check(false);
-    };
+pub(super) fn ask(to: &mut Printer, value: &Value) {
     to.announce("first_unlawful", "asked");
     let found = value.first_unlawful(to.alloc);
     to.tell(found.is_err());
@@ -59,11 +57,8 @@ pub(super) fn read(to: &mut Printer, parts: &[Value], word: &str) {
 
 // Appends a place in the bytes.
 fn push_place(to: &mut Printer, at: Position) {
-    write!(
-        to,
-        " at {}, line {}, column {}",
-        at.offset, at.line, at.column
-    );
+    let (offset, line, column) = (at.offset, at.line, at.column);
+    write!(to, " at {offset}, line {line}, column {column}");
 }
 
 /// The coefficient and the scale of the decimal that is made of them, if there is one.
@@ -114,7 +109,7 @@ pub(super) fn push_object(to: &mut Printer, case: &Value) {
         write!(to, "{} {}", members.is_empty(), members.len());
         for name in items(case, 1) {
             to.push(" ");
-            match members.get(name.as_str().unwrap_or("")) {
+            match members.get(text_of(name)) {
                 Some(member) => to.push_json(member),
                 None => to.push("none"),
             }
@@ -139,19 +134,16 @@ fn push_walk(to: &mut Printer, members: Walk<Value>) {
 /// For each name, how it stands to each: 3 if it matches it, 2 if their heads alone are equal, else 0.
 pub(super) fn push_names(to: &mut Printer, names: &[Value]) {
     for name in names {
-        let name = PropertyName::new(to.alloc, name.as_str().unwrap_or(""));
+        let name = PropertyName::new(to.alloc, text_of(name));
         if let Some(name) = &to.made(name) {
             for other in names {
-                write!(to, "{}", number_of(name, other.as_str().unwrap_or("")));
+                let (other, own) = (text_of(other), KeyHead::of(name.as_str()));
+                let (matches, head) = (name.matches(KeyHead::of(other), other), KeyHead::of(other));
+                write!(to, "{}", u8::from(matches) | u8::from(head == own) << 1);
             }
         }
         to.push(" ");
     }
-}
-
-fn number_of(name: &PropertyName, other: &str) -> u8 {
-    let (head, own) = (KeyHead::of(other), KeyHead::of(name.as_str()));
-    u8::from(name.matches(head, other)) | u8::from(head == own) << 1
 }
 
 /// Whether both items of an array have one fingerprint under seeds, and whether another has another seed.
@@ -193,11 +185,8 @@ pub(super) fn insert(to: &mut Printer, names: &[Value]) {
         let is_new = members.get(&name).is_none();
         to.announce("insert", if is_new { "asked" } else { "ready" });
         let inserted = members.insert(name, number);
-        to.tell(matches!(inserted, Err(InsertFault::Memory(_, _))));
-        if let Err(
-            InsertFault::Repeated(name, value) | InsertFault::Memory(name, value),
-        ) = &inserted
-        {
+        to.tell(matches!(inserted, Err(Memory(_, _))));
+        if let Err(Repeated(name, value) | Memory(name, value)) = &inserted {
             push_pair(to, name, value);
         }
     }
@@ -239,7 +228,7 @@ pub(super) fn from_last_pairs(to: &mut Printer, names: &[Value]) {
 fn pairs_of(alloc: Global, names: &[Value]) -> Made<Vec<Member<DecimalTree>>> {
     let mut pairs = Vec::new(alloc);
     for (place, name) in names.iter().enumerate() {
-        let name = String::from_str(alloc, name.as_str().unwrap_or(""))?;
+        let name = String::from_str(alloc, text_of(name))?;
         let value = DecimalTree::Number(Decimal::from(place as u64));
         pairs.push(Member { name, value })?;
     }
