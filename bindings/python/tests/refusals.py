@@ -10,7 +10,6 @@ from typing import Any, Callable
 import jskw
 from checks import check, check_raises, raised
 
-NOT_JSON = "is not JSON in UTF-8"
 NESTS = "nests more than 127 levels, which JSON allows and jskw does not"
 SURROGATE = "has the escape of a lone surrogate, which JSON allows and jskw does not"
 DRAFTS = "'4', '6', '7', '2019-09', '2020-12'"
@@ -24,16 +23,15 @@ SETTINGS: list[tuple[dict[str, Any], str]] = [
     ({"overridden": "items"}, "overridden='items' is not a list of names"),
     ({"overridden": [1]}, "overridden: 1 is not a name"),
 ]
-# what JSON does not have, or has and is refused, and the line where it stands
+# what JSON does not have, or has and is refused: why, and the line where it stands
 TEXTS = [
-    (b"", NOT_JSON, 1), (b"{", NOT_JSON, 1), (b"[1,\n 2,\n x]", NOT_JSON, 3), (b'{"a": 1,}', NOT_JSON, 1),
-    (b"NaN", NOT_JSON, 1), (b"[01]", NOT_JSON, 1), (b'"\xff"', NOT_JSON, 1), (b'"\x00"', NOT_JSON, 1),
-    (b"\xef\xbb\xbf1", NOT_JSON, 1), (b"1 2", NOT_JSON, 1), (b'"' + b"[" * 200, NOT_JSON, 1), (b'["\\', NOT_JSON, 1),
-    (b"[" * 128 + b"]" * 128, NESTS, 1), (b"[" * 1_000_000, NESTS, 1),
-    (b"\n" + b'{"a":' * 127 + b"[]" + b"}" * 127, NESTS, 2), (b'["[[' + b'",[' * 3 + b'""' + b"[" * 127, NOT_JSON, 1),
-    (b'["\\ud800"]', SURROGATE, 1), (b'["ok",\n "\\udc00x"]', SURROGATE, 2),
-    (b'{"\\ud83d\\ude00": "\\ud800\\u0061"}', SURROGATE, 1), (b'{"\\ud800": 1}', SURROGATE, 1),
+    (b"", "earlyEnd", 1), (b"[1,\n 2,\n x]", "word", 3), (b'{"a": 1,}', "trailingComma", 1), (b"[01]", "number", 1),
+    (b'"\xff"', "notUtf8", 1), (b'"\x00"', "controlCharacter", 1), (b"\xef\xbb\xbf1", "byteOrderMark", 1),
+    (b"1 2", "moreText", 1), (b'"' + b"[" * 200, "unclosedString", 1), (b"[" * 1_000_000, "tooDeep", 1),
+    (b"\n" + b'{"a":' * 127 + b"[]" + b"}" * 127, "tooDeep", 2), (b'["[[' + b'",[' * 3 + b" 1 1", "missingComma", 1),
+    (b'["ok",\n "\\udc00x"]', "loneSurrogate", 2), (b'{"\\ud83d\\ude00": "\\ud800\\u0061"}', "loneSurrogate", 1),
 ]  # fmt: skip
+SHOWN = {"tooDeep": NESTS, "loneSurrogate": SURROGATE, "missingComma": "is not JSON: a comma is missing"}
 RING: dict[str, Any] = {"a": [Decimal(1)]}
 RING["a"].append(RING)
 DEEP: Any = 1
@@ -87,11 +85,12 @@ def run() -> None:
 
 def not_json() -> None:
     for what, call in CALLS:
-        for text, reason, line in TEXTS:
+        for text, kind, line in TEXTS:
             error = raised(call, text)
-            got = type(error), [getattr(error, name, None) for name in ("text", "reason", "line")]
-            check(f"{what} {text[:40]!r}", got, (jskw.NotJson, [what, reason, line]))
-            check("its text", str(error).startswith(f"the {what} {reason} at line {line}, column "), True)
+            got = type(error), [getattr(error, name, None) for name in ("text", "kind", "line")]
+            check(f"{what} {text[:40]!r}", got, (jskw.NotJson, [what, kind, line]))
+            wanted = f"the {what} {SHOWN.get(kind, 'is not JSON: ' + error.reason[13:])} at line {line}, column "
+            check("its text", str(error)[: len(wanted)], wanted)
         for value, path, reason in VALUES:
             pointer = "".join(f"/{step}" for step in path)
             place = f" (at {pointer if len(pointer) <= 80 else pointer[:80] + '..'!r})" if path else ""

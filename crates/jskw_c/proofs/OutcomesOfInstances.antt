@@ -14,7 +14,7 @@ use Rattle.jskw_report.proofs.EvaluationValidity.{tree_valid}
 use Rattle.jskw_c.specs.Asked.{IsDetailOf, SaysErrors, SaysFirst, SaysTree, limit_numbered, status_of_read}
 use Rattle.jskw_c.specs.Asked.{verdict_status}
 use Rattle.jskw_c.specs.Evaluated.{evaluation_text}
-use Rattle.jskw_c.specs.Line.{AreErrorLines, IsPositionLine, words_line}
+use Rattle.jskw_c.specs.Line.{AreErrorLines, IsInexactLine, IsPositionLine}
 use Rattle.jskw_c.specs.Replies.{IsOutcome, IsOutcomeOnTree, IsOutcomeOnBytes}
 use Rattle.jskw_c.specs.Status.{VALID, INVALID, NOT_JSON, INEXACT}
 use Rattle.jskw_c.specs.declared.ask.Outcome.{Outcome}
@@ -48,9 +48,10 @@ outcome_of_no_json Says s bytes outcome read place =
 -- a number that is not exact
 pub reports_inexact : (Says : Schema → Tree → List ℕ → Type 0) (s : Schema) (bytes : List ℕ) (p : Pointer)
     (outcome : Outcome)
-    → reading bytes ≡ Some (Err p) → outcome.status ≡ INEXACT → outcome.text.items ≡ words_line (p ∷ [])
+    → reading bytes ≡ Some (Err p) → IsOutcome INEXACT (IsInexactLine bytes p) outcome
     → IsOutcomeOnBytes Says s bytes outcome
-reports_inexact Says s bytes p outcome read st text = outcome_of_read Says s bytes (Some (Err p)) outcome read st text
+reports_inexact Says s bytes p outcome read place =
+    outcome_of_read Says s bytes (Some (Err p)) outcome read place.status_is place.text_is
 
 -- ---- a tree
 

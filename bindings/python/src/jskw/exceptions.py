@@ -41,11 +41,8 @@ def lack(name: str) -> NoReturn:
 if not TYPE_CHECKING:  # which is to find wrong names
     __getattr__ = lack
 
-DEPTH = 127
-_ALLOWED = "which JSON allows and jskw does not"
 _EXACT = "at least one if it has a point or an exponent, and without its point from -2^63 to 2^64-1"
 _WHOLE = "limits and the numbers of `const` and `enum` are whole numbers here, from -2^63 to 2^64-1, without exponent"
-_STRING = re.compile(rb'"(?:[^"\\]|\\.)*"', re.DOTALL)
 
 Step = Union[str, int]
 _Self = TypeVar("_Self", bound="_Error")
@@ -186,17 +183,18 @@ class UnsupportedNumber(SchemaError):
 
 
 class NotJson(ValueError):
-    """A text that is not JSON in UTF-8, or nests more than 127 levels, or has what is refused though JSON allows it;
-    `reason` says which. `text` is "schema", "instance" or "request". `offset` counts bytes from 0, `line` and `column`
-    count from 1; of a value of Python they are None, and `path` leads to what is refused."""
+    """A text that is not JSON in UTF-8, or nests more than 127 levels, or has what is refused though JSON allows it.
+    `reason` says why, and `kind` says it in a word, such as "missingComma" (docs/USE.md lists them). `text` is "schema",
+    "instance" or "request". `offset` counts bytes from 0, `line` and `column` count from 1; of a value of Python these
+    four are None, and `path` leads to what is refused."""
 
     def __init__(
         self, text: str, reason: str, offset: int | None = None, line: int | None = None, column: int | None = None,
-        path: Iterable[Step] = (),
+        path: Iterable[Step] = (), kind: str | None = None,
     ) -> None:  # fmt: skip
         self.text, self.reason, self.offset, self.line, self.column = text, reason, offset, line, column
-        self.path = deque(path)
-        super().__init__(text, reason, offset, line, column, self.path)
+        self.path, self.kind = deque(path), kind
+        super().__init__(text, reason, offset, line, column, self.path, kind)
 
     def __str__(self) -> str:
         where = "" if self.offset is None else f" at line {self.line}, column {self.column} (byte {self.offset})"
@@ -408,24 +406,10 @@ def _json_path_step(step: Step) -> str:
     return f"[{step}]" if isinstance(step, int) else "['" + re.sub(r"([\\'])", r"\\\1", step) + "']"
 
 
-def refusal(what: str, text: bytes, lines: list[list[str]]) -> NotJson:
-    """Returns the error of a text that is refused: the line has the offset, line and column."""
+def refusal(what: str, lines: list[list[str]]) -> NotJson:
+    """Returns the error of a text that is refused. The line has its offset, line and column, and why, as a word and in
+    words; a number that is too large for a double has none."""
     if not lines:
-        return NotJson(what, f"has a number that is too large for a double, {_ALLOWED}")
-    offset, line, column = map(int, lines[0][:3])
-    return NotJson(what, _reason(text, offset), offset, line, column)
-
-
-def _reason(text: bytes, offset: int) -> str:
-    """Returns why a text is refused at an offset."""
-    before, byte = _STRING.sub(b"", text[:offset]), text[offset : offset + 1]
-    if byte in (b"[", b"{") and sum(map(before.count, b"[{")) - sum(map(before.count, b"]}")) == DEPTH:
-        return f"nests more than {DEPTH} levels, {_ALLOWED}"
-    try:
-        if byte == b'"':
-            json.loads(_STRING.match(text, offset).group()).encode()  # type: ignore[union-attr]
-    except UnicodeEncodeError:
-        return f"has the escape of a lone surrogate, {_ALLOWED}"
-    except (AttributeError, ValueError):
-        pass  # the string has no end, or is not JSON
-    return "is not JSON in UTF-8"
+        return NotJson(what, "has a number that is too large for a double, which JSON allows and jskw does not")
+    *place, kind, why = lines[0]
+    return NotJson(what, "is " * why.startswith("not ") + why, *map(int, place), kind=kind)

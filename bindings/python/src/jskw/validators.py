@@ -95,7 +95,7 @@ class Validator(Schema):
         if status == BAD_SCHEMA:
             raise schema_error(lines[0], self._text)
         if status == NOT_JSON:
-            raise refusal("schema", self._text, lines)
+            raise refusal("schema", lines)
         if status == BAD_SETTING:
             raise BadSetting(f"overridden={self.overridden!r} is no list of names")
         if strict and (unchecked := self.unchecked):
@@ -184,7 +184,7 @@ class Validator(Schema):
         """Returns what a call tells of an instance, or of its text, if it is one that can be checked."""
         status, told = self._call(name, instance if text is None else text, limit, 0, b"", skipped, *source)
         if status == NOT_JSON:
-            raise refusal("instance", text_of(instance, "instance"), told)
+            raise refusal("instance", told)
         if status == INEXACT:
             location = told[0][0]
             number, *path = find(value_of(instance, as_written=True), location)
