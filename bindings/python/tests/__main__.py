@@ -13,10 +13,7 @@ if importlib.util.find_spec("jskw") is None:
     sys.path.append(str(pathlib.Path(__file__).resolve().parents[2] / "out" / "python"))
 
 if __name__ == "__main__":
-    for name in sys.argv[1:] or (
-        "documents", "rows", "unchecked", "errors", "peers", "values", "refusals", "misuse", "hostile",
-        "threads", "memory",
-    ):  # fmt: skip
+    for name in sys.argv[1:] or ("documents", "rows", "errors", "values", "refusals", "misuse", "memory"):
         importlib.import_module(name).run()
     print(f"{checks.count - len(checks.failed)} passed, {len(checks.failed)} failed")
     sys.exit(bool(checks.failed))

@@ -20,8 +20,7 @@ enum {
                      * longer than to check a shorter one */
     FIRST = 1 << 16, /* the bytes of the first buffer for an answer */
     KEPT = 1 << 20, /* the most bytes of a buffer that are kept between calls */
-    MANY = 1 << 18, /* for so many errors there is room at once */
-    NAMES = 32      /* for so many names of members the texts are kept */
+    MANY = 1 << 18  /* for so many errors there is room at once */
 };
 
 static const char ALLOWED[] = "which JSON allows and jskw does not";
@@ -64,13 +63,6 @@ static inline int put(struct block *block, char byte) {
     return 1;
 }
 
-/* The text of a name with its colon, by the object that it is: objects often have the same names. */
-struct name {
-    PyObject *name;
-    size_t size;
-    char text[48];
-};
-
 static void drop_block(struct block *block, size_t most) {
     if (block->room <= most) return;
     PyMem_Free(block->bytes);
@@ -82,7 +74,6 @@ static void drop_block(struct block *block, size_t most) {
 /* A text, and if it is refused the reason and the path, from its end to its beginning. */
 struct writer {
     struct block *out;
-    struct name *names;
     PyObject *reason, *path;
 };
 
@@ -135,7 +126,8 @@ static inline int copy_plain(uint8_t *to, const unsigned char *at, size_t size) 
     return are_plain(bytes);
 }
 
-static int write_string(struct writer *writer, PyObject *string) {
+/* Writes a string, between a byte, if it is not 0, and another one. */
+static int write_string(struct writer *writer, PyObject *string, char before, char after) {
     Py_ssize_t size;
     const unsigned char *at = (const unsigned char *)PyUnicode_AsUTF8AndSize(string, &size);
     if (at == NULL) {
@@ -145,14 +137,15 @@ static int write_string(struct writer *writer, PyObject *string) {
     }
     const unsigned char *end = at + size;
     struct block *out = writer->out;
-    if (!reserve(out, size + 2)) return 0;
+    if (!reserve(out, size + 4)) return 0;
     uint8_t *to = out->bytes + out->size;
+    if (before) *to++ = before;
     for (*to++ = '"';; at++) {
         for (size_t part; at < end && copy_plain(to, at, part = end - at < 8 ? end - at : 8); at += part) to += part;
         for (; at < end && PLAIN[*at]; at++) *to++ = *at;
         if (at == end) break;
         out->size = to - out->bytes;
-        if (!reserve(out, end - at + 7)) return 0;
+        if (!reserve(out, end - at + 8)) return 0;
         to = out->bytes + out->size;
         if (*at < ' ') {
             to += sprintf((char *)to, "\\u%04x", *at);
@@ -162,6 +155,7 @@ static int write_string(struct writer *writer, PyObject *string) {
         }
     }
     *to++ = '"';
+    if (after) *to++ = after;
     out->size = to - out->bytes;
     return 1;
 }
@@ -220,7 +214,7 @@ static int write_float(struct writer *writer, PyObject *value) {
  * the value, so it needs no reference to it. Returns -1 for any other. */
 static int write_leaf(struct writer *writer, PyObject *value) {
     PyTypeObject *type = Py_TYPE(value);
-    if (type == &PyUnicode_Type) return write_string(writer, value);
+    if (type == &PyUnicode_Type) return write_string(writer, value, 0, 0);
     if (type == &PyLong_Type) return write_integer(writer, value);
     if (type == &PyFloat_Type) return write_float(writer, value);
     if (value == Py_None) return append(writer->out, "null", 4);
@@ -246,30 +240,13 @@ static int write_array(struct writer *writer, PyObject *array, int is_list, int 
     return (before == ',' || put(writer->out, before)) && put(writer->out, ']');
 }
 
-/* Writes a name and its colon. */
-static int write_name(struct writer *writer, PyObject *name) {
-    struct name *kept = writer->names + (uintptr_t)name / 16 % NAMES;
-    if (kept->name == name) return append(writer->out, kept->text, kept->size);
-    size_t begin = writer->out->size;
-    if (!write_string(writer, name) || !put(writer->out, ':')) return 0;
-    size_t size = writer->out->size - begin;
-    if (size <= sizeof kept->text && Py_TYPE(name) == &PyUnicode_Type) {
-        Py_INCREF(name);
-        Py_XDECREF(kept->name);
-        kept->name = name;
-        kept->size = size;
-        memcpy(kept->text, writer->out->bytes + begin, size);
-    }
-    return 1;
-}
-
 static int write_object(struct writer *writer, PyObject *object, int depth) {
     char before = '{';
     PyObject *name, *value;
     Py_ssize_t at = 0, size = PyDict_Size(object);
     while (PyDict_Next(object, &at, &name, &value)) {
         int is_named = Py_TYPE(name) == &PyUnicode_Type || PyUnicode_Check(name);
-        int written = is_named && put(writer->out, before) && write_name(writer, name) ? write_leaf(writer, value) : 0;
+        int written = is_named && write_string(writer, name, before, ':') ? write_leaf(writer, value) : 0;
         before = ',';
         if (written > 0) continue;
         /* what follows may run a program's own code */
@@ -287,7 +264,7 @@ static int write_object(struct writer *writer, PyObject *object, int depth) {
 static int write_other(struct writer *writer, PyObject *value, int depth) {
     PyObject *plain = NULL;
     int written = 0;
-    if (PyUnicode_Check(value)) return write_string(writer, value);
+    if (PyUnicode_Check(value)) return write_string(writer, value, 0, 0);
     if (PyLong_Check(value)) return write_integer(writer, value);
     if (PyFloat_Check(value)) return write_float(writer, value);
     if (PyType_IsSubtype(Py_TYPE(value), (PyTypeObject *)decimal))
@@ -328,7 +305,11 @@ static int write_whole(struct writer *writer, PyObject *value, int depth) {
 /* Lets the package raise its NotJson for what was refused, unless there is an exception already. */
 static int raise_refusal(struct writer *writer, const char *what) {
     PyObject *module = writer->reason ? PyImport_ImportModule("jskw.exceptions") : NULL;
-    if (module) Py_XDECREF(PyObject_CallMethod(module, "refuse_value", "sOO", what, writer->reason, writer->path));
+    PyObject *refusal = module && PyList_Reverse(writer->path) == 0
+        ? PyObject_CallMethod(module, "NotJson", "sOOOOO", what, writer->reason, Py_None, Py_None, Py_None, writer->path)
+        : NULL;
+    if (refusal) PyErr_SetObject((PyObject *)Py_TYPE(refusal), refusal);
+    Py_XDECREF(refusal);
     Py_XDECREF(module);
     Py_XDECREF(writer->reason);
     Py_XDECREF(writer->path);
@@ -342,7 +323,6 @@ struct caller {
     jskw_schema schema;
     struct caller *next;
     struct block written, answer;
-    struct name names[NAMES];
     const uint8_t *bytes;
     size_t size;
     PyObject *owner;
@@ -361,7 +341,6 @@ static void drop_caller(struct caller *caller) {
     if (caller == NULL) return;
     jskw_free(&caller->schema);
     Py_XDECREF(caller->owner);
-    for (int i = 0; i < NAMES; i++) Py_XDECREF(caller->names[i].name);
     drop_block(&caller->written, 0);
     drop_block(&caller->answer, 0);
     PyMem_Free(caller);
@@ -447,7 +426,7 @@ static int take_text(struct caller *caller, PyObject *value, const char *what) {
         caller->size = PyBytes_Size(caller->owner);
         return 1;
     }
-    struct writer writer = {&caller->written, caller->names, NULL, NULL};
+    struct writer writer = {&caller->written, NULL, NULL};
     caller->written.size = 0;
     int written = write_value(&writer, value, 0) || raise_refusal(&writer, what);
     caller->bytes = caller->written.bytes;

@@ -11,7 +11,7 @@ from typing import TYPE_CHECKING, Any, ClassVar, TypeVar
 from ._jskw import Schema, find, text_of
 from .exceptions import (
     FIXED, FORMATS, META_SCHEMAS, REFERENCES, BadSetting, InexactNumber, Keywords, NotJson, UncheckedError,
-    UncheckedMember, ValidationError, lack, refusal, repeated_names, schema_error, value_of,
+    UncheckedMember, ValidationError, lack, refusal, schema_error, value_of,
 )  # fmt: skip
 
 if TYPE_CHECKING:
@@ -107,12 +107,12 @@ class Validator(Schema):
 
     @property
     def unchecked(self) -> list[UncheckedMember]:
-        """The members of the schema, and of the subschemas that keywords of jskw apply, that are not checked, and the
-        names that its text repeats. What stands below a member is not looked at, but for such names. If the list is
-        empty, all that the schema says is asserted."""
+        """The members of the schema, and of the subschemas that keywords of jskw apply, that are not checked, and those
+        that a later one of the same name replaces. What stands below a member is not looked at, but for the latter. If
+        the list is empty, all that the schema says is asserted."""
         lines = self._call_schema("unchecked")[1]
         members = [(find(self.schema, location)[1:], reason) for location, reason, *_ in lines]
-        return [UncheckedMember(str(path[-1]), path, reason) for path, reason in members] + repeated_names(self._text)
+        return [UncheckedMember(str(path[-1]), path, reason) for path, reason in members]
 
     @property
     def schema(self) -> Any:
