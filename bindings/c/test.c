@@ -144,7 +144,8 @@ static int gives(uint32_t status, uint32_t wanted, const uint8_t *buffer, size_t
 
 /* Whether a text is one line that begins with this one. */
 static int begins(const uint8_t *buffer, size_t length, const char *text) {
-    return length >= strlen(text) && !memcmp(buffer, text, strlen(text)) && memchr(buffer, '\n', length) == buffer + length - 1;
+    return length >= strlen(text) && !memcmp(buffer, text, strlen(text))
+        && memchr(buffer, '\n', length) == buffer + length - 1;
 }
 
 static void readme(void) {
@@ -284,7 +285,8 @@ static void places(void) {
     memset(deep, '[', 128);
     static const char *const rows[][2] = {
         {"\"\xff\"", "1\t1\t2\tnotUtf8\tnot JSON: the bytes"},
-        {"\xef\xbb\xbf""1", "0\t1\t1\tbyteOrderMark\tnot JSON: the text"}, {"", "0\t1\t1\tearlyEnd\tnot JSON: the text"},
+        {"\xef\xbb\xbf""1", "0\t1\t1\tbyteOrderMark\tnot JSON: the text"},
+        {"", "0\t1\t1\tearlyEnd\tnot JSON: the text"},
         {"{", "1\t1\t2\tearlyEnd\t"}, {"1 2", "2\t1\t3\tmoreText\tnot JSON: there"},
         {"[1]\n]", "4\t2\t1\tmoreText\t"}, {"[1,\n  2,,3]", "8\t2\t5\tcomma\tnot JSON: a comma where"},
         {"[\"\xc3\xa9\" 1]", "6\t1\t6\tmissingComma\tnot JSON: a comma is missing\n"},

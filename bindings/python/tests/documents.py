@@ -1,6 +1,6 @@
-"""What the documents say: the examples of README.md, the idioms of IDIOMS.md, run with the package `jsonschema` too if it
-is installed, and `python -m jskw`. Errors beside those of that package: the same attributes but for messages, and its
-`best_match` and `ErrorTree` take ours."""
+"""What the documents say: the examples of README.md, the idioms of IDIOMS.md, run with the package `jsonschema` too if
+it is installed, and `python -m jskw`. Errors beside those of that package: the same attributes but for messages, and
+its `best_match` and `ErrorTree` take ours."""
 
 from __future__ import annotations
 
@@ -43,7 +43,7 @@ def run() -> None:
     checks.count += results.attempted
     checks.failed += ["README.md"] * results.failed
     check("README.md has examples", results.attempted > 10, True)
-    versions = re.findall(r'JSKW_VERSION "(.*)"', (FOLDER.parents[1] / "include" / "jskw.h").read_text(encoding="utf-8"))
+    versions = re.findall(r'JSKW_VERSION "(.*)"', (FOLDER.parents[1] / "include/jskw.h").read_text(encoding="utf-8"))
     versions += re.findall(r'^version = "(.*)"', (FOLDER / "pyproject.toml").read_text(encoding="utf-8"), re.MULTILINE)
     check("the versions", [*versions, jskw.version()[0]], [jskw.__version__] * 2 + [f"jskw {jskw.__version__}"])
     check("docstrings", [name for name in jskw.__all__ if not inspect.getdoc(getattr(jskw, name))], [])

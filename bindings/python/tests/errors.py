@@ -52,20 +52,17 @@ def first(schema: Any, instance: Any, draft: str = "2020-12") -> jskw.Validation
 def attributes() -> None:
     names = {"type": "object", "required": ["a b"]}
     error = first({"items": {"prefixItems": [names]}}, [[{}]])
-    path, place = deque(["items", "prefixItems", 0, "required"]), deque([0, 0])
-    wanted = [
-        '"a b" is a required property', "required", ["a b"], {}, names, place, place, place, path, path, path,
-        "$[0][0]", [], None, None, "required", "a b", "/0/0", "/items/prefixItems/0/required",
-    ]  # fmt: skip
+    path, place, text = deque(["items", "prefixItems", 0, "required"]), deque([0, 0]), '"a b" is a required property'
+    wanted = [text, "required", ["a b"], {}, names, place, place, place, path, path, path, "$[0][0]", [], None, None,
+              "required", "a b", "/0/0", "/items/prefixItems/0/required"]  # fmt: skip
     check("the error's attributes", [getattr(error, name) for name in ATTRIBUTES], wanted)
-    text = "\"a b\" is a required property (instance '/0/0', schema '/items/prefixItems/0/required')"
-    wanted = [text, "<ValidationError: '\"a b\" is a required property'>", ('"a b" is a required property',)]
-    check("its text", [str(error), repr(error), error.args], wanted)
+    wanted = [f"{text} (instance '/0/0', schema '/items/prefixItems/0/required')", f"<ValidationError: {text!r}>", text]
+    check("its text", [str(error), repr(error), *error.args], wanted)
     check("no other", str(raised(getattr, error, "x")), "'ValidationError' object has no attribute 'x'")
     value: list[list[dict[str, int]]] = [[{}]]
     check("the value is the caller's own", first({"items": {"items": names}}, value).instance is value[0][0], True)
     error = first({"items": False}, [1])
-    got = error.validator, error.validator_value, error.schema, list(error.path), list(error.schema_path)
+    got: Any = error.validator, error.validator_value, error.schema, list(error.path), list(error.schema_path)
     check("false", got, (None, None, False, [0], ["items"]))
     error = first({"contains": {"type": "null"}, "minContains": 2}, [1])
     check("contains", (error.kind, error.validator, error.validator_value), ("contains", "minContains", 2))

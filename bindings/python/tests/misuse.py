@@ -39,6 +39,8 @@ def run() -> None:
 
 
 def copies_and_closed_ones() -> None:
+    validator: Any
+    got: Any
     for copied in COPIES:
         with jskw.Draft7Validator({"required": ["a"]}, overridden=["items"]) as validator:
             other = copied(validator)
@@ -47,9 +49,9 @@ def copies_and_closed_ones() -> None:
         check("a copy", got, (jskw.Draft7Validator, "7", ("items",), True, False, {"required": ["a"]}))
     with jskw.Validator(True) as validator:
         check("open", validator.is_valid(1), True)
-    calls: list[Any] = [getattr(validator, name) for name in ("is_valid", "validate", "iter_errors", "evaluate")]
-    for call, *given in *((call, 1) for call in calls), (validator.__reduce__,), (validator.__enter__,), (copy.copy, validator):
-        check_raises(ValueError, CLOSED, call, *given)
+    calls = [lambda name=name: getattr(validator, name)(1) for name in ("is_valid", "validate", "iter_errors", "evaluate")]
+    for call in *calls, validator.__reduce__, validator.__enter__, validator.__copy__:
+        check_raises(ValueError, CLOSED, call)
     validator.close()
     got = validator.schema, validator.unchecked, repr(validator)
     check("a closed one", got, (True, [], "<Validator draft='2020-12' schema=true, closed>"))

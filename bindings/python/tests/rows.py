@@ -36,9 +36,9 @@ def outcome(*row: str) -> tuple[str, str]:
         return "inexact", error.instance_location
     except (jskw.NotJson, jskw.BadSetting) as error:
         return "not JSON" if isinstance(error, jskw.NotJson) else "bad setting", ""
-    errors, limited = list(validator.iter_errors(instance)), list(validator.iter_errors(bytearray(instance), limit=1))
+    errors, few = list(validator.iter_errors(instance)), list(validator.iter_errors(bytearray(instance), limit=1))
     first = raised(validator.validate, memoryview(instance))
-    if not valid == tree["valid"] == (not errors) or not told(errors[:1]) == told([first] * (not valid)) == told(limited):
+    if not valid == tree["valid"] == (not errors) or not told(errors[:1]) == told([first] * (not valid)) == told(few):
         return "the calls disagree", ""
     return "valid" if valid else "invalid", told(errors)
 

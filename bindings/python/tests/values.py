@@ -1,5 +1,5 @@
-"""Schemas and instances as values and as texts; values whose classes run code while they are written: it changes what is
-walked, closes the schema, asks, forks."""
+"""Schemas and instances as values and as texts; values whose classes run code while they are written: it changes what
+is walked, closes the schema, asks, forks."""
 
 from __future__ import annotations
 
@@ -17,10 +17,6 @@ import jskw
 from jskw._jskw import find, text_of
 
 from checks import check, raised
-
-
-class Color(enum.IntEnum):
-    RED = 1
 
 
 class Runs(list[Any]):
@@ -50,16 +46,14 @@ def below(frames: int, validator: jskw.Validator) -> Any:
     return below(frames - 1, validator) if frames else validator.evaluate(b"[" * 120 + b"]" * 120)
 
 
-class Key:
-    def __repr__(self) -> str:
-        KEYS.clear()
-        gc.collect()
-        return "key" * 40
+def forget(_: Any) -> str:
+    KEYS.clear()
+    gc.collect()
+    return "key" * 40
 
 
-KEYS: dict[Any, Any] = {Key(): [1]}
-
-
+KEYS: dict[Any, Any] = {type("Key", (), {"__repr__": forget})(): [1]}
+Color = enum.IntEnum("Color", "RED")
 VALUES: list[Any] = [{"a": [1, "x"]}, {"a": (1, "x")}, {"a": [Color.RED, "x"]}, OrderedDict(a=[1, "x"])]
 TEXT = b'{"a": [1, "x"]}'
 WHERE: Any = {"": {"": 0}, "0": 1, "b/~": [{"c": ()}, 5]}

@@ -8,7 +8,7 @@ from collections import deque
 from collections.abc import Callable, Iterable, Iterator, Sequence
 from decimal import Decimal
 from functools import cached_property
-from typing import TYPE_CHECKING, Any, NamedTuple, NoReturn, TypeVar, Union
+from typing import TYPE_CHECKING, Any, NamedTuple, NoReturn, TypeVar, Union, cast
 
 from ._jskw import Schema, find, text_of
 
@@ -23,18 +23,16 @@ REFERENCES = "jskw follows no references: what has one is in `unchecked`"
 FIXED = "the keywords and types of jskw are fixed: the setting `overridden` leaves keywords out"
 META_SCHEMAS = "jskw reads no meta-schema: check_schema(schema) compiles the schema"
 _LACKING = {
-    FORMATS: ["FormatChecker", "draft7_format_checker"],
-    REFERENCES: ["RefResolver", "RefResolutionError"],
-    FIXED: ["TypeChecker", "create", "extend", "validates"],
-    "jskw begins with Draft 4": ["Draft3Validator"],
-}
+    "FormatChecker": FORMATS, "draft7_format_checker": FORMATS, "RefResolver": REFERENCES,
+    "RefResolutionError": REFERENCES, "TypeChecker": FIXED, "create": FIXED, "extend": FIXED, "validates": FIXED,
+    "Draft3Validator": "jskw begins with Draft 4",
+}  # fmt: skip
 
 
 def lack(name: str) -> NoReturn:
     """Says why a module of this package lacks a name that `jsonschema` has, also where it is imported."""
-    for why, names in _LACKING.items():
-        if name in names:
-            raise ImportError(f"there is no {name}: {why}")
+    if name in _LACKING:
+        raise ImportError(f"there is no {name}: {_LACKING[name]}")
     raise AttributeError(f"there is no {name} in this module of jskw")
 
 
@@ -45,6 +43,7 @@ _EXACT = "at least one if it has a point or an exponent, and without its point f
 _WHOLE = "limits and the numbers of `const` and `enum` are whole numbers here, from -2^63 to 2^64-1, without exponent"
 Step = Union[str, int]
 _Self = TypeVar("_Self", bound="_Error")
+_property: Any = property
 
 
 class _Error(Exception):
@@ -53,13 +52,15 @@ class _Error(Exception):
     as a JSONPath; so it is with the paths in the schema."""
 
     __slots__ = ("_told",)  # what the module in C makes an error of
-    relative_path: Sequence[Step]
-    relative_schema_path: Sequence[Step]
-    absolute_path: Sequence[Step]
-    absolute_schema_path: Sequence[Step]
-    instance_location: str
-    keyword_location: str
-    json_path: str
+    relative_path: Sequence[Step] = _property(lambda e: e.path)
+    relative_schema_path: Sequence[Step] = _property(lambda e: e.schema_path)
+    absolute_path: Sequence[Step] = _property(lambda e: deque([*(e.parent.absolute_path if e.parent else ()), *e.path]))
+    absolute_schema_path: Sequence[Step] = _property(
+        lambda e: deque([*(e.parent.absolute_schema_path if e.parent else ()), *e.schema_path])
+    )
+    instance_location: str = _property(lambda e: pointer(e.absolute_path))
+    keyword_location: str = _property(lambda e: pointer(e.absolute_schema_path))
+    json_path: str = _property(lambda e: "$" + "".join(map(_json_path_step, e.absolute_path)))
 
     def __init__(
         self, message: str, validator: str | None = None, path: Iterable[Step] = (), cause: Exception | None = None,
@@ -84,16 +85,14 @@ class _Error(Exception):
             do so at once: what the first of them sets stays."""
             told = None if name == "_told" else getattr(self, "_told", None)
             if told:
-                settings, read, *found = told
-                instance, *path = find(read(), *found) if read else found
+                settings, read, found = told
+                instance, *path = find(read(), found) if read else found
                 paths = {"path": deque(path), "schema_path": deque(settings["schema_path"])}
                 made = {"message": self.args[0], "instance": instance, "context": [], "cause": None, "parent": None}
                 own = vars(self)
                 for each in {**made, **settings, **paths}.items():
                     own.setdefault(*each)
                 self._told = None
-            if name in _DERIVED:
-                return _DERIVED[name](self)
             if name in vars(self):
                 return vars(self)[name]
             raise AttributeError(f"{type(self).__name__!r} object has no attribute {name!r}")
@@ -124,26 +123,13 @@ class _Error(Exception):
         return schema._call("first_error", self.instance)[0] == 0
 
 
-_DERIVED: dict[str, Callable[[_Error], Any]] = {
-    "relative_path": lambda error: error.path,
-    "relative_schema_path": lambda error: error.schema_path,
-    "absolute_path": lambda error: deque([*(error.parent.absolute_path if error.parent else ()), *error.path]),
-    "absolute_schema_path": lambda e: deque([*(e.parent.absolute_schema_path if e.parent else ()), *e.schema_path]),
-    "instance_location": lambda error: pointer(error.absolute_path),
-    "keyword_location": lambda error: pointer(error.absolute_schema_path),
-    "json_path": lambda error: "$" + "".join(map(_json_path_step, error.absolute_path)),
-}
-
-
 class ValidationError(_Error):
-    """An error of an instance.
-
-    `message` is a text for people, which may change. `validator` is the keyword that failed, `validator_value` its
-    value, `schema` the schema that it stands in, `instance` the value at fault, `path` and `schema_path` deques of
-    names and indices that lead to the value and to the keyword. For the schema `false` `validator` is None.
-    `instance_location` and `keyword_location` are the paths as JSON pointers, `kind` is the error's kind
-    (docs/USE.md lists them) and `expected` what it expected: a limit, a name, a type, the value of `const` or `enum`.
-    `context` is empty, and `cause` and `parent` are None, since no keyword here combines schemas."""
+    """An error of an instance. `message` is a text for people, which may change. `validator` is the keyword that
+    failed, `validator_value` its value, `schema` the schema that it stands in, `instance` the value at fault, `path`
+    and `schema_path` deques of names and indices that lead to the value and to the keyword. For the schema `false`
+    `validator` is None. `kind` is the error's kind (docs/USE.md lists them), `expected` what it expected: a limit, a
+    name, a type, the value of `const` or `enum`. `context` is empty, `cause` and `parent` are None: no keyword here
+    combines schemas."""
 
     def __str__(self) -> str:
         return f"{self.message} (instance {self.instance_location!r}, schema {self.keyword_location!r})"
@@ -169,9 +155,9 @@ class UnsupportedNumber(SchemaError):
 
 class NotJson(ValueError):
     """A text that is not JSON in UTF-8, or nests more than 127 levels, or has what is refused though JSON allows it.
-    `reason` says why, and `kind` says it in a word, such as "missingComma" (docs/USE.md lists them). `text` is "schema",
-    "instance" or "request". `offset` counts bytes from 0, `line` and `column` count from 1; of a value of Python these
-    four are None, and `path` leads to what is refused."""
+    `reason` says why, and `kind` says it in a word, such as "missingComma" (include/jskw.h lists them). `text` is
+    "schema", "instance" or "request". `offset` counts bytes from 0, `line` and `column` count from 1; of a value of
+    Python these four are None, and `path` leads to what is refused."""
 
     def __init__(
         self, text: str, reason: str, offset: int | None = None, line: int | None = None, column: int | None = None,
@@ -281,8 +267,7 @@ def relevance(error: _Error) -> Any:
 
 def best_match(errors: Iterable[_Self], key: Callable[[_Error], Any] = relevance) -> _Self | None:
     """Returns the greatest error, or None if there is none."""
-    every = list(errors)
-    return max(every, key=key) if every else None
+    return max(errors, key=cast(Any, key), default=None)
 
 
 class Keywords(dict[bytes, Any]):
@@ -331,8 +316,8 @@ def schema_error(line: list[str], text: bytes) -> SchemaError:
             taken = Schema()._call("compile", f'{{"const":{number}}}'.encode(), 2020, 7)[0] == 0
             # the standard has its own word on 2.5 items
             if not taken and (kind == "compileError" or Decimal(number) >= 0 == Decimal(number) % 1):
-                message, value = f"jskw does not take the number {_shown(number)}: {_WHOLE}", find(schema, pointer(below))[0]
-                error = UnsupportedNumber(message, kind, below, instance=value, **settings)
+                message = f"jskw does not take the number {_shown(number)}: {_WHOLE}"
+                error = UnsupportedNumber(message, kind, below, instance=find(schema, pointer(below))[0], **settings)
                 error.number = number
                 return error
     return SchemaError(message, kind, path, instance=value, **settings)
@@ -342,7 +327,7 @@ def _numbers(value: Any, path: Sequence[Step]) -> Iterator[tuple[_Number, Sequen
     """Returns the numbers in a value, with their paths."""
     if isinstance(value, _Number):
         yield value, path
-    for step, below in value.items() if isinstance(value, dict) else enumerate(value if isinstance(value, list) else ()):
+    for step, below in value.items() if isinstance(value, dict) else enumerate(value) if isinstance(value, list) else ():
         yield from _numbers(below, [*path, step])
 
 
@@ -362,5 +347,5 @@ def refusal(what: str, lines: list[list[str]]) -> NotJson:
     words; a number that is too large for a double has none."""
     if not lines:
         return NotJson(what, "has a number that is too large for a double, which JSON allows and jskw does not")
-    *place, kind, why = lines[0]
-    return NotJson(what, "is " * why.startswith("not ") + why, *map(int, place), kind=kind)
+    offset, line, column, kind, why = lines[0]
+    return NotJson(what, "is " * why.startswith("not ") + why, int(offset), int(line), int(column), kind=kind)
