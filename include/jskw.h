@@ -53,7 +53,7 @@ extern "C" {
 enum {
     JSKW_VALID = 0,       /* the instance is valid; of jskw_compile and jskw_share: the handle has the schema; of
                            * jskw_unchecked: nothing is unchecked */
-    JSKW_INVALID = 1,     /* the instance has errors; of jskw_unchecked: the schema has unchecked members */
+    JSKW_INVALID = 1,     /* the instance has errors; of jskw_unchecked: the text has lines */
     JSKW_REFUSED = 2,     /* of jskw_answer: no verdict, and the text says why */
     JSKW_NOT_JSON = 3,    /* the schema or the instance is not JSON in UTF-8, or nests more than 127 levels, or has the
                            * escape of a lone surrogate; or the schema has a number that is too large for a double */
@@ -107,6 +107,8 @@ uint32_t jskw_compile(uint32_t draft, uint32_t vocabularies, const uint8_t *over
  *     unknown         no keyword of the draft, such as a misspelt one
  *     inactive        a keyword of this library that asserts nothing as it stands: the draft or the vocabularies do not
  *                     have it, it is overridden, what it goes with is absent, or it passes over such a value
+ *     repeated        a member, wherever in the text it stands, that a later one of its object replaces, since it has
+ *                     the same name; behind all other lines, in the order of the text
  * Annotations such as `title` have no line (docs/USE.md). The name of the member is what stands behind the last `/` of
  * the location, where ~1 is a `/` and ~0 a `~`.
  *

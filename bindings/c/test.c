@@ -333,6 +333,13 @@ static void names(void) {
         "/a\\t\\n\\\\~1~0\tunknown\n/pattern\tnotImplemented\n"));
     status = jskw_unchecked(7, JSKW_ALL, BYTES(""), BYTES("{\"minimum\":1e999}"), buffer, ROOM, &length);
     check("names, no place", gives(status, JSKW_NOT_JSON, buffer, length, ""));
+    /* a name that comes again, also by an escape or within what is not looked at; not below what is replaced */
+    schema = "{\"items\":{\"a\":1,\"a\":2},\"items\":[{\"const\":{\"x/\":[],\"y\":0,\"x\\/\":{\"b\":1,\"b\":2}}}],"
+        "\"type\":1,\"typ\\u0065\":2,\"type\":\"null\"}";
+    status = jskw_unchecked(7, JSKW_ALL, BYTES(""), BYTES(schema), buffer, ROOM, &length);
+    check("names that come again", gives(status, JSKW_INVALID, buffer, length,
+        "/items\trepeated\n/items/0/const/x~1\trepeated\n/items/0/const/x~1/b\trepeated\n"
+        "/type\trepeated\n/type\trepeated\n"));
 }
 
 /* An empty handle gets a status from each call, and another schema takes its place after each. */

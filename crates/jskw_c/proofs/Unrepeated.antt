@@ -1,6 +1,6 @@
 -- In a text in which no object has a name twice no member is replaced.
-use Rattle.std.proofs.Common.{◌≡◌, ◌≢◌, ◌∙◌, ◌<◌, ℕ, suc, List, [], ◌∷◌, ◌++◌, Bool, true, false, ap, refl, sym, Option, Some}
-use Rattle.std.proofs.Common.{None, IsUtf8, arith, cond, length, slice_index_or}
+use Rattle.std.proofs.Common.{◌≡◌, ◌≢◌, ◌∙◌, ◌<◌, ℕ, suc, List, [], ◌∷◌, ◌++◌, Bool, true, false, ap, refl, sym}
+use Rattle.std.proofs.Common.{None, Option, Some, IsUtf8, arith, cond, length, slice_index_or}
 use Rattle.std.proofs.lemmas.Str.{IsUtf8-from_is_utf8, is_utf8-from_IsUtf8}
 use Rattle.std.proofs.lemmas.Slice.Eq.{bytes_eq-Decides}
 use Rattle.std.specs.Prelude.{◌||◌, bytes_eq, if◌then◌else◌}
@@ -9,8 +9,8 @@ use Rattle.json.specs.Json.{Json, null, boolean, number, string, array, object, 
 use Rattle.json.specs.Json.{no_members, member, document}
 use Rattle.json.specs.Strict.{AreDistinct, HasUniqueKeys, ItemsHaveUniqueKeys, MembersHaveUniqueKeys, keys}
 use Rattle.jskw_value.specs.Pointer.{Pointer, item_location, member_location}
-use Rattle.jskw_c.specs.Repeated.{IsUniquelyNamed, has_member_named, repeated_in, repeated_in_items, repeated_in_members}
-use Rattle.jskw_c.specs.Repeated.{repeated_line, repeated_lines, repeated_of}
+use Rattle.jskw_c.specs.Repeated.{IsUniquelyNamed, has_member_named, repeated_in, repeated_in_items}
+use Rattle.jskw_c.specs.Repeated.{repeated_in_members, repeated_line, repeated_lines, repeated_of}
 
 unless : (b : Bool) → (b ≡ true → ⊥) → b ≡ false
 unless false h = refl
@@ -45,7 +45,8 @@ mutual
   none_in_members p no_members d u = refl
   none_in_members p (member k j ms) d u =
       let at = member_location p k in
-      let last : has_member_named k ms ≡ false = differs k ms (λ i within. d 0 (suc i) [] (omega arith) (omega arith)) in
+      let last : has_member_named k ms ≡ false =
+      differs k ms (λ i within. d 0 (suc i) [] (omega arith) (omega arith)) in
       ap (λ b. (if b then repeated_line at else repeated_in at j) ++ repeated_in_members p ms) last
       ∙ (ap (λ t. t ++ repeated_in_members p ms) (none_in at j u.0)
       ∙ none_in_members p ms (λ i i' x lt within. d (suc i) (suc i') x (omega arith) (omega arith)) u.1)
@@ -55,7 +56,8 @@ none_of None u = absurd u
 none_of (Some j) u = none_in [] j u
 
 -- the lines of bytes that are a text
-pub lines_of_text : (bytes text : List ℕ) → text ≡ bytes → IsUtf8 bytes → repeated_lines bytes ≡ repeated_of (document text)
+pub lines_of_text : (bytes text : List ℕ) → text ≡ bytes → IsUtf8 bytes
+    → repeated_lines bytes ≡ repeated_of (document text)
 lines_of_text bytes text same utf8 =
     ap (λ b. cond b (repeated_of (document bytes)) []) (is_utf8-from_IsUtf8 bytes utf8)
     ∙ ap (λ t. repeated_of (document t)) (sym same)
@@ -68,4 +70,5 @@ no_lines_of_unique bytes text same utf8 unique = lines_of_text bytes text same u
 -- nor of bytes that are no text
 pub no_lines_of_bytes : (bytes : List ℕ) → (IsUtf8 bytes → ⊥) → repeated_lines bytes ≡ []
 no_lines_of_bytes bytes none =
-    ap (λ b. cond b (repeated_of (document bytes)) []) (unless (is_utf8 bytes) (λ e. none (IsUtf8-from_is_utf8 bytes e)))
+    ap (λ b. cond b (repeated_of (document bytes)) [])
+    (unless (is_utf8 bytes) (λ e. none (IsUtf8-from_is_utf8 bytes e)))

@@ -120,8 +120,9 @@ pub extern "C" fn jskw_compile(
 /// location, and the reason, which is `notImplemented`, `unknown` or `inactive`. Members of the
 /// subschemas that keywords of this library apply have lines too. Behind these lines stands one with
 /// the reason `repeated` for each member, wherever it is, that a later one of its object replaces,
-/// since it has the same name. The status is `VALID` if there is no line, else `INVALID`. If the schema is not JSON, status and text are those of
-/// `jskw_compile`. A schema that does not compile has its lines too.
+/// since it has the same name. The status is `VALID` if there is no line, else `INVALID`. If the
+/// schema is not JSON, status and text are those of `jskw_compile`. A schema that does not compile has
+/// its lines too.
 #[unsafe(no_mangle)]
 pub extern "C" fn jskw_unchecked(
     alloc: Global,

@@ -19,5 +19,6 @@ push_in_members-push_in_value-requires t c =
     let member = c.index-members-index-else-has_member_named.result in
     let below : length (json_tokens (value_view member.1)) < length (members_tokens (members_view members)) =
     subst (λ m. length (json_tokens (value_view m.1)) < length (members_tokens (members_view members)))
-    (sym c.index-members-index-else-has_member_named.is) (member_smaller members c.loop-index.index member (omega arith)) in
+    (sym c.index-members-index-else-has_member_named.is)
+    (member_smaller members c.loop-index.index member (omega arith)) in
     search (rules, below)
