@@ -53,11 +53,11 @@ extern "C" {
 enum {
     JSKW_VALID = 0,       /* the instance is valid; of jskw_compile and jskw_share: the handle has the schema; of
                            * jskw_unchecked: nothing is unchecked */
-    JSKW_INVALID = 1,     /* the instance has errors; of jskw_unchecked: the schema has unchecked members */
+    JSKW_INVALID = 1,     /* the instance has errors; of jskw_unchecked: the text has lines */
     JSKW_REFUSED = 2,     /* of jskw_answer: no verdict, and the text says why */
     JSKW_NOT_JSON = 3,    /* the schema or the instance is not JSON in UTF-8, or nests more than 127 levels, or has the
                            * escape of a lone surrogate; or the schema has a number that is too large for a double */
-    JSKW_INEXACT = 4,     /* the instance contains a number that is not exact; the text is a line with its location */
+    JSKW_INEXACT = 4,     /* the instance contains a number that is not exact; the text is the line of its place */
     JSKW_BAD_SCHEMA = 5,  /* the schema does not compile; the text is the line of the refusal */
     JSKW_BAD_SETTING = 6, /* no such draft or set of vocabularies, or `overridden` is no JSON array of strings */
     JSKW_NO_SCHEMA = 7,   /* the handle is empty, or it is in another call, in which it must not be */
@@ -107,6 +107,8 @@ uint32_t jskw_compile(uint32_t draft, uint32_t vocabularies, const uint8_t *over
  *     unknown         no keyword of the draft, such as a misspelt one
  *     inactive        a keyword of this library that asserts nothing as it stands: the draft or the vocabularies do not
  *                     have it, it is overridden, what it goes with is absent, or it passes over such a value
+ *     repeated        a member, wherever in the text it stands, that a later one of its object replaces, since it has
+ *                     the same name; behind all other lines, in the order of the text
  * Annotations such as `title` have no line (docs/USE.md). The name of the member is what stands behind the last `/` of
  * the location, where ~1 is a `/` and ~0 a `~`.
  *
@@ -145,8 +147,12 @@ uint32_t jskw_is_valid(jskw_schema *schema, const uint8_t *bytes, size_t size);
  *     contains, uniqueItems, falseSchema (the schema `false`), compileError (of a refusal)       an empty word
  * Members of an object in a constant or an option are in the order of their names.
  *
- * If the status is JSKW_NOT_JSON, the text is a line of three numbers: the offset in bytes at which the instance stops
- * being JSON (docs/USE.md, "Decimals"), and the line and the column there, from 1 on; a column counts characters. */
+ * If the status is JSKW_INEXACT, the text is a line with the location of the first such number and its place in the
+ * text: the offset in bytes, and the line and the column, from 1 on; a column counts characters. If it is
+ * JSKW_NOT_JSON, the text is a line with the place at which the instance stops being JSON (docs/USE.md, "Decimals"), as
+ * three such numbers, and then why, as a word and in words for people, which may change. The word is one of
+ *     notUtf8 byteOrderMark earlyEnd moreText comma missingComma trailingComma colon missingColon name bracket word
+ *     number unclosedString controlCharacter escape, or of what JSON allows: loneSurrogate tooDeep */
 uint32_t jskw_first_error(jskw_schema *schema, const uint8_t *bytes, size_t size, uint8_t *buffer, size_t buffer_size,
                           size_t *length);
 

@@ -142,6 +142,12 @@ static int gives(uint32_t status, uint32_t wanted, const uint8_t *buffer, size_t
     return status == wanted && length == strlen(text) && !memcmp(buffer, text, length);
 }
 
+/* Whether a text is one line that begins with this one. */
+static int begins(const uint8_t *buffer, size_t length, const char *text) {
+    return length >= strlen(text) && !memcmp(buffer, text, strlen(text))
+        && memchr(buffer, '\n', length) == buffer + length - 1;
+}
+
 static void readme(void) {
     uint8_t buffer[ROOM];
     size_t length;
@@ -273,24 +279,36 @@ static void nulls(void) {
     jskw_free(&handle);
 }
 
-/* Where texts stop being JSON: offset, line, column. */
+/* Where texts stop being JSON, and why: offset, line, column, the reason as a word, and its beginning in words. */
 static void places(void) {
+    static char deep[129];
+    memset(deep, '[', 128);
     static const char *const rows[][2] = {
-        {"", "0\t1\t1\n"}, {"{", "1\t1\t2\n"}, {"[1,\n  2,,3]", "8\t2\t5\n"}, {"tru", "0\t1\t1\n"},
-        {"1 2", "2\t1\t3\n"}, {"[\"\xc3\xa9\" x]", "6\t1\t6\n"}, {"[\"\\ud800\"]", "1\t1\t2\n"},
-        {"[\"a\n\"]", "1\t1\t2\n"}, {"\"\xff\"", "1\t1\t2\n"}, {"[1]\n]", "4\t2\t1\n"}, {"{\"a\":1,}", "7\t1\t8\n"},
+        {"\"\xff\"", "1\t1\t2\tnotUtf8\tnot JSON: the bytes"},
+        {"\xef\xbb\xbf""1", "0\t1\t1\tbyteOrderMark\tnot JSON: the text"},
+        {"", "0\t1\t1\tearlyEnd\tnot JSON: the text"},
+        {"{", "1\t1\t2\tearlyEnd\t"}, {"1 2", "2\t1\t3\tmoreText\tnot JSON: there"},
+        {"[1]\n]", "4\t2\t1\tmoreText\t"}, {"[1,\n  2,,3]", "8\t2\t5\tcomma\tnot JSON: a comma where"},
+        {"[\"\xc3\xa9\" 1]", "6\t1\t6\tmissingComma\tnot JSON: a comma is missing\n"},
+        {"{\"a\":1,}", "7\t1\t8\ttrailingComma\tnot JSON: a comma before"},
+        {"[:", "1\t1\t2\tcolon\tnot JSON: a colon where"},
+        {"{\"a\" 1}", "5\t1\t6\tmissingColon\tnot JSON: a colon is"}, {"{1", "1\t1\t2\tname\tnot JSON: a name"},
+        {"[}", "1\t1\t2\tbracket\tnot JSON: a closing"}, {"tru", "0\t1\t1\tword\tnot JSON: a word"},
+        {"[01]", "1\t1\t2\tnumber\tnot JSON: a number"}, {"\"a", "0\t1\t1\tunclosedString\tnot JSON: a string"},
+        {"[\"a\n\"]", "1\t1\t2\tcontrolCharacter\tnot JSON: a control"}, {"\"\\x\"", "0\t1\t1\tescape\tnot JSON: an"},
+        {"[\"\\ud800\"]", "1\t1\t2\tloneSurrogate\thas the escape"}, {deep, "127\t1\t128\ttooDeep\tnests"},
     };
     for (size_t i = 0; i < sizeof rows / sizeof *rows; i++) {
         uint8_t buffer[ROOM];
         size_t length;
         jskw_schema handle = JSKW_SCHEMA_EMPTY;
         uint32_t status = jskw_compile(7, JSKW_ALL, BYTES(""), BYTES(rows[i][0]), &handle, buffer, ROOM, &length);
-        check("place in a schema", gives(status, JSKW_NOT_JSON, buffer, length, rows[i][1]));
+        check("place in a schema", status == JSKW_NOT_JSON && begins(buffer, length, rows[i][1]));
         compile(&handle, "true");
         status = jskw_errors(&handle, BYTES(rows[i][0]), 1, buffer, ROOM, &length);
-        check("place in an instance", gives(status, JSKW_NOT_JSON, buffer, length, rows[i][1])
+        check("place in an instance", status == JSKW_NOT_JSON && begins(buffer, length, rows[i][1])
             && jskw_is_valid(&handle, BYTES(rows[i][0])) == JSKW_NOT_JSON);
-        if (memcmp(buffer, rows[i][1], length)) printf("  %s: %.*s", rows[i][0], (int)length, buffer);
+        if (!begins(buffer, length, rows[i][1])) printf("  %s: %.*s", rows[i][0], (int)length, buffer);
         jskw_free(&handle);
     }
     uint8_t buffer[ROOM];
@@ -299,6 +317,10 @@ static void places(void) {
     uint32_t status =
         jskw_compile(7, JSKW_ALL, BYTES(""), BYTES("{\"minimum\":1e999}"), &handle, buffer, ROOM, &length);
     check("no place in a schema", gives(status, JSKW_NOT_JSON, buffer, length, ""));
+    compile(&handle, "true");
+    status = jskw_errors(&handle, BYTES("{\"a\\tb\":\n [1, 1e400]}"), 1, buffer, ROOM, &length);
+    check("place of a number", gives(status, JSKW_INEXACT, buffer, length, "/a\\tb/1\t14\t2\t6\n"));
+    jskw_free(&handle);
 }
 
 /* A name in a line of what is not checked: as in a JSON pointer, and then as in any word. */
@@ -311,6 +333,13 @@ static void names(void) {
         "/a\\t\\n\\\\~1~0\tunknown\n/pattern\tnotImplemented\n"));
     status = jskw_unchecked(7, JSKW_ALL, BYTES(""), BYTES("{\"minimum\":1e999}"), buffer, ROOM, &length);
     check("names, no place", gives(status, JSKW_NOT_JSON, buffer, length, ""));
+    /* a name that comes again, also by an escape or within what is not looked at; not below what is replaced */
+    schema = "{\"items\":{\"a\":1,\"a\":2},\"items\":[{\"const\":{\"x/\":[],\"y\":0,\"x\\/\":{\"b\":1,\"b\":2}}}],"
+        "\"type\":1,\"typ\\u0065\":2,\"type\":\"null\"}";
+    status = jskw_unchecked(7, JSKW_ALL, BYTES(""), BYTES(schema), buffer, ROOM, &length);
+    check("names that come again", gives(status, JSKW_INVALID, buffer, length,
+        "/items\trepeated\n/items/0/const/x~1\trepeated\n/items/0/const/x~1/b\trepeated\n"
+        "/type\trepeated\n/type\trepeated\n"));
 }
 
 /* An empty handle gets a status from each call, and another schema takes its place after each. */
@@ -444,7 +473,8 @@ static int says(struct asked a, const char *result, const char *wanted) {
         agree &= first_length == lines(buffer, length, 1) && !memcmp(first, buffer, first_length);
         agree &= limits(&handle, a, status, buffer, length);
     }
-    tell(told, (char *)buffer, status == JSKW_NOT_JSON ? 0 : length, status == JSKW_BAD_SCHEMA ? 2 : 3);
+    tell(told, (char *)buffer, status == JSKW_NOT_JSON ? 0 : length,
+         status == JSKW_INEXACT ? 1 : status == JSKW_BAD_SCHEMA ? 2 : 3);
     jskw_free(&handle);
     return agree && status < 7 && !strcmp(RESULTS[status], result) && !strcmp(told, wanted);
 }

@@ -36,9 +36,11 @@ int main() {
     check("a long text", items.errors("[\"" + std::string(9999, 'x') + "\", 1]").size() == 2);
     check("a word with a tab", items.errors(R"(["\t"])")[0].message == R"("1" was expected)");
     check("a tree", items.evaluate("[]").rfind(R"({"valid":true,)", 0) == 0);
-    check("a place", fails(JSKW_NOT_JSON, "3\t1\t4\n", [&] { items.errors("[1,x"); }));
-    check("a place of is_valid", fails(JSKW_NOT_JSON, "0\t1\t1\n", [&] { items.is_valid(""); }));
-    check("inexact", fails(JSKW_INEXACT, "/0\n", [&] { items.is_valid("[1e400]"); }));
+    check("a place", fails(JSKW_NOT_JSON, "3\t1\t4\tword\tnot JSON: a word that is not true, false or null\n",
+                           [&] { items.errors("[1,x"); }));
+    check("a place of is_valid", fails(JSKW_NOT_JSON, "0\t1\t1\tearlyEnd\tnot JSON: the text ends too early\n",
+                                       [&] { items.is_valid(""); }));
+    check("inexact", fails(JSKW_INEXACT, "/0\t1\t1\t2\n", [&] { items.is_valid("[1e400]"); }));
     check("no schema", fails(JSKW_BAD_SCHEMA, "minimum\t/minItems\t-1 is less than the minimum of 0\t0\n",
                              [] { jskw::Schema(R"({"minItems": -1})"); }));
     check("no draft", fails(JSKW_BAD_SETTING, "", [] { jskw::Schema("true", 5); }));

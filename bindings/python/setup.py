@@ -19,30 +19,30 @@ try:
 except ModuleNotFoundError:  # before setuptools 70.1
     from wheel.bdist_wheel import bdist_wheel
 
-HERE = pathlib.Path(__file__).resolve().parent
-ROOT = HERE.parents[1]
+HERE, ROOT = pathlib.Path(__file__).resolve().parent, pathlib.Path(__file__).resolve().parents[2]
 PROGRAM = pathlib.Path(os.environ.get("JSKW_CHECK") or ROOT / "crates" / "jskw_check" / "out" / "jskw_check")
 
 
 def copy_licenses(folder):
     """Copies those that an sdist, the environment and the repository have."""
+    to = pathlib.Path(folder, "licenses")
+    to.mkdir(exist_ok=True)
     for source in filter(os.path.isdir, [HERE / "licenses", os.environ.get("JSKW_LICENSES", "")]):
-        shutil.copytree(source, folder, dirs_exist_ok=True)
-    for license in filter(pathlib.Path.exists, [ROOT / "LICENSE", ROOT / "LICENSE-jsonschema"]):
-        os.makedirs(folder, exist_ok=True)
-        shutil.copy(license, folder)
+        shutil.copytree(source, to, dirs_exist_ok=True)
+    for license in ROOT.glob("LICENSE*"):
+        shutil.copy(license, to)
 
 
 class Wheel(bdist_wheel):
     def egg2dist(self, egginfo_path, distinfo_path):
         super().egg2dist(egginfo_path, distinfo_path)
-        copy_licenses(os.path.join(distinfo_path, "licenses"))
+        copy_licenses(distinfo_path)
 
 
 class Source(sdist):
     def make_release_tree(self, base_dir, files):
         super().make_release_tree(base_dir, files)
-        copy_licenses(os.path.join(base_dir, "licenses"))
+        copy_licenses(base_dir)
 
 
 class Build(build_py):
@@ -60,14 +60,8 @@ if __name__ == "__main__":
         raise SystemExit(f"jskw: there is no library {archive}: run ./install or bindings/build first")
     header = ROOT / "include" if (ROOT / "include" / "jskw.h").exists() else archive.parents[1] / "include"
     module = Extension(
-        "jskw._jskw",
-        ["src/jskw/_jskw.c"],
-        include_dirs=[str(header)],
-        define_macros=[("Py_LIMITED_API", "0x03090000")],
-        extra_compile_args=["-std=gnu11", "-g0"],
-        extra_objects=[str(archive)],
-        extra_link_args=["-Wl,--exclude-libs,ALL", "-Wl,--gc-sections"],
-        depends=[str(archive)],
-        py_limited_api=True,
-    )
+        "jskw._jskw", ["src/jskw/_jskw.c"], include_dirs=[str(header)], extra_objects=[str(archive)],
+        define_macros=[("Py_LIMITED_API", "0x03090000")], extra_compile_args=["-std=gnu11", "-g0"],
+        extra_link_args=["-Wl,--exclude-libs,ALL", "-Wl,--gc-sections"], depends=[str(archive)], py_limited_api=True,
+    )  # fmt: skip
     setup(ext_modules=[module], cmdclass={"build_py": Build, "bdist_wheel": Wheel, "sdist": Source})

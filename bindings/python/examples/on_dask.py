@@ -33,10 +33,7 @@ def lines_of(path, start, size):
         if start:
             file.seek(start - 1)
             file.readline()  # the rest of a line that begins before the block
-        while file.tell() < start + size:
-            line = file.readline()
-            if not line:
-                return
+        while file.tell() < start + size and (line := file.readline()):
             yield line.removesuffix(b"\n")
 
 
@@ -56,15 +53,13 @@ def check_block(path, start, size):
     return lines, valid, told
 
 
-def check_file(client, schema, path, size=BLOCK, seen=None):
+def check_file(client, schema, path, size=BLOCK, seen=lambda done: None):
     """Returns the same of a whole file. Calls `seen` with the number of blocks that are done, each time one is."""
     jskw.Validator(schema, strict=True)  # a schema that is refused is refused here
     client.register_worker_plugin(Compiled(schema))
-    starts = range(0, os.path.getsize(path), size)
-    blocks = [client.submit(check_block, path, start, size, pure=False) for start in starts]
+    blocks = [client.submit(check_block, path, at, size, pure=False) for at in range(0, os.path.getsize(path), size)]
     for done, _ in enumerate(as_completed(blocks), 1):
-        if seen:
-            seen(done)
+        seen(done)
     lines, valid, told = 0, 0, []
     for count, right, errors in client.gather(blocks):
         told += [(lines + line, why) for line, why in errors]

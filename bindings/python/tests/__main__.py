@@ -2,21 +2,16 @@
 last line is `N passed, M failed`."""
 
 import importlib
-import importlib.util
 import pathlib
 import sys
 
 import checks
 
-# an installed package is tested, or else that which bindings/build made
-if importlib.util.find_spec("jskw") is None:
-    sys.path.append(str(pathlib.Path(__file__).resolve().parents[2] / "out" / "python"))
+# behind an installed package, that which bindings/build made
+sys.path.append(str(pathlib.Path(__file__).resolve().parents[2] / "out" / "python"))
 
 if __name__ == "__main__":
-    for name in sys.argv[1:] or (
-        "documents", "rows", "unchecked", "errors", "peers", "values", "refusals", "misuse", "hostile",
-        "threads", "memory",
-    ):  # fmt: skip
+    for name in sys.argv[1:] or "documents rows errors values refusals misuse memory".split():
         importlib.import_module(name).run()
     print(f"{checks.count - len(checks.failed)} passed, {len(checks.failed)} failed")
     sys.exit(bool(checks.failed))

@@ -7,12 +7,11 @@ import sys
 from typing import Any, Callable
 
 # what errors of the package `jsonschema` have too, and then what they have not
-ATTRIBUTES = [
-    "message", "validator", "validator_value", "instance", "schema", "path", "relative_path", "absolute_path",
-    "schema_path", "relative_schema_path", "absolute_schema_path", "json_path", "context", "cause", "parent", "kind",
-    "expected", "instance_location", "keyword_location",
-]  # fmt: skip
-
+ATTRIBUTES = (
+    "message validator validator_value instance schema path relative_path absolute_path schema_path "
+    "relative_schema_path absolute_schema_path json_path context cause parent "
+    "kind expected instance_location keyword_location"
+).split()
 # whether memory or references are watched, so that calls take longer, and what is freed may be kept
 IS_WATCHED = hasattr(sys, "gettotalrefcount") or "ASAN_OPTIONS" in os.environ
 count = 0
@@ -31,9 +30,9 @@ def raised(call: Callable[..., Any], *given: Any, **settings: Any) -> Any:
     """Returns what a call raises."""
     try:
         call(*given, **settings)
+        return None
     except Exception as error:
         return error
-    return None
 
 
 def check_raises(kind: type[Exception], message: str, call: Callable[..., Any], *given: Any, **settings: Any) -> None:

@@ -6,6 +6,7 @@ import copy
 import json
 import pickle
 import time
+import timeit
 from collections import deque
 from typing import Any
 
@@ -25,13 +26,20 @@ EXPECTED: list[tuple[Any, Any, str, Any]] = [
     ({"uniqueItems": True}, [1, 1], "uniqueItems", None), ({"contains": False}, [1, 1], "contains", None),
     (False, 1, "falseSchema", None),
 ]  # fmt: skip
+# a schema that does not compile, and what its error has
+SCHEMA_ERRORS: list[tuple[Any, Any, Any, list[Any], Any]] = [
+    ({"items": {"minItems": -1}}, "minimum", 0, ["items", "minItems"], -1), ([], "type", ["boolean", "object"], [], []),
+    ({"prefixItems": [True, {"required": "a"}]}, "type", "array", ["prefixItems", 1, "required"], "a"),
+    ({"items": {"items": {"type": "foo"}}}, "compileError", None, ["items", "items", "type"], "foo"),
+    ({"required": ["a", 1]}, "type", "string", ["required"], ["a", 1]),
+    ({"items": {"prefixItems": [True, 1]}}, "type", ["boolean", "object"], ["items", "prefixItems", 1], 1),
+]  # fmt: skip
 
 
 def run() -> None:
     attributes()
     schema_errors()
     copies()
-    words()
     pages()
     times()
 
@@ -44,20 +52,17 @@ def first(schema: Any, instance: Any, draft: str = "2020-12") -> jskw.Validation
 def attributes() -> None:
     names = {"type": "object", "required": ["a b"]}
     error = first({"items": {"prefixItems": [names]}}, [[{}]])
-    path, place = deque(["items", "prefixItems", 0, "required"]), deque([0, 0])
-    wanted = [
-        '"a b" is a required property', "required", ["a b"], {}, names, place, place, place, path, path, path,
-        "$[0][0]", [], None, None, "required", "a b", "/0/0", "/items/prefixItems/0/required",
-    ]  # fmt: skip
+    path, place, text = deque(["items", "prefixItems", 0, "required"]), deque([0, 0]), '"a b" is a required property'
+    wanted = [text, "required", ["a b"], {}, names, place, place, place, path, path, path, "$[0][0]", [], None, None,
+              "required", "a b", "/0/0", "/items/prefixItems/0/required"]  # fmt: skip
     check("the error's attributes", [getattr(error, name) for name in ATTRIBUTES], wanted)
-    text = "\"a b\" is a required property (instance '/0/0', schema '/items/prefixItems/0/required')"
-    wanted = [text, "<ValidationError: '\"a b\" is a required property'>", ('"a b" is a required property',)]
-    check("its text", [str(error), repr(error), error.args], wanted)
+    wanted = [f"{text} (instance '/0/0', schema '/items/prefixItems/0/required')", f"<ValidationError: {text!r}>", text]
+    check("its text", [str(error), repr(error), *error.args], wanted)
     check("no other", str(raised(getattr, error, "x")), "'ValidationError' object has no attribute 'x'")
     value: list[list[dict[str, int]]] = [[{}]]
     check("the value is the caller's own", first({"items": {"items": names}}, value).instance is value[0][0], True)
     error = first({"items": False}, [1])
-    got = error.validator, error.validator_value, error.schema, list(error.path), list(error.schema_path)
+    got: Any = error.validator, error.validator_value, error.schema, list(error.path), list(error.schema_path)
     check("false", got, (None, None, False, [0], ["items"]))
     error = first({"contains": {"type": "null"}, "minContains": 2}, [1])
     check("contains", (error.kind, error.validator, error.validator_value), ("contains", "minContains", 2))
@@ -67,23 +72,25 @@ def attributes() -> None:
             check("a long constant", (error.kind, error.expected, error.validator_value), ("const", limit, limit))
             error = first({"enum": [limit, None]}, 0)
             check("long options", (error.kind, error.expected), ("enum", [limit, None]))
+    name = "a\tb\nc\\d\\t"
+    error = first({"items": {"items": {"required": [name]}}}, [[None, {}]])
+    got = error.message, error.expected, error.json_path
+    check("words", got, (f"{json.dumps(name)} is a required property", name, "$[0][1]"))
+    error = jskw.ValidationError("x", path=["a", 0, "b c/~'", 1])
+    got = error.json_path, error.instance_location
+    check("made by hand", got, ("$.a[0]['b c/~\\'']" + "[1]", "/a/0/b c~1~0'/1"))
     for schema, instance, kind, limit in EXPECTED:
         error = first(schema, instance, "7" if kind == "additionalItems" else "2020-12")
         check(f"{schema} expected", (error.kind, error.expected), (kind, limit))
 
 
 def schema_errors() -> None:
-    for schema, validator, limit, path, instance in [
-        ({"items": {"minItems": -1}}, "minimum", 0, ["items", "minItems"], -1),
-        ({"prefixItems": [True, {"required": "a"}]}, "type", "array", ["prefixItems", 1, "required"], "a"),
-        ([], "type", ["boolean", "object"], [], []),
-    ]:
+    for schema, validator, limit, path, instance in SCHEMA_ERRORS:
         error = raised(jskw.Validator, schema)
-        got = error.validator, error.validator_value, list(error.path), error.instance, list(error.schema_path)
-        check("its type", type(error), jskw.SchemaError)
-        check(f"{schema} does not compile", got, (validator, limit, path, instance, []))
-        again = pickle.loads(pickle.dumps(error))
-        check(f"{schema}, pickled", (str(again), again.path), (str(error), error.path))
+        for one in error, pickle.loads(pickle.dumps(error)):
+            got = one.validator, one.validator_value, list(one.path), one.instance, list(one.schema_path), str(one)
+            check(f"{schema} does not compile", got, (validator, limit, path, instance, [], str(error)))
+            check("its type", type(one), jskw.SchemaError)
 
 
 def copies() -> None:
@@ -94,29 +101,13 @@ def copies() -> None:
             other = copied(error)
             got, wanted = ([getattr(one, name) for name in ATTRIBUTES] for one in (other, error))
             check("a copy of an error", (type(other), str(other), got), (type(error), str(error), wanted))
-    for one in [
-        jskw.InexactNumber("/a/0", ["a", 0]),
-        jskw.NotJson("schema", "is not JSON", 3, 1, 4),
-        jskw.BadSetting("draft=1 is not one of '4'"),
-        jskw.ValidationError("made by hand"),
-    ]:
+    for one in (jskw.InexactNumber("/a/0", ["a", 0]), jskw.NotJson("schema", "is not JSON", 3, 1, 4, kind="comma"),
+                jskw.BadSetting("draft=1 is not one of '4'"), jskw.ValidationError("made by hand")):  # fmt: skip
         again = pickle.loads(pickle.dumps(one))
         check(f"a copy of {one!r}", (type(again), str(again), vars(again)), (type(one), str(one), vars(one)))
     _, error = validator.iter_errors(b"[{}, 1, {}]")
     parent = jskw.ValidationError("above", path=["a"], schema_path=["b"], context=[error])
     check("a parent", (error.parent, list(error.absolute_path)), (parent, ["a", 2]))
-
-
-def words() -> None:
-    name = "a\tb\nc\\d\\t"
-    error = first({"items": {"required": [name]}}, [{}])
-    check("words", (error.message, error.expected), (f"{json.dumps(name)} is a required property", name))
-    error = first({"items": {"items": {"type": "null"}}}, [[0, None], [None]])
-    check("an item", (error.json_path, error.instance), ("$[0][0]", 0))
-    error = jskw.ValidationError("x", path=["a", 0, "b c/~'", 1])
-    check("a JSONPath", error.json_path, "$.a[0]['b c/~\\'']" + "[1]")
-    check("a pointer", error.instance_location, "/a/0/b c~1~0'/1")
-    check("keys", jskw.Validator(True).is_valid({"a": [{"b c/~": [None]}]}), True)
 
 
 def pages() -> None:
@@ -137,16 +128,10 @@ def times() -> None:
     validator, value = jskw.Validator({"items": {"type": "string"}}), list(range(4000))
 
     def seconds(call: Any) -> float:
-        taken = []
-        for _ in range(15):
-            before = time.process_time()
-            call()
-            taken.append(time.process_time() - before)
-        return min(taken)
+        return min(timeit.repeat(call, timer=time.process_time, repeat=15, number=1))
 
     for instance in value, json.dumps(value).encode():
-        paths = [list(error.path) for error in validator.iter_errors(instance)]
-        check("4,000 errors", paths, [[i] for i in value])
+        check("4,000 errors", [list(error.path) for error in validator.iter_errors(instance)], [[i] for i in value])
         taken = seconds(lambda: [error.path for error in validator.iter_errors(instance)])
         check("4,000 errors with their paths take less than 0.1 s", taken < 0.1 or IS_WATCHED, True)
     one = seconds(lambda: next(validator.iter_errors(instance)))

@@ -24,52 +24,51 @@ INSTANCES: list[Any] = [
     [1e300], 10**5000, ["x"] * 400, b'["' + b"y" * 5000 + b'"]', [Decimal("NaN")], {"b": [[["c\0"]]]}, ["\0" * 5000],
 ]  # fmt: skip
 SCHEMAS: list[Any] = [{"minItems": 1.5}, {"minItems": -1}, INSTANCES, b"{", {"const": [1e300]}, b'{"a":1,"a":1}']
+validator = jskw.Validator({"items": {"type": "integer"}})
 
 
 def run() -> None:
-    validator = jskw.Validator({"items": {"type": "integer"}})
-
-    def ask_each() -> None:
-        for instance in INSTANCES:
-            for name in "is_valid", "validate", "evaluate":
-                raised(getattr(validator, name), instance)
-            errors: Any = raised(validator.iter_errors, instance) or validator.iter_errors(instance)
-            raised(lambda: [(error.path, next(errors).args) for error in errors])
-        for schema in SCHEMAS:
-            raised(jskw.Validator, schema, strict=True)
-        with copy.copy(validator) as other:
-            raised(other.validate, ["x" * 100_000])
-
-    def ask_often() -> None:
-        for instance in itertools.islice(itertools.cycle(([1, "a"], b"[1, 2]", {"a": [0.5, None]})), 100_000):
-            validator.is_valid(instance)
-
     check_flat("every outcome", ask_each, 60)
     check_flat("a million calls", ask_often, 10)
     threads_that_end()
 
 
+def ask_each() -> None:
+    for instance in INSTANCES:
+        for name in "is_valid", "validate", "evaluate":
+            raised(getattr(validator, name), instance)
+        errors: Any = raised(validator.iter_errors, instance) or validator.iter_errors(instance)
+        raised(lambda: [(error.path, next(errors).args) for error in errors])
+    for schema in SCHEMAS:
+        raised(jskw.Validator, schema, strict=True)
+    with copy.copy(validator) as other:
+        raised(other.validate, ["x" * 100_000])
+
+
+def ask_often() -> None:
+    for instance in itertools.islice(itertools.cycle(([1, "a"], b"[1, 2]", {"a": [0.5, None]})), 100_000):
+        validator.is_valid(instance)
+
+
 def check_flat(what: str, call: Callable[[], None], times: int) -> None:
     """Checks that calls, after some that fill what is kept, leave the memory and the references as they were."""
-    references: Callable[[], int] = getattr(sys, "gettotalrefcount", lambda: 0)
-    for _ in range(times // 2):
-        call()
+    for count in times // 2, times:
+        gc.collect()
+        before, counted = memory(), getattr(sys, "gettotalrefcount", int)()
+        for _ in range(count):
+            call()
     gc.collect()
-    before, counted = memory(), references()
-    for _ in range(times):
-        call()
-    gc.collect()
-    check(f"{what}: references", abs(references() - counted) < times, True)
+    check(f"{what}: references", abs(getattr(sys, "gettotalrefcount", int)() - counted) < times, True)
     check(f"{what}: memory", memory() - before < 3000, True)
 
 
 def threads_that_end() -> None:
     """Handles of threads that have ended are freed, and validators that other threads drop."""
     schema, before = {"enum": [[i, str(i)] for i in range(10000)]}, 0
-    validator = jskw.Validator(schema)
+    shared = jskw.Validator(schema)
     for turn in range(40):
         held = [jskw.Validator(schema)]
-        for call in lambda: jskw.Validator(schema).is_valid(1), lambda: validator.is_valid(1), held.clear:
+        for call in lambda: jskw.Validator(schema).is_valid(1), lambda: shared.is_valid(1), held.clear:
             thread = threading.Thread(target=call)
             thread.start()
             thread.join()

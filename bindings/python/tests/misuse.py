@@ -1,93 +1,114 @@
-"""What users try that is wrong, or that other packages allow: each has its answer, and none has a wrong one."""
+"""What users try that is wrong, or that other packages allow: each has its answer, and none has a wrong one. One
+validator in many threads and processes."""
 
 from __future__ import annotations
 
-import contextlib
 import copy
+import json
+import multiprocessing
 import pickle
 import subprocess
 import sys
-from concurrent.futures import ProcessPoolExecutor
-from typing import Any
+import threading
+from concurrent.futures import Executor, ProcessPoolExecutor, ThreadPoolExecutor
+from typing import Any, Callable
 
 import jskw
 from checks import check, check_raises, raised
 
 CLOSED = "the validator is closed"
+ONE = "is_valid() takes one argument, the instance"
+LONG = json.dumps([*range(3000), "a"]).encode()
+COPIES: list[Callable[[Any], Any]] = [copy.copy, copy.deepcopy, lambda one: pickle.loads(pickle.dumps(one))]
 
 
 def run() -> None:
-    with ProcessPoolExecutor(1) as pool:
-        future = pool.submit(jskw.validate, {}, {"required": ["a"]})
-        check("an error in a worker", type(future.exception()), jskw.ValidationError)
-        check("the pool lives", pool.submit(jskw.validate, 1, True).result(), None)
-    a_copy_outlives_its_original()
-    after_close()
-    the_path_of_a_schema_error()
-    forgotten_arguments()
-    changed_afterwards()
+    copies_and_closed_ones()
+    arguments()
+    validator = jskw.Validator({"items": {"type": "integer"}})
+    with ThreadPoolExecutor(8) as pool, ThreadPoolExecutor(8) as others:
+        check_pool("threads", pool, validator)
+        asked = [*others.map(validator.is_valid, [b"[1]"] * 50), *pool.map(validator.is_valid, [b"[1]"] * 50)]
+        check("two pools", asked, [True] * 100)
+    for method in "fork", "spawn":
+        with ProcessPoolExecutor(2, mp_context=multiprocessing.get_context(method)) as processes:
+            check_pool(f"processes by {method}", processes, validator)
+    closes_while_asked()
     told = subprocess.run([sys.executable, "-c", "import sys; sys.abiflags = 't'; import jskw"], capture_output=True)
     check("a free-threaded Python", b"ImportError: jskw: a free-threaded Python has no stable ABI" in told.stderr, True)
 
 
-def a_copy_outlives_its_original() -> None:
-    ways: list[Any] = [copy.copy, copy.deepcopy, lambda validator: pickle.loads(pickle.dumps(validator))]
-    for copied in ways:
-        validator = jskw.Draft7Validator({"required": ["a"]}, overridden=["items"])
-        other = copied(validator)
-        validator.close()
+def copies_and_closed_ones() -> None:
+    validator: Any
+    got: Any
+    for copied in COPIES:
+        with jskw.Draft7Validator({"required": ["a"]}, overridden=["items"]) as validator:
+            other = copied(validator)
         del validator
         got = type(other), other.draft, other.overridden, other.is_valid({"a": 1}), other.is_valid({}), other.schema
         check("a copy", got, (jskw.Draft7Validator, "7", ("items",), True, False, {"required": ["a"]}))
-
-
-def after_close() -> None:
     with jskw.Validator(True) as validator:
         check("open", validator.is_valid(1), True)
-    for name in "is_valid", "validate", "iter_errors", "evaluate":
-        check_raises(ValueError, CLOSED, getattr(validator, name), 1)
-    calls: list[Any] = [pickle.dumps, copy.copy, jskw.Validator.__enter__]
-    for call in calls:
-        check_raises(ValueError, CLOSED, call, validator)
-    check("schema and unchecked after close", (validator.schema, validator.unchecked), (True, []))
+    calls = [lambda name=name: getattr(validator, name)(1) for name in ("is_valid", "validate", "iter_errors", "evaluate")]
+    for call in *calls, validator.__reduce__, validator.__enter__, validator.__copy__:
+        check_raises(ValueError, CLOSED, call)
     validator.close()
-    check("its repr", repr(validator), "<Validator draft='2020-12' schema=true, closed>")
+    got = validator.schema, validator.unchecked, repr(validator)
+    check("a closed one", got, (True, [], "<Validator draft='2020-12' schema=true, closed>"))
 
 
-def the_path_of_a_schema_error() -> None:
-    rows: list[tuple[Any, list[Any], Any]] = [
-        ({"items": {"items": {"type": "foo"}}}, ["items", "items", "type"], "foo"),
-        ({"required": ["a", 1]}, ["required"], ["a", 1]),
-        ({"items": {"prefixItems": [True, 1]}}, ["items", "prefixItems", 1], 1),
-    ]
-    for schema, path, instance in rows:
-        error = raised(jskw.Validator, schema)
-        check(f"{schema}, its path", (list(error.path), error.instance), (path, instance))
-        check("no ValidationError", isinstance(error, jskw.ValidationError), False)
-    check("a part", raised(jskw.Validator, {"required": ["a", 1]}).message, '1 is not of type "string"')
-
-
-def forgotten_arguments() -> None:
-    rows: list[Any] = [(None, {}), ((), {"draft": None})]
-    check("None is no schema", type(raised(jskw.Validator, None)), jskw.SchemaError)
+def arguments() -> None:
     check("no draft is the newest", jskw.Validator(True, draft=None).draft, "2020-12")
-    check("a list is no schema", type(raised(jskw.Validator, rows)), jskw.SchemaError)
-    with contextlib.suppress(TypeError):
-        jskw.Validator()  # type: ignore[call-arg]
-        check("a schema is needed", True, False)
-    ask: Any = jskw.Validator({"type": "null"}).is_valid
+    new, ask = jskw.Validator, jskw.Validator({"type": "null"}).is_valid
+    check("a schema is needed", type(raised(new)), TypeError)
     check("by name", ask(instance=None), True)
-    rows = [((), {}), ((1, 2), {}), ((), {"x": 1}), ((1,), {"instance": 1})]
+    rows: list[Any] = [((), {}), ((1, 2), {}), ((), {"x": 1}), ((1,), {"instance": 1})]
     for given, named in rows:
-        check_raises(TypeError, "is_valid() takes one argument, the instance", ask, *given, **named)
-
-
-def changed_afterwards() -> None:
-    """A validator and its errors do not follow what is changed afterwards."""
+        check_raises(TypeError, ONE, ask, *given, **named)
+    # a validator and its errors do not follow what is changed afterwards
     schema: dict[str, Any] = {"items": {"type": "string"}}
     validator, instance = jskw.Validator(schema), [[1], *range(100)]
     errors = validator.iter_errors(instance)
     instance.clear()
     schema.clear()
-    check("errors", [list(error.path) for error in errors], [[i] for i in range(101)])
-    check("the validator", validator.is_valid([1]), False)
+    got = [list(error.path) for error in errors], validator.is_valid([1])
+    check("what is changed", got, ([[i] for i in range(101)], False))
+
+
+def check_pool(what: str, pool: Executor, validator: jskw.Validator) -> None:
+    asked = list(pool.map(validator.is_valid, [[1, 2], [1, "a"], LONG] * 20))
+    check(f"{what}: is_valid", asked, [True, False, False] * 20)
+    rows: list[tuple[Any, Any, type[Exception], list[Any]]] = [
+        (validator.validate, [1, "a"], jskw.ValidationError, [1]),
+        (validator.validate, LONG, jskw.ValidationError, [3000]),
+        (validator.validate, b"{", jskw.NotJson, []),
+        (validator.validate, {"a": [1e300]}, jskw.InexactNumber, ["a", 0]),
+        (jskw.Validator, {"minItems": -1}, jskw.SchemaError, ["minItems"]),
+    ]
+    errors: list[Any] = [future.exception() for future in [pool.submit(call, given) for call, given, *_ in rows]]
+    got = [(type(error), list(error.path)) for error in errors], errors[2].text
+    check(f"{what}: errors come back", got, ([(kind, path) for *_, kind, path in rows], "instance"))
+    made = pool.submit(jskw.Validator, {"type": "null"}, "7").result()
+    check(f"{what}: a validator comes back", (made.is_valid(None), made.is_valid(1), made.draft), (True, False, "7"))
+
+
+def closes_while_asked() -> None:
+    """Threads ask while others close the validator: each call answers, or says that it is closed."""
+    told: list[object] = []
+
+    def ask(validator: jskw.Validator) -> None:
+        try:
+            while not validator.is_valid(LONG) and validator.is_valid([1]):
+                pass
+        except ValueError as error:
+            told.append(str(error))
+
+    for _ in range(20):
+        validator = jskw.Validator({"items": {"type": "integer"}})
+        threads = [threading.Thread(target=ask, args=(validator,)) for _ in range(4)]
+        for thread in threads:
+            thread.start()
+        validator.close()
+        for thread in threads:
+            thread.join()
+    check("closed while asked", told, [CLOSED] * 80)

@@ -1,8 +1,10 @@
-"""What is refused, with the words that say why."""
+"""What is refused, with the words that say why; what is not checked of a schema; schemas that are to be checked whole."""
 
 from __future__ import annotations
 
+import copy
 import pickle
+import warnings
 from collections import OrderedDict
 from decimal import Decimal
 from typing import Any, Callable
@@ -10,9 +12,9 @@ from typing import Any, Callable
 import jskw
 from checks import check, check_raises, raised
 
-NOT_JSON = "is not JSON in UTF-8"
 NESTS = "nests more than 127 levels, which JSON allows and jskw does not"
 SURROGATE = "has the escape of a lone surrogate, which JSON allows and jskw does not"
+TOO_LARGE = "has a number that is too large for a double, which JSON allows and jskw does not"
 DRAFTS = "'4', '6', '7', '2019-09', '2020-12'"
 is_valid = jskw.Validator(True).is_valid
 CALLS: list[tuple[str, Callable[..., Any]]] = [("instance", is_valid), ("schema", jskw.Validator)]
@@ -24,16 +26,15 @@ SETTINGS: list[tuple[dict[str, Any], str]] = [
     ({"overridden": "items"}, "overridden='items' is not a list of names"),
     ({"overridden": [1]}, "overridden: 1 is not a name"),
 ]
-# what JSON does not have, or has and is refused, and the line where it stands
+# what JSON does not have, or has and is refused: why, and the line where it stands
 TEXTS = [
-    (b"", NOT_JSON, 1), (b"{", NOT_JSON, 1), (b"[1,\n 2,\n x]", NOT_JSON, 3), (b'{"a": 1,}', NOT_JSON, 1),
-    (b"NaN", NOT_JSON, 1), (b"[01]", NOT_JSON, 1), (b'"\xff"', NOT_JSON, 1), (b'"\x00"', NOT_JSON, 1),
-    (b"\xef\xbb\xbf1", NOT_JSON, 1), (b"1 2", NOT_JSON, 1), (b'"' + b"[" * 200, NOT_JSON, 1), (b'["\\', NOT_JSON, 1),
-    (b"[" * 128 + b"]" * 128, NESTS, 1), (b"[" * 1_000_000, NESTS, 1),
-    (b"\n" + b'{"a":' * 127 + b"[]" + b"}" * 127, NESTS, 2), (b'["[[' + b'",[' * 3 + b'""' + b"[" * 127, NOT_JSON, 1),
-    (b'["\\ud800"]', SURROGATE, 1), (b'["ok",\n "\\udc00x"]', SURROGATE, 2),
-    (b'{"\\ud83d\\ude00": "\\ud800\\u0061"}', SURROGATE, 1), (b'{"\\ud800": 1}', SURROGATE, 1),
+    (b"", "earlyEnd", 1), (b"[1,\n 2,\n x]", "word", 3), (b'{"a": 1,}', "trailingComma", 1), (b"[01]", "number", 1),
+    (b'"\xff"', "notUtf8", 1), (b'"\x00"', "controlCharacter", 1), (b"\xef\xbb\xbf1", "byteOrderMark", 1),
+    (b"1 2", "moreText", 1), (b'"' + b"[" * 200, "unclosedString", 1), (b"[" * 1_000_000, "tooDeep", 1),
+    (b"\n" + b'{"a":' * 127 + b"[]" + b"}" * 127, "tooDeep", 2), (b'["[[' + b'",[' * 3 + b" 1 1", "missingComma", 1),
+    (b'["ok",\n "\\udc00x"]', "loneSurrogate", 2), (b'{"\\ud83d\\ude00": "\\ud800\\u0061"}', "loneSurrogate", 1),
 ]  # fmt: skip
+SHOWN = {"tooDeep": NESTS, "loneSurrogate": SURROGATE, "missingComma": "is not JSON: a comma is missing"}
 RING: dict[str, Any] = {"a": [Decimal(1)]}
 RING["a"].append(RING)
 DEEP: Any = 1
@@ -47,8 +48,7 @@ VALUES: list[tuple[Any, list[Any], str]] = [
     (float("nan"), [], "is not JSON: the float nan is no number"),
     ([0.0, float("-inf")], [1], "is not JSON: the float -inf is no number"),
     ([Decimal("Infinity")], [0], "is not JSON: the Decimal Infinity is no number"),
-    ({"a": {1}}, ["a"], "is not JSON: set is no type of JSON"),
-    ([b"a"], [0], "is not JSON: bytes is no type of JSON"),
+    ({"a": {1}}, ["a"], "is not JSON: set is no type of JSON"), ([b"a"], [0], "is not JSON: bytes is no type of JSON"),
     (OrderedDict(a=(0, object)), ["a", 1], "is not JSON: type is no type of JSON"),
     ("\ud800", [], SURROGATE), ({"a": {"\udc00": 1}}, ["a", "\udc00"], SURROGATE),
     (RING, ["a", 1] * 63 + ["a"], NESTS), (DEEP, [0] * 127, NESTS),
@@ -71,6 +71,37 @@ META: dict[str, type[jskw.Validator]] = {
     "https://json-schema.org/draft/2019-09/schema": jskw.Draft201909Validator,
     "https://json-schema.org/draft/2020-12/schema": jskw.Draft202012Validator,
 }
+DRAFT_4 = {"$schema": "http://json-schema.org/draft-04/schema#", "minimum": 1, "exclusiveMinimum": True}
+# calls, and what they raise
+OTHERS: list[tuple[Any, Any, list[Any]]] = [
+    *((jskw.NotJson, jskw.validator_for, [text]) for text in (b"{", b"[" * 100_000)),
+    *((jskw.BadSetting, jskw.validator_for, [{"$schema": name}])
+      for name in ("x", "http://json-schema.org/draft-07/schema##", 1)),
+    (type(None), jskw.validate, [2, DRAFT_4]), (jskw.ValidationError, jskw.validate, [1, DRAFT_4]),
+    (jskw.SchemaError, jskw.validate, [1, {"minItems": -1}]),
+    (type(None), jskw.validate, [[1], {"items": [True]}, jskw.Draft7Validator]),
+    (type(None), jskw.Draft7Validator.check_schema, [{"minItems": 1}]),
+    *((jskw.SchemaError, jskw.Draft7Validator.check_schema, [schema]) for schema in
+      ({"minItems": 2.5}, {"minItems": -2.0}, {"type": 2.0}, {"minimum": "2.0"}, {"multipleOf": 0}, None, [], "")),
+    (jskw.NotJson, is_valid, [b"[1e400,"]), (jskw.NotJson, jskw.Validator, [{"const": 10**5000}]),
+]  # fmt: skip
+# schemas, and what is not checked of them
+SCHEMA = {"items": [{"a\t\n\\/~": 1}, {"type": "string"}], "minimun": 1, "0": 1, "title": "t"}
+MEMBERS = [("0", ("0",), "unknown"), ("a\t\n\\/~", ("items", 0, "a\t\n\\/~"), "unknown"),
+           ("minimun", ("minimun",), "unknown")]  # fmt: skip
+UNCHECKED: list[tuple[Any, dict[str, Any], list[Any]]] = [
+    (b'{"not": {}, "title": 1}', {}, [("not", ("not",), "notImplemented")]),
+    ({"items": {"type": "null"}, "$defs": {"a": {"b": 1}}}, {}, []), (True, {}, []),
+    ({"type": "null"}, {"overridden": ["type"]}, [("type", ("type",), "inactive")]), (SCHEMA, {"draft": "7"}, MEMBERS),
+    # names that the text repeats, also in what is not looked at otherwise, but not below what is replaced
+    (b'{"type": "null", "type": "null"}', {}, [("type", ("type",), "repeated")]),
+    (b'{"items": {"items": 1, "a": 2, "items": true}, "x": [{"b/": 1, "b\\/": 2}, {"b": 1}]}', {},
+     [("a", ("items", "a"), "unknown"), ("x", ("x",), "unknown"), ("items", ("items", "items"), "repeated"),
+      ("b/", ("x", 0, "b/"), "repeated")]),
+    (b'{"enum": [{"a": {"b": 1, "b": 2}, "a": 1}, {"a": 1}, "a", "a"]}', {}, [("a", ("enum", 0, "a"), "repeated")]),
+    (b'{"const": {"\\u0061": 1, "b": {"c": 1, "d": [], "c": 2}, "a": 2, "a": 3}}', {},
+     [("a", ("const", "a"), "repeated"), ("c", ("const", "b", "c"), "repeated"), ("a", ("const", "a"), "repeated")]),
+]  # fmt: skip
 
 
 def run() -> None:
@@ -80,18 +111,25 @@ def run() -> None:
     for limit in 0, -1, 2**64, "1", 1.5:
         message = f"limit={limit!r} is not None or from 1 to 2^64-1; evolve(schema=..) takes another schema"
         check_raises(jskw.BadSetting, message, jskw.Validator(True).iter_errors, 1, limit)
+    for outcome, call, arguments in OTHERS:
+        check(f"{call} raises {outcome}", type(raised(call, *arguments)), outcome)
+    for name, wanted in META.items():
+        check(name, (jskw.validator_for({"$schema": name}), wanted(True).draft), (wanted, wanted.DRAFTS[0]))
+    found = [jskw.validator_for(one, jskw.Draft7Validator) for one in (b"true", {"$schema": "x"})]
+    check("no $schema", [jskw.validator_for({}), *found], [jskw.Draft202012Validator, *[jskw.Draft7Validator] * 2])
     not_json()
     numbers()
-    drafts()
+    unchecked()
 
 
 def not_json() -> None:
     for what, call in CALLS:
-        for text, reason, line in TEXTS:
+        for text, kind, line in TEXTS:
             error = raised(call, text)
-            got = type(error), [getattr(error, name, None) for name in ("text", "reason", "line")]
-            check(f"{what} {text[:40]!r}", got, (jskw.NotJson, [what, reason, line]))
-            check("its text", str(error).startswith(f"the {what} {reason} at line {line}, column "), True)
+            got = type(error), [getattr(error, name, None) for name in ("text", "kind", "line")]
+            check(f"{what} {text[:40]!r}", got, (jskw.NotJson, [what, kind, line]))
+            wanted = f"the {what} {SHOWN.get(kind, 'is not JSON: ' + error.reason[13:])} at line {line}, column "
+            check("its text", str(error)[: len(wanted)], wanted)
         for value, path, reason in VALUES:
             pointer = "".join(f"/{step}" for step in path)
             place = f" (at {pointer if len(pointer) <= 80 else pointer[:80] + '..'!r})" if path else ""
@@ -101,11 +139,7 @@ def not_json() -> None:
     check("127 levels", is_valid(b"[" * 127 + b"]" * 127), True)
     error = raised(is_valid, b"[1,\n  ?]")
     check("a place", [getattr(error, name, None) for name in ("offset", "line", "column")], [6, 2, 3])
-    check("no JSON behind it", type(raised(is_valid, b"[1e400,")), jskw.NotJson)
-    error = raised(jskw.Validator, b'{"minimum": 1e400}')
-    wanted = "has a number that is too large for a double, which JSON allows and jskw does not"
-    check("1e400 in a schema", (type(error), getattr(error, "reason", "")), (jskw.NotJson, wanted))
-    check("5,000 digits in a schema", type(raised(jskw.Validator, {"const": 10**5000})), jskw.NotJson)
+    check_raises(jskw.NotJson, f"the schema {TOO_LARGE}", jskw.Validator, b'{"minimum": 1e400}')
 
 
 def numbers() -> None:
@@ -123,33 +157,36 @@ def numbers() -> None:
     rest = "limits and the numbers of `const` and `enum` are whole numbers here, from -2^63 to 2^64-1, without"
     for schema, path, digits in NUMBERS:
         error = raised(jskw.Validator, schema)
-        got = type(error), list(error.path), error.number, error.message
         text = f"jskw does not take the number {digits}: {rest} exponent"
-        check(f"{schema} has a number", got, (jskw.UnsupportedNumber, path, digits, text))
-        again = pickle.loads(pickle.dumps(error))
-        check("its pickle", (type(again), again.number, str(again)), (type(error), digits, str(error)))
-    for wrong in {"minItems": 2.5}, {"minItems": -2.0}, {"type": 2.0}, {"minimum": "2.0"}, {"multipleOf": 0}:
-        check(f"{wrong} is wrong", type(raised(jskw.Validator, wrong)), jskw.SchemaError)
+        for one in error, pickle.loads(pickle.dumps(error)):
+            got = type(one), list(one.path), one.number, one.message
+            check(f"{schema} has a number", got, (jskw.UnsupportedNumber, path, digits, text))
 
 
-def drafts() -> None:
-    for name, wanted in META.items():
-        got = jskw.validator_for({"$schema": name}), wanted(True).draft
-        check(name, got, (wanted, wanted.DRAFTS[0]))
-    check("no $schema", jskw.validator_for({}), jskw.Draft202012Validator)
-    check("a boolean", jskw.validator_for(b"true", jskw.Draft7Validator), jskw.Draft7Validator)
-    check("a default", jskw.validator_for({"$schema": "x"}, jskw.Draft7Validator), jskw.Draft7Validator)
-    others: list[Any] = ["x", "http://json-schema.org/draft-07/schema##", 1]
-    for other in others:
-        check(f"$schema {other}", type(raised(jskw.validator_for, {"$schema": other})), jskw.BadSetting)
-    for text in b"{", b"[" * 100_000:
-        check("no JSON", type(raised(jskw.validator_for, text)), jskw.NotJson)
-    draft4 = {"$schema": "http://json-schema.org/draft-04/schema#", "minimum": 1, "exclusiveMinimum": True}
-    rows: list[tuple[Any, ...]] = [
-        (type(None), 2, draft4), (jskw.ValidationError, 1, draft4), (jskw.SchemaError, 1, {"minItems": -1}),
-        (type(None), [1], {"items": [True]}, jskw.Draft7Validator),
-    ]  # fmt: skip
-    for outcome, *given in rows:
-        check(f"validate{given}", type(raised(jskw.validate, *given)), outcome)
-    check("check_schema", raised(jskw.Draft7Validator.check_schema, {"minItems": 1}), None)
-    check("check_schema, wrong", type(raised(jskw.Draft7Validator.check_schema, {"minItems": "1"})), jskw.SchemaError)
+def unchecked() -> None:
+    for schema, settings, members in UNCHECKED:
+        validator = jskw.Validator(schema, **settings)
+        for other in validator, copy.copy(validator), pickle.loads(pickle.dumps(validator)):
+            check(f"of {schema}", other.unchecked, members)
+        error = raised(jskw.Validator, schema, strict=True, **settings)
+        for one in error, pickle.loads(pickle.dumps(error)):
+            check(f"strict, of {schema}", (type(one), one and one.unchecked),
+                  (jskw.UncheckedError, members) if members else (type(None), None))  # fmt: skip
+    with warnings.catch_warnings(), jskw.Draft7Validator(SCHEMA, strict=False) as validator:
+        warnings.simplefilter("error")
+        check("no warning", validator.is_valid([]), True)
+        listed = validator.unchecked
+    check("members", ({type(one) for one in listed}, listed[1].keyword_location),
+          ({jskw.UncheckedMember}, "/items/0/a\t\n\\~1~0"))  # fmt: skip
+    check("after close", validator.unchecked, MEMBERS)
+    text = "the schema has what is not checked: /0 (unknown), /items/0/a\t\n\\~1~0 (unknown), /minimun (unknown)"
+    kind = jskw.Draft7Validator
+    calls: list[Any] = [(kind, SCHEMA), (kind.check_schema, SCHEMA), (jskw.validate, [], SCHEMA, kind)]
+    for call, *given in calls:
+        check_raises(jskw.UncheckedError, text, call, *given, strict=True)
+    check("a refusal comes first", type(raised(jskw.Validator, {"a": 1, "type": 5}, strict=True)), jskw.SchemaError)
+    many: Any = {f"x{number:02}": 1 for number in range(100)}
+    error = raised(jskw.Validator, many, strict=True)
+    check("all are listed", [member.keyword for member in error.unchecked], list(many))
+    shown = ", ".join(f"/x{number:02} (unknown)" for number in range(10))
+    check("ten are shown", str(error), f"the schema has what is not checked: {shown} and 90 more")

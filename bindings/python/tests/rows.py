@@ -24,30 +24,21 @@ def validator_of(draft: str, vocabularies: str, overridden: str, schema: str, *,
     return jskw.Validator(schema.encode(), NUMBERS.get(draft, draft), names, given, strict=strict)
 
 
-def outcome(draft: str, vocabularies: str, overridden: str, schema: str, instance: str) -> tuple[str, str]:
-    """Returns the result of a row and what it tells."""
+def outcome(*row: str) -> tuple[str, str]:
+    """Returns the result of a row and what it tells, if all calls agree."""
+    instance = row[-1].encode()
     try:
-        return answers(validator_of(draft, vocabularies, overridden, schema), instance.encode())
+        validator = validator_of(*row[:-1])
+        valid, tree = validator.is_valid(instance), validator.evaluate(instance)
     except jskw.SchemaError as error:
         return "bad schema", f"{error.kind}|{error.instance_location}"
     except jskw.InexactNumber as error:
         return "inexact", error.instance_location
-    except jskw.NotJson:
-        return "not JSON", ""
-    except jskw.BadSetting:
-        return "bad setting", ""
-
-
-def answers(validator: jskw.Validator, instance: bytes) -> tuple[str, str]:
-    """Returns the verdict and the errors, if all calls agree."""
-    valid, tree = validator.is_valid(instance), validator.evaluate(instance)
-    errors, limited = list(validator.iter_errors(instance)), list(validator.iter_errors(bytearray(instance), limit=1))
-    first = []
-    try:
-        validator.validate(memoryview(instance))
-    except jskw.ValidationError as error:
-        first = [error]
-    if not valid == tree["valid"] == (not errors) or not told(errors[:1]) == told(first) == told(limited):
+    except (jskw.NotJson, jskw.BadSetting) as error:
+        return "not JSON" if isinstance(error, jskw.NotJson) else "bad setting", ""
+    errors, few = list(validator.iter_errors(instance)), list(validator.iter_errors(bytearray(instance), limit=1))
+    first = raised(validator.validate, memoryview(instance))
+    if not valid == tree["valid"] == (not errors) or not told(errors[:1]) == told([first] * (not valid)) == told(few):
         return "the calls disagree", ""
     return "valid" if valid else "invalid", told(errors)
 
@@ -61,7 +52,7 @@ def unchecked(*given: str) -> str:
     return " ".join(f"{member.keyword_location}|{member.reason}" for member in members)
 
 
-def told(errors: list[jskw.ValidationError]) -> str:
+def told(errors: list[Any]) -> str:
     return " ".join(f"{e.kind}|{e.instance_location}|{e.keyword_location}" for e in errors)
 
 

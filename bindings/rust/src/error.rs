@@ -2,7 +2,6 @@
 
 use crate::json::{compact, read, Kind, Value};
 use crate::library::{lines, BAD_SCHEMA, INEXACT, NOT_JSON, NO_MEMORY};
-use crate::not_json::{reason_at, NotJsonReason};
 use crate::unchecked::UncheckedMember;
 use std::collections::BTreeMap;
 use std::fmt;
@@ -234,9 +233,10 @@ pub enum Error {
     /// The schema has these members, which are not checked. Only [`crate::ValidationOptions::build`] of strict options
     /// returns it.
     Unchecked(Vec<UncheckedMember>),
-    /// The text is not JSON in UTF-8, or is refused though JSON allows it; the reason says which. A schema with a
-    /// number that is too large for a double has no position.
-    NotJson { text: Text, reason: NotJsonReason, position: Option<Position> },
+    /// The text is not JSON in UTF-8, or is refused though JSON allows it. The reason says why; the kind says it in one
+    /// of the words of `include/jskw.h`, such as `missingComma`. A schema with a number that is too large for a double
+    /// has no kind and no position.
+    NotJson { text: Text, kind: String, reason: String, position: Option<Position> },
     /// The instance has a number that is not exact, first at this location: it is no c / 10^k with c from -2^63 to
     /// 2^64-1 and k from 0 to 18, or from 1 to 18 if it is written with a point or an exponent.
     Inexact(Location),
@@ -261,9 +261,10 @@ impl fmt::Display for Error {
                     Ok(())
                 }
             }
-            Error::NotJson { text, reason, position } => {
+            Error::NotJson { text, reason, position, .. } => {
                 let name = if *text == Text::Schema { "schema" } else { "instance" };
-                write!(f, "the {name} {reason}")?;
+                let is = if reason.starts_with("not ") { "is " } else { "" };
+                write!(f, "the {name} {is}{reason}")?;
                 match position {
                     Some(Position { line, column, .. }) => write!(f, " at line {line}, column {column}"),
                     None => Ok(()),
@@ -354,8 +355,9 @@ pub(crate) fn refusal(text: Text, status: u32, told: &str, given: &[u8]) -> Erro
                 (Some(offset), Some(line), Some(column)) => Some(Position { offset, line, column }),
                 _ => None,
             };
-            let reason = position.map_or(NotJsonReason::TooLarge, |position| reason_at(given, position.offset));
-            Error::NotJson { text, reason, position }
+            let too_large = "has a number that is too large for a double, which JSON allows and jskw does not";
+            let reason = if position.is_some() { word(4) } else { too_large };
+            Error::NotJson { text, kind: word(3).into(), reason: reason.into(), position }
         }
         INEXACT => Error::Inexact(Document::new(given).find(word(0)).0),
         NO_MEMORY => Error::NoMemory,

@@ -48,14 +48,12 @@ mod evaluation;
 mod handles;
 mod json;
 mod library;
-mod not_json;
 mod settings;
 mod unchecked;
 
 pub use error::{Error, JsonType, Location, PathSegment, Position, Text, ValidationError, ValidationErrorKind};
 pub use errors::Errors;
 pub use evaluation::{Annotation, EvaluationNode};
-pub use not_json::NotJsonReason;
 pub use settings::{Draft, ValidationOptions, Vocabulary};
 pub use unchecked::{UncheckedMember, UncheckedReason};
 

@@ -15,6 +15,8 @@ pub enum UncheckedReason {
     /// A keyword of this library that asserts nothing as it stands: the draft or the vocabularies do not have it, it is
     /// overridden, what it goes with is absent, or it passes over such a value.
     Inactive,
+    /// A member that a later one of the same name replaces, in an object anywhere in the schema's text.
+    Repeated,
     /// A reason that a later library has, by its name.
     Other(String),
 }
@@ -25,16 +27,18 @@ impl UncheckedReason {
             "notImplemented" => UncheckedReason::NotImplemented,
             "unknown" => UncheckedReason::Unknown,
             "inactive" => UncheckedReason::Inactive,
+            "repeated" => UncheckedReason::Repeated,
             other => UncheckedReason::Other(other.to_string()),
         }
     }
 
-    /// Returns the name of the reason: `notImplemented`, `unknown` or `inactive`.
+    /// Returns the name of the reason: `notImplemented`, `unknown`, `inactive` or `repeated`.
     pub fn as_str(&self) -> &str {
         match self {
             UncheckedReason::NotImplemented => "notImplemented",
             UncheckedReason::Unknown => "unknown",
             UncheckedReason::Inactive => "inactive",
+            UncheckedReason::Repeated => "repeated",
             UncheckedReason::Other(name) => name,
         }
     }

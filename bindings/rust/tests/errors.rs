@@ -1,6 +1,6 @@
 //! Errors and evaluation trees as data.
 use jskw::{
-    Annotation, Draft, Error, JsonType, NotJsonReason, PathSegment, Position, Text, UncheckedMember, UncheckedReason,
+    Annotation, Draft, Error, JsonType, PathSegment, Position, Text, UncheckedMember, UncheckedReason,
     ValidationError, ValidationErrorKind, Validator,
 };
 use std::num::NonZeroU64;
@@ -121,13 +121,13 @@ fn long_values() {
 fn refusals() {
     let all = Validator::new("true").expect("a schema");
     let position = Some(Position { offset: 6, line: 2, column: 3 });
-    let not_json = |text| Error::NotJson { text, reason: NotJsonReason::NotJson, position };
+    let reason = "not JSON: a word that is not true, false or null".to_string();
+    let not_json = |text| Error::NotJson { text, kind: "word".into(), reason: reason.clone(), position };
     assert_eq!(all.is_valid("[1,\n  ?]"), Err(not_json(Text::Instance)));
     assert_eq!(all.validate("[1,\n  ?]"), Err(not_json(Text::Instance)));
     assert_eq!(Validator::new("[1,\n  ?]").err(), Some(not_json(Text::Schema)));
     let too_large = Validator::new(r#"{"minimum":1e999}"#).err();
-    let reason = NotJsonReason::TooLarge;
-    assert_eq!(too_large, Some(Error::NotJson { text: Text::Schema, reason, position: None }));
+    assert!(matches!(too_large, Some(Error::NotJson { text: Text::Schema, position: None, .. })));
     match Validator::new(r#"{"items":{"minItems":-1}}"#).unwrap_err() {
         Error::Schema(error) => {
             assert_eq!(*error.kind(), Kind::Minimum { limit: 0 });
@@ -146,7 +146,7 @@ fn refusals() {
         other => panic!("{other:?}"),
     }
     let error: Box<dyn std::error::Error + Send + Sync> = Box::new(all.is_valid("").unwrap_err());
-    assert_eq!(error.to_string(), "the instance is not JSON in UTF-8 at line 1, column 1");
+    assert_eq!(error.to_string(), "the instance is not JSON: the text ends too early at line 1, column 1");
 }
 
 #[test]
@@ -164,11 +164,11 @@ fn reasons() {
         ("[\"ok\",\n \"\\uDC00x\"]".into(), lone, "line 2, column 2"),
         (r#"{"\ud83d\ude00\n":"\ud800\u0061"}"#.into(), lone, "line 1, column 19"),
         (r#"{"\ud83d\ud83d\ude00":1}"#.into(), lone, "line 1, column 2"),
-        (r#"["\ud83d\ude00\x"]"#.into(), "is not JSON in UTF-8", "line 1, column 2"),
-        (r#"["\ud800"#.into(), "is not JSON in UTF-8", "line 1, column 2"),
-        (r#"["\ud8"]"#.into(), "is not JSON in UTF-8", "line 1, column 2"),
-        (format!("\"{}", "[".repeat(200)), "is not JSON in UTF-8", "line 1, column 1"),
-        (format!("{}x", "[".repeat(127)), "is not JSON in UTF-8", "line 1, column 128"),
+        (r#"["\ud83d\ude00\x"]"#.into(), "is not JSON: an escape that JSON does not have", "line 1, column 2"),
+        (r#"["\ud800"#.into(), "is not JSON: a string without its closing quote", "line 1, column 2"),
+        (r#"["\ud8"]"#.into(), "is not JSON: an escape that JSON does not have", "line 1, column 2"),
+        (format!("\"{}", "[".repeat(200)), "is not JSON: a string without its closing quote", "line 1, column 1"),
+        (format!("{}x", "[".repeat(127)), "is not JSON: a word that is not true, false or null", "line 1, column 128"),
     ];
     for (text, reason, place) in rows {
         let error = all.is_valid(&text).unwrap_err();
@@ -180,7 +180,7 @@ fn reasons() {
     let reason = "has a number that is too large for a double, which JSON allows and jskw does not";
     assert_eq!(error.to_string(), format!("the schema {reason}"));
     let not_utf8 = all.is_valid(b"\"\xff\"").unwrap_err();
-    assert_eq!(not_utf8.to_string(), "the instance is not JSON in UTF-8 at line 1, column 2");
+    assert_eq!(not_utf8.to_string(), "the instance is not JSON: the bytes are not UTF-8 at line 1, column 2");
     for text in ["[1e18, 2e18]", "[1, 5000000000000000000.0]"] {
         assert!(matches!(all.is_valid(text), Err(Error::Inexact(at)) if at.to_string() == "/1"), "{text}");
     }
@@ -207,9 +207,17 @@ fn unchecked() {
     let overridden = Validator::options().with_overridden(["type"]).unchecked(r#"{"type":1,"not":{}}"#);
     let reasons: Vec<_> = overridden.expect("JSON").iter().map(|member| member.reason().clone()).collect();
     assert_eq!(reasons, [UncheckedReason::NotImplemented, UncheckedReason::Inactive]);
-    let position = Some(Position { offset: 6, line: 2, column: 3 });
-    let reason = NotJsonReason::NotJson;
-    assert_eq!(strict.unchecked("[1,\n  ?]"), Err(Error::NotJson { text: Text::Schema, reason, position }));
+    let repeats = r#"{"items":[{"minItems":1,"a":2,"min\u0049tems":3}],"items":[{"type":5,"type":"null"}]}"#;
+    match strict.build(repeats).unwrap_err() {
+        Error::Unchecked(members) => {
+            let told: Vec<_> = members.iter().map(|one| (one.location().to_string(), one.reason().as_str())).collect();
+            assert_eq!(told, [("/items".to_string(), "repeated"), ("/items/0/type".to_string(), "repeated")]);
+        }
+        other => panic!("{other:?}"),
+    }
+    let place = Some(Position { offset: 6, line: 2, column: 3 });
+    let told = strict.unchecked("[1,\n  ?]");
+    assert!(matches!(told, Err(Error::NotJson { text: Text::Schema, position, .. }) if position == place));
     assert!(matches!(strict.build(r#"{"a":1,"type":5}"#), Err(Error::Schema(_))));
 }
 

@@ -11,3 +11,4 @@ mod Texts
 mod OutcomesOfInstances
 mod OutcomesOfRefusals
 mod Pruned
+mod Unrepeated

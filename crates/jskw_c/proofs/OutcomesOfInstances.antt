@@ -14,45 +14,10 @@ use Rattle.jskw_report.proofs.EvaluationValidity.{tree_valid}
 use Rattle.jskw_c.specs.Asked.{IsDetailOf, SaysErrors, SaysFirst, SaysTree, limit_numbered, status_of_read}
 use Rattle.jskw_c.specs.Asked.{verdict_status}
 use Rattle.jskw_c.specs.Evaluated.{evaluation_text}
-use Rattle.jskw_c.specs.Line.{AreErrorLines, IsPositionLine, words_line}
+use Rattle.jskw_c.specs.Line.{AreErrorLines, IsInexactLine, IsPositionLine}
 use Rattle.jskw_c.specs.Replies.{IsOutcome, IsOutcomeOnTree, IsOutcomeOnBytes}
 use Rattle.jskw_c.specs.Status.{VALID, INVALID, NOT_JSON, INEXACT}
 use Rattle.jskw_c.specs.declared.ask.Outcome.{Outcome}
-
--- ---- an instance in bytes
-
--- what was read, its status and its text
-outcome_of_read : (Says : Schema → Tree → List ℕ → Type 0) (s : Schema) (bytes : List ℕ)
-    (r : Option (Result Tree Pointer)) (outcome : Outcome)
-    → reading bytes ≡ r → outcome.status ≡ status_of_read s r → IsDetailOf Says s bytes r outcome.text.items
-    → IsOutcomeOnBytes Says s bytes outcome
-outcome_of_read Says s bytes r outcome read st text =
-    record {
-      status_is = st ∙ ap (status_of_read s) (sym read);
-      text_is = subst (λ o. IsDetailOf Says s bytes o outcome.text.items) (sym read) text;
-    }
-
--- a tree
-pub reports_tree_of : (Says : Schema → Tree → List ℕ → Type 0) (s : Schema) (bytes : List ℕ) (t : Tree)
-    (outcome : Outcome)
-    → reading bytes ≡ Some (Ok t) → IsOutcomeOnTree Says s t outcome → IsOutcomeOnBytes Says s bytes outcome
-reports_tree_of Says s bytes t outcome read reports =
-    outcome_of_read Says s bytes (Some (Ok t)) outcome read reports.status_is reports.text_is
-
--- no JSON
-pub outcome_of_no_json : (Says : Schema → Tree → List ℕ → Type 0) (s : Schema) (bytes : List ℕ) (outcome : Outcome)
-    → reading bytes ≡ None → IsOutcome NOT_JSON (IsPositionLine bytes) outcome → IsOutcomeOnBytes Says s bytes outcome
-outcome_of_no_json Says s bytes outcome read place =
-    outcome_of_read Says s bytes None outcome read place.status_is place.text_is
-
--- a number that is not exact
-pub reports_inexact : (Says : Schema → Tree → List ℕ → Type 0) (s : Schema) (bytes : List ℕ) (p : Pointer)
-    (outcome : Outcome)
-    → reading bytes ≡ Some (Err p) → outcome.status ≡ INEXACT → outcome.text.items ≡ words_line (p ∷ [])
-    → IsOutcomeOnBytes Says s bytes outcome
-reports_inexact Says s bytes p outcome read st text = outcome_of_read Says s bytes (Some (Err p)) outcome read st text
-
--- ---- a tree
 
 -- the first so many errors
 pub reports_errors : (limit : ℕ) (s : Schema) (t : Tree) (outcome : Outcome)

@@ -10,7 +10,7 @@ use Rattle.jskw_report.specs.Holds.{holds}
 use Rattle.jskw_report.specs.Keyword.{Schema}
 use Rattle.jskw_report.specs.Observe.{limited}
 use Rattle.jskw_c.specs.Evaluated.{evaluation_text}
-use Rattle.jskw_c.specs.Line.{AreErrorLines, IsPositionLine, words_line}
+use Rattle.jskw_c.specs.Line.{AreErrorLines, IsInexactLine, IsPositionLine}
 use Rattle.jskw_c.specs.Status.{VALID, INVALID, NOT_JSON, INEXACT, NO_SCHEMA}
 use Rattle.jskw_c.specs.declared.ask.Detail.{Detail}
 use Rattle.jskw_c.specs.declared.ask.Detail.TheVariants.{FirstError, Errors, Evaluation}
@@ -38,11 +38,11 @@ ReadsAlike s t read = (u : Tree) × (read ≡ Some (Ok u)) × (holds s t ≡ hol
 -- ---- the text
 
 -- where a tree is read the text is as `Says` says; else it is the line of the place where the bytes stop being JSON, or
--- of the location
+-- of the number that is not exact
 abbrev pub IsDetailOf : (Schema → Tree → List ℕ → Type 0) → Schema → List ℕ → Option (Result Tree Pointer) → List ℕ
     → Type 0
 IsDetailOf Says s bytes None text = IsPositionLine bytes text
-IsDetailOf Says s bytes (Some (Err p)) text = text ≡ words_line (p ∷ [])
+IsDetailOf Says s bytes (Some (Err p)) text = IsInexactLine bytes p text
 IsDetailOf Says s bytes (Some (Ok t)) text = Says s t text
 
 abbrev pub IsDetail : (Schema → Tree → List ℕ → Type 0) → Option Schema → List ℕ → List ℕ → Type 0

@@ -7,4 +7,5 @@ pub mod Replies
 pub mod Slot
 pub mod Status
 pub mod Buffer
+pub mod Repeated
 pub mod Unchecked

@@ -1,8 +1,12 @@
 -- Lines of words, with a tab between two words and a line feed at the end.
 use Rattle.std.specs.Prelude.{◌≡◌, ℕ, List, [], ◌∷◌, codes, decimal, eqb, flat_map, map}
 use Rattle.std.specs.Prelude.{if◌then◌else◌}
-use Rattle.jskw_text.specs.Position.{line_at, column_at}
+use Rattle.jskw_value.specs.Pointer.{Pointer}
+use Rattle.jskw_text.specs.NotJsonReason.{reason_sentence, reason_word}
+use Rattle.jskw_text.specs.Position.{IsPlaceIn}
 use Rattle.jskw_text.specs.ReadFault.{IsBrokenAt}
+use Rattle.jskw_text.specs.declared.not_json.NotJsonReason.{NotJsonReason}
+use Rattle.jskw_text.specs.declared.position.Position.{Position}
 use Rattle.jskw_report.specs.Fail.{Failure}
 use Rattle.jskw_report.specs.KeywordValue.{Refusal}
 use Rattle.jskw_report.specs.Kind.{keyword_of}
@@ -26,14 +30,24 @@ escaped = flat_map escaped_byte
 abbrev pub words_line : List (List ℕ) → List ℕ
 words_line words = line (map escaped words)
 
--- the line of a place in a text: the offset in bytes, the line and the column
-abbrev pub position_line : ℕ → List ℕ → List ℕ
-position_line offset bytes =
-    line (decimal offset ∷ decimal (line_at offset bytes) ∷ decimal (column_at offset bytes) ∷ [])
+-- the line of a place in a text and of why it is refused there: the offset in bytes, the line, the column, and the
+-- reason as a word and as a sentence
+abbrev pub position_line : Position → NotJsonReason → List ℕ
+position_line at reason =
+    line (decimal at.offset ∷ decimal at.line ∷ decimal at.column ∷ reason_word reason ∷ reason_sentence reason ∷ [])
 
--- the text is the line of the place where the bytes stop being JSON
+-- the text is the line of the place where the bytes stop being JSON, with a reason
 abbrev pub IsPositionLine : List ℕ → List ℕ → Type 0
-IsPositionLine bytes text = (offset : ℕ) × IsBrokenAt bytes offset × (text ≡ position_line offset bytes)
+IsPositionLine bytes text = (at : Position) × (reason : NotJsonReason) × IsBrokenAt bytes at.offset × IsPlaceIn bytes at
+    × (text ≡ position_line at reason)
+
+-- the line of a number that is not exact: its location, and its place in the text
+abbrev pub inexact_line : Pointer → Position → List ℕ
+inexact_line p at = line (escaped p ∷ decimal at.offset ∷ decimal at.line ∷ decimal at.column ∷ [])
+
+-- the text is the line of a number at this location, with a place in the bytes
+abbrev pub IsInexactLine : List ℕ → Pointer → List ℕ → Type 0
+IsInexactLine bytes p text = (at : Position) × IsPlaceIn bytes at × (text ≡ inexact_line p at)
 
 -- the text is the line of an error: its keyword, instance location, keyword location, some message, and what was
 -- expected

@@ -3,6 +3,7 @@
 
 ghost use Rattle.std.specs.Prelude.{◌≡◌, [], IfOk, Some};
 ghost use Rattle.jskw_value.specs.DecimalTree.{decimal_tree};
+ghost use Rattle.jskw_text.specs.Position.{IsPlaceIn};
 ghost use Rattle.jskw_text.specs.ReadFault.{IsBrokenAt};
 ghost use Rattle.jskw_text.specs.Reading.{reading};
 ghost use Rattle.jskw_report.specs.Errors.{failures_of};
@@ -16,14 +17,14 @@ ghost use Rattle.jskw_c.specs.Status as status;
 
 use crate::compiled::CompiledSchema;
 use crate::evaluation::tree_text;
-use crate::line::{error_lines, position_line, refusal_line, word_line};
+use crate::line::{error_lines, inexact_line, position_line, refusal_line};
 use crate::settings::settings_numbered;
 use crate::status::{BAD_SCHEMA, BAD_SETTING, INEXACT, INVALID, NOT_JSON, VALID};
 use jskw_array::SchemaNode;
 use jskw_array::compiler::compile;
 use jskw_report::{CompileFault, Context, Fault, LazyLocation, ValidationContext, ValidationError};
 use jskw_service::read_value;
-use jskw_text::{ReadFault, read_bytes};
+use jskw_text::{NotJsonReason, Position, ReadFault, read_bytes};
 use jskw_value::{DecimalJson, DecimalTree};
 use jskw_wanted::wanted;
 use std::alloc::{AllocError, Global};
@@ -75,20 +76,26 @@ pub(crate) fn no_json(alloc: Global, schema: &[u8]) -> Result<Outcome, AllocErro
     ensures { IfOk result (IsOutcome status.NOT_JSON (IsPositionOf schema.now (reading schema.now))) }
 {
     match read_bytes(alloc, schema) {
-        Err(ReadFault::NotJson(_, at)) => no_json_at(alloc, schema, at.offset),
+        Err(ReadFault::NotJson(reason, at)) => no_json_at(alloc, schema, at, reason),
         Err(ReadFault::Memory(error)) => Err(error),
         Ok(_) | Err(ReadFault::Inexact(..)) => Ok(status_alone(alloc, NOT_JSON)),
     }
 }
 
-// Returns the outcome for bytes that stop being JSON at this offset.
-fn no_json_at(alloc: Global, bytes: &[u8], offset: usize) -> Result<Outcome, AllocError>
-    requires { IsBrokenAt bytes.now offset }
+// Returns the outcome for bytes that stop being JSON at this place of theirs, for this reason.
+fn no_json_at(
+    alloc: Global,
+    bytes: &[u8],
+    at: Position,
+    reason: NotJsonReason,
+) -> Result<Outcome, AllocError>
+    requires broken { IsBrokenAt bytes.now at.offset }
+    requires place { IsPlaceIn bytes.now at }
     ensures { IfOk result (IsOutcome status.NOT_JSON (IsPositionLine bytes.now)) }
 {
     Ok(Outcome {
         status: NOT_JSON,
-        text: position_line(alloc, bytes, offset)?,
+        text: position_line(alloc, at, reason)?,
     })
 }
 
@@ -162,10 +169,10 @@ pub(crate) fn outcome_of(
             schema.reuse(tree);
             outcome
         }
-        Err(ReadFault::NotJson(_, at)) => no_json_at(alloc, instance, at.offset),
-        Err(ReadFault::Inexact(location, _)) => Ok(Outcome {
+        Err(ReadFault::NotJson(reason, at)) => no_json_at(alloc, instance, at, reason),
+        Err(ReadFault::Inexact(location, at)) => Ok(Outcome {
             status: INEXACT,
-            text: word_line(alloc, location.as_str())?,
+            text: inexact_line(alloc, location.as_str(), at)?,
         }),
         Err(ReadFault::Memory(error)) => Err(error),
     }

@@ -7,9 +7,9 @@
 //! returns `TOO_SMALL`, leaves the buffer unchanged, and writes to `length` what is needed.
 //!
 //! An instance is JSON text, whose numbers are exact decimals. If it is not JSON, the status is
-//! `NOT_JSON`, and the text is the line of the place where it breaks: offset, line and column. If it
-//! contains a number that is not exact, the status is `INEXACT`, and the text is the line of its
-//! location.
+//! `NOT_JSON`, and the text is the line of the place where it breaks: offset, line and column, and the
+//! reason as a word and as a sentence. If it contains a number that is not exact, the status is
+//! `INEXACT`, and the text is the line of its location, with its offset, line and column.
 //!
 //! If memory runs out, every function but `jskw_version` and `jskw_free` returns `NO_MEMORY` and
 //! leaves the handle and the buffer unchanged.
@@ -31,6 +31,7 @@ mod expected;
 mod handle;
 mod json_parts;
 mod line;
+mod repeated;
 mod settings;
 mod status;
 mod unchecked;
@@ -117,9 +118,11 @@ pub extern "C" fn jskw_compile(
 
 /// Writes a line for each member of a schema that is not checked under the setting: its keyword
 /// location, and the reason, which is `notImplemented`, `unknown` or `inactive`. Members of the
-/// subschemas that keywords of this library apply have lines too. The status is `VALID` if there is
-/// no such member, else `INVALID`. If the schema is not JSON, status and text are those of
-/// `jskw_compile`. A schema that does not compile has its lines too.
+/// subschemas that keywords of this library apply have lines too. Behind these lines stands one with
+/// the reason `repeated` for each member, wherever it is, that a later one of its object replaces,
+/// since it has the same name. The status is `VALID` if there is no line, else `INVALID`. If the
+/// schema is not JSON, status and text are those of `jskw_compile`. A schema that does not compile has
+/// its lines too.
 #[unsafe(no_mangle)]
 pub extern "C" fn jskw_unchecked(
     alloc: Global,

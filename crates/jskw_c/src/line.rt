@@ -1,16 +1,16 @@
 //! Lines of words, with a tab between two words and a line feed at the end.
-ghost use Rattle.std.specs.Prelude.{◌≡◌, ◌≤◌, ◌++◌, [], ◌∷◌, ℕ, List, IfOk, OnOk, length};
+ghost use Rattle.std.specs.Prelude.{◌≡◌, ◌++◌, [], ◌∷◌, ℕ, List, IfOk, OnOk};
 ghost use Rattle.jskw_value.specs.DecimalTree.{decimal_tree};
 ghost use Rattle.jskw_report.specs.Compile.{refusal_of};
 ghost use Rattle.jskw_report.specs.Errors.{failure_of, failures_of};
 ghost use Rattle.jskw_c.specs.Line.{AreErrorLines, IsErrorLine, IsRefusalLine, escaped};
-ghost use Rattle.jskw_c.specs.Line.{position_line, words_line};
+ghost use Rattle.jskw_c.specs.Line.{inexact_line, position_line, words_line};
 ghost use Rattle.jskw_c.specs.Unchecked.{member_line};
 
 use crate::expected::expected_text;
 use jskw_report::ValidationError;
 use jskw_sentence::{schema_sentence, sentence};
-use jskw_text::position_of;
+use jskw_text::{NotJsonReason, Position};
 use jskw_unchecked::UncheckedMember;
 use jskw_value::{DecimalJson, SerdeJson};
 use std::alloc::{AllocError, Global};
@@ -39,36 +39,56 @@ fn push_word_and(text: &mut Vec<u8>, word: &[u8], byte: u8) -> Result<(), AllocE
     Ok(())
 }
 
-// Returns the line of one word.
-pub(crate) fn word_line(alloc: Global, word: &str) -> Result<Vec<u8>, AllocError>
-    ensures { IfOk result (λ text. text.items ≡ words_line (word.now ∷ [])) }
-{
-    let mut text = Vec::new(alloc);
-    push_word_and(&mut text, word.as_bytes(), b'\n')?;
-    Ok(text)
-}
-
-// Returns the line of a place in a text: the offset in bytes, which must be at most the length, the
-// line and the column.
+// Returns the line of a place in a text and of why it is refused there: the offset in bytes, the line,
+// the column, and the reason as a word and as a sentence.
 pub(crate) fn position_line(
     alloc: Global,
-    text: &[u8],
-    offset: usize,
+    at: Position,
+    reason: NotJsonReason,
 ) -> Result<Vec<u8>, AllocError>
-    requires { offset ≤ length text.now }
-    ensures { IfOk result (λ line. line.items ≡ position_line offset text.now) }
+    ensures { IfOk result (λ line. line.items ≡ position_line at reason) }
 {
-    let position = position_of(text, offset);
-    let line = format!(in alloc; "{offset}\t{}\t{}\n", position.line, position.column)?;
+    let (word, words) = (reason.as_str(), reason.sentence());
+    let line = format!(in alloc;
+        "{}\t{}\t{}\t{word}\t{words}\n",
+        at.offset, at.line, at.column
+    )?;
     Ok(line.into_bytes())
+}
+
+// Returns the line of a number that is not exact: its location, and its place in the text as above.
+pub(crate) fn inexact_line(
+    alloc: Global,
+    location: &str,
+    at: Position,
+) -> Result<Vec<u8>, AllocError>
+    ensures { IfOk result (λ line. line.items ≡ inexact_line location.now at) }
+{
+    let place = format!(in alloc; "{}\t{}\t{}\n", at.offset, at.line, at.column)?;
+    let mut text = Vec::new(alloc);
+    push_word_and(&mut text, location.as_bytes(), b'\t')?;
+    text.extend_from_slice(place.as_bytes())?;
+    Ok(text)
 }
 
 // Appends the line of an unchecked member: its keyword location and the reason.
 pub(crate) fn push_member(text: &mut Vec<u8>, member: &UncheckedMember) -> Result<(), AllocError>
     ensures { OnOk result (text.new.items ≡ text.old.items ++ member_line member.now) }
 {
-    push_word_and(text, member.location().as_str().as_bytes(), b'\t')?;
-    push_word_and(text, member.reason().as_str().as_bytes(), b'\n')
+    push_reason(text, member.location().as_str(), member.reason().as_str())
+}
+
+// Appends the line of a location and a reason.
+pub(crate) fn push_reason(
+    text: &mut Vec<u8>,
+    location: &str,
+    reason: &str,
+) -> Result<(), AllocError>
+    ensures { OnOk result
+        (text.new.items ≡ text.old.items ++ words_line (location.now ∷ reason.now ∷ [])) }
+{
+    push_word_and(text, location.as_bytes(), b'\t')?;
+    push_word_and(text, reason.as_bytes(), b'\n')
 }
 
 // Returns the line of a compile error: its keyword, keyword location and message, and what was

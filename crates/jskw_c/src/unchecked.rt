@@ -2,11 +2,12 @@
 ghost use Rattle.std.specs.Prelude.{◌≡◌, IfOk};
 ghost use Rattle.jskw_c.specs.Compiled.{setting_numbered};
 ghost use Rattle.jskw_c.specs.Replies.{IsOutcome};
-ghost use Rattle.jskw_c.specs.Unchecked.{IsListText, member_lines, status_of_list};
-ghost use Rattle.jskw_c.specs.Unchecked.{status_of_members, unchecked_of};
+ghost use Rattle.jskw_c.specs.Unchecked.{IsListText, member_lines, status_of_lines, status_of_list};
+ghost use Rattle.jskw_c.specs.Unchecked.{unchecked_of};
 
 use crate::ask::{Outcome, no_json, status_alone};
 use crate::line::push_member;
+use crate::repeated::push_repeated;
 use crate::settings::settings_numbered;
 use crate::status::{BAD_SETTING, INVALID, VALID};
 use jskw_report::Context;
@@ -16,7 +17,7 @@ use jskw_value::DecimalJson;
 use std::alloc::{AllocError, Global};
 
 // Returns a line for each member of the schema of these bytes that is not checked under the setting
-// of these numbers, or why there is no list.
+// of these numbers, and for each that a later one of the same name replaces, or why there is no list.
 pub(crate) fn unchecked_of(
     alloc: Global,
     draft: u32,
@@ -36,17 +37,19 @@ pub(crate) fn unchecked_of(
     let ctx: Context<'_, DecimalJson> = Context::new(alloc, &settings);
     let ctx = ctx.with_object_layer(false);
     let members = unchecked(alloc, &ctx, &value)?;
+    let mut text = member_lines(alloc, members.as_slice())?;
+    push_repeated(alloc, &mut text, schema)?;
     Ok(Outcome {
-        status: status_of_members(members.as_slice()),
-        text: member_lines(alloc, members.as_slice())?,
+        status: status_of_lines(text.as_slice()),
+        text,
     })
 }
 
-// Returns the status of a schema that has these members.
-fn status_of_members(members: &[UncheckedMember]) -> u32
-    ensures { result ≡ status_of_members members.now }
+// Returns the status of a schema that has these lines.
+fn status_of_lines(lines: &[u8]) -> u32
+    ensures { result ≡ status_of_lines lines.now }
 {
-    match members {
+    match lines {
         [] => VALID,
         [_, ..] => INVALID,
     }

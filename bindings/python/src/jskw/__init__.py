@@ -1,11 +1,7 @@
 """The validator jskw, in process: the value and array keywords of JSON Schema, proved.
 
-    from jskw import Validator
-
-    validator = Validator({"required": ["name", "age"], "minProperties": 2})
-    validator.is_valid({"name": "Ada", "age": 36})    # True
-    for error in validator.iter_errors({"age": 36}):
-        print(error.message, list(error.path), list(error.schema_path))
+    >>> jskw.Validator({"required": ["name"]}).is_valid({"age": 36})
+    False
 
 Names and habits are those of the package `jsonschema`. A schema and an instance is a value of Python, or a JSON text as
 `bytes`, `bytearray` or `memoryview`. Of a value the text counts that `json.dumps` writes: the float 0.1 is the decimal

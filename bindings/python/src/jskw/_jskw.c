@@ -20,12 +20,10 @@ enum {
                      * longer than to check a shorter one */
     FIRST = 1 << 16, /* the bytes of the first buffer for an answer */
     KEPT = 1 << 20, /* the most bytes of a buffer that are kept between calls */
-    MANY = 1 << 18, /* for so many errors there is room at once */
-    NAMES = 32      /* for so many names of members the texts are kept */
+    MANY = 1 << 18  /* for so many errors there is room at once */
 };
 
 static const char ALLOWED[] = "which JSON allows and jskw does not";
-static const char CHANGED[] = "a dict was changed while it was written";
 
 /* The class Decimal, its own `__str__`, and the name of an attribute of errors. */
 static PyObject *decimal, *decimal_text, *told_name;
@@ -64,13 +62,6 @@ static inline int put(struct block *block, char byte) {
     return 1;
 }
 
-/* The text of a name with its colon, by the object that it is: objects often have the same names. */
-struct name {
-    PyObject *name;
-    size_t size;
-    char text[48];
-};
-
 static void drop_block(struct block *block, size_t most) {
     if (block->room <= most) return;
     PyMem_Free(block->bytes);
@@ -82,7 +73,6 @@ static void drop_block(struct block *block, size_t most) {
 /* A text, and if it is refused the reason and the path, from its end to its beginning. */
 struct writer {
     struct block *out;
-    struct name *names;
     PyObject *reason, *path;
 };
 
@@ -135,7 +125,8 @@ static inline int copy_plain(uint8_t *to, const unsigned char *at, size_t size) 
     return are_plain(bytes);
 }
 
-static int write_string(struct writer *writer, PyObject *string) {
+/* Writes a string, between a byte, if it is not 0, and another one. */
+static int write_string(struct writer *writer, PyObject *string, char before, char after) {
     Py_ssize_t size;
     const unsigned char *at = (const unsigned char *)PyUnicode_AsUTF8AndSize(string, &size);
     if (at == NULL) {
@@ -145,23 +136,20 @@ static int write_string(struct writer *writer, PyObject *string) {
     }
     const unsigned char *end = at + size;
     struct block *out = writer->out;
-    if (!reserve(out, size + 2)) return 0;
+    if (!reserve(out, size + 4)) return 0;
     uint8_t *to = out->bytes + out->size;
+    if (before) *to++ = before;
     for (*to++ = '"';; at++) {
         for (size_t part; at < end && copy_plain(to, at, part = end - at < 8 ? end - at : 8); at += part) to += part;
         for (; at < end && PLAIN[*at]; at++) *to++ = *at;
         if (at == end) break;
         out->size = to - out->bytes;
-        if (!reserve(out, end - at + 7)) return 0;
+        if (!reserve(out, end - at + 8)) return 0;
         to = out->bytes + out->size;
-        if (*at < ' ') {
-            to += sprintf((char *)to, "\\u%04x", *at);
-        } else {
-            *to++ = '\\';
-            *to++ = *at;
-        }
+        to += sprintf((char *)to, *at < ' ' ? "\\u%04x" : "\\%c", *at);
     }
     *to++ = '"';
+    if (after) *to++ = after;
     out->size = to - out->bytes;
     return 1;
 }
@@ -220,7 +208,7 @@ static int write_float(struct writer *writer, PyObject *value) {
  * the value, so it needs no reference to it. Returns -1 for any other. */
 static int write_leaf(struct writer *writer, PyObject *value) {
     PyTypeObject *type = Py_TYPE(value);
-    if (type == &PyUnicode_Type) return write_string(writer, value);
+    if (type == &PyUnicode_Type) return write_string(writer, value, 0, 0);
     if (type == &PyLong_Type) return write_integer(writer, value);
     if (type == &PyFloat_Type) return write_float(writer, value);
     if (value == Py_None) return append(writer->out, "null", 4);
@@ -246,30 +234,13 @@ static int write_array(struct writer *writer, PyObject *array, int is_list, int 
     return (before == ',' || put(writer->out, before)) && put(writer->out, ']');
 }
 
-/* Writes a name and its colon. */
-static int write_name(struct writer *writer, PyObject *name) {
-    struct name *kept = writer->names + (uintptr_t)name / 16 % NAMES;
-    if (kept->name == name) return append(writer->out, kept->text, kept->size);
-    size_t begin = writer->out->size;
-    if (!write_string(writer, name) || !put(writer->out, ':')) return 0;
-    size_t size = writer->out->size - begin;
-    if (size <= sizeof kept->text && Py_TYPE(name) == &PyUnicode_Type) {
-        Py_INCREF(name);
-        Py_XDECREF(kept->name);
-        kept->name = name;
-        kept->size = size;
-        memcpy(kept->text, writer->out->bytes + begin, size);
-    }
-    return 1;
-}
-
 static int write_object(struct writer *writer, PyObject *object, int depth) {
     char before = '{';
     PyObject *name, *value;
     Py_ssize_t at = 0, size = PyDict_Size(object);
     while (PyDict_Next(object, &at, &name, &value)) {
         int is_named = Py_TYPE(name) == &PyUnicode_Type || PyUnicode_Check(name);
-        int written = is_named && put(writer->out, before) && write_name(writer, name) ? write_leaf(writer, value) : 0;
+        int written = is_named && write_string(writer, name, before, ':') ? write_leaf(writer, value) : 0;
         before = ',';
         if (written > 0) continue;
         /* what follows may run a program's own code */
@@ -278,7 +249,8 @@ static int write_object(struct writer *writer, PyObject *object, int depth) {
         if (is_named && !(written && write_whole(writer, value, depth))) return at_step(writer, name);
         Py_DECREF(name);
         if (!is_named) return 0;
-        if (PyDict_Size(object) != size) return PyErr_Format(PyExc_RuntimeError, CHANGED) != NULL;
+        if (PyDict_Size(object) != size)
+            return PyErr_Format(PyExc_RuntimeError, "a dict was changed while it was written") != NULL;
     }
     return (before == ',' || put(writer->out, before)) && put(writer->out, '}');
 }
@@ -287,7 +259,7 @@ static int write_object(struct writer *writer, PyObject *object, int depth) {
 static int write_other(struct writer *writer, PyObject *value, int depth) {
     PyObject *plain = NULL;
     int written = 0;
-    if (PyUnicode_Check(value)) return write_string(writer, value);
+    if (PyUnicode_Check(value)) return write_string(writer, value, 0, 0);
     if (PyLong_Check(value)) return write_integer(writer, value);
     if (PyFloat_Check(value)) return write_float(writer, value);
     if (PyType_IsSubtype(Py_TYPE(value), (PyTypeObject *)decimal))
@@ -310,17 +282,13 @@ static int write_other(struct writer *writer, PyObject *value, int depth) {
 /* Writes a value that is no leaf. */
 static int write_whole(struct writer *writer, PyObject *value, int depth) {
     PyTypeObject *type = Py_TYPE(value);
-    int written;
+    int is_own = type == &PyDict_Type || type == &PyList_Type || type == &PyTuple_Type;
     /* to write a part may run a program's own code, which may take the value out of where it stands */
     Py_INCREF(value);
-    if (type != &PyDict_Type && type != &PyList_Type && type != &PyTuple_Type)
-        written = write_other(writer, value, depth);
-    else if (depth == DEPTH)
-        written = refuse(writer, "nests more than %d levels, %s", DEPTH, ALLOWED);
-    else if (type == &PyDict_Type)
-        written = write_object(writer, value, depth + 1);
-    else
-        written = write_array(writer, value, type == &PyList_Type, depth + 1);
+    int written = !is_own ? write_other(writer, value, depth)
+        : depth == DEPTH ? refuse(writer, "nests more than %d levels, %s", DEPTH, ALLOWED)
+        : type == &PyDict_Type ? write_object(writer, value, depth + 1)
+        : write_array(writer, value, type == &PyList_Type, depth + 1);
     Py_DECREF(value);
     return written;
 }
@@ -328,7 +296,11 @@ static int write_whole(struct writer *writer, PyObject *value, int depth) {
 /* Lets the package raise its NotJson for what was refused, unless there is an exception already. */
 static int raise_refusal(struct writer *writer, const char *what) {
     PyObject *module = writer->reason ? PyImport_ImportModule("jskw.exceptions") : NULL;
-    if (module) Py_XDECREF(PyObject_CallMethod(module, "refuse_value", "sOO", what, writer->reason, writer->path));
+    PyObject *refusal = module && PyList_Reverse(writer->path) == 0
+        ? PyObject_CallMethod(module, "NotJson", "sOzzzO", what, writer->reason, NULL, NULL, NULL, writer->path)
+        : NULL;
+    if (refusal) PyErr_SetObject((PyObject *)Py_TYPE(refusal), refusal);
+    Py_XDECREF(refusal);
     Py_XDECREF(module);
     Py_XDECREF(writer->reason);
     Py_XDECREF(writer->path);
@@ -342,7 +314,6 @@ struct caller {
     jskw_schema schema;
     struct caller *next;
     struct block written, answer;
-    struct name names[NAMES];
     const uint8_t *bytes;
     size_t size;
     PyObject *owner;
@@ -361,7 +332,6 @@ static void drop_caller(struct caller *caller) {
     if (caller == NULL) return;
     jskw_free(&caller->schema);
     Py_XDECREF(caller->owner);
-    for (int i = 0; i < NAMES; i++) Py_XDECREF(caller->names[i].name);
     drop_block(&caller->written, 0);
     drop_block(&caller->answer, 0);
     PyMem_Free(caller);
@@ -369,8 +339,7 @@ static void drop_caller(struct caller *caller) {
 
 static struct caller *new_caller(void) {
     struct caller *caller = PyMem_Calloc(1, sizeof *caller);
-    if (caller == NULL) PyErr_NoMemory();
-    return caller;
+    return caller ? caller : (struct caller *)PyErr_NoMemory();
 }
 
 static int is_open(Schema *self) {
@@ -435,19 +404,13 @@ static PyObject *share_schema(Schema *self, PyObject *unused) {
 
 /* Takes the text of a value, which is the value itself if it is one in bytes. */
 static int take_text(struct caller *caller, PyObject *value, const char *what) {
-    if (PyBytes_Check(value)) {
-        caller->owner = value;
-        Py_INCREF(value);
-    } else if (PyByteArray_Check(value) || PyMemoryView_Check(value)) {
-        caller->owner = PyBytes_FromObject(value);
-        if (caller->owner == NULL) return 0;
-    }
-    if (caller->owner) {
+    if (PyBytes_Check(value) || PyByteArray_Check(value) || PyMemoryView_Check(value)) {
+        if ((caller->owner = PyBytes_FromObject(value)) == NULL) return 0;
         caller->bytes = (const uint8_t *)PyBytes_AsString(caller->owner);
         caller->size = PyBytes_Size(caller->owner);
         return 1;
     }
-    struct writer writer = {&caller->written, caller->names, NULL, NULL};
+    struct writer writer = {&caller->written, NULL, NULL};
     caller->written.size = 0;
     int written = write_value(&writer, value, 0) || raise_refusal(&writer, what);
     caller->bytes = caller->written.bytes;
@@ -457,10 +420,7 @@ static int take_text(struct caller *caller, PyObject *value, const char *what) {
 
 /* Lets other threads run during a call on a long text. */
 static PyThreadState *unlock(size_t size) { return size < LONG ? NULL : PyEval_SaveThread(); }
-
-static void lock(PyThreadState *thread) {
-    if (thread) PyEval_RestoreThread(thread);
-}
+static void lock(PyThreadState *thread) { if (thread) PyEval_RestoreThread(thread); }
 
 static PyObject *is_valid(Schema *self, PyObject *const *args, Py_ssize_t count, PyObject *names) {
     Py_ssize_t named = names ? PyTuple_Size(names) : 0;
@@ -527,9 +487,9 @@ static PyObject *below(PyObject *value, const char *at, const char *end, PyObjec
     return *step == NULL || PyErr_Occurred() ? NULL : found ? found : Py_None;
 }
 
-/* Returns a tuple of some places that are still empty, what stands in a value at a location, and the path there. */
-static PyObject *found_at(PyObject *value, PyObject *location, Py_ssize_t empty) {
-    Py_ssize_t size, count = empty + 1;
+/* Returns a tuple of what stands in a value at a location, and the path there. */
+static PyObject *found_at(PyObject *value, PyObject *location) {
+    Py_ssize_t size, count = 1;
     const char *at = PyUnicode_AsUTF8AndSize(location, &size);
     if (at == NULL) return NULL;
     const char *end = at + size;
@@ -537,7 +497,7 @@ static PyObject *found_at(PyObject *value, PyObject *location, Py_ssize_t empty)
     PyObject *found = PyTuple_New(count);
     if (found == NULL) return NULL;
     Py_INCREF(value);
-    for (Py_ssize_t i = empty + 1; value && i < count; i++) {
+    for (Py_ssize_t i = 1; value && i < count; i++) {
         const char *stop = stop_of(++at, end, '/');
         PyObject *step = NULL, *next = below(value, at, stop, &step);
         Py_XINCREF(next);
@@ -549,14 +509,14 @@ static PyObject *found_at(PyObject *value, PyObject *location, Py_ssize_t empty)
     if (value == NULL)
         Py_CLEAR(found);
     else
-        PyTuple_SetItem(found, empty, value);
+        PyTuple_SetItem(found, 0, value);
     return found;
 }
 
 static PyObject *find(PyObject *module, PyObject *args) {
     PyObject *value, *location;
     (void)module;
-    return PyArg_ParseTuple(args, "OU:find", &value, &location) ? found_at(value, location, 0) : NULL;
+    return PyArg_ParseTuple(args, "OU:find", &value, &location) ? found_at(value, location) : NULL;
 }
 
 /* What is asked of a text, and what the errors of the answer are made of: their class, what all errors of a keyword
@@ -585,25 +545,21 @@ static PyObject *keyword_of(PyObject *keywords, const char *const *words, struct
     return keyword;
 }
 
-/* Returns the error of a line. Until an attribute is asked for, it has what all errors of its keyword have, None, the
- * value at fault and its path; or what reads the text, and the location. */
+/* Returns the error of a line. Until an attribute is asked for, it has what all errors of its keyword have, None, and
+ * the value at fault with its path; or what reads the text in place of None, and the location. */
 static PyObject *error_of(const struct question *with, const char *const *words, struct block *key) {
     newfunc make = (newfunc)PyType_GetSlot((PyTypeObject *)with->type, Py_tp_new);
     PyObject *location = unescaped(words[1], words[2] - 1, '\\'), *message = unescaped(words[3], words[4] - 1, '\\');
     PyObject *keyword = location && message ? keyword_of(with->keywords, words, key) : NULL;
-    PyObject *given = keyword ? PyTuple_Pack(1, message) : NULL, *told = NULL, *error = NULL;
-    if (given && with->reader != Py_None) {
-        told = PyTuple_Pack(3, keyword, with->reader, location);
-    } else if (given && (told = found_at(with->instance, location, 2))) {
-        Py_INCREF(keyword);
-        PyTuple_SetItem(told, 0, keyword);
-        Py_INCREF(Py_None);
-        PyTuple_SetItem(told, 1, Py_None);
-    }
-    if (told && make) error = make((PyTypeObject *)with->type, given, NULL);
+    PyObject *given = keyword ? PyTuple_Pack(1, message) : NULL;
+    PyObject *found = given && with->reader == Py_None ? found_at(with->instance, location) : NULL;
+    PyObject *place = with->reader == Py_None ? found : location;
+    PyObject *told = given && place ? PyTuple_Pack(3, keyword, with->reader, place) : NULL;
+    PyObject *error = told && make ? make((PyTypeObject *)with->type, given, NULL) : NULL;
     if (error && PyObject_SetAttr(error, told_name, told) < 0) Py_CLEAR(error);
     Py_XDECREF(location);
     Py_XDECREF(message);
+    Py_XDECREF(found);
     Py_XDECREF(keyword);
     Py_XDECREF(given);
     Py_XDECREF(told);
@@ -697,10 +653,7 @@ static PyObject *call(Schema *self, PyObject *args) {
     if (caller == NULL) return NULL;
     if (take_text(caller, value, is_checked ? "instance" : is_call(&with, "answer") ? "request" : "schema"))
         told = answered(self, &with, caller);
-    if (is_checked)
-        put_back(self, caller);
-    else
-        drop_caller(caller);
+    is_checked ? put_back(self, caller) : drop_caller(caller);
     return told;
 }
 
@@ -711,9 +664,8 @@ static PyObject *text_of(PyObject *module, PyObject *args) {
     if (!PyArg_ParseTuple(args, "Os:text_of", &value, &what)) return NULL;
     struct caller *caller = new_caller();
     if (caller && take_text(caller, value, what)) {
-        text = caller->owner && PyBytes_CheckExact(caller->owner) ? caller->owner : NULL;
-        Py_XINCREF(text);
-        if (text == NULL) text = PyBytes_FromStringAndSize((const char *)caller->bytes, caller->size);
+        text = caller->owner ? caller->owner : PyBytes_FromStringAndSize((const char *)caller->bytes, caller->size);
+        caller->owner = NULL;
     }
     drop_caller(caller);
     return text;

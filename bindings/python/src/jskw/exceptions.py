@@ -4,11 +4,11 @@ from __future__ import annotations
 
 import json
 import re
-from collections import Counter, deque
+from collections import deque
 from collections.abc import Callable, Iterable, Iterator, Sequence
 from decimal import Decimal
 from functools import cached_property
-from typing import TYPE_CHECKING, Any, NamedTuple, NoReturn, TypeVar, Union
+from typing import TYPE_CHECKING, Any, NamedTuple, NoReturn, TypeVar, Union, cast
 
 from ._jskw import Schema, find, text_of
 
@@ -23,38 +23,44 @@ REFERENCES = "jskw follows no references: what has one is in `unchecked`"
 FIXED = "the keywords and types of jskw are fixed: the setting `overridden` leaves keywords out"
 META_SCHEMAS = "jskw reads no meta-schema: check_schema(schema) compiles the schema"
 _LACKING = {
-    FORMATS: ["FormatChecker", "draft7_format_checker"],
-    REFERENCES: ["RefResolver", "RefResolutionError"],
-    FIXED: ["TypeChecker", "create", "extend", "validates"],
-    "jskw begins with Draft 4": ["Draft3Validator"],
-}
+    "FormatChecker": FORMATS, "draft7_format_checker": FORMATS, "RefResolver": REFERENCES,
+    "RefResolutionError": REFERENCES, "TypeChecker": FIXED, "create": FIXED, "extend": FIXED, "validates": FIXED,
+    "Draft3Validator": "jskw begins with Draft 4",
+}  # fmt: skip
 
 
 def lack(name: str) -> NoReturn:
     """Says why a module of this package lacks a name that `jsonschema` has, also where it is imported."""
-    for why, names in _LACKING.items():
-        if name in names:
-            raise ImportError(f"there is no {name}: {why}")
+    if name in _LACKING:
+        raise ImportError(f"there is no {name}: {_LACKING[name]}")
     raise AttributeError(f"there is no {name} in this module of jskw")
 
 
 if not TYPE_CHECKING:  # which is to find wrong names
     __getattr__ = lack
 
-DEPTH = 127
-_ALLOWED = "which JSON allows and jskw does not"
 _EXACT = "at least one if it has a point or an exponent, and without its point from -2^63 to 2^64-1"
 _WHOLE = "limits and the numbers of `const` and `enum` are whole numbers here, from -2^63 to 2^64-1, without exponent"
-_STRING = re.compile(rb'"(?:[^"\\]|\\.)*"', re.DOTALL)
-
 Step = Union[str, int]
 _Self = TypeVar("_Self", bound="_Error")
+_property: Any = property
 
 
 class _Error(Exception):
-    """What ValidationError and SchemaError have, as their namesakes of the package `jsonschema` do."""
+    """What ValidationError and SchemaError have, as their namesakes of the package `jsonschema` do. `relative_path` is
+    `path`, `absolute_path` that from the whole instance, `instance_location` the same as a JSON pointer and `json_path`
+    as a JSONPath; so it is with the paths in the schema."""
 
     __slots__ = ("_told",)  # what the module in C makes an error of
+    relative_path: Sequence[Step] = _property(lambda e: e.path)
+    relative_schema_path: Sequence[Step] = _property(lambda e: e.schema_path)
+    absolute_path: Sequence[Step] = _property(lambda e: deque([*(e.parent.absolute_path if e.parent else ()), *e.path]))
+    absolute_schema_path: Sequence[Step] = _property(
+        lambda e: deque([*(e.parent.absolute_schema_path if e.parent else ()), *e.schema_path])
+    )
+    instance_location: str = _property(lambda e: pointer(e.absolute_path))
+    keyword_location: str = _property(lambda e: pointer(e.absolute_schema_path))
+    json_path: str = _property(lambda e: "$" + "".join(map(_json_path_step, e.absolute_path)))
 
     def __init__(
         self, message: str, validator: str | None = None, path: Iterable[Step] = (), cause: Exception | None = None,
@@ -79,8 +85,8 @@ class _Error(Exception):
             do so at once: what the first of them sets stays."""
             told = None if name == "_told" else getattr(self, "_told", None)
             if told:
-                settings, read, *found = told
-                instance, *path = find(read(), *found) if read else found
+                settings, read, found = told
+                instance, *path = find(read(), found) if read else found
                 paths = {"path": deque(path), "schema_path": deque(settings["schema_path"])}
                 made = {"message": self.args[0], "instance": instance, "context": [], "cause": None, "parent": None}
                 own = vars(self)
@@ -108,42 +114,6 @@ class _Error(Exception):
         names = "message cause context validator validator_value path schema_path instance schema parent"
         return {name: getattr(self, name) for name in names.split()}
 
-    @property
-    def relative_path(self) -> Sequence[Step]:
-        """The same as `path`."""
-        return self.path
-
-    @property
-    def relative_schema_path(self) -> Sequence[Step]:
-        """The same as `schema_path`."""
-        return self.schema_path
-
-    @property
-    def absolute_path(self) -> Sequence[Step]:
-        """The path from the whole instance."""
-        return self.path if self.parent is None else deque([*self.parent.absolute_path, *self.path])
-
-    @property
-    def absolute_schema_path(self) -> Sequence[Step]:
-        """The path from the whole schema."""
-        above = self.parent
-        return self.schema_path if above is None else deque([*above.absolute_schema_path, *self.schema_path])
-
-    @property
-    def instance_location(self) -> str:
-        """The absolute path as a JSON pointer."""
-        return pointer(self.absolute_path)
-
-    @property
-    def keyword_location(self) -> str:
-        """The absolute schema path as a JSON pointer."""
-        return pointer(self.absolute_schema_path)
-
-    @property
-    def json_path(self) -> str:
-        """The absolute path as a JSONPath, which begins with `$`."""
-        return "$" + "".join(map(_json_path_step, self.absolute_path))
-
     def _matches_type(self) -> bool:
         # `best_match` of the package `jsonschema` asks this
         if not isinstance(self.schema, dict) or "type" not in self.schema:
@@ -154,14 +124,12 @@ class _Error(Exception):
 
 
 class ValidationError(_Error):
-    """An error of an instance.
-
-    `message` is a text for people, which may change. `validator` is the keyword that failed, `validator_value` its
-    value, `schema` the schema that it stands in, `instance` the value at fault, `path` and `schema_path` deques of
-    names and indices that lead to the value and to the keyword. For the schema `false` `validator` is None.
-    `instance_location` and `keyword_location` are the paths as JSON pointers, `kind` is the error's kind
-    (docs/USE.md lists them) and `expected` what it expected: a limit, a name, a type, the value of `const` or `enum`.
-    `context` is empty, and `cause` and `parent` are None, since no keyword here combines schemas."""
+    """An error of an instance. `message` is a text for people, which may change. `validator` is the keyword that
+    failed, `validator_value` its value, `schema` the schema that it stands in, `instance` the value at fault, `path`
+    and `schema_path` deques of names and indices that lead to the value and to the keyword. For the schema `false`
+    `validator` is None. `kind` is the error's kind (docs/USE.md lists them), `expected` what it expected: a limit, a
+    name, a type, the value of `const` or `enum`. `context` is empty, `cause` and `parent` are None: no keyword here
+    combines schemas."""
 
     def __str__(self) -> str:
         return f"{self.message} (instance {self.instance_location!r}, schema {self.keyword_location!r})"
@@ -186,27 +154,23 @@ class UnsupportedNumber(SchemaError):
 
 
 class NotJson(ValueError):
-    """A text that is not JSON in UTF-8, or nests more than 127 levels, or has what is refused though JSON allows it;
-    `reason` says which. `text` is "schema", "instance" or "request". `offset` counts bytes from 0, `line` and `column`
-    count from 1; of a value of Python they are None, and `path` leads to what is refused."""
+    """A text that is not JSON in UTF-8, or nests more than 127 levels, or has what is refused though JSON allows it.
+    `reason` says why, and `kind` says it in a word, such as "missingComma" (include/jskw.h lists them). `text` is
+    "schema", "instance" or "request". `offset` counts bytes from 0, `line` and `column` count from 1; of a value of
+    Python these four are None, and `path` leads to what is refused."""
 
     def __init__(
         self, text: str, reason: str, offset: int | None = None, line: int | None = None, column: int | None = None,
-        path: Iterable[Step] = (),
+        path: Iterable[Step] = (), kind: str | None = None,
     ) -> None:  # fmt: skip
         self.text, self.reason, self.offset, self.line, self.column = text, reason, offset, line, column
-        self.path = deque(path)
-        super().__init__(text, reason, offset, line, column, self.path)
+        self.path, self.kind = deque(path), kind
+        super().__init__(text, reason, offset, line, column, self.path, kind)
 
     def __str__(self) -> str:
         where = "" if self.offset is None else f" at line {self.line}, column {self.column} (byte {self.offset})"
-        at = f" (at {_cut(pointer(self.path))!r})" if self.path else ""
+        at = f" (at {_shown(pointer(self.path))!r})" if self.path else ""
         return f"the {self.text} {self.reason}{where}{at}"
-
-
-def refuse_value(text: str, reason: str, path: list[Step]) -> None:
-    """Raises why a value of Python is refused. The path goes from its end to its beginning; the module in C calls."""
-    raise NotJson(text, reason, path=reversed(path))
 
 
 class BadSetting(ValueError):
@@ -227,13 +191,11 @@ class InexactNumber(ValueError):
         return f"{place}: of at most 18 decimals, {_EXACT}"
 
 
-def _shown(number: Any) -> str:
-    """Returns the digits of a number, if they are not too many."""
-    return f"of {number.bit_length()} bits" if isinstance(number, int) and abs(number) >> 256 else _cut(str(number))
-
-
-def _cut(text: str) -> str:
-    return text if len(text) <= 80 else text[:80] + ".."
+def _shown(word: Any) -> str:
+    """Returns a text or a number as it is written, if it is not too long."""
+    if isinstance(word, int) and abs(word) >> 256:
+        return f"of {word.bit_length()} bits"
+    return str(word) if len(str(word)) <= 80 else str(word)[:80] + ".."
 
 
 class UncheckedMember(NamedTuple):
@@ -244,7 +206,7 @@ class UncheckedMember(NamedTuple):
     - "unknown": no keyword of the draft, such as a misspelt one;
     - "inactive": a keyword of jskw that asserts nothing as it stands: the draft or the vocabularies do not have it, it
       is overridden, what it goes with is absent, or it passes over such a value;
-    - "repeated": a name that the schema's text has more than once in an object, at any depth: only the last counts."""
+    - "repeated": a member that a later one of the same name replaces, in an object anywhere in the schema's text."""
 
     keyword: str
     path: tuple[Step, ...]
@@ -269,33 +231,27 @@ class UncheckedError(ValueError):
         return "the schema has what is not checked: " + ", ".join(shown) + (f" and {more} more" if more else "")
 
 
-class ErrorTree:
+class ErrorTree(dict[Step, "ErrorTree"]):
     """Errors by the places where they stand: `tree[0]["name"]` has those of `/0/name` and below, and `errors`, by their
     keywords, those of its own place. It has the steps of its errors as its own, and `len` of it counts the errors."""
 
     def __init__(self, errors: Iterable[_Error] = ()) -> None:
+        super().__init__()
         self.errors: dict[str | None, _Error] = {}
-        self._below: dict[Step, ErrorTree] = {}
         self._instance: Any = None
         for error in errors:
             tree = self
             for step in error.path:
-                tree = tree._below.setdefault(step, ErrorTree())
+                tree = tree.setdefault(step, ErrorTree())
             tree.errors[error.validator], tree._instance = error, error.instance
 
-    def __contains__(self, step: object) -> bool:
-        return step in self._below
-
-    def __getitem__(self, step: Step) -> ErrorTree:
-        if step not in self._below and self._instance is not None:
+    def __missing__(self, step: Step) -> ErrorTree:
+        if self._instance is not None:
             self._instance[step]  # that the instance does not have is an error
-        return self._below.get(step) or ErrorTree()
-
-    def __iter__(self) -> Iterator[Step]:
-        return iter(self._below)
+        return ErrorTree()
 
     def __len__(self) -> int:
-        return len(self.errors) + sum(map(len, self._below.values()))
+        return len(self.errors) + sum(map(len, self.values()))
 
     @property
     def total_errors(self) -> int:
@@ -311,8 +267,7 @@ def relevance(error: _Error) -> Any:
 
 def best_match(errors: Iterable[_Self], key: Callable[[_Error], Any] = relevance) -> _Self | None:
     """Returns the greatest error, or None if there is none."""
-    every = list(errors)
-    return max(every, key=key) if every else None
+    return max(errors, key=cast(Any, key), default=None)
 
 
 class Keywords(dict[bytes, Any]):
@@ -341,10 +296,6 @@ class Keywords(dict[bytes, Any]):
 class _Number(str):
     """A number of a JSON text as it is written there."""
 
-    def is_taken(self) -> bool:
-        """Returns whether a schema may have it."""
-        return self != "-0" and self.lstrip("-").isdecimal() and -(2**63) <= int(self) < 2**64
-
 
 def value_of(given: Any, as_written: bool = False) -> Any:
     """Returns a value, or that of a JSON text in bytes: its numbers may be left as they are written."""
@@ -361,40 +312,23 @@ def schema_error(line: list[str], text: bytes) -> SchemaError:
     value, *path = find(schema, location)
     settings = {"validator_value": limit, "schema": schema, "expected": limit}
     if kind == "compileError" or limit == "integer":
-        for below, number in nodes(find(value_of(text, as_written=True), location)[0], path):
+        for number, below in _numbers(find(value_of(text, as_written=True), location)[0], path):
+            taken = Schema()._call("compile", f'{{"const":{number}}}'.encode(), 2020, 7)[0] == 0
             # the standard has its own word on 2.5 items
-            if isinstance(number, _Number) and not number.is_taken():
-                if kind == "compileError" or Decimal(number) >= 0 == Decimal(number) % 1:
-                    message = f"jskw does not take the number {_shown(number)}: {_WHOLE}"
-                    value = find(schema, pointer(below))[0]
-                    error = UnsupportedNumber(message, kind, below, instance=value, **settings)
-                    error.number = number
-                    return error
+            if not taken and (kind == "compileError" or Decimal(number) >= 0 == Decimal(number) % 1):
+                message = f"jskw does not take the number {_shown(number)}: {_WHOLE}"
+                error = UnsupportedNumber(message, kind, below, instance=find(schema, pointer(below))[0], **settings)
+                error.number = number
+                return error
     return SchemaError(message, kind, path, instance=value, **settings)
 
 
-def nodes(value: Any, path: Iterable[Step] = ()) -> Iterator[tuple[tuple[Step, ...], Any]]:
-    """Returns a value and all values in it, with their paths."""
-    yield tuple(path), value
-    if isinstance(value, (dict, list)):
-        for step, below in value.items() if isinstance(value, dict) else enumerate(value):
-            yield from nodes(below, (*path, step))
-
-
-def repeated_names(text: bytes) -> list[UncheckedMember]:
-    """Returns the names that a JSON text has more than once in an object."""
-    found: dict[int, tuple[dict[str, Any], list[str]]] = {}
-
-    def of_pairs(pairs: list[tuple[str, Any]]) -> dict[str, Any]:
-        members = dict(pairs)
-        if len(members) < len(pairs):
-            times = Counter(name for name, _ in pairs)
-            found[id(members)] = members, [name for name in members if times[name] > 1]
-        return members
-
-    value = json.loads(text, object_pairs_hook=of_pairs)
-    repeated = [(path, found[id(each)][1]) for path, each in nodes(value) if id(each) in found] if found else []
-    return [UncheckedMember(name, (*path, name), "repeated") for path, names in repeated for name in names]
+def _numbers(value: Any, path: Sequence[Step]) -> Iterator[tuple[_Number, Sequence[Step]]]:
+    """Returns the numbers in a value, with their paths."""
+    if isinstance(value, _Number):
+        yield value, path
+    for step, below in value.items() if isinstance(value, dict) else enumerate(value) if isinstance(value, list) else ():
+        yield from _numbers(below, [*path, step])
 
 
 def pointer(path: Iterable[Step]) -> str:
@@ -408,24 +342,10 @@ def _json_path_step(step: Step) -> str:
     return f"[{step}]" if isinstance(step, int) else "['" + re.sub(r"([\\'])", r"\\\1", step) + "']"
 
 
-def refusal(what: str, text: bytes, lines: list[list[str]]) -> NotJson:
-    """Returns the error of a text that is refused: the line has the offset, line and column."""
+def refusal(what: str, lines: list[list[str]]) -> NotJson:
+    """Returns the error of a text that is refused. The line has its offset, line and column, and why, as a word and in
+    words; a number that is too large for a double has none."""
     if not lines:
-        return NotJson(what, f"has a number that is too large for a double, {_ALLOWED}")
-    offset, line, column = map(int, lines[0][:3])
-    return NotJson(what, _reason(text, offset), offset, line, column)
-
-
-def _reason(text: bytes, offset: int) -> str:
-    """Returns why a text is refused at an offset."""
-    before, byte = _STRING.sub(b"", text[:offset]), text[offset : offset + 1]
-    if byte in (b"[", b"{") and sum(map(before.count, b"[{")) - sum(map(before.count, b"]}")) == DEPTH:
-        return f"nests more than {DEPTH} levels, {_ALLOWED}"
-    try:
-        if byte == b'"':
-            json.loads(_STRING.match(text, offset).group()).encode()  # type: ignore[union-attr]
-    except UnicodeEncodeError:
-        return f"has the escape of a lone surrogate, {_ALLOWED}"
-    except (AttributeError, ValueError):
-        pass  # the string has no end, or is not JSON
-    return "is not JSON in UTF-8"
+        return NotJson(what, "has a number that is too large for a double, which JSON allows and jskw does not")
+    offset, line, column, kind, why = lines[0]
+    return NotJson(what, "is " * why.startswith("not ") + why, int(offset), int(line), int(column), kind=kind)

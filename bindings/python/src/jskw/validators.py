@@ -11,7 +11,7 @@ from typing import TYPE_CHECKING, Any, ClassVar, TypeVar
 from ._jskw import Schema, find, text_of
 from .exceptions import (
     FIXED, FORMATS, META_SCHEMAS, REFERENCES, BadSetting, InexactNumber, Keywords, NotJson, UncheckedError,
-    UncheckedMember, ValidationError, lack, refusal, repeated_names, schema_error, value_of,
+    UncheckedMember, ValidationError, lack, refusal, schema_error, value_of,
 )  # fmt: skip
 
 if TYPE_CHECKING:
@@ -33,7 +33,6 @@ if TYPE_CHECKING:
 else:
     __getattr__ = lack
 
-
 __all__ = [
     "Draft4Validator", "Draft6Validator", "Draft7Validator", "Draft201909Validator", "Draft202012Validator",
     "Validator", "answer", "validate", "validator_for", "version",
@@ -49,14 +48,11 @@ TEXT = bytes, bytearray, memoryview
 _Self = TypeVar("_Self", bound="Validator")
 
 
-class Lacking:
-    """An attribute that validators of `jsonschema` have and these do not."""
-
-    def __init__(self, why: str) -> None:
-        self.why = why
+class Lacking(str):
+    """Why validators do not have an attribute that those of `jsonschema` have."""
 
     def __get__(self, one: object, kind: object = None) -> Any:
-        raise AttributeError(self.why)
+        raise AttributeError(self)
 
 
 class Validator(Schema):
@@ -85,8 +81,8 @@ class Validator(Schema):
         if resolver is not None or registry is not None:
             raise BadSetting(f"resolver={resolver!r}, registry={registry!r}: {REFERENCES}")
         self.draft = self.DRAFTS[-1] if draft is None else _one_of("draft", draft, self.DRAFTS)
-        names = _names("vocabularies", vocabularies)
-        self.vocabularies = frozenset(_one_of("vocabularies", name, VOCABULARIES) for name in names)
+        chosen = _names("vocabularies", vocabularies)
+        self.vocabularies = frozenset(_one_of("vocabularies", name, VOCABULARIES) for name in chosen)
         self.overridden = tuple(_names("overridden", overridden))
         self._text = text_of(schema, "schema")
         self._keywords = Keywords(self._text)
@@ -95,7 +91,7 @@ class Validator(Schema):
         if status == BAD_SCHEMA:
             raise schema_error(lines[0], self._text)
         if status == NOT_JSON:
-            raise refusal("schema", self._text, lines)
+            raise refusal("schema", lines)
         if status == BAD_SETTING:
             raise BadSetting(f"overridden={self.overridden!r} is no list of names")
         if strict and (unchecked := self.unchecked):
@@ -107,12 +103,12 @@ class Validator(Schema):
 
     @property
     def unchecked(self) -> list[UncheckedMember]:
-        """The members of the schema, and of the subschemas that keywords of jskw apply, that are not checked, and the
-        names that its text repeats. What stands below a member is not looked at, but for such names. If the list is
-        empty, all that the schema says is asserted."""
+        """The members of the schema, and of the subschemas that keywords of jskw apply, that are not checked, and those
+        that a later one of the same name replaces. What stands below a member is not looked at, but for the latter. If
+        the list is empty, all that the schema says is asserted."""
         lines = self._call_schema("unchecked")[1]
         members = [(find(self.schema, location)[1:], reason) for location, reason, *_ in lines]
-        return [UncheckedMember(str(path[-1]), path, reason) for path, reason in members] + repeated_names(self._text)
+        return [UncheckedMember(str(path[-1]), path, reason) for path, reason in members]
 
     @property
     def schema(self) -> Any:
@@ -137,14 +133,15 @@ class Validator(Schema):
 
     def validate(self, instance: Any) -> None:
         """Raises the first error, if there is one."""
-        for error in () if self.is_valid(instance) else self._errors("first_error", instance, 1):
-            raise error
+        for errors in () if self.is_valid(instance) else self._pages("first_error", instance, 1):
+            raise errors[0]
 
     def iter_errors(self, instance: Any, limit: int | None = None) -> Iterator[ValidationError]:
         """Returns an iterator over the errors, or over the first `limit` of them, in the order of the keywords."""
         if limit is not None and not (isinstance(limit, int) and 0 < limit < 2**64):
             raise BadSetting(f"limit={limit!r} is not None or from 1 to 2^64-1; evolve(schema=..) takes another schema")
-        return self._errors("errors", instance, limit or 2**64 - 1)
+        pages = self._pages("errors", instance, limit or 2**64 - 1)
+        return chain(next(pages, ()), chain.from_iterable(pages))
 
     def evaluate(self, instance: Any) -> dict[str, Any]:
         """Returns the evaluation tree: `valid`, `keywordLocation`, `instanceLocation`, `annotation`, `errors` and
@@ -161,10 +158,6 @@ class Validator(Schema):
                 open_lists.append(open_lists[-1][-1]["details"])
         tree: dict[str, Any] = open_lists[0][0]
         return tree
-
-    def _errors(self, name: str, instance: Any, limit: int) -> Iterator[ValidationError]:
-        pages = self._pages(name, instance, limit)
-        return chain(next(pages, ()), chain.from_iterable(pages))
 
     def _pages(self, name: str, instance: Any, limit: int) -> Iterator[list[ValidationError]]:
         """Returns the errors some at a time, so many that to pass over those before costs little."""
@@ -184,7 +177,7 @@ class Validator(Schema):
         """Returns what a call tells of an instance, or of its text, if it is one that can be checked."""
         status, told = self._call(name, instance if text is None else text, limit, 0, b"", skipped, *source)
         if status == NOT_JSON:
-            raise refusal("instance", text_of(instance, "instance"), told)
+            raise refusal("instance", told)
         if status == INEXACT:
             location = told[0][0]
             number, *path = find(value_of(instance, as_written=True), location)
@@ -205,7 +198,7 @@ class Validator(Schema):
         self.close()
 
     def __copy__(self: _Self) -> _Self:
-        copy = self._share()
+        copy: _Self = self._share()
         copy.__dict__.update(self.__dict__)
         return copy
 
@@ -290,9 +283,8 @@ def _names(setting: str, names: Iterable[str]) -> list[str]:
     if isinstance(names, (str, bytes)) or not isinstance(names, Iterable):
         raise BadSetting(f"{setting}={names!r} is not a list of names")
     found = list(names)
-    for name in found:
-        if not isinstance(name, str):
-            raise BadSetting(f"{setting}: {name!r} is not a name")
+    for name in (name for name in found if not isinstance(name, str)):
+        raise BadSetting(f"{setting}: {name!r} is not a name")
     return found
 
 
