@@ -12,6 +12,7 @@ ghost use Rattle.jskw_c.specs.Expected.{types_text};
 
 use crate::json_parts::{push_comma, push_string};
 use jskw_report::{EnumOptions, Payload, TypeKind, ValidationErrorKind};
+use jskw_sentence::{TYPES, type_name};
 use jskw_service::push_bytes;
 use jskw_value::types::{JsonType, JsonTypeSet};
 use serde_json::Value;
@@ -20,17 +21,6 @@ use std::alloc::{AllocError, Global};
 // A longer text of a value of the schema is left out: each error would repeat it, and a caller has the
 // schema.
 const LONGEST: usize = 1024;
-
-// The order in which the types of a set are written.
-const TYPES: [JsonType; 7] = [
-    JsonType::Array,
-    JsonType::Boolean,
-    JsonType::Integer,
-    JsonType::Null,
-    JsonType::Number,
-    JsonType::Object,
-    JsonType::String,
-];
 
 // Returns what the keyword expected, as compact JSON: the limit, divisor, constant, options or name,
 // or the type or types. For a kind that has none of these the text is empty, and for a constant or
@@ -148,21 +138,6 @@ fn push_names(alloc: Global, text: &mut Vec<u8>, types: JsonTypeSet) -> Result<(
         }
     }
     Ok(())
-}
-
-// Returns the name of the type.
-fn type_name(json_type: JsonType) -> &'static str
-    ensures { result.now ≡ type_name json_type }
-{
-    match json_type {
-        JsonType::Array => "array",
-        JsonType::Boolean => "boolean",
-        JsonType::Integer => "integer",
-        JsonType::Null => "null",
-        JsonType::Number => "number",
-        JsonType::Object => "object",
-        JsonType::String => "string",
-    }
 }
 
 // Returns a string in quotes.
