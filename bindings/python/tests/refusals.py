@@ -1,4 +1,4 @@
-"""What is refused, with the words that say why; what is not checked of a schema; schemas that are to be checked whole."""
+"""What is refused, with the words that say why; what is not checked; schemas that are to be checked whole."""
 
 from __future__ import annotations
 
@@ -14,7 +14,6 @@ from checks import check, check_raises, raised
 
 NESTS = "nests more than 127 levels, which JSON allows and jskw does not"
 SURROGATE = "has the escape of a lone surrogate, which JSON allows and jskw does not"
-TOO_LARGE = "has a number that is too large for a double, which JSON allows and jskw does not"
 DRAFTS = "'4', '6', '7', '2019-09', '2020-12'"
 is_valid = jskw.Validator(True).is_valid
 CALLS: list[tuple[str, Callable[..., Any]]] = [("instance", is_valid), ("schema", jskw.Validator)]
@@ -137,9 +136,9 @@ def not_json() -> None:
             told = type(error), list(getattr(error, "path", ())), str(error)
             check(f"{what} {reason}", told, (jskw.NotJson, path, f"the {what} {reason}{place}"))
     check("127 levels", is_valid(b"[" * 127 + b"]" * 127), True)
-    error = raised(is_valid, b"[1,\n  ?]")
-    check("a place", [getattr(error, name, None) for name in ("offset", "line", "column")], [6, 2, 3])
-    check_raises(jskw.NotJson, f"the schema {TOO_LARGE}", jskw.Validator, b'{"minimum": 1e400}')
+    check("a place", [getattr(raised(is_valid, b"[1,\n  ?]"), name) for name in ("offset", "line", "column")], [6, 2, 3])
+    text = "the schema has a number that is too large for a double, which JSON allows and jskw does not"
+    check_raises(jskw.NotJson, text, jskw.Validator, b'{"minimum": 1e400}')
 
 
 def numbers() -> None:
