@@ -136,9 +136,10 @@ def not_json() -> None:
             told = type(error), list(getattr(error, "path", ())), str(error)
             check(f"{what} {reason}", told, (jskw.NotJson, path, f"the {what} {reason}{place}"))
     check("127 levels", is_valid(b"[" * 127 + b"]" * 127), True)
-    check("a place", [getattr(raised(is_valid, b"[1,\n  ?]"), name) for name in ("offset", "line", "column")], [6, 2, 3])
-    text = "the schema has a number that is too large for a double, which JSON allows and jskw does not"
-    check_raises(jskw.NotJson, text, jskw.Validator, b'{"minimum": 1e400}')
+    place = [getattr(raised(is_valid, b"[1,\n  ?]"), name) for name in ("offset", "line", "column")]
+    check("a place", place, [6, 2, 3])
+    wanted = "the schema has a number that is too large for a double, which JSON allows and jskw does not"
+    check_raises(jskw.NotJson, wanted, jskw.Validator, b'{"minimum": 1e400}')
 
 
 def numbers() -> None:
