@@ -45,7 +45,7 @@ def run() -> None:
     check("README.md has examples", results.attempted > 10, True)
     versions = re.findall(r'JSKW_VERSION "(.*)"', (FOLDER.parents[1] / "include/jskw.h").read_text(encoding="utf-8"))
     versions += re.findall(r'^version = "(.*)"', (FOLDER / "pyproject.toml").read_text(encoding="utf-8"), re.MULTILINE)
-    check("the versions", [*versions, jskw.version()[0]], [jskw.__version__] * 2 + [f"jskw {jskw.__version__}"])
+    check("the versions", [*versions, jskw.version()[0][5:]], [jskw.__version__] * 3)
     check("docstrings", [name for name in jskw.__all__ if not inspect.getdoc(getattr(jskw, name))], [])
     request = {"schema": {"required": ["name", "age"], "minProperties": 2}, "instance": {"age": 36}}
     for given in request, json.dumps(request).encode():

@@ -77,8 +77,7 @@ def attributes() -> None:
     got = error.message, error.expected, error.json_path
     check("words", got, (f"{json.dumps(name)} is a required property", name, "$[0][1]"))
     error = jskw.ValidationError("x", path=["a", 0, "b c/~'", 1])
-    got = error.json_path, error.instance_location
-    check("made by hand", got, ("$.a[0]['b c/~\\'']" + "[1]", "/a/0/b c~1~0'/1"))
+    check("by hand", (error.json_path, error.instance_location), ("$.a[0]['b c/~\\''][1]", "/a/0/b c~1~0'/1"))
     for schema, instance, kind, limit in EXPECTED:
         error = first(schema, instance, "7" if kind == "additionalItems" else "2020-12")
         check(f"{schema} expected", (error.kind, error.expected), (kind, limit))

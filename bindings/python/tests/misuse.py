@@ -9,7 +9,6 @@ import multiprocessing
 import pickle
 import subprocess
 import sys
-import threading
 from concurrent.futures import Executor, ProcessPoolExecutor, ThreadPoolExecutor
 from typing import Any, Callable
 
@@ -39,22 +38,19 @@ def run() -> None:
 
 
 def copies_and_closed_ones() -> None:
-    validator: Any
-    got: Any
     for copied in COPIES:
         with jskw.Draft7Validator({"required": ["a"]}, overridden=["items"]) as validator:
             other = copied(validator)
         del validator
         got = type(other), other.draft, other.overridden, other.is_valid({"a": 1}), other.is_valid({}), other.schema
         check("a copy", got, (jskw.Draft7Validator, "7", ("items",), True, False, {"required": ["a"]}))
-    with jskw.Validator(True) as validator:
-        check("open", validator.is_valid(1), True)
-    calls = [lambda name=name: getattr(validator, name)(1) for name in ("is_valid", "validate", "iter_errors", "evaluate")]
-    for call in *calls, validator.__reduce__, validator.__enter__, validator.__copy__:
-        check_raises(ValueError, CLOSED, call)
-    validator.close()
-    got = validator.schema, validator.unchecked, repr(validator)
-    check("a closed one", got, (True, [], "<Validator draft='2020-12' schema=true, closed>"))
+    with jskw.Validator(True) as one:
+        check("open", one.is_valid(1), True)
+    for name in "is_valid validate iter_errors evaluate __reduce__ __enter__ __copy__".split():
+        check_raises(ValueError, CLOSED, getattr(one, name), *[1] * (name[0] != "_"))
+    one.close()
+    told = one.schema, one.unchecked, repr(one)
+    check("a closed one", told, (True, [], "<Validator draft='2020-12' schema=true, closed>"))
 
 
 def arguments() -> None:
@@ -94,21 +90,14 @@ def check_pool(what: str, pool: Executor, validator: jskw.Validator) -> None:
 
 def closes_while_asked() -> None:
     """Threads ask while others close the validator: each call answers, or says that it is closed."""
-    told: list[object] = []
+    told: list[str] = []
 
     def ask(validator: jskw.Validator) -> None:
-        try:
-            while not validator.is_valid(LONG) and validator.is_valid([1]):
-                pass
-        except ValueError as error:
-            told.append(str(error))
+        while not validator.is_valid(LONG) and validator.is_valid([1]):
+            pass
 
     for _ in range(20):
-        validator = jskw.Validator({"items": {"type": "integer"}})
-        threads = [threading.Thread(target=ask, args=(validator,)) for _ in range(4)]
-        for thread in threads:
-            thread.start()
-        validator.close()
-        for thread in threads:
-            thread.join()
+        with ThreadPoolExecutor(4) as pool, jskw.Validator({"items": {"type": "integer"}}) as validator:
+            asked = [pool.submit(ask, validator) for _ in range(4)]
+        told += [str(one.exception()) for one in asked]
     check("closed while asked", told, [CLOSED] * 80)

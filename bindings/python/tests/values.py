@@ -8,8 +8,8 @@ import gc
 import json
 import os
 import random
-import threading
 from collections import OrderedDict
+from concurrent.futures import ThreadPoolExecutor
 from decimal import Decimal
 from typing import Any, Callable
 
@@ -155,10 +155,6 @@ def hostile() -> None:
     levels = jskw.Validator(b'{"items":' * 120 + b"{}" + b"}" * 120)
     check("a tree below 700 frames", below(700, levels), levels.evaluate(b"[" * 120 + b"]" * 120))
     errors = list(asks.iter_errors([1] * 2000))
-    seen: list[list[int]] = []
-    threads = [threading.Thread(target=lambda: seen.append([id(error.path) for error in errors])) for _ in range(8)]
-    for thread in threads:
-        thread.start()
-    for thread in threads:
-        thread.join()
+    with ThreadPoolExecutor(8) as pool:
+        seen = list(pool.map(lambda _: [id(error.path) for error in errors], range(8)))
     check("attributes for all threads", seen, seen[:1] * 8)

@@ -20,7 +20,8 @@ enum {
                      * longer than to check a shorter one */
     FIRST = 1 << 16, /* the bytes of the first buffer for an answer */
     KEPT = 1 << 20, /* the most bytes of a buffer that are kept between calls */
-    MANY = 1 << 18  /* for so many errors there is room at once */
+    MANY = 1 << 18, /* for so many errors there is room at once */
+    NAMES = 32      /* for so many names of members the texts are kept */
 };
 
 static const char ALLOWED[] = "which JSON allows and jskw does not";
@@ -70,9 +71,13 @@ static void drop_block(struct block *block, size_t most) {
 
 /* ---- the text of a value */
 
+/* The text of a name with its colon, by the object that it is: objects often have the same names. */
+struct name { PyObject *name; size_t size; char text[48]; };
+
 /* A text, and if it is refused the reason and the path, from its end to its beginning. */
 struct writer {
     struct block *out;
+    struct name *names;
     PyObject *reason, *path;
 };
 
@@ -125,8 +130,8 @@ static inline int copy_plain(uint8_t *to, const unsigned char *at, size_t size) 
     return are_plain(bytes);
 }
 
-/* Writes a string, between a byte, if it is not 0, and another one. */
-static int write_string(struct writer *writer, PyObject *string, char before, char after) {
+/* Writes a string, and a byte behind it if that is not 0. */
+static int write_string(struct writer *writer, PyObject *string, char after) {
     Py_ssize_t size;
     const unsigned char *at = (const unsigned char *)PyUnicode_AsUTF8AndSize(string, &size);
     if (at == NULL) {
@@ -136,9 +141,8 @@ static int write_string(struct writer *writer, PyObject *string, char before, ch
     }
     const unsigned char *end = at + size;
     struct block *out = writer->out;
-    if (!reserve(out, size + 4)) return 0;
+    if (!reserve(out, size + 3)) return 0;
     uint8_t *to = out->bytes + out->size;
-    if (before) *to++ = before;
     for (*to++ = '"';; at++) {
         for (size_t part; at < end && copy_plain(to, at, part = end - at < 8 ? end - at : 8); at += part) to += part;
         for (; at < end && PLAIN[*at]; at++) *to++ = *at;
@@ -208,7 +212,7 @@ static int write_float(struct writer *writer, PyObject *value) {
  * the value, so it needs no reference to it. Returns -1 for any other. */
 static int write_leaf(struct writer *writer, PyObject *value) {
     PyTypeObject *type = Py_TYPE(value);
-    if (type == &PyUnicode_Type) return write_string(writer, value, 0, 0);
+    if (type == &PyUnicode_Type) return write_string(writer, value, 0);
     if (type == &PyLong_Type) return write_integer(writer, value);
     if (type == &PyFloat_Type) return write_float(writer, value);
     if (value == Py_None) return append(writer->out, "null", 4);
@@ -234,13 +238,26 @@ static int write_array(struct writer *writer, PyObject *array, int is_list, int 
     return (before == ',' || put(writer->out, before)) && put(writer->out, ']');
 }
 
+/* Writes a name and its colon. */
+static int write_name(struct writer *writer, PyObject *name) {
+    struct name *kept = writer->names + (uintptr_t)name / 16 % NAMES;
+    if (kept->name == name) return append(writer->out, kept->text, kept->size);
+    size_t begin = writer->out->size, written = write_string(writer, name, ':'), size = writer->out->size - begin;
+    if (!written || size > sizeof kept->text || Py_TYPE(name) != &PyUnicode_Type) return (int)written;
+    Py_INCREF(name);
+    Py_XDECREF(kept->name);
+    kept->name = name;
+    memcpy(kept->text, writer->out->bytes + begin, kept->size = size);
+    return 1;
+}
+
 static int write_object(struct writer *writer, PyObject *object, int depth) {
     char before = '{';
     PyObject *name, *value;
     Py_ssize_t at = 0, size = PyDict_Size(object);
     while (PyDict_Next(object, &at, &name, &value)) {
         int is_named = Py_TYPE(name) == &PyUnicode_Type || PyUnicode_Check(name);
-        int written = is_named && write_string(writer, name, before, ':') ? write_leaf(writer, value) : 0;
+        int written = is_named && put(writer->out, before) && write_name(writer, name) ? write_leaf(writer, value) : 0;
         before = ',';
         if (written > 0) continue;
         /* what follows may run a program's own code */
@@ -259,7 +276,7 @@ static int write_object(struct writer *writer, PyObject *object, int depth) {
 static int write_other(struct writer *writer, PyObject *value, int depth) {
     PyObject *plain = NULL;
     int written = 0;
-    if (PyUnicode_Check(value)) return write_string(writer, value, 0, 0);
+    if (PyUnicode_Check(value)) return write_string(writer, value, 0);
     if (PyLong_Check(value)) return write_integer(writer, value);
     if (PyFloat_Check(value)) return write_float(writer, value);
     if (PyType_IsSubtype(Py_TYPE(value), (PyTypeObject *)decimal))
@@ -314,6 +331,7 @@ struct caller {
     jskw_schema schema;
     struct caller *next;
     struct block written, answer;
+    struct name names[NAMES];
     const uint8_t *bytes;
     size_t size;
     PyObject *owner;
@@ -332,6 +350,7 @@ static void drop_caller(struct caller *caller) {
     if (caller == NULL) return;
     jskw_free(&caller->schema);
     Py_XDECREF(caller->owner);
+    for (int i = 0; i < NAMES; i++) Py_XDECREF(caller->names[i].name);
     drop_block(&caller->written, 0);
     drop_block(&caller->answer, 0);
     PyMem_Free(caller);
@@ -410,7 +429,7 @@ static int take_text(struct caller *caller, PyObject *value, const char *what) {
         caller->size = PyBytes_Size(caller->owner);
         return 1;
     }
-    struct writer writer = {&caller->written, NULL, NULL};
+    struct writer writer = {&caller->written, caller->names, NULL, NULL};
     caller->written.size = 0;
     int written = write_value(&writer, value, 0) || raise_refusal(&writer, what);
     caller->bytes = caller->written.bytes;

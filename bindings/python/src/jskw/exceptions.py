@@ -187,8 +187,8 @@ class InexactNumber(ValueError):
         self.instance_location, self.path, self.instance = instance_location, deque(path), instance
 
     def __str__(self) -> str:
-        place = f"the number {_shown(self.instance)} at {self.instance_location!r} is not exact"
-        return f"{place}: of at most 18 decimals, {_EXACT}"
+        where = f"{_shown(self.instance)} at {self.instance_location!r}"
+        return f"the number {where} is not exact: of at most 18 decimals, {_EXACT}"
 
 
 def _shown(word: Any) -> str:
@@ -253,10 +253,7 @@ class ErrorTree(dict[Step, "ErrorTree"]):
     def __len__(self) -> int:
         return len(self.errors) + sum(map(len, self.values()))
 
-    @property
-    def total_errors(self) -> int:
-        """The number of errors, here and below."""
-        return len(self)
+    total_errors: int = _property(__len__)
 
 
 def relevance(error: _Error) -> Any:
@@ -327,7 +324,8 @@ def _numbers(value: Any, path: Sequence[Step]) -> Iterator[tuple[_Number, Sequen
     """Returns the numbers in a value, with their paths."""
     if isinstance(value, _Number):
         yield value, path
-    for step, below in value.items() if isinstance(value, dict) else enumerate(value) if isinstance(value, list) else ():
+    parts = value.items() if isinstance(value, dict) else enumerate(value) if isinstance(value, list) else ()
+    for step, below in parts:
         yield from _numbers(below, [*path, step])
 
 
