@@ -155,8 +155,8 @@ static void readme(void) {
     check("compiles", compile(&handle, SCHEMA) == JSKW_VALID && has_schema(&handle));
     uint32_t status = jskw_errors(&handle, BYTES(INVALID), 0, buffer, ROOM, &length);
     check("errors", gives(status, JSKW_INVALID, buffer, length,
-        "minProperties\t\t/minProperties\t{\"age\":36} has less than 2 properties\t2\n"
-        "required\t\t/required\t\"name\" is a required property\t\"name\"\n"));
+        "minProperties\t\t/minProperties\thas 1 member, needs at least 2\t2\n"
+        "required\t\t/required\thas no member \"name\"\t\"name\"\n"));
     const char *request =
         "{\"schema\":{\"required\":[\"name\",\"age\"],\"minProperties\":2},\"instance\":{\"age\":36}}";
     status = jskw_answer(BYTES(request), buffer, ROOM, &length);

@@ -54,7 +54,7 @@ static int goes_on(struct job *job, double begun) {
 }
 
 static void *ask(void *of) {
-    static const char wanted[] = "minProperties\t\t/minProperties\t{\"age\":36} has less than 2 properties\t2\n";
+    static const char wanted[] = "minProperties\t\t/minProperties\thas 1 member, needs at least 2\t2\n";
     struct job *job = of;
     uint8_t buffer[1024];
     size_t length;

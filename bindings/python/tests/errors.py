@@ -52,7 +52,7 @@ def first(schema: Any, instance: Any, draft: str = "2020-12") -> jskw.Validation
 def attributes() -> None:
     names = {"type": "object", "required": ["a b"]}
     error = first({"items": {"prefixItems": [names]}}, [[{}]])
-    path, place, text = deque(["items", "prefixItems", 0, "required"]), deque([0, 0]), '"a b" is a required property'
+    path, place, text = deque(["items", "prefixItems", 0, "required"]), deque([0, 0]), 'has no member "a b"'
     wanted = [text, "required", ["a b"], {}, names, place, place, place, path, path, path, "$[0][0]", [], None, None,
               "required", "a b", "/0/0", "/items/prefixItems/0/required"]  # fmt: skip
     check("the error's attributes", [getattr(error, name) for name in ATTRIBUTES], wanted)
@@ -75,7 +75,7 @@ def attributes() -> None:
     name = "a\tb\nc\\d\\t"
     error = first({"items": {"items": {"required": [name]}}}, [[None, {}]])
     got = error.message, error.expected, error.json_path
-    check("words", got, (f"{json.dumps(name)} is a required property", name, "$[0][1]"))
+    check("words", got, (f"has no member {json.dumps(name)}", name, "$[0][1]"))
     error = jskw.ValidationError("x", path=["a", 0, "b c/~'", 1])
     check("by hand", (error.json_path, error.instance_location), ("$.a[0]['b c/~\\''][1]", "/a/0/b c~1~0'/1"))
     for schema, instance, kind, limit in EXPECTED:
