@@ -12,7 +12,7 @@ ghost use Rattle.jskw_array.specs.Words.{shape_keywords, true, validator_keyword
 mod keyword;
 pub(crate) mod members;
 
-use crate::each::of_schemas;
+use crate::each::Each;
 use crate::items::{ArrayShapeValidator, is_array_shape};
 use crate::node::Subschema;
 use crate::part::Part;
@@ -52,17 +52,7 @@ pub fn compile<'a, F: Json>(
     ensures { CompilesTo (λ s. s) result
         (read (view schema.now) ctx.now.setting ctx.now.location) }
 {
-    of_subschema(alloc, compile_subschema(alloc, ctx, schema))
-}
-
-// Returns the node of a schema that was compiled.
-fn of_subschema<'a, F: Json>(
-    alloc: Global,
-    compiled: CompilationResult<'a, Subschema<F>>,
-) -> CompilationResult<'a, SchemaNode<F>>
-    ensures { (read : Reading) → CompilesTo (λ s. s) compiled.entry read → CompilesTo (λ s. s) result read }
-{
-    Ok(SchemaNode::new(alloc, compiled?)?)
+    Ok(SchemaNode::new(alloc, compile_subschema(alloc, ctx, schema)?)?)
 }
 
 // Compiles a schema or a subschema.
@@ -324,7 +314,8 @@ pub(crate) fn compile_list<'a, F: Json>(
         (keyword_location ctx.now.location keyword) 0)) }
 {
     let below = ctx.new_at_keyword(alloc, keyword)?;
-    of_schemas(is_prefix, compile_each(alloc, &below, schemas.as_slice()))
+    let nodes = compile_each(alloc, &below, schemas.as_slice())?;
+    Ok(Validator::Each(Each { nodes, is_prefix }))
 }
 
 // Compiles each schema at its index below the keyword location of `ctx`.

@@ -1,15 +1,12 @@
 //! `contains` (JSON Schema Core 10.3.1.3) with `minContains` and `maxContains` (JSON Schema
 //! Validation 6.4.4, 6.4.5).
 ghost use Rattle.std.specs.Prelude.{◌≡◌};
-ghost use Rattle.jskw_array.specs.Words.{CompilesKeyword, IfOk, CompilesTo, Reading, bound_beside};
-ghost use Rattle.jskw_array.specs.Words.{bound_value, bounds_between, boxed_bounds};
-ghost use Rattle.jskw_array.specs.Words.{contains as contains_keyword, map_ok, member_location};
-ghost use Rattle.jskw_array.specs.Words.{members_view, read_bounds, keyword_reading, validator_keyword};
-ghost use Rattle.jskw_array.specs.Words.{view};
+ghost use Rattle.jskw_array.specs.Words.{CompilesKeyword, IfOk, CompilesTo, bound_beside, bound_value};
+ghost use Rattle.jskw_array.specs.Words.{bounds_between, boxed_bounds, member_location, members_view};
+ghost use Rattle.jskw_array.specs.Words.{read_bounds, keyword_reading, validator_keyword, view};
 
 use crate::compiler::compile_at;
 use crate::matching::{ItemBounds, Matching};
-use crate::node::Subschema;
 pub use crate::upstream::{
     ContainsValidator, MaxContainsValidator, MinContainsValidator, MinMaxContainsValidator,
 };
@@ -47,10 +44,10 @@ pub fn compile<'a, F: Json>(
         Ok(bounds) => bounds,
         Err(fault) => return Some(Err(fault)),
     };
-    of_schema(
-        bounds,
-        compile_at(alloc, ctx, KeywordName::Contains, schema),
-    )
+    match compile_at(alloc, ctx, KeywordName::Contains, schema) {
+        Ok(node) => Some(Ok(Validator::Matching(Matching { node, bounds }))),
+        Err(fault) => Some(Err(fault)),
+    }
 }
 
 // Reads the bounds beside `contains` in `parent`. Fails with the first fault.
@@ -87,11 +84,7 @@ fn bound_beside<'a, F: Json>(
     if !has_bounds {
         return Ok(None);
     }
-    match map_get_u64(alloc, parent, ctx, name) {
-        None => Ok(None),
-        Some(Ok(bound)) => Ok(Some(bound)),
-        Some(Err(fault)) => Err(fault),
-    }
+    map_get_u64(alloc, parent, ctx, name).transpose()
 }
 
 // Returns the bounds that were read, with the keyword locations of their errors. Fails only if
@@ -122,20 +115,4 @@ fn bounds_between<F: Json>(
         too_many_at,
     };
     Ok(Box::new(alloc, bounds)?)
-}
-
-// Returns the validator of the bounds and of a schema, if that was compiled.
-#[inline(never)]
-fn of_schema<'a, F: Json>(
-    bounds: Box<ItemBounds>,
-    compiled: CompilationResult<'a, Subschema<F>>,
-) -> Option<CompilationResult<'a, Validator<F>>>
-    ensures { (read : Reading) → CompilesTo (λ s. s) compiled.entry read
-        → CompilesKeyword validator_keyword result
-        (Some (map_ok (λ sub. contains_keyword sub (boxed_bounds bounds)) read)) }
-{
-    match compiled {
-        Ok(node) => Some(Ok(Validator::Matching(Matching { node, bounds }))),
-        Err(fault) => Some(Err(fault)),
-    }
 }

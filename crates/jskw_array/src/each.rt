@@ -1,19 +1,14 @@
 //! A schema for each item: `prefixItems` (JSON Schema Core 10.3.1.1), and `items` of an array of
 //! schemas (Draft 7 Validation 6.4.1). A non-array has no items.
 ghost use Rattle.std.specs.Prelude.{◌≡◌};
-ghost use Rattle.jskw_array.specs.Words.{CompilesTo, Refusal, Result, Schemas};
-ghost use Rattle.jskw_array.specs.Words.{items, min, true};
-ghost use Rattle.jskw_array.specs.Words.{each_keyword, each_of, map_ok, one_keyword, schemas_of};
-ghost use Rattle.jskw_array.specs.Words.{validator_keyword, Pointer};
-ghost use Rattle.jskw_array.specs.Words.{evaluate_pairs, result_of, schemas_delegate, unit};
+ghost use Rattle.jskw_array.specs.Words.{items, min, true, each_keyword, one_keyword, schemas_of};
+ghost use Rattle.jskw_array.specs.Words.{Pointer, evaluate_pairs, result_of, schemas_delegate, unit};
 
 use crate::evaluation::push_item;
 use crate::node::Subschema;
 use crate::prefix_items::prefix_unit;
-use crate::validator::Validator;
 use jskw_report::{
-    CompilationResult, EvaluationNode, EvaluationResult, LazyLocation, Report, Stop, Validate,
-    ValidationContext,
+    EvaluationNode, EvaluationResult, LazyLocation, Report, Stop, Validate, ValidationContext,
 };
 use jskw_value::{Array, Json, Node};
 use std::alloc::{AllocError, Global};
@@ -97,22 +92,6 @@ impl<F: Json> Validate<F> for Each<F> {
         }
         Ok(self.unit(alloc, children, instance))
     }
-}
-
-// Returns the validator of the schemas, if they were compiled.
-#[inline(never)]
-pub(crate) fn of_schemas<'a, F: Json>(
-    is_prefix: bool,
-    compiled: CompilationResult<'a, Vec<Subschema<F>>>,
-) -> CompilationResult<'a, Validator<F>>
-    ensures { (read : Result Schemas Refusal)
-        → CompilesTo (λ nodes. schemas_of nodes.items) compiled.entry read
-        → CompilesTo validator_keyword result (map_ok (each_of is_prefix) read) }
-{
-    Ok(Validator::Each(Each {
-        nodes: compiled?,
-        is_prefix,
-    }))
 }
 
 // Returns whether the `required` of some schema, or of a subschema of it, is delegated.

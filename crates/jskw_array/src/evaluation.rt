@@ -1,6 +1,6 @@
 //! The steps of an evaluation that apply no schema. They stand apart from the walks that call each other: each `?`
 //! in such a walk is one way more in a proof about all of them.
-ghost use Rattle.std.specs.Prelude.{◌≡◌, ◌++◌, ◌∷◌, List, None, if◌then◌else◌};
+ghost use Rattle.std.specs.Prelude.{◌≡◌, ◌++◌, ◌∷◌, None, if◌then◌else◌};
 ghost use Rattle.jskw_report.specs.Evaluation.{Result as Unit, is_valid};
 ghost use Rattle.jskw_array.specs.Words.{[], Evaluation, IfOk, false_schema, node_at, of_children, path_of};
 ghost use Rattle.jskw_array.specs.Words.{result_of, tree};
@@ -26,19 +26,17 @@ pub(crate) fn begin_node(
     Ok((path, Vec::with_capacity(alloc, count)?))
 }
 
-// Returns the node of a schema at `location`, if the nodes below it were made.
+// Returns the node of a schema at `location`, with these nodes below it.
 #[inline(always)]
 pub(crate) fn end_node(
     alloc: Global,
-    made: Result<(), AllocError>,
     children: Vec<EvaluationNode>,
     location: &KeywordLocation,
     path: &Location,
 ) -> Result<EvaluationNode, AllocError>
-    ensures { (es : List Evaluation) → IfOk made (λ _. children.items ≡ es) → IfOk result
-        (λ node. node ≡ node_at location.now path.now (of_children None es)) }
+    ensures { IfOk result (λ node. node
+        ≡ node_at location.now path.now (of_children None children.items)) }
 {
-    made?;
     let result = EvaluationResult::from_children(alloc, children);
     EvaluationNode::at_keyword(alloc, result, location, path)
 }

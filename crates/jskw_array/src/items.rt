@@ -1,10 +1,9 @@
 //! `items`: one schema, for every item that `prefixItems` has no schema for (JSON Schema Core
 //! 10.3.1.2), or an array of schemas, each for the item at its index (Draft 7 Validation 6.4.1).
 ghost use Rattle.std.specs.Prelude.{◌≡◌};
-ghost use Rattle.jskw_array.specs.Words.{CompilesKeyword, CompilesTo, IsTrue, Keyword, Refusal, Result};
-ghost use Rattle.jskw_array.specs.Words.{bare_keyword, is_bare, is_items_schema, items_from, items_start};
-ghost use Rattle.jskw_array.specs.Words.{keyword_location, keyword_reading, map_ok, members_view, read};
-ghost use Rattle.jskw_array.specs.Words.{validator_keyword, view};
+ghost use Rattle.jskw_array.specs.Words.{CompilesKeyword, CompilesTo, IsTrue, is_bare, is_items_schema};
+ghost use Rattle.jskw_array.specs.Words.{items_from, items_start, keyword_location, keyword_reading};
+ghost use Rattle.jskw_array.specs.Words.{map_ok, members_view, read, validator_keyword, view};
 
 mod array_shape;
 
@@ -73,7 +72,7 @@ pub(crate) fn compile_schema<'a, F: Json>(
         (keyword_location ctx.now.location KeywordName.Items))) }
 {
     if is_bare(ctx, parent, schema) {
-        return of_bare(bare::compile(alloc, ctx, parent, schema));
+        return Ok(Validator::Bare(bare::compile(alloc, ctx, parent, schema)?));
     }
     let start = items_start(ctx, parent);
     of_schema(
@@ -81,16 +80,6 @@ pub(crate) fn compile_schema<'a, F: Json>(
         false,
         compile_at(alloc, ctx, KeywordName::Items, schema),
     )
-}
-
-// Returns the validator of a bare type check, if that was compiled.
-fn of_bare<'a, F: Json>(
-    compiled: CompilationResult<'a, BareItems<F>>,
-) -> CompilationResult<'a, Validator<F>>
-    ensures { (read : Result Keyword Refusal) → CompilesTo bare_keyword compiled.entry read
-        → CompilesTo validator_keyword result read }
-{
-    Ok(Validator::Bare(compiled?))
 }
 
 // Returns the index from which `items` of one schema applies: in 2020-12 the number of schemas in

@@ -1,27 +1,25 @@
 //! A compiled schema: the validators of its keywords, in the order in which a schema is read.
 ghost use Rattle.std.specs.Prelude.{◌≡◌, ◌+◌, ◌-◌, ◌≤◌, if◌then◌else◌};
-ghost use Rattle.jskw_array.specs.Words.{AllValid, Appends, IsBeginning, CountsUpTo, HasParts, IfOk};
-ghost use Rattle.jskw_array.specs.Words.{IfSome, IsFirst, IsTrue, LeftParts, Reports, applications};
-ghost use Rattle.jskw_array.specs.Words.{fail, hands_on_required, keeps_list};
-ghost use Rattle.jskw_array.specs.Words.{holds, is_fused_schema, is_lawful, is_some, items, length};
-ghost use Rattle.jskw_array.specs.Words.{limited, item_location, keywords_in, min, needed, pairs};
-ghost use Rattle.jskw_array.specs.Words.{path_of, schema_location, shape_keywords};
-ghost use Rattle.jskw_array.specs.Words.{sum_by, tree, true, PassesOver, CountsBetween};
-ghost use Rattle.jskw_array.specs.Words.{items_between};
+ghost use Rattle.jskw_array.specs.Words.{AllValid, IsBeginning, CountsUpTo, HasParts, IfOk, IfSome, IsTrue};
+ghost use Rattle.jskw_array.specs.Words.{LeftParts, Reports, applications, fail, hands_on_required};
+ghost use Rattle.jskw_array.specs.Words.{keeps_list, holds, is_fused_schema, is_lawful, is_some, items};
+ghost use Rattle.jskw_array.specs.Words.{length, item_location, keywords_in, min, needed, pairs, path_of};
+ghost use Rattle.jskw_array.specs.Words.{schema_location, shape_keywords, sum_by, tree, true, PassesOver};
+ghost use Rattle.jskw_array.specs.Words.{CountsBetween, items_between};
 
 mod making;
 
 use crate::accepted::{Accepted, typed_end};
-use crate::evaluation::{begin_node, end_node, evaluate_refusal};
+use crate::evaluation::{begin_node, end_node, evaluate_refusal, push_unit};
 use crate::items::ArrayShapeValidator;
-use crate::part::{Part, evaluate_parts, first_shape, parts_are_valid, report_parts};
+use crate::part::{Part, first_shape, parts_are_valid};
 pub use crate::schema::SchemaNode;
 pub use crate::validator::Validator;
 use jskw_number::QuickSet;
 use jskw_report::validator::report_error;
 use jskw_report::{
-    EvaluationNode, Fault, KeywordLocation, LazyLocation, Report, Stop, Validate,
-    ValidationContext, ValidationError, ValidationErrorKind,
+    EvaluationNode, KeywordLocation, LazyLocation, Report, Stop, Validate, ValidationContext,
+    ValidationErrorKind,
 };
 use jskw_value::{Json, Node};
 use std::alloc::{AllocError, Global};
@@ -250,52 +248,10 @@ impl<F: Json> Subschema<F> {
         }
     }
 
-    // Returns `Ok` if the instance is valid by the keywords, else the first error.
-    #[inline(never)]
-    pub(crate) fn validate_keywords<'i>(
-        &'i self,
-        instance: &'i F::Node,
-        location: &mut LazyLocation,
-        ctx: &mut ValidationContext,
-    ) -> Result<(), Fault<'i, F>>
-        requires { IsTrue (is_lawful (F.Node.tree instance.now)) }
-        ensures first { IsFirst F.Node.tree
-            (fail self.now (F.Node.tree instance.now) (path_of location.old)) result }
-        ensures location { location.new ≡ location.old }
-        ensures applied { min (ctx.old + 1) u64.MAX ≤ ctx.new }
-        ensures counted { CountsUpTo ctx.old ctx.new (needed self.now (F.Node.tree instance.now)) }
-    {
-        let mut report = Report::First(None);
-        let reported = self.report_errors(instance, location, ctx, &mut report);
-        report.first_result(reported)
-    }
-
-    // Appends the errors of the instance by the keywords: all, or the first ones if there is a limit.
-    #[inline(never)]
-    pub(crate) fn collect_of_keywords<'i>(
-        &'i self,
-        limit: Option<usize>,
-        instance: &'i F::Node,
-        location: &mut LazyLocation,
-        ctx: &mut ValidationContext,
-        errors: &mut Vec<ValidationError<'i, F>>,
-    ) -> Result<(), AllocError>
-        requires { IsTrue (is_lawful (F.Node.tree instance.now)) }
-        ensures appended { Appends F.Node.tree errors.old.items errors.new.items (limited limit
-            (fail self.now (F.Node.tree instance.now) (path_of location.old))) result }
-        ensures location { location.new ≡ location.old }
-        ensures applied { min (ctx.old + 1) u64.MAX ≤ ctx.new }
-        ensures counted { CountsUpTo ctx.old ctx.new (pairs self.now (F.Node.tree instance.now)) }
-    {
-        let mut report = Report::appending_to(errors, limit);
-        let reported = self.report_errors(instance, location, ctx, &mut report);
-        report.into_list(reported, errors)
-    }
-
     // Adds the errors to `report`, by the keywords, until no other is wanted.
     #[inline(never)]
     #[cycle(report)]
-    fn report_errors<'i>(
+    pub(crate) fn report_errors<'i>(
         &'i self,
         instance: &'i F::Node,
         location: &mut LazyLocation,
@@ -314,7 +270,12 @@ impl<F: Json> Subschema<F> {
             let kind = ValidationErrorKind::FalseSchema;
             return report_error(kind, self.location(), instance, location, report);
         };
-        report_parts(parts, instance, location, ctx, report)
+        for part in parts {
+            part.keyword()
+                .validator
+                .report_errors(instance, location, ctx, report)?;
+        }
+        Ok(())
     }
 
     // Adds the errors of the item at `index` of the instance at `location` to `report`, until no
@@ -366,8 +327,12 @@ impl<F: Json> Subschema<F> {
             return evaluate_refusal::<F>(alloc, self.location(), instance, location);
         };
         let (path, mut children) = begin_node(alloc, location, parts.len())?;
-        let made = evaluate_parts(alloc, parts, instance, location, &path, ctx, &mut children);
-        end_node(alloc, made, children, self.location(), &path)
+        for part in parts {
+            let keyword = part.keyword();
+            let made = keyword.validator.evaluate(alloc, instance, location, ctx);
+            push_unit(alloc, made, &keyword.location, &path, &mut children)?;
+        }
+        end_node(alloc, children, self.location(), &path)
     }
 
     // Returns the evaluation tree of the item at `index` of the instance at `location`.

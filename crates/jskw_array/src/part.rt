@@ -1,19 +1,12 @@
 //! The parts of a schema, its keywords in order, and the walks over them.
-ghost use Rattle.std.specs.Prelude.{◌≡◌, ◌++◌};
-ghost use Rattle.jskw_array.specs.Words.{CountsUpTo, IfOk, IsTrue, Reports, all_applications, all_fail};
-ghost use Rattle.jskw_array.specs.Words.{all_hold, all_needed, all_pairs, is_lawful, keeps_list};
-ghost use Rattle.jskw_array.specs.Words.{keywords_delegate, keywords_of, option_map, own_keyword, path_of, shape_in};
-ghost use Rattle.jskw_array.specs.Words.{units as units_of};
+ghost use Rattle.std.specs.Prelude.{◌≡◌};
+ghost use Rattle.jskw_array.specs.Words.{CountsUpTo, IsTrue, all_hold, all_needed, is_lawful};
+ghost use Rattle.jskw_array.specs.Words.{keywords_delegate, keywords_of, option_map, own_keyword, shape_in};
 
-use crate::evaluation::push_unit;
 use crate::items::ArrayShapeValidator;
 use crate::validator::Validator;
-use jskw_report::{
-    EvaluationNode, KeywordLocation, LazyLocation, Location, Report, Stop, Validate,
-    ValidationContext,
-};
+use jskw_report::{KeywordLocation, Validate, ValidationContext};
 use jskw_value::Json;
-use std::alloc::{AllocError, Global};
 
 // A part of a schema: one of its keywords.
 #[cycle(schema)]
@@ -66,57 +59,6 @@ pub(crate) fn parts_are_valid<F: Json>(
         }
     }
     true
-}
-
-// Adds the errors of the keywords to `report`, in order, until no other is wanted.
-#[cycle(report)]
-pub(crate) fn report_parts<'i, F: Json>(
-    parts: &'i [Part<F>],
-    instance: &'i F::Node,
-    location: &mut LazyLocation,
-    ctx: &mut ValidationContext,
-    report: &mut Report<'i, F>,
-) -> Result<(), Stop>
-    requires { IsTrue (is_lawful (F.Node.tree instance.now)) }
-    ensures reported { Reports F.Node.tree report.old report.new (all_fail
-        (keywords_of parts.now) (F.Node.tree instance.now) (path_of location.old)) result }
-    ensures location { location.new ≡ location.old }
-    ensures counted { CountsUpTo ctx.old ctx.new (all_applications (keeps_list report.old)
-        (keywords_of parts.now) (F.Node.tree instance.now)) }
-{
-    for part in parts {
-        part.keyword()
-            .validator
-            .report_errors(instance, location, ctx, report)?;
-    }
-    Ok(())
-}
-
-// Appends the evaluation nodes of the keywords for the instance at `path`, the text of `location`.
-#[cycle(evaluate)]
-pub(crate) fn evaluate_parts<F: Json>(
-    alloc: Global,
-    parts: &[Part<F>],
-    instance: &F::Node,
-    location: &mut LazyLocation,
-    path: &Location,
-    ctx: &mut ValidationContext,
-    children: &mut Vec<EvaluationNode>,
-) -> Result<(), AllocError>
-    requires lawful { IsTrue (is_lawful (F.Node.tree instance.now)) }
-    requires path { path.now ≡ path_of location.now }
-    ensures gives { IfOk result (λ _. children.new.items ≡ children.old.items
-        ++ units_of (keywords_of parts.now) (F.Node.tree instance.now) (path_of location.old)) }
-    ensures location { location.new ≡ location.old }
-    ensures counted { CountsUpTo ctx.old ctx.new
-        (all_pairs (keywords_of parts.now) (F.Node.tree instance.now)) }
-{
-    for part in parts {
-        let keyword = part.keyword();
-        let made = keyword.validator.evaluate(alloc, instance, location, ctx);
-        push_unit(alloc, made, &keyword.location, path, children)?;
-    }
-    Ok(())
 }
 
 // Returns whether the `required` of a subschema of some keyword is delegated.

@@ -8,7 +8,7 @@ ghost use Rattle.jskw_array.specs.Words.{shape_keywords, take, tree};
 use crate::items::ArrayShapeValidator;
 use crate::node::Subschema;
 use jskw_report::{
-    EvaluationNode, Fault, LazyLocation, Location, ValidationContext, ValidationError,
+    EvaluationNode, Fault, LazyLocation, Location, Report, ValidationContext, ValidationError,
 };
 use jskw_value::Json;
 use std::alloc::{AllocError, Global};
@@ -133,7 +133,11 @@ impl<F: Json> SchemaNode<F> {
         if self.schema.apply_if_accepted(instance, ctx) {
             return Ok(());
         }
-        self.schema.validate_keywords(instance, location, ctx)
+        let mut report = Report::First(None);
+        let reported = self
+            .schema
+            .report_errors(instance, location, ctx, &mut report);
+        report.first_result(reported)
     }
 
     /// Appends all errors of the instance, which must be lawful, to `errors`, in order. `location`
@@ -157,8 +161,11 @@ impl<F: Json> SchemaNode<F> {
         if self.schema.apply_if_accepted(instance, ctx) {
             return Ok(());
         }
-        self.schema
-            .collect_of_keywords(None, instance, location, ctx, errors)
+        let mut report = Report::appending_to(errors, None);
+        let reported = self
+            .schema
+            .report_errors(instance, location, ctx, &mut report);
+        report.into_list(reported, errors)
     }
 
     /// Appends the first errors of the instance, which must be lawful, to `errors`, in order: the
@@ -189,8 +196,11 @@ impl<F: Json> SchemaNode<F> {
         if self.schema.apply_if_accepted(instance, ctx) {
             return Ok(());
         }
-        self.schema
-            .collect_of_keywords(Some(limit), instance, location, ctx, errors)
+        let mut report = Report::appending_to(errors, Some(limit));
+        let reported = self
+            .schema
+            .report_errors(instance, location, ctx, &mut report);
+        report.into_list(reported, errors)
     }
 
     /// Returns the evaluation tree of a whole instance, which must be lawful (JSON Schema Core

@@ -3,11 +3,13 @@ use Rattle.std.proofs.Common.{ap, ap₂, subst, ◌∙◌, arith}
 use Rattle.jskw_array.specs.Words.{Array, Keyword, CompilesTo, Refusal, Schema, absorbed_keywords, active_member, after}
 use Rattle.jskw_array.specs.Words.{is_some, shape_in, append_keywords, as_array, before, boxed_bounds, contains}
 use Rattle.jskw_array.specs.Words.{fused_keywords, get_member, is_fused, is_items_schema, items_depth, items_from}
-use Rattle.jskw_array.specs.Words.{items_start, items_view, join_ok, keyword, keyword_location, keywords, keywords_of}
+use Rattle.jskw_array.specs.Words.{bare_keyword, items_start, items_view, join_ok, keyword, keyword_location}
+use Rattle.jskw_array.specs.Words.{keywords, keywords_of}
 use Rattle.jskw_array.specs.Words.{map_ok, members_view, name_of, no_keywords, of_type, readings_named, read}
-use Rattle.jskw_array.specs.Words.{read_bounds, read_each, read_keywords, array_schema_count, shape_keywords}
+use Rattle.jskw_array.specs.Words.{read_bounds, read_keywords, array_schema_count, shape_keywords}
 use Rattle.jskw_array.specs.Words.{validator_keyword, view, wrong}
 use Rattle.jskw_report.specs.declared.keyword.KeywordName.TheVariants as keyword_name
+use Rattle.jskw_array.specs.declared.validator.Validator.TheVariants as validator
 use Rattle.jskw_array.proofs.Depths.{depth_array, item_depth, member_depth}
 use Rattle.jskw_array.proofs.CompiledSchemas.{after_none as after_no_schemas, each_end, each_made, each_refused}
 use Rattle.jskw_array.proofs.CompiledSchemas.{schemas_in}
@@ -232,16 +234,6 @@ compiler::compile_at-returns g t c =
 pub compiler::compile_at-compile_subschema-requires : goal.compiler::compile_at-compile_subschema-requires
 compiler::compile_at-compile_subschema-requires g t c κs within = (omega (arith, c.decreases), search rules)
 
-pub compiler::compile_list-returns : goal.compiler::compile_list-returns
-compiler::compile_list-returns g t c =
-    let at =
-    subst (λ point. CompilesTo schemas_in c.compile_each.result
-    (read_each (items_view c.as_slice.result.now) point.setting point.location 0)) c.in_ok-below.ensures
-    c.compile_each.ensures in
-    c.of_schemas.ensures _ (subst (λ vs. CompilesTo schemas_in c.compile_each.result
-    (read_each (items_view vs) c.args.ctx.now.setting (keyword_location c.args.ctx.now.location c.args.keyword) 0))
-    c.as_slice.ensures.value at)
-
 pub compiler::compile_list-compile_each-requires : goal.compiler::compile_list-compile_each-requires
 compiler::compile_list-compile_each-requires g t c κs within =
     let same = ap (λ vs. items_depth (items_view vs)) c.as_slice.ensures.value in
@@ -302,6 +294,19 @@ items::compile-returns g t c =
     (items_of_one c.args.ctx.now ms d (sym c.is_items_schema.ensures ∙ c.if-not-is_items_schema.false))
     c.compile_schema.ensures
 
+pub items::compile_schema-returns-in_err-compile : goal.items::compile_schema-returns-in_err-compile
+items::compile_schema-returns-in_err-compile g t c =
+    let s = c.args.ctx.now.setting in
+    let ms = members_view c.args.parent.now.entries in
+    let value : Bool → Result Keyword Refusal =
+    λ b. map_ok (λ sub. items_from (items_start s ms) sub b)
+    (read (view c.args.schema.now) s (keyword_location c.args.ctx.now.location keyword_name.Items)) in
+    let bare = sym c.is_bare.ensures ∙ c.if-is_bare.true in
+    passed_by_try (bare_keyword {F = g.row.F.Denot} {Node = g.row.F-Node.Denot} {Number = g.row.F-Node-Number.Denot}
+    {Key = g.row.F-Node-PreparedKey.Denot}) (validator_keyword {F = g.row.F.Denot} {Node = g.row.F-Node.Denot}
+    {Number = g.row.F-Node-Number.Denot} {Key = g.row.F-Node-PreparedKey.Denot}) c.in_err-compile.field-0.0 _
+    (value true) _ c.from_residual.ensures.1 c.in_err-compile.ensures (λ r e. ap value bare ∙ e)
+
 pub items::compile_schema-returns-then-is_bare : goal.items::compile_schema-returns-then-is_bare
 items::compile_schema-returns-then-is_bare g t c =
     let s = c.args.ctx.now.setting in
@@ -309,9 +314,7 @@ items::compile_schema-returns-then-is_bare g t c =
     let value : Bool → Result Keyword Refusal =
     λ b. map_ok (λ sub. items_from (items_start s ms) sub b)
     (read (view c.args.schema.now) s (keyword_location c.args.ctx.now.location keyword_name.Items)) in
-    subst (CompilesTo (validator_keyword {F = g.row.F.Denot} {Node = g.row.F-Node.Denot}
-    {Number = g.row.F-Node-Number.Denot} {Key = g.row.F-Node-PreparedKey.Denot}) c.of_bare.result)
-    (sym (ap value (sym c.is_bare.ensures ∙ c.if-is_bare.true))) (c.of_bare.ensures _ c.compile.ensures)
+    ap value (sym c.is_bare.ensures ∙ c.if-is_bare.true) ∙ c.in_ok-compile.ensures
 
 pub items::compile_schema-returns : goal.items::compile_schema-returns
 items::compile_schema-returns g t c =
@@ -369,16 +372,42 @@ additional_items::compile-returns g t c =
 
 -- ---- `contains`
 
-pub contains::compile-returns : goal.contains::compile-returns
-contains::compile-returns g t c =
+pub contains::compile-returns-in-Ok-compile_at : goal.contains::compile-returns-in-Ok-compile_at
+contains::compile-returns-in-Ok-compile_at g t c =
+    let keyword_of =
+    validator_keyword {F = g.row.F.Denot} {Node = g.row.F-Node.Denot} {Number = g.row.F-Node-Number.Denot}
+    {Key = g.row.F-Node-PreparedKey.Denot} in
     let ms = members_view c.args.parent.now.entries in
     let d = view c.args.schema.now in
+    let b = boxed_bounds c.in-Ok.bounds in
+    let sub = read d c.args.ctx.now.setting (keyword_location c.args.ctx.now.location keyword_name.Contains) in
     let made : CompilesTo boxed_bounds (Ok c.in-Ok.bounds)
     (read_bounds c.args.ctx.now.setting c.args.ctx.now.location ms) =
     subst (λ r. CompilesTo boxed_bounds r (read_bounds c.args.ctx.now.setting c.args.ctx.now.location ms)) c.in-Ok.is
     c.bounds_beside.ensures in
-    compiles_as _ c.of_schema.result _ _ (contains_of_schema c.args.ctx.now ms d (boxed_bounds c.in-Ok.bounds) made)
-    (c.of_schema.ensures _ c.compile_at.ensures)
+    let node = subst (λ r. CompilesTo (λ (s : Schema). s) r sub) c.in-Ok-compile_at.is c.compile_at.ensures in
+    compiles_as keyword_of (Some (Ok (validator.Matching
+    (record { node = c.in-Ok-compile_at.node; bounds = c.in-Ok.bounds })))) _ (Some (map_ok (λ s. contains s b) sub))
+    (contains_of_schema c.args.ctx.now ms d b made) (ap (map_ok (λ s. contains s b)) node)
+
+pub contains::compile-returns-in-Err-compile_at : goal.contains::compile-returns-in-Err-compile_at
+contains::compile-returns-in-Err-compile_at g t c =
+    let keyword_of =
+    validator_keyword {F = g.row.F.Denot} {Node = g.row.F-Node.Denot} {Number = g.row.F-Node-Number.Denot}
+    {Key = g.row.F-Node-PreparedKey.Denot} in
+    let ms = members_view c.args.parent.now.entries in
+    let d = view c.args.schema.now in
+    let b = boxed_bounds c.in-Ok.bounds in
+    let sub = read d c.args.ctx.now.setting (keyword_location c.args.ctx.now.location keyword_name.Contains) in
+    let made : CompilesTo boxed_bounds (Ok c.in-Ok.bounds)
+    (read_bounds c.args.ctx.now.setting c.args.ctx.now.location ms) =
+    subst (λ r. CompilesTo boxed_bounds r (read_bounds c.args.ctx.now.setting c.args.ctx.now.location ms)) c.in-Ok.is
+    c.bounds_beside.ensures in
+    let refused = subst (λ r. CompilesTo (λ (s : Schema). s) r sub) c.in-Err-compile_at.is c.compile_at.ensures in
+    compiles_as keyword_of (Some (Err c.in-Err-compile_at.fault)) _ (Some (map_ok (λ s. contains s b) sub))
+    (contains_of_schema c.args.ctx.now ms d b made)
+    (refused_whole (λ (s : Schema). s) keyword_of c.in-Err-compile_at.fault sub (map_ok (λ s. contains s b) sub) refused
+    (λ r e. ap (map_ok (λ s. contains s b)) e))
 
 pub contains::compile-returns-in-Err : goal.contains::compile-returns-in-Err
 contains::compile-returns-in-Err g t c =

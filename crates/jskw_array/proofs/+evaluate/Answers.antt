@@ -1,8 +1,10 @@
-use Rattle.std.proofs.Common.{rules, ◌≡◌, ◌∙◌, ◌+◌, ◌++◌, [], ◌∷◌, length, drop, ap, ap₂, subst, refl, IfOk, arith}
+use Rattle.std.proofs.Common.{rules, ◌≡◌, ◌∙◌, ◌+◌, ◌++◌, [], ◌∷◌, None, length, drop, ap, ap₂, subst, sym, refl, IfOk}
+use Rattle.std.proofs.Common.{arith}
 use Rattle.std.proofs.Common.{if◌then◌else◌}
 use Rattle.std.proofs.lemmas.Grind.{common_steps}
 use Rattle.jskw_array.specs.Words.{boxed_bounds, evaluate_each, evaluate_pairs, failing_locations, holds, item_location}
-use Rattle.jskw_array.specs.Words.{items, matching_result, meaning_unit, node_at, one_keyword, own_keyword, pairs}
+use Rattle.jskw_array.specs.Words.{height, items, keywords_of, matching_result, meaning_unit, node_at, of_children}
+use Rattle.jskw_array.specs.Words.{one_keyword, own_keyword, pairs}
 use Rattle.jskw_array.specs.Words.{part_meaning, path_of, result_of, schemas_of, tree, units, validator_keyword}
 use Rattle.jskw_report.proofs.GatheredNodes.{appended, gathered_all, index_end, index_met, node_end, node_met}
 use Rattle.jskw_report.proofs.EvaluationValidity.{tree_valid}
@@ -141,30 +143,41 @@ matching::MatchingValidate::evaluate-returns-clause-gives g t c =
     ∙ matching_is_unit s b instance p in
     subst (λ x. IfOk c.unit.result (λ r. result_of r ≡ x)) is c.unit.ensures
 
--- ---- the keywords
+-- ---- the parts of a node
 
-pub part::evaluate_parts-evaluate-made-requires : goal.part::evaluate_parts-evaluate-made-requires
-part::evaluate_parts-evaluate-made-requires g t c κs within =
-    let lower =
-    unit_height c.args.parts.now c.loop-part.part-index c.part-item.result c.loop-part-test.true c.part-item.is in
+pub node::Subschema::evaluate_instance_below-evaluate-made-requires
+    : goal.node::Subschema::evaluate_instance_below-evaluate-made-requires
+node::Subschema::evaluate_instance_below-evaluate-made-requires g t c κs within =
+    let l = c.loop-part in
+    let lower = unit_height c.in-Some.parts.now l.part-index c.part-item.result c.loop-part-test.true c.part-item.is in
     let own = own_lower c.part-item.result c.keyword-keyword.result.now c.keyword-keyword.ensures in
-    (omega (arith, own, lower, c.decreases), search rules)
+    let whole = ap height l.invariant.whole.1 in
+    (omega (arith, own, lower, whole, c.decreases), search rules)
 
-pub part::evaluate_parts-loop-part-init : goal.part::evaluate_parts-loop-part-init
-part::evaluate_parts-loop-part-init g t c =
+pub node::Subschema::evaluate_instance_below-loop-part-init
+    : goal.node::Subschema::evaluate_instance_below-loop-part-init
+node::Subschema::evaluate_instance_below-loop-part-init g t c =
+    let instance = g.F.Node.Rooted.tree c.args.instance.now in
+    let whole = c.in-Some.ensures in
+    let begun = c.in_ok-path.ensures in
     record {
-      gathered = refl;
+      whole = (whole.0, whole.1);
+      gathered =
+          ap (λ es. es ++ units (keywords_of c.in-Some.parts.now) instance (path_of c.args.location.now)) begun.1;
+      path = begun.0;
       location = refl;
-      counted_from = omega arith;
-      counted_to = omega arith;
+      applied = c.count_one.ensures.applied;
+      counted_from = c.count_one.ensures.counted.from;
+      counted_to = omega (arith, c.count_one.ensures.counted.to);
     }
 
-pub part::evaluate_parts-loop-part-preserved : goal.part::evaluate_parts-loop-part-preserved
-part::evaluate_parts-loop-part-preserved g t c =
+pub node::Subschema::evaluate_instance_below-loop-part-preserved
+    : goal.node::Subschema::evaluate_instance_below-loop-part-preserved
+node::Subschema::evaluate_instance_below-loop-part-preserved g t c =
     let l = c.loop-part in
     let instance = g.F.Node.Rooted.tree c.args.instance.now in
     let p = path_of c.args.location.now in
-    let us = c.args.parts.now in
+    let us = c.in-Some.parts.now in
     let u = c.part-item.result in
     let k = c.keyword-keyword.result.now in
     let result =
@@ -172,27 +185,37 @@ part::evaluate_parts-loop-part-preserved g t c =
     ∙ ap (λ q. meaning_unit (part_meaning u) instance (path_of q)) l.invariant.location in
     let r = meaning_unit (one_keyword (validator_keyword k.validator)) instance (path_of l.location) in
     let made =
-    ap (λ x. node_at x.location c.args.path.now r) c.keyword-keyword.ensures
-    ∙ ap₂ (node_at (own_keyword u).location) c.requires.path result in
+    ap (λ x. node_at x.location c.in_ok-path.path r) c.keyword-keyword.ensures
+    ∙ ap₂ (node_at (own_keyword u).location) l.invariant.path result in
     let more =
     c.in_ok-push_unit.ensures r c.evaluate-made.ensures.gives
     ∙ ap (λ e. l.children.items ++ e ∷ []) made in
     let cost = pairs_at us l.part-index u c.loop-part-test.true c.part-item.is instance in
     let next = own_counted u k c.keyword-keyword.ensures instance c.evaluate-made.ensures.counted in
     record {
+      whole = l.invariant.whole;
       gathered =
           unit_taken us l.part-index u c.loop-part-test.true c.part-item.is instance p _ _ _ more
           l.invariant.gathered;
+      path = l.invariant.path;
       location = c.evaluate-made.ensures.location ∙ l.invariant.location;
+      applied = omega (arith, l.invariant.applied, next.from);
       counted_from = omega (arith, l.invariant.counted_from, next.from);
       counted_to = omega (arith, cost, l.invariant.counted_to, next.to);
     }
 
-pub part::evaluate_parts-returns-clause-gives : goal.part::evaluate_parts-returns-clause-gives
-part::evaluate_parts-returns-clause-gives g t c =
+pub node::Subschema::evaluate_instance_below-returns-clause-gives
+    : goal.node::Subschema::evaluate_instance_below-returns-clause-gives
+node::Subschema::evaluate_instance_below-returns-clause-gives g t c =
     let l = c.loop-part in
     let instance = g.F.Node.Rooted.tree c.args.instance.now in
     let p = path_of c.args.location.now in
+    let made =
     gathered_all _ _ _
-    (ap (λ ks. units ks instance p) (keywords_end c.args.parts.now l.part-index c.loop-part-test.false))
-    l.invariant.gathered
+    (ap (λ ks. units ks instance p) (keywords_end c.in-Some.parts.now l.part-index c.loop-part-test.false))
+    l.invariant.gathered in
+    let node =
+    ap₂ (λ q r. node_at c.location-2.result.now q (of_children None r)) l.invariant.path made
+    ∙ ap (λ q. node_at q p (of_children None (units (keywords_of c.in-Some.parts.now) instance p))) c.location-2.ensures
+    ∙ sym (ap (λ s. tree s instance p) l.invariant.whole.1) in
+    subst (λ x. IfOk c.end_node.result (λ n. n ≡ x)) node c.end_node.ensures

@@ -1,7 +1,8 @@
-use Rattle.std.proofs.Common.{◌≡◌, ◌+◌, ◌*◌, ◌≤◌, ◌++◌, min, length, drop, sum_by}
-use Rattle.jskw_array.specs.Words.{all_height, all_pairs, each_keyword, each_pairs, evaluate_each, evaluate_matching}
+use Rattle.std.proofs.Common.{◌≡◌, ◌+◌, ◌-◌, ◌*◌, ◌^◌, ◌≤◌, ◌++◌, Bool, min, length, drop, sum_by}
+use Rattle.jskw_array.specs.Words.{all_pairs, each_keyword, each_pairs, evaluate_each, evaluate_matching}
 use Rattle.jskw_array.specs.Words.{evaluate_pairs, height, holds, items, keyword_height, keyword_pairs, keywords_of}
-use Rattle.jskw_array.specs.Words.{matching_indices, pairs, path_of, rest_keyword, schemas_of, tree, units}
+use Rattle.jskw_array.specs.Words.{marked, matching_indices, pairs, path_of, rest_keyword, schema_location}
+use Rattle.jskw_array.specs.Words.{schema_object, schemas_of, tree, units}
 use Rattle.jskw_array.specs.Words.{validator_keyword}
 use Rattle.jskw_array.proofs.+evaluate.Given as goal
 
@@ -10,9 +11,6 @@ decreases-node::Subschema::evaluate_instance_below g l = 10 * height l.self.now
 
 abbrev pub decreases-node::Subschema::evaluate_item : goal.decreases-node::Subschema::evaluate_item
 decreases-node::Subschema::evaluate_item g l = 10 * height l.self.now + 1
-
-abbrev pub decreases-part::evaluate_parts : goal.decreases-part::evaluate_parts
-decreases-part::evaluate_parts g l = 10 * all_height (keywords_of l.parts.now) + 7
 
 abbrev pub decreases-validator::ValidatorValidate::evaluate : goal.decreases-validator::ValidatorValidate::evaluate
 decreases-validator::ValidatorValidate::evaluate g l = 10 * keyword_height (validator_keyword l.self.now) + 3
@@ -73,15 +71,20 @@ invariant-matching::MatchingValidate::evaluate-loop-index g l =
       counted_to : l.ctx + sum_by (pairs s) (drop l.index ts) ≤ l.initial.ctx + sum_by (pairs s) ts;
     }
 
-abbrev pub invariant-part::evaluate_parts-loop-part : goal.invariant-part::evaluate_parts-loop-part
-invariant-part::evaluate_parts-loop-part g l =
+abbrev pub invariant-node::Subschema::evaluate_instance_below-loop-part
+    : goal.invariant-node::Subschema::evaluate_instance_below-loop-part
+invariant-node::Subschema::evaluate_instance_below-loop-part g l =
     let t = g.F.Node.Rooted.tree l.instance in
     let p = path_of l.initial.location in
     record {
+      whole : (delegates : Bool)
+          × (l.self ≡ schema_object (schema_location l.self) (marked delegates l.parts) (keywords_of l.parts));
       gathered : l.children.items ++ units (keywords_of (drop l.part-index l.parts)) t p
-          ≡ l.initial.children.items ++ units (keywords_of l.parts) t p;
+          ≡ units (keywords_of l.parts) t p;
+      path : l.path ≡ p;
       location : l.location ≡ l.initial.location;
-      counted_from : l.initial.ctx ≤ l.ctx;
+      applied : min (l.fn.ctx + 1) (2 ^ 64 - 1) ≤ l.ctx;
+      counted_from : l.fn.ctx ≤ l.ctx;
       counted_to : l.ctx + all_pairs (keywords_of (drop l.part-index l.parts)) t
-          ≤ l.initial.ctx + all_pairs (keywords_of l.parts) t;
+          ≤ l.fn.ctx + 1 + all_pairs (keywords_of l.parts) t;
     }

@@ -1,6 +1,6 @@
-use Rattle.std.proofs.Common.{rules, ◌∙◌, refl, ap, sym, subst, arith}
+use Rattle.std.proofs.Common.{rules, ◌∙◌, refl, ap, subst, arith}
 use Rattle.jskw_array.specs.Words.{Reports, all_fail, fail, item_location, items, keeps_list, CountsUpTo, path_of}
-use Rattle.jskw_report.proofs.ReportedFailures.{reported_all, reported_nothing, reports_memory, reports_none}
+use Rattle.jskw_report.proofs.ReportedFailures.{reported_all, reports_memory, reports_none}
 use Rattle.jskw_array.proofs.AcceptedValues.{counted_within, no_errors}
 use Rattle.jskw_array.proofs.WalksOverParts.{keywords_end, own_lower, unit_height}
 use Rattle.jskw_leaf.proofs.TypeWalks.{entered}
@@ -8,7 +8,6 @@ use Rattle.jskw_array.proofs.WalksOverItems.{each_fails_end, each_lower}
 use Rattle.jskw_array.proofs.PassedItems.{passed_applied, passed_fails}
 use Rattle.jskw_array.proofs.ReportingWalks.{each_applied, each_step, item_step, one_applied, rest_applied, unit_step}
 use Rattle.jskw_array.proofs.ReportingWalks.{walk_begun, walk_counted, walk_on, walk_stopped}
-use Rattle.jskw_array.proofs.PartsLeft.{left_within}
 use Rattle.jskw_array.proofs.+report.Goals as goal
 
 -- ---- an item
@@ -162,86 +161,71 @@ rest::RestValidate::report_errors-loop-index-preserved g t c =
       location = next.location ∙ l.invariant.location;
     }
 
--- ---- the keywords
+-- ---- the parts of a node
 
-pub part::report_parts-loop-part-init : goal.part::report_parts-loop-part-init
-part::report_parts-loop-part-init g t c =
+pub node::Subschema::report_errors-loop-part-init : goal.node::Subschema::report_errors-loop-part-init
+node::Subschema::report_errors-loop-part-init g t c =
+    let tree = g.F.Node.Rooted.tree in
+    let old = c.args.report.now in
+    let left = c.in-Some.ensures.parts in
     record {
       walk =
-          record {
-            reported =
-                reported_nothing g.F.Node.Rooted.tree c.args.report.now _;
-            from = omega arith;
-            to = omega arith;
-          };
+          walk_begun tree old (left.errors (path_of c.args.location.now)) c.apply.ensures.counted
+          (omega (arith, left.applied (keeps_list old)));
       location = refl;
+      applied = c.apply.ensures.applied;
+      lower = left.lower;
     }
 
-pub part::report_parts-report_errors-requires : goal.part::report_parts-report_errors-requires
-part::report_parts-report_errors-requires g t c κs within =
-    let lower =
-    unit_height c.args.parts.now c.loop-part.part-index c.part-item.result c.loop-part-test.true c.part-item.is in
+pub node::Subschema::report_errors-report_errors-requires : goal.node::Subschema::report_errors-report_errors-requires
+node::Subschema::report_errors-report_errors-requires g t c κs within =
+    let l = c.loop-part in
+    let lower = unit_height c.in-Some.parts.now l.part-index c.part-item.result c.loop-part-test.true c.part-item.is in
     let own = own_lower c.part-item.result c.keyword.result.now c.keyword.ensures in
-    (omega (arith, own, lower, c.decreases), search rules)
+    (omega (arith, own, lower, l.invariant.lower, c.decreases), search rules)
 
-pub part::report_parts-returns-in_err-report_errors-clause-reported
-    : goal.part::report_parts-returns-in_err-report_errors-clause-reported
-part::report_parts-returns-in_err-report_errors-clause-reported g t c =
+pub node::Subschema::report_errors-returns-in_err-report_errors-clause-reported
+    : goal.node::Subschema::report_errors-returns-in_err-report_errors-clause-reported
+node::Subschema::report_errors-returns-in_err-report_errors-clause-reported g t c =
     let l = c.loop-part in
     let tree = g.F.Node.Rooted.tree in
     let step =
-    unit_step c.args.parts.now l.part-index c.part-item.result c.loop-part-test.true c.part-item.is
+    unit_step c.in-Some.parts.now l.part-index c.part-item.result c.loop-part-test.true c.part-item.is
     (tree c.args.instance.now) (path_of c.args.location.now) in
     walk_stopped tree l.invariant.walk step c.from_residual.ensures.1
     (rw c.keyword.ensures at (rw l.invariant.location at c.in_err-report_errors.ensures.reported))
 
-pub part::report_parts-returns-in_err-report_errors-clause-counted
-    : goal.part::report_parts-returns-in_err-report_errors-clause-counted
-part::report_parts-returns-in_err-report_errors-clause-counted g t c =
+pub node::Subschema::report_errors-returns-in_err-report_errors-clause-counted
+    : goal.node::Subschema::report_errors-returns-in_err-report_errors-clause-counted
+node::Subschema::report_errors-returns-in_err-report_errors-clause-counted g t c =
     let l = c.loop-part in
     let tree = g.F.Node.Rooted.tree in
     let step =
-    unit_step c.args.parts.now l.part-index c.part-item.result c.loop-part-test.true c.part-item.is
+    unit_step c.in-Some.parts.now l.part-index c.part-item.result c.loop-part-test.true c.part-item.is
     (tree c.args.instance.now) (path_of c.args.location.now) in
     walk_counted tree l.invariant.walk step (rw c.keyword.ensures at c.in_err-report_errors.ensures.counted)
 
-pub part::report_parts-loop-part-preserved : goal.part::report_parts-loop-part-preserved
-part::report_parts-loop-part-preserved g t c =
+pub node::Subschema::report_errors-loop-part-preserved : goal.node::Subschema::report_errors-loop-part-preserved
+node::Subschema::report_errors-loop-part-preserved g t c =
     let l = c.loop-part in
     let tree = g.F.Node.Rooted.tree in
     let next = c.in_ok-report_errors.ensures in
     let step =
-    unit_step c.args.parts.now l.part-index c.part-item.result c.loop-part-test.true c.part-item.is
+    unit_step c.in-Some.parts.now l.part-index c.part-item.result c.loop-part-test.true c.part-item.is
     (tree c.args.instance.now) (path_of c.args.location.now) in
     record {
       walk =
           walk_on tree l.invariant.walk step (rw c.keyword.ensures at (rw l.invariant.location at next.reported))
           (rw c.keyword.ensures at next.counted);
       location = next.location ∙ l.invariant.location;
+      applied = omega (arith, l.invariant.applied, next.counted.from);
+      lower = l.invariant.lower;
     }
 
-pub part::report_parts-returns-clause-reported : goal.part::report_parts-returns-clause-reported
-part::report_parts-returns-clause-reported g t c =
+pub node::Subschema::report_errors-returns-clause-reported : goal.node::Subschema::report_errors-returns-clause-reported
+node::Subschema::report_errors-returns-clause-reported g t c =
     let l = c.loop-part in
     let tree = g.F.Node.Rooted.tree in
     reported_all tree l.invariant.walk.reported (ap
     (λ ks. all_fail ks (tree c.args.instance.now) (path_of c.args.location.now))
-    (keywords_end c.args.parts.now l.part-index c.loop-part-test.false))
-
--- ---- a node
-
-pub node::Subschema::report_errors-report_parts-requires : goal.node::Subschema::report_errors-report_parts-requires
-node::Subschema::report_errors-report_parts-requires g t c κs within =
-    let left = c.in-Some.ensures.parts in
-    (omega (arith, left.lower, c.decreases), search rules)
-
-pub node::Subschema::report_errors-returns-clause-reported : goal.node::Subschema::report_errors-returns-clause-reported
-node::Subschema::report_errors-returns-clause-reported g t c =
-    let whole = c.in-Some.ensures.parts.errors (path_of c.args.location.now) in
-    subst (λ fs. Reports g.F.Node.Rooted.tree c.args.report.now c.report_parts.new.report fs c.report_parts.result)
-    (sym whole) c.report_parts.ensures.reported
-
-pub node::Subschema::report_errors-returns-clause-counted : goal.node::Subschema::report_errors-returns-clause-counted
-node::Subschema::report_errors-returns-clause-counted g t c =
-    left_within c.in-Some.ensures.parts (keeps_list c.args.report.now) c.apply.ensures.counted
-    c.report_parts.ensures.counted (omega arith)
+    (keywords_end c.in-Some.parts.now l.part-index c.loop-part-test.false))

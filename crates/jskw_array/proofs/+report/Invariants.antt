@@ -1,7 +1,7 @@
-use Rattle.std.proofs.Common.{◌≡◌, ◌+◌, ◌*◌, min, length, drop}
-use Rattle.jskw_array.specs.Words.{all_applications, all_fail, all_height, each_fails, each_item, each_keyword, fail}
-use Rattle.jskw_array.specs.Words.{height, items, keeps_list, keyword_fail, keyword_height, keywords_of}
-use Rattle.jskw_array.specs.Words.{meaning_applications, one_keyword, path_of, rest_keyword, schemas_of}
+use Rattle.std.proofs.Common.{◌≡◌, ◌+◌, ◌-◌, ◌*◌, ◌^◌, ◌≤◌, min, length, drop}
+use Rattle.jskw_array.specs.Words.{all_applications, all_fail, all_height, applications, each_fails, each_item}
+use Rattle.jskw_array.specs.Words.{each_keyword, fail, height, items, keeps_list, keyword_fail, keyword_height}
+use Rattle.jskw_array.specs.Words.{keywords_of, meaning_applications, one_keyword, path_of, rest_keyword, schemas_of}
 use Rattle.jskw_array.specs.Words.{validator_keyword}
 use Rattle.jskw_array.proofs.ReportingWalks.{Walk, each_applications, items_applications}
 use Rattle.jskw_array.proofs.+report.Given as goal
@@ -11,9 +11,6 @@ decreases-node::Subschema::report_errors g l = 10 * height l.self.now
 
 abbrev pub decreases-node::Subschema::report_item : goal.decreases-node::Subschema::report_item
 decreases-node::Subschema::report_item g l = 10 * height l.self.now + 1
-
-abbrev pub decreases-part::report_parts : goal.decreases-part::report_parts
-decreases-part::report_parts g l = 10 * all_height (keywords_of l.parts.now) + 7
 
 abbrev pub decreases-validator::ValidatorValidate::report_errors
     : goal.decreases-validator::ValidatorValidate::report_errors
@@ -60,15 +57,17 @@ invariant-rest::RestValidate::report_errors-loop-index g l =
       location : l.location ≡ l.initial.location;
     }
 
-abbrev pub invariant-part::report_parts-loop-part : goal.invariant-part::report_parts-loop-part
-invariant-part::report_parts-loop-part g l =
+abbrev pub invariant-node::Subschema::report_errors-loop-part : goal.invariant-node::Subschema::report_errors-loop-part
+invariant-node::Subschema::report_errors-loop-part g l =
     let tree = g.F.Node.Rooted.tree in
     let t = tree l.instance in
     let p = path_of l.initial.location in
     let ks = keywords_of (drop l.part-index l.parts) in
     let wanted = keeps_list l.initial.report in
     record {
-      walk : Walk tree l.initial.report l.report (all_fail ks t p) (all_fail (keywords_of l.parts) t p)
-          l.initial.ctx l.ctx (all_applications wanted ks t) (all_applications wanted (keywords_of l.parts) t);
+      walk : Walk tree l.initial.report l.report (all_fail ks t p) (fail l.self t p) l.fn.ctx l.ctx
+          (all_applications wanted ks t) (applications wanted l.self t);
       location : l.location ≡ l.initial.location;
+      applied : min (l.fn.ctx + 1) (2 ^ 64 - 1) ≤ l.ctx;
+      lower : 1 + all_height (keywords_of l.parts) ≤ height l.self;
     }

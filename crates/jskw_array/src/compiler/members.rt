@@ -30,17 +30,7 @@ pub(crate) fn schema_count(parent: &Map<String, Value>, name: &str) -> Option<us
     ensures { result ≡ array_schema_count (get_member name.now (members_view parent.now.entries)) }
 {
     match member_of(parent, name) {
-        Some(value) => item_count(value),
-        None => None,
-    }
-}
-
-// Returns the number of items of an array, or `None` for other values.
-fn item_count(value: &Value) -> Option<usize>
-    ensures { result ≡ array_schema_count (Some (view value.now)) }
-{
-    match value {
-        Value::Array(items) => Some(items.len()),
+        Some(Value::Array(items)) => Some(items.len()),
         _ => None,
     }
 }

@@ -1,5 +1,6 @@
-use Rattle.std.proofs.Common.{◌∙◌, ◌++◌, ap, sym, append-nil}
-use Rattle.jskw_array.specs.Words.{failures_of, path_of}
+use Rattle.std.proofs.Common.{◌∙◌, ◌++◌, ap, subst, sym, append-nil}
+use Rattle.jskw_report.proofs.ReportedFailures.{appends_reported}
+use Rattle.jskw_array.specs.Words.{Appends, fail, failures_of, path_of}
 use Rattle.jskw_array.proofs.AcceptedValues.{accepted_errors, counted_within}
 use Rattle.jskw_array.proofs.WalksOverParts.{one_pair}
 use Rattle.jskw_array.proofs.schema.SchemaNode.collect_errors.Goals as goal
@@ -15,3 +16,12 @@ pub returns-then-apply_if_accepted-clause-counted : goal.returns-then-apply_if_a
 returns-then-apply_if_accepted-clause-counted g c =
     counted_within _ _ _ c.apply_if_accepted.result c.if-apply_if_accepted.true
     (one_pair c.args.self.now (g.F.Node.Rooted.tree c.args.instance.now)) c.apply_if_accepted.ensures.counted
+
+pub returns-clause-appended : goal.returns-clause-appended
+returns-clause-appended g c =
+    let tree = g.F.Node.Rooted.tree in
+    subst (λ s. Appends tree c.args.errors.now.items c.into_list.new.errors.items
+    (fail s (tree c.args.instance.now) (path_of c.args.location.now)) c.into_list.result) c.self.view_is
+    (appends_reported tree c.appending_to-report.result c.report_errors-reported.new.report _
+    c.appending_to-report.ensures.room c.appending_to-report.ensures.found c.into_list.ensures.list
+    c.report_errors-reported.ensures.reported c.into_list.ensures.appended)

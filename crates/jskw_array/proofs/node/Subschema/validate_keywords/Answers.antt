@@ -1,4 +1,0 @@
-use Rattle.jskw_array.proofs.node.Subschema.validate_keywords.Goals as goal
-
-pub returns-clause-first : goal.returns-clause-first
-returns-clause-first g c = c.first_result.ensures.first _ c.report_errors-reported.ensures.reported
