@@ -331,4 +331,13 @@ STREAMS = [
          '{"file":"a\\nb","refused":"there is no such file"}\n'),
 ]
 
+# Lines that memory runs out for: the options, the answer to `[-1]` as line N, and what is written of a line N that is
+# refused.
+SHORT_OF_MEMORY = [
+    ("text", [], f"-:{{}}: /0: {MINUS_1}\n".format, "-:{}: refused: memory ran out\n".format),
+    ("basic", ["--output", "basic"], lambda line: f'{{"file":"-","line":{line},{BASIC_MINUS_1}',
+     lambda line: f'{{"file":"-","line":{line},"refused":"memory ran out"}}\n'),
+    ("quiet", ["--output", "quiet"], lambda line: "", "-:{}: refused: memory ran out\n".format),
+]
+
 CASES = [*ARGUMENTS, *SCHEMAS, *DOCUMENTS, *STREAMS]

@@ -54,7 +54,7 @@ refuses_behind (Ok said) c lines file r v w x part a = (
 refuses_behind (Err e) c lines file r v w x part a = tt
 
 nothing_read : (c : Checker) (lines : Bool) (file : List ℕ) (r : Option (List ℕ)) → AnswersPart c lines file r []
-nothing_read c true file r = record { bytes = []; begins = nothing_begins r; answer = refl }
+nothing_read c true file r = record { bytes = []; begins = nothing_begins r; answer = (Valid, (refl, refl)) }
 nothing_read c false file r = record { bytes = []; begins = nothing_begins r; answer = refl }
 
 -- a file that was not opened

@@ -17,6 +17,11 @@ abbrev pub is_write_fault : {A : Type 0} → Result A CheckFault → Bool
 is_write_fault (Err Write) = true
 is_write_fault r = false
 
+-- memory ran out
+abbrev pub is_memory_fault : {A : Type 0} → Result A CheckFault → Bool
+is_memory_fault (Err Memory) = true
+is_memory_fault r = false
+
 -- the reader gave more blocks or lines than can be counted
 abbrev pub is_too_long : {A : Type 0} → Result A CheckFault → Bool
 is_too_long (Err TooLong) = true

@@ -1,11 +1,10 @@
 -- The files that are checked, one behind the other: what is written of each, and the worst verdict.
 use Rattle.std.specs.Prelude.{◌≡◌, ◌⊎◌, ℕ, List, [], ◌∷◌, ◌++◌, Bool, true, false, Option, Some, None, ⊤}
-use Rattle.jskw_report.specs.Keyword.{Schema}
 use Rattle.jskw_service.specs.declared.service.Verdict.{Verdict}
 use Rattle.jskw_service.specs.declared.service.Verdict.TheVariants.{Valid, Refused}
 use Rattle.jskw_documents.specs.Documents.{IsAnswer, verdict_on}
 use Rattle.jskw_documents.specs.Shown.{refusal_text}
-use Rattle.jskw_documents.specs.Streams.{AreAnswers, documents_of, lines_of, verdict_behind, worse_of}
+use Rattle.jskw_documents.specs.Streams.{AreAnswers, documents_of, lines_of, worse_of}
 use Rattle.jskw_documents.specs.declared.checker.Checker.{Checker}
 use Rattle.jskw_documents.specs.declared.options.Output.{Output}
 
@@ -21,17 +20,14 @@ BeginsWithBytes (Some known) bytes = (rest : List ℕ) × (known ≡ bytes ++ re
 
 -- ---- the answers to the bytes of a file: each of its lines is a document, or the file is one
 
-abbrev pub IsFileAnswer : Checker → Bool → List ℕ → List ℕ → List ℕ → Type 0
-IsFileAnswer c true file bytes text = AreAnswers c file 1 (documents_of bytes) text
-IsFileAnswer c false file bytes text = IsAnswer c.options c.schema file None bytes text
-
-abbrev pub verdict_on_file : Schema → Bool → List ℕ → Verdict
-verdict_on_file s true bytes = verdict_behind s Valid (documents_of bytes)
-verdict_on_file s false bytes = verdict_on s bytes
+abbrev pub IsFileAnswer : Checker → Bool → List ℕ → List ℕ → List ℕ → Verdict → Type 0
+IsFileAnswer c true file bytes text said = AreAnswers c file 1 (documents_of bytes) text Valid said
+IsFileAnswer c false file bytes text said =
+    IsAnswer c.options c.schema file None bytes text × (said ≡ verdict_on c.schema bytes)
 
 -- those to the lines that were read whole, before the file could not be read on; a document was not
 abbrev pub IsBegunAnswer : Checker → Bool → List ℕ → List ℕ → List ℕ → Type 0
-IsBegunAnswer c true file bytes text = AreAnswers c file 1 (lines_of [] bytes) text
+IsBegunAnswer c true file bytes text = (worst : Verdict) × AreAnswers c file 1 (lines_of [] bytes) text Valid worst
 IsBegunAnswer c false file bytes text = text ≡ []
 
 -- a refusal for some reason, which names no place in the file
@@ -45,8 +41,7 @@ pub record AnswersWhole (c : Checker) (lines : Bool) (file : List ℕ) (known : 
     (text : List ℕ) : Type 0 where
   pub bytes : List ℕ
   pub has : HasBytes known bytes
-  pub answer : IsFileAnswer c lines file bytes text
-  pub says : said ≡ verdict_on_file c.schema lines bytes
+  pub answer : IsFileAnswer c lines file bytes text said
 
 -- these bytes of the file were read, and no more
 pub record AnswersPart (c : Checker) (lines : Bool) (file : List ℕ) (known : Option (List ℕ)) (text : List ℕ)

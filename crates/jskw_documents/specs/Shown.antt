@@ -64,6 +64,23 @@ refusal_text output file line column location why =
     place_words file line column
     ++ (if_some (shown_after (codes ": ")) location ++ (shown_after (codes ": ") why ++ codes "\n"))
 
+-- ---- a line that memory ran out for: FILE:LINE: refused: memory ran out
+
+abbrev pub name_words : Output → List ℕ → List ℕ
+name_words Basic file = quoted_after (codes "{\"file\":") file
+name_words output file = shown file
+
+abbrev pub before_line : Output → List ℕ
+before_line Basic = codes ",\"line\":"
+before_line output = codes ":"
+
+abbrev pub memory_words : Output → List ℕ
+memory_words Basic = codes ",\"refused\":\"memory ran out\"}\n"
+memory_words output = codes ": refused: memory ran out\n"
+
+abbrev pub lost_line : Output → List ℕ → ℕ → List ℕ
+lost_line output file n = name_words output file ++ (before_line output ++ (decimal n ++ memory_words output))
+
 -- ---- errors, each with some message
 
 -- PLACE: INSTANCE LOCATION: MESSAGE [KEYWORD LOCATION]

@@ -1,11 +1,11 @@
 -- The lines of a stream, each of which is a document, and the answers to them.
 use Rattle.std.specs.Prelude.{◌≡◌, ℕ, suc, ◌+◌, eqb, List, [], ◌∷◌, ◌++◌, length, if◌then◌else◌, Option, Some, Bool}
-use Rattle.std.specs.Prelude.{◌<◌, None, take, drop, true, false}
+use Rattle.std.specs.Prelude.{◌<◌, ◌⊎◌, None, Vec, take, drop, true, false}
 use Rattle.std.specs.Io.KnownBytes.{Appends, Consumes, IsAtEnd}
-use Rattle.jskw_report.specs.Keyword.{Schema}
 use Rattle.jskw_service.specs.declared.service.Verdict.{Verdict}
 use Rattle.jskw_service.specs.declared.service.Verdict.TheVariants.{Valid, Invalid, Refused}
 use Rattle.jskw_documents.specs.Documents.{IsAnswer, verdict_on}
+use Rattle.jskw_documents.specs.Shown.{lost_line}
 use Rattle.jskw_documents.specs.declared.checker.Checker.{Checker}
 use Rattle.jskw_documents.specs.declared.lines.Lines.{Lines}
 
@@ -52,50 +52,69 @@ worse_of Invalid v = Invalid
 worse_of v Invalid = Invalid
 worse_of Valid Valid = Valid
 
--- the verdict on these documents, behind others
-abbrev pub verdict_behind : Schema → Verdict → List (List ℕ) → Verdict
-verdict_behind s v [] = v
-verdict_behind s v (d ∷ ds) = verdict_behind s (worse_of v (verdict_on s d)) ds
-
 -- ---- answers
 
--- the text has the answer to each document, in order; the first is line n
-abbrev pub AreAnswers : Checker → List ℕ → ℕ → List (List ℕ) → List ℕ → Type 0
-AreAnswers c file n [] text = text ≡ []
-AreAnswers c file n (d ∷ ds) text =
-    (first : List ℕ) × (rest : List ℕ) × (text ≡ first ++ rest) × IsAnswer c.options c.schema file (Some n) d first
-    × AreAnswers c file (suc n) ds rest
+-- a line is answered, or it is refused because memory ran out; and the verdict
+abbrev pub AnswersLine : Checker → List ℕ → ℕ → List ℕ → List ℕ → Verdict → Type 0
+AnswersLine c file n d text said =
+    (IsAnswer c.options c.schema file (Some n) d text × (said ≡ verdict_on c.schema d))
+    ⊎ ((text ≡ lost_line c.options.output file n) × (said ≡ Refused))
 
--- these bytes were taken, so that the lines that they end are answered by the text
-pub record Takes (c : Checker) (file : List ℕ) (before : Lines) (bytes text : List ℕ) (after : Lines) : Type 0 where
-  pub answers : AreAnswers c file before.next (lines_of before.begun.items bytes) text
-  pub next : after.next ≡ before.next + length (lines_of before.begun.items bytes)
-  pub begun : after.begun.items ≡ begun_of before.begun.items bytes
-  pub verdict : after.verdict ≡ verdict_behind c.schema before.verdict (lines_of before.begun.items bytes)
+-- the text has the answer to each document, in order; the first is line n; the worst verdict goes from v to w
+abbrev pub AreAnswers : Checker → List ℕ → ℕ → List (List ℕ) → List ℕ → Verdict → Verdict → Type 0
+AreAnswers c file n [] text v w = (text ≡ []) × (w ≡ v)
+AreAnswers c file n (d ∷ ds) text v w =
+    (first : List ℕ) × (rest : List ℕ) × (said : Verdict) × (text ≡ first ++ rest) × AnswersLine c file n d first said
+    × AreAnswers c file (suc n) ds rest (worse_of v said) w
+
+-- what is kept of a line that is begun: its bytes, or nothing, if memory ran out for them
+abbrev pub IsKept : {A : Type 0} → Option (Vec ℕ A) → List ℕ → Type 0
+IsKept (Some kept) line = kept.items ≡ line
+IsKept None line = 0 < length line
+
+-- bytes were taken behind those of a line that is begun, so that the lines that they end are answered by the text
+pub record Takes (c : Checker) (file line : List ℕ) (before : Lines) (bytes text : List ℕ) (after : Lines) : Type 0 where
+  pub answers : AreAnswers c file before.next (lines_of line bytes) text before.verdict after.verdict
+  pub next : after.next ≡ before.next + length (lines_of line bytes)
+  pub begun : IsKept after.begun (begun_of line bytes)
+
+-- what is ready, and the text behind it, is written up to what is ready then
+abbrev pub Told : Option (List ℕ) → List ℕ → Option (List ℕ) → List ℕ → List ℕ → Type 0
+Told v before w after text = (out : List ℕ) × Appends v w out × (out ++ after ≡ before ++ text)
+
+-- the next line, which is this document, is answered
+pub record AnswersNext (c : Checker) (file document : List ℕ) (before after : Lines) (v : Option (List ℕ)) (x : List ℕ)
+    (w : Option (List ℕ)) (y : List ℕ) : Type 0 where
+  pub answer : List ℕ
+  pub said : Verdict
+  pub answers : AnswersLine c file before.next document answer said
+  pub next : after.next ≡ before.next + 1
+  pub verdict : after.verdict ≡ worse_of before.verdict said
+  pub told : Told v x w y answer
 
 -- some bytes were read and taken, and the text was written: what there is to read went from r to s, and what was
 -- written from v to w
-pub record Moves (c : Checker) (file : List ℕ) (before after : Lines) (r s v w : Option (List ℕ)) : Type 0 where
+pub record Moves (c : Checker) (file line : List ℕ) (before after : Lines) (r s v w : Option (List ℕ)) : Type 0 where
   pub bytes : List ℕ
   pub text : List ℕ
   pub read : Consumes r s bytes
-  pub takes : Takes c file before bytes text after
+  pub takes : Takes c file line before bytes text after
   pub wrote : Appends v w text
 
--- all was read, and the answers to its documents were written; this is the verdict on all
+-- all was read, and the answers to its documents were written; this is the worst verdict
 pub record AnswersLines (c : Checker) (file : List ℕ) (said : Verdict) (r s v w : Option (List ℕ)) : Type 0 where
   pub bytes : List ℕ
   pub text : List ℕ
   pub read : Consumes r s bytes
   pub whole : IsAtEnd s
-  pub answers : AreAnswers c file 1 (documents_of bytes) text
-  pub says : said ≡ verdict_behind c.schema Valid (documents_of bytes)
+  pub answers : AreAnswers c file 1 (documents_of bytes) text Valid said
   pub wrote : Appends v w text
 
 -- lines were read, and the answers to them were written
 pub record AnswersBegun (c : Checker) (file : List ℕ) (r s v w : Option (List ℕ)) : Type 0 where
   pub bytes : List ℕ
   pub text : List ℕ
+  pub worst : Verdict
   pub read : Consumes r s bytes
-  pub answers : AreAnswers c file 1 (lines_of [] bytes) text
+  pub answers : AreAnswers c file 1 (lines_of [] bytes) text Valid worst
   pub wrote : Appends v w text

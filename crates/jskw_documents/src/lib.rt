@@ -19,9 +19,11 @@ mod fault;
 mod files;
 mod folder;
 mod lines;
+mod lost;
 mod options;
 mod place;
 mod schema;
+mod stream;
 mod watcher;
 mod words;
 

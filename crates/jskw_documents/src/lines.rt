@@ -1,16 +1,19 @@
 //! The lines of a stream, each of which is a document.
-ghost use Rattle.std.specs.Prelude.{◌≡◌, ◌<◌, ◌+◌, ◌++◌, [], ◌∷◌, ℕ, List, false, true, IfOk, OnOk, Ok, Some};
-ghost use Rattle.std.specs.Prelude.{IsErrOf, MatchOption, length, take, ◌≤◌};
+ghost use Rattle.std.specs.Prelude.{◌≡◌, ◌<◌, ◌++◌, [], ◌∷◌, ℕ, List, false, true, IfOk, IfSome, MatchOption, OnOk};
+ghost use Rattle.std.specs.Prelude.{IsErrOf, length, take, ◌≤◌};
 ghost use Rattle.std.specs.Io.KnownBytes.{Appends, IsAtEnd};
 ghost use Rattle.jskw_documents.specs.Documents.{IsAnswer, verdict_on};
-ghost use Rattle.jskw_documents.specs.Devices.{is_read_fault, is_write_fault};
-ghost use Rattle.jskw_documents.specs.Streams.{AnswersBegun, AnswersLines, AreAnswers, Ends, IsFirstLine, Moves};
-ghost use Rattle.jskw_documents.specs.Streams.{Takes, is_in_line, last_line_of, verdict_behind, worse_of};
+ghost use Rattle.jskw_documents.specs.Devices.{is_memory_fault, is_read_fault, is_write_fault};
+ghost use Rattle.jskw_documents.specs.Shown.{lost_line};
+ghost use Rattle.jskw_documents.specs.Streams.{AnswersBegun, AnswersLine, AnswersLines, AnswersNext, AreAnswers};
+ghost use Rattle.jskw_documents.specs.Streams.{Ends, IsFirstLine, IsKept, Moves, Takes, Told, is_in_line};
+ghost use Rattle.jskw_documents.specs.Streams.{last_line_of};
 
-use crate::answer::{answer_to, worse_of};
+use crate::answer::{Answer, answer_to, worse_of};
 use crate::checker::Checker;
-use crate::document::write_answer;
 use crate::fault::CheckFault;
+use crate::lost::{named, write_lost};
+use crate::stream::Stream;
 use crate::watcher::{Counts, Watcher};
 use jskw_service::{Sink, Source, Verdict, write_all};
 use jskw_text::TreeReader;
@@ -28,8 +31,8 @@ const STRIDE: usize = 32;
 pub(crate) struct Lines {
     // The number of the line that is begun, from 1 on.
     pub(crate) next: usize,
-    // The bytes of the line that is begun.
-    pub(crate) begun: Vec<u8>,
+    // The bytes of the line that is begun, or `None` if memory ran out for them.
+    pub(crate) begun: Option<Vec<u8>>,
     // The worst verdict on the lines before it.
     pub(crate) verdict: Verdict,
     // What reads lines.
@@ -39,7 +42,8 @@ pub(crate) struct Lines {
 }
 
 /// Reads a stream to its end, writes the answer to each line and nothing else, and returns the worst
-/// verdict. The last line needs no line feed, and an empty line is not JSON. Neither device may have
+/// verdict. The last line needs no line feed, and an empty line is not JSON. If memory runs out for a
+/// line or for its answer, that line is refused, and the next one is read. Neither device may have
 /// failed before the call.
 ///
 /// The answers to the lines that end in a block of the reader are written before the next block is
@@ -48,8 +52,9 @@ pub(crate) struct Lines {
 ///
 /// # Errors
 ///
-/// Fails if a device does, if memory runs out, or if the reader gave 2^64 blocks or lines. If the
-/// reader failed, the answers to all lines that were read to their end are written.
+/// Fails if a device does, or if the reader gave 2^64 blocks or lines. If the reader failed, the
+/// answers to all lines that were read to their end are written. Memory runs out only before anything
+/// is read.
 pub fn check_lines<R: Source, W: Sink, V: Watcher>(
     alloc: Global,
     checker: &Checker,
@@ -67,20 +72,48 @@ pub fn check_lines<R: Source, W: Sink, V: Watcher>(
     ensures read_failed { IsErrOf result CheckFault.Read → R.has_failed reader.new ≡ true }
     ensures begun { IsErrOf result CheckFault.Read → AnswersBegun checker.now file.now
         (R.remaining reader.old) (R.remaining reader.new) (W.contents writer.old) (W.contents writer.new) }
+    ensures unread { IsErrOf result CheckFault.Memory → reader.new ≡ reader.old }
+    ensures unwritten { IsErrOf result CheckFault.Memory → writer.new ≡ writer.old }
+{
+    let name = named(alloc, checker.options.output, file)?;
+    let stream = Stream {
+        alloc,
+        checker,
+        file,
+        name,
+    };
+    read_lines(&stream, reader, writer, watcher)
+}
+
+// Reads a stream to its end, and writes the answers.
+fn read_lines<R: Source, W: Sink, V: Watcher>(
+    stream: &Stream<'_, '_>,
+    reader: &mut R,
+    writer: &mut W,
+    watcher: &mut V,
+) -> Result<Verdict, CheckFault>
+    requires reader_works { R.has_failed reader.old ≡ false }
+    requires writer_works { W.has_failed writer.old ≡ false }
+    ensures answers { IfOk result (λ said. AnswersLines stream.now.checker.now stream.now.file.now said
+        (R.remaining reader.old) (R.remaining reader.new) (W.contents writer.old) (W.contents writer.new)) }
+    ensures works { OnOk result (R.has_failed reader.new ≡ false) }
+    ensures failed { W.has_failed writer.new ≡ is_write_fault result }
+    ensures read_failed { IsErrOf result CheckFault.Read → R.has_failed reader.new ≡ true }
+    ensures begun { IsErrOf result CheckFault.Read → AnswersBegun stream.now.checker.now stream.now.file.now
+        (R.remaining reader.old) (R.remaining reader.new) (W.contents writer.old) (W.contents writer.new) }
+    ensures memory { is_memory_fault result ≡ false }
 {
     let mut lines = Lines {
         next: 1,
-        begun: Vec::new(alloc),
+        begun: Some(Vec::new(stream.alloc)),
         verdict: Verdict::Valid,
-        reader: TreeReader::new(alloc),
+        reader: TreeReader::new(stream.alloc),
         counts: Counts::new(),
     };
     let mut block = [0u8; BLOCK];
     'reads: for _ in 0..u64::MAX {
-        if !take_next(
-            alloc, checker, file, &mut lines, &mut block, reader, writer, watcher,
-        )? {
-            return take_last(alloc, checker, file, &mut lines, writer, watcher);
+        if !take_next(stream, &mut lines, &mut block, reader, writer, watcher)? {
+            return take_last(stream, &mut lines, writer, watcher);
         }
     }
     Err(CheckFault::TooLong)
@@ -88,9 +121,7 @@ pub fn check_lines<R: Source, W: Sink, V: Watcher>(
 
 // Reads a block, writes the answers to the lines that end in it, and returns whether there was one.
 fn take_next<R: Source, W: Sink, V: Watcher>(
-    alloc: Global,
-    checker: &Checker,
-    file: &str,
+    stream: &Stream<'_, '_>,
     lines: &mut Lines,
     block: &mut [u8],
     reader: &mut R,
@@ -100,47 +131,52 @@ fn take_next<R: Source, W: Sink, V: Watcher>(
     requires room { 0 < length block.old }
     requires reader_works { R.has_failed reader.old ≡ false }
     requires writer_works { W.has_failed writer.old ≡ false }
-    ensures moves { OnOk result (Moves checker.now file.now lines.old lines.new (R.remaining reader.old)
-        (R.remaining reader.new) (W.contents writer.old) (W.contents writer.new)) }
+    ensures moves { OnOk result ((line : List ℕ) → IsKept lines.old.begun line
+        → Moves stream.now.checker.now stream.now.file.now line lines.old lines.new
+        (R.remaining reader.old) (R.remaining reader.new) (W.contents writer.old) (W.contents writer.new)) }
     ensures end { IfOk result (λ more. more ≡ false → IsAtEnd (R.remaining reader.new)) }
     ensures works { OnOk result (R.has_failed reader.new ≡ false) }
     ensures failed { W.has_failed writer.new ≡ is_write_fault result }
     ensures read_failed { IsErrOf result CheckFault.Read → R.has_failed reader.new ≡ true }
-    ensures unread { IsErrOf result CheckFault.Read → Moves checker.now file.now lines.old lines.old
+    ensures unread { IsErrOf result CheckFault.Read → (line : List ℕ) → IsKept lines.old.begun line
+        → Moves stream.now.checker.now stream.now.file.now line lines.old lines.old
         (R.remaining reader.old) (R.remaining reader.new) (W.contents writer.old) (W.contents writer.new) }
+    ensures memory { is_memory_fault result ≡ false }
 {
     let Ok(count) = reader.read(block) else {
         return Err(CheckFault::Read);
     };
-    let text = take_block(alloc, checker, file, lines, &block[..count])?;
-    let Ok(()) = write_all(writer, &text) else {
-        return Err(CheckFault::Write);
-    };
+    take_block(stream, lines, &block[..count], writer)?;
     watcher.saw(lines.counts);
     Ok(count > 0)
 }
 
-// Takes a block, and returns the answers to the lines that end in it.
-fn take_block(
-    alloc: Global,
-    checker: &Checker,
-    file: &str,
+// Takes a block, and writes the answers to the lines that end in it.
+fn take_block<W: Sink>(
+    stream: &Stream<'_, '_>,
     lines: &mut Lines,
     block: &[u8],
-) -> Result<Vec<u8>, CheckFault>
-    ensures takes { IfOk result
-        (λ text. Takes checker.now file.now lines.old block.now text.items lines.new) }
+    writer: &mut W,
+) -> Result<(), CheckFault>
+    requires { W.has_failed writer.old ≡ false }
+    ensures takes { OnOk result ((line : List ℕ) → IsKept lines.old.begun line → (text : List ℕ)
+        × Takes stream.now.checker.now stream.now.file.now line lines.old block.now text lines.new
+        × Appends (W.contents writer.old) (W.contents writer.new) text) }
+    ensures failed { W.has_failed writer.new ≡ is_write_fault result }
     ensures no_read { is_read_fault result ≡ false }
-    ensures no_write { is_write_fault result ≡ false }
+    ensures memory { is_memory_fault result ≡ false }
 {
-    let mut text = Vec::new(alloc);
+    let mut text = Vec::new(stream.alloc);
     let mut rest = block;
     'ends: while let Some((line, behind)) = first_line(rest) {
-        end_line(alloc, checker, file, lines, line, &mut text)?;
+        end_line(stream, lines, line, &mut text, writer)?;
         rest = behind;
     }
-    lines.begun.extend_from_slice(rest)?;
-    Ok(text)
+    lines.begun = joined(lines.begun.take(), rest);
+    let Ok(()) = write_all(writer, &text) else {
+        return Err(CheckFault::Write);
+    };
+    Ok(())
 }
 
 // Returns the bytes before the first line feed, and those behind it.
@@ -195,91 +231,194 @@ fn has_line_feed(block: &[u8]) -> bool
     found
 }
 
-// Appends the answer to the line that these bytes and a line feed end, behind what is begun of it.
-fn end_line(
-    alloc: Global,
-    checker: &Checker,
-    file: &str,
+// Returns whether a line has bytes of which this is kept.
+fn is_begun(begun: &Option<Vec<u8>>) -> bool
+    ensures some { (line : List ℕ) → IsKept begun.now line → result ≡ true → 0 < length line }
+    ensures none { (line : List ℕ) → IsKept begun.now line → result ≡ false → line ≡ [] }
+{
+    match begun {
+        Some(kept) => !kept.is_empty(),
+        None => true,
+    }
+}
+
+// Returns what is kept of a line behind these bytes of it, or `None` if memory runs out.
+fn joined(begun: Option<Vec<u8>>, bytes: &[u8]) -> Option<Vec<u8>>
+    ensures { (line : List ℕ) → IsKept begun line → IsKept result (line ++ bytes.now) }
+{
+    if bytes.is_empty() {
+        return begun;
+    }
+    let mut begun = begun?;
+    match begun.extend_from_slice(bytes) {
+        Ok(()) => Some(begun),
+        Err(_) => None,
+    }
+}
+
+// Answers the line that these bytes and a line feed end, behind what is begun of it.
+fn end_line<W: Sink>(
+    stream: &Stream<'_, '_>,
     lines: &mut Lines,
     bytes: &[u8],
     text: &mut Vec<u8>,
+    writer: &mut W,
 ) -> Result<(), CheckFault>
-    requires { is_in_line bytes.now ≡ true }
-    ensures takes { OnOk result ((answer : List ℕ)
-        × Takes checker.now file.now lines.old (bytes.now ++ 10 ∷ []) answer lines.new
-        × (text.new.items ≡ text.old.items ++ answer)) }
+    requires inside { is_in_line bytes.now ≡ true }
+    requires works { W.has_failed writer.old ≡ false }
+    ensures takes { OnOk result ((line : List ℕ) → IsKept lines.old.begun line → (answer : List ℕ)
+        × Takes stream.now.checker.now stream.now.file.now line lines.old (bytes.now ++ 10 ∷ []) answer lines.new
+        × Told (W.contents writer.old) text.old.items (W.contents writer.new) text.new.items answer) }
+    ensures failed { W.has_failed writer.new ≡ is_write_fault result }
     ensures no_read { is_read_fault result ≡ false }
-    ensures no_write { is_write_fault result ≡ false }
+    ensures memory { is_memory_fault result ≡ false }
 {
-    if lines.begun.is_empty() {
-        return answer_line(alloc, checker, file, lines, bytes, text);
+    if !is_begun(&lines.begun) {
+        return answer_line(stream, lines, Some(bytes), text, writer);
     }
-    lines.begun.extend_from_slice(bytes)?;
-    let line = mem::replace(&mut lines.begun, Vec::new(alloc));
-    answer_line(alloc, checker, file, lines, &line, text)
+    let begun = mem::replace(&mut lines.begun, Some(Vec::new(stream.alloc)));
+    match joined(begun, bytes) {
+        Some(line) => answer_line(stream, lines, Some(&line), text, writer),
+        None => answer_line(stream, lines, None, text, writer),
+    }
 }
 
-// Appends the answer to a line.
-fn answer_line(
-    alloc: Global,
-    checker: &Checker,
-    file: &str,
+// Answers a line, or refuses it if memory runs out, or if it has for the line itself.
+fn answer_line<W: Sink>(
+    stream: &Stream<'_, '_>,
     lines: &mut Lines,
-    line: &[u8],
+    line: Option<&[u8]>,
     text: &mut Vec<u8>,
+    writer: &mut W,
 ) -> Result<(), CheckFault>
-    ensures answer { OnOk result ((answer : List ℕ) × IsAnswer checker.now.options checker.now.schema
-        file.now (Some lines.old.next) line.now answer × (text.new.items ≡ text.old.items ++ answer)) }
-    ensures next { OnOk result (lines.new.next ≡ lines.old.next + 1) }
+    requires { W.has_failed writer.old ≡ false }
+    ensures answer { OnOk result ((document : List ℕ) → IfSome line.entry (λ l. l.now ≡ document) → AnswersNext
+        stream.now.checker.now stream.now.file.now document lines.old lines.new
+        (W.contents writer.old) text.old.items (W.contents writer.new) text.new.items) }
     ensures begun { lines.new.begun ≡ lines.old.begun }
-    ensures verdict { OnOk result (lines.new.verdict
-        ≡ worse_of lines.old.verdict (verdict_on checker.now.schema line.now)) }
+    ensures failed { W.has_failed writer.new ≡ is_write_fault result }
     ensures no_read { is_read_fault result ≡ false }
-    ensures no_write { is_write_fault result ≡ false }
+    ensures memory { is_memory_fault result ≡ false }
 {
     let Some(next) = lines.next.checked_add(1) else {
         return Err(CheckFault::TooLong);
     };
-    let number = Some(lines.next);
-    let answer = answer_to(alloc, checker, file, number, line, &mut lines.reader)?;
-    text.extend_from_slice(&answer.text)?;
+    let (said, errors) = said_of(stream, lines.next, line, &mut lines.reader, text, writer)?;
     lines.next = next;
     lines.counts = lines.counts.plus(Counts {
         documents: 1,
-        bytes: line.len(),
-        errors: answer.errors,
+        bytes: line.map_or(0, <[u8]>::len),
+        errors,
     });
-    lines.verdict = worse_of(lines.verdict, answer.verdict);
+    lines.verdict = worse_of(lines.verdict, said);
     Ok(())
+}
+
+// Appends the answer to a line, or refuses it, and returns the verdict and the number of errors.
+fn said_of<W: Sink>(
+    stream: &Stream<'_, '_>,
+    number: usize,
+    line: Option<&[u8]>,
+    reader: &mut TreeReader,
+    text: &mut Vec<u8>,
+    writer: &mut W,
+) -> Result<(Verdict, usize), CheckFault>
+    requires { W.has_failed writer.old ≡ false }
+    ensures answer { IfOk result (λ said. (document : List ℕ) → IfSome line.entry (λ l. l.now ≡ document)
+        → (answer : List ℕ) × AnswersLine stream.now.checker.now stream.now.file.now number document answer said.0
+        × Told (W.contents writer.old) text.old.items (W.contents writer.new) text.new.items answer) }
+    ensures failed { W.has_failed writer.new ≡ is_write_fault result }
+    ensures no_read { is_read_fault result ≡ false }
+    ensures memory { is_memory_fault result ≡ false }
+{
+    match pushed_answer(stream, number, line, reader, text) {
+        Some(answer) => Ok((answer.verdict, answer.errors)),
+        None => {
+            *reader = TreeReader::new(stream.alloc);
+            refuse(stream, number, text, writer)?;
+            Ok((Verdict::Refused, 0))
+        }
+    }
+}
+
+// Appends the answer to a line, and returns it, or `None` if memory runs out, or if there is no line.
+fn pushed_answer(
+    stream: &Stream<'_, '_>,
+    number: usize,
+    line: Option<&[u8]>,
+    reader: &mut TreeReader,
+    text: &mut Vec<u8>,
+) -> Option<Answer>
+    ensures { MatchOption result (text.new.items ≡ text.old.items)
+        (λ answer. (document : List ℕ) → IfSome line.entry (λ l. l.now ≡ document)
+        → IsAnswer stream.now.checker.now.options stream.now.checker.now.schema stream.now.file.now
+        (Some number) document answer.text.items × (text.new.items ≡ text.old.items ++ answer.text.items)
+        × (answer.verdict ≡ verdict_on stream.now.checker.now.schema document)) }
+{
+    let line = line?;
+    let number = Some(number);
+    let answer = answer_to(
+        stream.alloc,
+        stream.checker,
+        stream.file,
+        number,
+        line,
+        reader,
+    );
+    let Ok(answer) = answer else {
+        return None;
+    };
+    match text.extend_from_slice(&answer.text) {
+        Ok(()) => Some(answer),
+        Err(_) => None,
+    }
+}
+
+// Writes what is ready, and then that memory ran out for a line. It takes no memory.
+fn refuse<W: Sink>(
+    stream: &Stream<'_, '_>,
+    number: usize,
+    text: &mut Vec<u8>,
+    writer: &mut W,
+) -> Result<(), CheckFault>
+    requires { W.has_failed writer.old ≡ false }
+    ensures told { OnOk result (Told (W.contents writer.old) text.old.items (W.contents writer.new)
+        text.new.items (lost_line stream.now.checker.now.options.output stream.now.file.now number)) }
+    ensures failed { W.has_failed writer.new ≡ is_write_fault result }
+    ensures no_read { is_read_fault result ≡ false }
+    ensures memory { is_memory_fault result ≡ false }
+{
+    let ready = mem::replace(text, Vec::new(stream.alloc));
+    let Ok(()) = write_all(writer, &ready) else {
+        return Err(CheckFault::Write);
+    };
+    match write_lost(writer, stream.checker.options.output, &stream.name, number) {
+        Ok(()) => Ok(()),
+        Err(_) => Err(CheckFault::Write),
+    }
 }
 
 // Writes the answer to a last line without a line feed, if there is one, and returns the worst
 // verdict.
 fn take_last<W: Sink, V: Watcher>(
-    alloc: Global,
-    checker: &Checker,
-    file: &str,
+    stream: &Stream<'_, '_>,
     lines: &mut Lines,
     writer: &mut W,
     watcher: &mut V,
 ) -> Result<Verdict, CheckFault>
     requires { W.has_failed writer.old ≡ false }
-    ensures answer { OnOk result ((answer : List ℕ) × AreAnswers checker.now file.now lines.old.next
-        (last_line_of lines.old.begun.items) answer
-        × Appends (W.contents writer.old) (W.contents writer.new) answer) }
-    ensures verdict { IfOk result (λ said. said ≡ verdict_behind checker.now.schema lines.old.verdict
-        (last_line_of lines.old.begun.items)) }
+    ensures answer { IfOk result (λ said. (line : List ℕ) → IsKept lines.old.begun line → (text : List ℕ)
+        × AreAnswers stream.now.checker.now stream.now.file.now lines.old.next (last_line_of line) text
+        lines.old.verdict said × Appends (W.contents writer.old) (W.contents writer.new) text) }
     ensures failed { W.has_failed writer.new ≡ is_write_fault result }
     ensures no_read { is_read_fault result ≡ false }
+    ensures memory { is_memory_fault result ≡ false }
 {
-    if lines.begun.is_empty() {
+    if !is_begun(&lines.begun) {
         return Ok(lines.verdict);
     }
-    let line = mem::replace(&mut lines.begun, Vec::new(alloc));
-    let (number, before) = (Some(lines.next), lines.counts);
-    let trees = &mut lines.reader;
-    let said = write_answer(
-        alloc, checker, file, number, &line, trees, before, writer, watcher,
-    )?;
-    Ok(worse_of(lines.verdict, said))
+    // as if a line feed ended it
+    take_block(stream, lines, b"\n", writer)?;
+    watcher.saw(lines.counts);
+    Ok(lines.verdict)
 }
