@@ -48,7 +48,7 @@ def all_workloads():
 
 
 def time_of(nanoseconds):
-    unit, size = next((unit, size) for unit, size in (("ms", 1e6), ("µs", 1e3), ("ns", 1)) if nanoseconds >= size)
+    unit, size = next((unit, size) for unit, size in (("s", 1e9), ("ms", 1e6), ("µs", 1e3), ("ns", 1)) if nanoseconds >= size)
     return f"{nanoseconds / size:.3g} {unit}"
 
 
@@ -180,15 +180,15 @@ def table(times, names, call, kind, items=None):
 
 
 def summary(times, names):
-    """Of each call and each other: on how many workloads the other is ahead, and the means of the ratios."""
-    yield f"| Call | Beside | {HEAD}"
+    """Of each call and each other: on how many workloads and other kinds the other is ahead, and the means of the ratios."""
+    yield "| Call | Beside | is ahead on | mean | without the two extremes | other kinds: is ahead on | mean |"
     yield "|---|---|" + "---|" * 5
     for call, (title, _) in CALLS.items():
         for name in names:
-            for items, of in (workloads(), ""), (parsed_workloads(), ", other kinds"):
-                ratios = ratios_of(times, name, call, "valid", items)
-                if ratios:
-                    yield f"| {title}{of} | {row_of(name, ratios.values())}"
+            found = [ratios_of(times, name, call, "valid", items).values() for items in (workloads(), parsed_workloads())]
+            if found[0]:
+                first, others = (row_of("", ratios).split(" | ") if ratios else ["", "-", "-", "-"] for ratios in found)
+                yield f"| {title} | {name} | {' | '.join([*first[1:4], *others[1:3]])} |"
 
 
 def by_length(times, names):
