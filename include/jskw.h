@@ -108,7 +108,7 @@ uint32_t jskw_compile(uint32_t draft, uint32_t vocabularies, const uint8_t *over
  *     inactive        a keyword of this library that asserts nothing as it stands: the draft or the vocabularies do not
  *                     have it, it is overridden, what it goes with is absent, or it passes over such a value
  *     repeated        a member, wherever in the text it stands, that a later one of its object replaces, since it has
- *                     the same name; behind all other lines, in the order of the text
+ *                     the same name; behind all other lines, the members of an object from the last to the first
  * Annotations such as `title` have no line (docs/USE.md). The name of the member is what stands behind the last `/` of
  * the location, where ~1 is a `/` and ~0 a `~`.
  *

@@ -338,8 +338,8 @@ static void names(void) {
         "\"type\":1,\"typ\\u0065\":2,\"type\":\"null\"}";
     status = jskw_unchecked(7, JSKW_ALL, BYTES(""), BYTES(schema), buffer, ROOM, &length);
     check("names that come again", gives(status, JSKW_INVALID, buffer, length,
-        "/items\trepeated\n/items/0/const/x~1\trepeated\n/items/0/const/x~1/b\trepeated\n"
-        "/type\trepeated\n/type\trepeated\n"));
+        "/type\trepeated\n/type\trepeated\n/items/0/const/x~1/b\trepeated\n/items/0/const/x~1\trepeated\n"
+        "/items\trepeated\n"));
 }
 
 /* An empty handle gets a status from each call, and another schema takes its place after each. */

@@ -95,8 +95,8 @@ UNCHECKED: list[tuple[Any, dict[str, Any], list[Any]]] = [
     # names that the text repeats, also in what is not looked at otherwise, but not below what is replaced
     (b'{"type": "null", "type": "null"}', {}, [("type", ("type",), "repeated")]),
     (b'{"items": {"items": 1, "a": 2, "items": true}, "x": [{"b/": 1, "b\\/": 2}, {"b": 1}]}', {},
-     [("a", ("items", "a"), "unknown"), ("x", ("x",), "unknown"), ("items", ("items", "items"), "repeated"),
-      ("b/", ("x", 0, "b/"), "repeated")]),
+     [("a", ("items", "a"), "unknown"), ("x", ("x",), "unknown"), ("b/", ("x", 0, "b/"), "repeated"),
+      ("items", ("items", "items"), "repeated")]),
     (b'{"enum": [{"a": {"b": 1, "b": 2}, "a": 1}, {"a": 1}, "a", "a"]}', {}, [("a", ("enum", 0, "a"), "repeated")]),
     (b'{"const": {"\\u0061": 1, "b": {"c": 1, "d": [], "c": 2}, "a": 2, "a": 3}}', {},
      [("a", ("const", "a"), "repeated"), ("c", ("const", "b", "c"), "repeated"), ("a", ("const", "a"), "repeated")]),

@@ -211,7 +211,7 @@ fn unchecked() {
     match strict.build(repeats).unwrap_err() {
         Error::Unchecked(members) => {
             let told: Vec<_> = members.iter().map(|one| (one.location().to_string(), one.reason().as_str())).collect();
-            assert_eq!(told, [("/items".to_string(), "repeated"), ("/items/0/type".to_string(), "repeated")]);
+            assert_eq!(told, [("/items/0/type".to_string(), "repeated"), ("/items".to_string(), "repeated")]);
         }
         other => panic!("{other:?}"),
     }

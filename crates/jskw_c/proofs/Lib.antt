@@ -12,3 +12,4 @@ mod OutcomesOfInstances
 mod OutcomesOfRefusals
 mod Pruned
 mod Unrepeated
+mod Joined

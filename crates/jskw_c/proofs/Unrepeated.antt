@@ -47,9 +47,9 @@ mutual
       let at = member_location p k in
       let last : has_member_named k ms ≡ false =
       differs k ms (λ i within. d 0 (suc i) [] (omega arith) (omega arith)) in
-      ap (λ b. (if b then repeated_line at else repeated_in at j) ++ repeated_in_members p ms) last
-      ∙ (ap (λ t. t ++ repeated_in_members p ms) (none_in at j u.0)
-      ∙ none_in_members p ms (λ i i' x lt within. d (suc i) (suc i') x (omega arith) (omega arith)) u.1)
+      ap (λ t. t ++ (if has_member_named k ms then repeated_line at else repeated_in at j))
+      (none_in_members p ms (λ i i' x lt within. d (suc i) (suc i') x (omega arith) (omega arith)) u.1)
+      ∙ (ap (λ b. if b then repeated_line at else repeated_in at j) last ∙ none_in at j u.0)
 
 none_of : (o : Option Json) → IsUniquelyNamed o → repeated_of o ≡ []
 none_of None u = absurd u

@@ -8,4 +8,5 @@ pub mod Slot
 pub mod Status
 pub mod Buffer
 pub mod Repeated
+pub mod Names
 pub mod Unchecked

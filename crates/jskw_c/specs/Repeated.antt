@@ -33,11 +33,12 @@ abbrev mutual
   repeated_in_items p i no_items = []
   repeated_in_items p i (item j js) = repeated_in (item_location p i) j ++ repeated_in_items p (suc i) js
 
+  -- the members, from the last to the first
   pub repeated_in_members : Pointer → Members → List ℕ
   repeated_in_members p no_members = []
   repeated_in_members p (member k j ms) =
-      (if has_member_named k ms then repeated_line (member_location p k) else repeated_in (member_location p k) j)
-      ++ repeated_in_members p ms
+      repeated_in_members p ms
+      ++ (if has_member_named k ms then repeated_line (member_location p k) else repeated_in (member_location p k) j)
 
 abbrev pub repeated_of : Option Json → List ℕ
 repeated_of None = []

@@ -1,8 +1,9 @@
 //! The members of a text of JSON that a later one of the same name replaces.
-ghost use Rattle.std.specs.Prelude.{◌≡◌, ◌++◌, OnOk, IfOk, IsTrue, string_bytes};
+ghost use Rattle.std.specs.Prelude.{◌≡◌, ◌++◌, OnOk, IfOk, IsTrue, not, string_bytes};
 ghost use Rattle.json.specs.Json.{document};
 ghost use Rattle.json.specs.Value.{items_view, members_view, value_view};
 ghost use Rattle.jskw_value.specs.Pointer.{item_location, member_location};
+ghost use Rattle.jskw_c.specs.Names.{HasNames, HasNamesAnd};
 ghost use Rattle.jskw_c.specs.Repeated.{has_member_named, repeated_in, repeated_in_items, repeated_in_members};
 ghost use Rattle.jskw_c.specs.Repeated.{IsUniquelyNamed, repeated_lines, repeated_of};
 
@@ -10,6 +11,7 @@ use crate::line::push_reason;
 use jskw_value::pointer::{push_index, push_name};
 use json::{Error, Scratch, Value};
 use std::alloc::{AllocError, Global};
+use std::collections::BTreeSet;
 use std::str::from_utf8;
 
 // Appends a line for each member of a text of JSON that a later one of the same name replaces. What stands
@@ -88,39 +90,43 @@ fn push_in_items(
     Ok(())
 }
 
-// Appends the lines of the members.
+// Appends the lines of the members, from the last to the first.
 #[cycle(repeated)]
 #[inline(never)]
-fn push_in_members(
+fn push_in_members<'a>(
     alloc: Global,
     text: &mut Vec<u8>,
-    members: &[(&str, Value<'_>)],
+    members: &[(&'a str, Value<'a>)],
     at: &str,
 ) -> Result<(), AllocError>
     ensures { OnOk result (text.new.items ≡ text.old.items ++ repeated_in_members at.now (members_view members.now)) }
 {
-    for index in 0..members.len() {
-        let name = members[index].0;
+    let mut seen = BTreeSet::new(alloc);
+    for step in 0..members.len() {
+        let index = members.len() - 1 - step;
+        let (name, value) = &members[index];
         let below = member_at(alloc, at, name)?;
-        if has_member_named(name, &members[index + 1..]) {
-            push_reason(text, below.as_str(), "repeated")?;
+        if add_name(&mut seen, name, &members[index + 1..])? {
+            push_in_value(alloc, text, value, below.as_str())?;
         } else {
-            push_in_value(alloc, text, &members[index].1, below.as_str())?;
+            push_reason(text, below.as_str(), "repeated")?;
         }
     }
     Ok(())
 }
 
-// Returns whether one of the members has the name.
-fn has_member_named(name: &str, members: &[(&str, Value<'_>)]) -> bool
-    ensures { result ≡ has_member_named name.now (members_view members.now) }
+// Adds a name to those of the members behind it, and returns whether none of them has it.
+fn add_name<'a>(
+    seen: &mut BTreeSet<&'a str>,
+    name: &'a str,
+    behind: &[(&'a str, Value<'a>)],
+) -> Result<bool, AllocError>
+    requires { HasNames seen.old (members_view behind.now) }
+    ensures added { IfOk result (λ added. added
+        ≡ not (has_member_named name.now (members_view behind.now))) }
+    ensures names { OnOk result (HasNamesAnd seen.new name.now (members_view behind.now)) }
 {
-    for member in members {
-        if member.0 == name {
-            return true;
-        }
-    }
-    false
+    Ok(seen.insert(name)?)
 }
 
 // Returns the location of an item.
