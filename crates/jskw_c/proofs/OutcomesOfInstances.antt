@@ -1,9 +1,7 @@
 -- The outcome on an instance, case by case.
-use Rattle.std.proofs.Common.{◌≡◌, ◌∙◌, ℕ, List, [], ◌∷◌, true, false, take, Option, Some, None, Result, Ok, Err, sym}
+use Rattle.std.proofs.Common.{◌≡◌, ◌∙◌, ℕ, List, [], ◌∷◌, true, false, take, sym}
 use Rattle.std.proofs.Common.{ap, subst}
-use Rattle.jskw_value.specs.Pointer.{Pointer}
 use Rattle.jskw_value.specs.Tree.{Tree}
-use Rattle.jskw_text.specs.Reading.{reading}
 use Rattle.jskw_report.specs.Evaluation.{Evaluation, is_valid, tree}
 use Rattle.jskw_report.specs.Fail.{Failure, fail, is_empty}
 use Rattle.jskw_report.specs.Holds.{holds}
@@ -11,12 +9,12 @@ use Rattle.jskw_report.specs.Keyword.{Schema}
 use Rattle.jskw_report.specs.Observe.{limited}
 use Rattle.jskw_report.proofs.HoldsIsNoFailure.{holds_empty}
 use Rattle.jskw_report.proofs.EvaluationValidity.{tree_valid}
-use Rattle.jskw_c.specs.Asked.{IsDetailOf, SaysErrors, SaysFirst, SaysTree, limit_numbered, status_of_read}
+use Rattle.jskw_c.specs.Asked.{SaysErrors, SaysFirst, SaysTree, limit_numbered}
 use Rattle.jskw_c.specs.Asked.{verdict_status}
 use Rattle.jskw_c.specs.Evaluated.{evaluation_text}
-use Rattle.jskw_c.specs.Line.{AreErrorLines, IsInexactLine, IsPositionLine}
-use Rattle.jskw_c.specs.Replies.{IsOutcome, IsOutcomeOnTree, IsOutcomeOnBytes}
-use Rattle.jskw_c.specs.Status.{VALID, INVALID, NOT_JSON, INEXACT}
+use Rattle.jskw_c.specs.Line.{AreErrorLines}
+use Rattle.jskw_c.specs.Replies.{IsOutcomeOnTree}
+use Rattle.jskw_c.specs.Status.{VALID, INVALID}
 use Rattle.jskw_c.specs.declared.ask.Outcome.{Outcome}
 
 -- the first so many errors

@@ -1,5 +1,5 @@
 -- What is read of an instance is valid exactly where the instance is.
-use Rattle.std.proofs.Common.{◌≡◌, Ok, Some, List, sym, ap, subst, ◌∙◌}
+use Rattle.std.proofs.Common.{◌≡◌, List, sym, ap, subst, ◌∙◌}
 use Rattle.std.specs.Prelude.{Option, Result}
 use Rattle.jskw_value.specs.Pointer.{Pointer}
 use Rattle.jskw_value.specs.Tree.{Tree}

@@ -1,5 +1,5 @@
 -- Sets of the names of members; for private clauses.
-use Rattle.std.specs.Prelude.{◌≡◌, ◌||◌, ℕ, List, Bool, bytes_eq}
+use Rattle.std.specs.Prelude.{◌≡◌, ◌||◌, ℕ, List, bytes_eq}
 use Rattle.std.specs.Borrow.{Bor}
 use Rattle.std.specs.BTreeSet.{BTreeSet, contains}
 use Rattle.std.specs.Cmp.Lexicographic.{slice_cmp}
