@@ -28,7 +28,8 @@ pub returns-clause-appended : goal.returns-clause-appended
 returns-clause-appended g c =
     let tree = g.F.Node.Rooted.tree in
     subst (λ s. Appends tree c.args.errors.now.items c.into_list.new.errors.items
-    (take c.args.limit (fail s (tree c.args.instance.now) (path_of c.args.location.now))) c.into_list.result) c.self.view_is
+    (take c.args.limit (fail s (tree c.args.instance.now) (path_of c.args.location.now))) c.into_list.result)
+    c.self.view_is
     (appends_reported tree c.appending_to-report.result c.report_errors-reported.new.report _
     c.appending_to-report.ensures.room c.appending_to-report.ensures.found c.into_list.ensures.list
     c.report_errors-reported.ensures.reported c.into_list.ensures.appended)
