@@ -49,15 +49,15 @@ push_in_members-loop-step-preserved t c =
     goes_on c.args.text.now.items l.text.items c.if-branch.text.items c.args.at.now x.0.now (value_view x.1) rest in
     elim c.if-branch.branch [
       | push_in_members-then-branch+in_ok-push_in_value w ↦
-        let said = rw (w.as_str.ensures.value, c.in_ok-below.ensures) at w.in_ok-push_in_value.ensures in
-        rw here (
-          goes true l.invariant.0 (sym w.if-branch.true ∙ last) (ap (λ v. v.items) w.text-is ∙ said),
-          names,
-        )
+          let said = rw (w.as_str.ensures.value, c.in_ok-below.ensures) at w.in_ok-push_in_value.ensures in
+          rw here (
+            goes true l.invariant.0 (sym w.if-branch.true ∙ last) (ap (λ v. v.items) w.text-is ∙ said),
+            names,
+          )
       | push_in_members-else-branch+in_ok-push_reason w ↦
-        let said = rw (w.as_str-else-branch.ensures.value, c.in_ok-below.ensures) at w.in_ok-push_reason.ensures in
-        rw here (
-          goes false l.invariant.0 (sym w.if-branch.false ∙ last) (ap (λ v. v.items) w.text-is ∙ said),
-          names,
-        )
+          let said = rw (w.as_str-else-branch.ensures.value, c.in_ok-below.ensures) at w.in_ok-push_reason.ensures in
+          rw here (
+            goes false l.invariant.0 (sym w.if-branch.false ∙ last) (ap (λ v. v.items) w.text-is ∙ said),
+            names,
+          )
     ]
