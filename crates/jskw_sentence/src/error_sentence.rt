@@ -17,13 +17,13 @@ const MOST: usize = 80;
 // Of how many items at most all pairs are compared, to name two that are equal.
 const MOST_COMPARED: usize = 64;
 
-/// Returns the pointer of an instance location, or `(root)` if it is empty.
-pub fn shown_place(location: &Location) -> &str
-    ensures { result.now ≡ place_shown location.now }
+/// Returns the JSON pointer of a place in an instance, or `(root)` if it is empty.
+pub fn shown_place(pointer: &str) -> &str
+    ensures { result.now ≡ place_shown pointer.now }
 {
-    match location.as_str() {
+    match pointer {
         "" => "(root)",
-        pointer => pointer,
+        _ => pointer,
     }
 }
 
