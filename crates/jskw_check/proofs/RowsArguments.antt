@@ -30,7 +30,7 @@ plain =
     record {
       schema = codes "s";
       how = record { draft = None; vocabularies = all_vocabularies; overridden = []; allow_unchecked = false };
-      options = record { output = Text; verbose = false; limit = 0 };
+      options = record { output = Text; verbose = false; limit = 1000 };
       lines = false;
       progress = false;
       files = codes "-" ∷ [];
@@ -124,14 +124,17 @@ limits =
     row ("--max-errors=0012" ∷ "--schema=s" ∷ []) (with_limit 12) ∷
     row ("--max-errors" ∷ "18446744073709551615" ∷ "--schema=s" ∷ []) (with_limit 18446744073709551615) ∷
     row ("--max-errors" ∷ "18446744073709551616" ∷ "--schema=s" ∷ [])
-    (error "argument --max-errors: '18446744073709551616' is no number from 1 to 2^64-1") ∷
-    row ("--max-errors" ∷ "0" ∷ "--schema=s" ∷ []) (error "argument --max-errors: '0' is no number from 1 to 2^64-1") ∷
+    (error "argument --max-errors: '18446744073709551616' is no number from 0 to 2^64-1") ∷
+    -- all
+    row ("--max-errors" ∷ "0" ∷ "--schema=s" ∷ []) (with_limit 0) ∷
+    row ("--max-errors=00" ∷ "--schema=s" ∷ []) (with_limit 0) ∷
+    row ("--max-errors" ∷ "1000" ∷ "--schema=s" ∷ []) (check plain) ∷
     row ("--max-errors" ∷ "+5" ∷ "--schema=s" ∷ [])
-    (error "argument --max-errors: '+5' is no number from 1 to 2^64-1") ∷
-    row ("--max-errors=-1" ∷ "--schema=s" ∷ []) (error "argument --max-errors: '-1' is no number from 1 to 2^64-1") ∷
-    row ("--max-errors=" ∷ "--schema=s" ∷ []) (error "argument --max-errors: '' is no number from 1 to 2^64-1") ∷
+    (error "argument --max-errors: '+5' is no number from 0 to 2^64-1") ∷
+    row ("--max-errors=-1" ∷ "--schema=s" ∷ []) (error "argument --max-errors: '-1' is no number from 0 to 2^64-1") ∷
+    row ("--max-errors=" ∷ "--schema=s" ∷ []) (error "argument --max-errors: '' is no number from 0 to 2^64-1") ∷
     row ("--max-errors" ∷ "1x" ∷ "--schema=s" ∷ [])
-    (error "argument --max-errors: '1x' is no number from 1 to 2^64-1") ∷
+    (error "argument --max-errors: '1x' is no number from 0 to 2^64-1") ∷
     row ("--max-errors" ∷ "-1" ∷ "--schema=s" ∷ []) (error "argument --max-errors: expected one argument") ∷ []
 
 limits_right : Right limits

@@ -105,10 +105,10 @@ output_named s =
     else (if bytes_eq s (codes "quiet") then Some Quiet
     else None))
 
--- a number from 1 to 2^64 - 1, in digits alone
+-- a number below 2^64, in digits alone
 abbrev pub limit_in : List ℕ → Option ℕ
 limit_in s =
-    if all_ascii_digits s && nat_lt 0 (digits_value 10 s) && nat_lt (digits_value 10 s) (2 ^ 64)
+    if all_ascii_digits s && nat_lt 0 (length s) && nat_lt (digits_value 10 s) (2 ^ 64)
     then Some (digits_value 10 s)
     else None
 
@@ -134,7 +134,7 @@ no_output v =
     wrong (codes "argument --output: invalid choice: '" ++ (v ++ codes "' (choose from 'text', 'basic', 'quiet')"))
 
 abbrev pub no_limit : List ℕ → Argument
-no_limit v = wrong (codes "argument --max-errors: '" ++ (v ++ codes "' is no number from 1 to 2^64-1"))
+no_limit v = wrong (codes "argument --max-errors: '" ++ (v ++ codes "' is no number from 0 to 2^64-1"))
 
 -- ---- an option and its value
 

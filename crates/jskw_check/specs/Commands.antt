@@ -90,13 +90,14 @@ pub record Said : Type 0 where
   pub progress : Bool
   pub files : List (List ℕ)
 
--- what holds unless an argument says otherwise: the draft is the schema's own, and all errors are written
+-- what holds unless an argument says otherwise: the draft is the schema's own, and of a document 1,000 errors are
+-- written
 abbrev pub nothing_said : Said
 nothing_said =
     record {
       schema = None;
       how = record { draft = None; vocabularies = all_vocabularies; overridden = []; allow_unchecked = false };
-      options = record { output = Text; verbose = false; limit = 0 };
+      options = record { output = Text; verbose = false; limit = 1000 };
       lines = false;
       progress = false;
       files = [];

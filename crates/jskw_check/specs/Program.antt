@@ -6,6 +6,8 @@ use Rattle.jskw_service.specs.Run.{status_of_verdict}
 use Rattle.jskw_service.specs.declared.service.Verdict.{Verdict}
 use Rattle.jskw_documents.specs.Files.{AnswersFiles, HasBytes}
 use Rattle.jskw_documents.specs.Schemas.{schema_given}
+use Rattle.jskw_documents.specs.Shown.{refusal_text, shown}
+use Rattle.jskw_documents.specs.declared.options.Output.TheVariants.{Text}
 use Rattle.jskw_check.specs.Commands.{Asked, Command, check, help, version, wrong}
 use Rattle.jskw_check.specs.declared.usage.TheConstants.{HELP, USAGE}
 use Rattle.jskw_check.specs.declared.trouble.Trouble.{Trouble}
@@ -18,10 +20,10 @@ abbrev pub version_line : List ℕ
 version_line = codes "jskw 0.3.0 (rattle logic dac8208d650f15bf)\n"
 
 abbrev pub usage_error : List ℕ → List ℕ
-usage_error why = USAGE.now ++ (codes "jskw check: error: " ++ (why ++ codes "\n"))
+usage_error why = USAGE.now ++ (codes "jskw check: error: " ++ (shown why ++ codes "\n"))
 
 abbrev pub schema_unread : List ℕ → List ℕ → List ℕ
-schema_unread file why = file ++ (codes ": " ++ (why ++ codes "\n"))
+schema_unread file why = refusal_text Text file None None (Some (codes "the schema")) why
 
 -- ---- a schema and files: the status, what is written on standard output, and what on standard error
 

@@ -322,14 +322,14 @@ fn set_limit(alloc: Global, said: &mut Unfinished, value: &str) -> Ending
 {
     let Some(limit) = limit_in(value) else {
         return wrong(format!(in alloc;
-            "argument --max-errors: '{value}' is no number from 1 to 2^64-1"
+            "argument --max-errors: '{value}' is no number from 0 to 2^64-1"
         )?);
     };
     said.options.limit = limit;
     Ok(None)
 }
 
-// Returns the number that a text of digits is, or `None` if it is 0 or above 2^64-1.
+// Returns the number that a text of digits is, or `None` if it is above 2^64-1.
 fn limit_in(text: &str) -> Option<usize>
     ensures { result ≡ limit_in text.now }
 {
@@ -337,7 +337,7 @@ fn limit_in(text: &str) -> Option<usize>
         return None;
     }
     match text.parse::<usize>() {
-        Ok(limit) if limit > 0 => Some(limit),
-        _ => None,
+        Ok(limit) => Some(limit),
+        Err(_) => None,
     }
 }

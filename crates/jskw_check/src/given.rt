@@ -7,6 +7,9 @@ use jskw_documents::{Options, Output, SchemaOptions};
 use jskw_report::VocabularySet;
 use std::alloc::Global;
 
+// How many errors of a document are written at most, unless the arguments say so.
+const MOST: usize = 1000;
+
 // What the arguments ask for.
 #[derive(Drop)]
 pub(crate) enum Command {
@@ -58,7 +61,7 @@ impl Unfinished {
             options: Options {
                 output: Output::Text,
                 verbose: false,
-                limit: 0,
+                limit: MOST,
             },
             lines: false,
             progress: false,

@@ -1,10 +1,10 @@
-//! The files of the system.
+//! The files of the system, and standard output.
 ghost use Rattle.std.specs.Prelude.{None};
 
 use jskw_documents::{Folder, Opened, UNREAD};
 use jskw_service::StdSource;
 use std::fs::{self, File, OpenFile};
-use std::io::{self, ErrorKind, Read, StdinLock};
+use std::io::{self, ErrorKind, Read, StdinLock, Write};
 
 // The files of the system, by their paths; `-` is standard input.
 #[derive(Drop)]
@@ -17,6 +17,30 @@ pub(crate) struct HostFolder<'r> {
 pub(crate) enum Input {
     Standard(StdinLock<'static>),
     File(File),
+}
+
+// Standard output.
+#[derive(Drop)]
+pub(crate) struct Output<'r> {
+    pub(crate) rt: &'r HostRuntime,
+    // A write found that nobody reads it any more.
+    pub(crate) is_closed: bool,
+}
+
+impl Write for Output<'_> {
+    fn write(&mut self, buf: &[u8]) -> io::Result<usize> {
+        match io::writer(self.rt).write(buf) {
+            Ok(count) => Ok(count),
+            Err(error) => {
+                self.is_closed = error.kind() == ErrorKind::BrokenPipe;
+                Err(error)
+            }
+        }
+    }
+
+    fn flush(&mut self) -> io::Result<()> {
+        Ok(())
+    }
 }
 
 impl Read for Input {

@@ -10,13 +10,13 @@ mod progress;
 mod trouble;
 mod usage;
 
-use host::HostFolder;
+use host::{HostFolder, Output};
 use jskw_service::StdSink;
 use program::{NOT_CHECKED, run};
 use progress::Progress;
 use std::alloc::{AllocError, Global};
 use std::env::{self, Args};
-use std::io::{self, ErrorKind};
+use std::io::ErrorKind;
 use std::process::ExitCode;
 use trouble::Trouble;
 
@@ -34,13 +34,19 @@ fn tell(rt: &HostRuntime, why: &str) -> u8 {
     NOT_CHECKED
 }
 
+// The status of a program whose output nobody reads any more, as a shell gives it: 128 and SIGPIPE.
+const CLOSED: u8 = 141;
+
 // Does what the arguments say, on the system's files and outputs, and returns the exit status.
 fn run_on(rt: &HostRuntime) -> Result<u8, Trouble> {
     let Some(words) = words_of(rt)? else {
         return Ok(tell(rt, "jskw: an argument is not UTF-8"));
     };
     let folder = HostFolder { rt };
-    let mut out = StdSink::new(io::writer(rt));
+    let mut out = StdSink::new(Output {
+        rt,
+        is_closed: false,
+    });
     let mut errors = StdSink::new(rt.stderr());
     let mut progress = Progress::new(rt);
     let status = run(
@@ -50,7 +56,11 @@ fn run_on(rt: &HostRuntime) -> Result<u8, Trouble> {
         &mut out,
         &mut errors,
         &mut progress,
-    )?;
+    );
+    if out.into_inner().is_closed {
+        return Ok(CLOSED);
+    }
+    let status = status?;
     progress.end();
     Ok(status)
 }

@@ -7,14 +7,18 @@ ghost use Rattle.jskw_documents.specs.Files.{AnswersFiles, HasBytes};
 ghost use Rattle.jskw_check.specs.CommandView.{given_view};
 ghost use Rattle.jskw_check.specs.Commands.{check, command};
 ghost use Rattle.jskw_check.specs.Program.{Runs, Tells, asks_for_lines, is_length_trouble, is_output_trouble};
+ghost use Rattle.jskw_check.specs.Program.{schema_unread, usage_error};
 
 use crate::arguments::command_of;
 use crate::given::{Command, Given};
 use crate::trouble::Trouble;
 use crate::usage::{HELP, USAGE, VERSION};
-use jskw_documents::{CheckFault, Checker, Folder, UNREAD, Watcher, check_files, schema_of};
-use jskw_service::{ReadFault, Sink, Source, read_all, status, write_all};
-use std::alloc::Global;
+use jskw_documents::{
+    CheckFault, Checker, Folder, Output, Place, UNREAD, Watcher, check_files, push_shown, refusal,
+    schema_of,
+};
+use jskw_service::{ReadFault, Sink, Source, push_bytes, read_all, status, write_all};
+use std::alloc::{AllocError, Global};
 
 // The status if something could not be checked.
 pub(crate) const NOT_CHECKED: u8 = 2;
@@ -47,11 +51,35 @@ pub(crate) fn run<F: Folder, O: Sink, E: Sink, S: Show>(
         Command::Help => print(out, HELP),
         Command::Version => print(out, VERSION),
         Command::Wrong(why) => {
-            let text = format!(in alloc; "{USAGE}jskw check: error: {why}\n")?;
-            Ok(tell(errors, text.as_bytes()))
+            let text = usage_error(alloc, why.as_str())?;
+            Ok(tell(errors, &text))
         }
         Command::Check(given) => check(alloc, given, folder, out, errors, show),
     }
+}
+
+// Returns what is said of wrong arguments.
+fn usage_error(alloc: Global, why: &str) -> Result<Vec<u8>, AllocError>
+    ensures { IfOk result (λ text. text.items ≡ usage_error why.now) }
+{
+    let mut text = Vec::new(alloc);
+    push_bytes(&mut text, USAGE.as_bytes())?;
+    push_bytes(&mut text, b"jskw check: error: ")?;
+    push_shown(&mut text, why.as_bytes())?;
+    push_bytes(&mut text, b"\n")?;
+    Ok(text)
+}
+
+// Returns what is said of a schema whose file cannot be read.
+fn schema_unread(alloc: Global, file: &str, why: &str) -> Result<Vec<u8>, AllocError>
+    ensures { IfOk result (λ text. text.items ≡ schema_unread file.now why.now) }
+{
+    let place = Place {
+        file,
+        line: None,
+        column: None,
+    };
+    refusal(alloc, Output::Text, &place, Some("the schema"), why)
 }
 
 // Prints a text.
@@ -106,8 +134,8 @@ fn check<F: Folder, O: Sink, E: Sink, S: Show>(
     let text = match read_schema(alloc, folder, name.as_str())? {
         Ok(text) => text,
         Err(why) => {
-            let text = format!(in alloc; "{name}: {why}\n")?;
-            return Ok(tell(errors, text.as_bytes()));
+            let text = schema_unread(alloc, name.as_str(), why)?;
+            return Ok(tell(errors, &text));
         }
     };
     match schema_of(alloc, name.as_str(), &text, schema_options)? {

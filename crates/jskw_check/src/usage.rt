@@ -20,9 +20,9 @@ pub(crate) const HELP: &str =
                   [--verbose] [--progress] [--version]
                   [FILE ...]
 
-Checks JSON documents against a schema, and writes a line for each error: FILE:
-instance location: message [keyword location]. Each FILE is a document; - is
-standard input, which is read if there is no FILE.
+Checks JSON documents against a schema, and writes a line for each error:
+FILE:LINE:COLUMN: instance location: message [keyword location]. Each FILE is a
+document; - is standard input, which is read if there is no FILE.
 
 positional arguments:
   FILE                  what is checked
@@ -41,7 +41,9 @@ options:
   --output {text,basic,quiet}
                         text: a line for each error; basic: a line of JSON for
                         each document; quiet: only what could not be checked
-  --max-errors N        writes the first N errors of each document at most
+  --max-errors N        writes the first N errors of each document at most, 0 for
+                        all; unless given, 1000; `.. and more` says that there are
+                        others
   --allow-unchecked     ignores keywords of the schema that are not checked
   --verbose             text says of a valid document that it is valid, too
   --progress            shows on standard error what is done

@@ -6,8 +6,8 @@ use Rattle.std.specs.Io.KnownBytes.{Appends, IsAtEnd}
 use Rattle.std.proofs.KnownBytes.{Appends-nil, Appends-trans, Consumes-nil, Consumes-trans}
 use Rattle.jskw_service.specs.declared.service.Verdict.{Verdict}
 use Rattle.jskw_service.specs.declared.service.Verdict.TheVariants.{Valid}
-use Rattle.jskw_documents.specs.Streams.{AnswersBegun, AnswersLine, AnswersLines, AnswersNext, AreAnswers, IsKept, Moves}
-use Rattle.jskw_documents.specs.Streams.{Takes, Told, begun_of, is_in_line, last_line_of, lines_of, worse_of}
+use Rattle.jskw_documents.specs.Streams.{AnswersBegun, AnswersLine, AnswersLines, AnswersNext, AreAnswers, IsKept}
+use Rattle.jskw_documents.specs.Streams.{Moves, Takes, Told, begun_of, is_in_line, last_line_of, lines_of, worse_of}
 use Rattle.jskw_documents.specs.declared.checker.Checker.{Checker}
 use Rattle.jskw_documents.specs.declared.lines.Lines.{Lines}
 use Rattle.jskw_documents.proofs.Feeds.{begun_append, line_ended, lines_append, more_begun, no_line, none_begun}

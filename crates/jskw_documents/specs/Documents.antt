@@ -1,5 +1,6 @@
 -- The answer to a document: what is written, and the verdict.
 use Rattle.std.specs.Prelude.{◌≡◌, ◌≤◌, ℕ, List, [], Bool, true, false, length, Option, Some, None, Result, Ok, Err}
+use Rattle.std.specs.Prelude.{if◌then◌else◌}
 use Rattle.jskw_value.specs.Pointer.{Pointer}
 use Rattle.jskw_value.specs.Tree.{Tree}
 use Rattle.jskw_text.specs.Position.{line_at, column_at}
@@ -10,10 +11,11 @@ use Rattle.jskw_report.specs.Holds.{holds}
 use Rattle.jskw_report.specs.Keyword.{Schema}
 use Rattle.jskw_service.specs.declared.service.Verdict.{Verdict}
 use Rattle.jskw_service.specs.declared.service.Verdict.TheVariants.{Valid, Invalid, Refused}
-use Rattle.jskw_documents.specs.Reports.{IsReportAs, first_of}
+use Rattle.jskw_documents.specs.Reports.{IsReportAs, first_of, is_cut}
 use Rattle.jskw_documents.specs.Shown.{refusal_text}
 use Rattle.jskw_documents.specs.declared.options.Options.{Options}
 use Rattle.jskw_documents.specs.declared.options.Output.{Output}
+use Rattle.jskw_documents.specs.declared.options.Output.TheVariants.{Quiet}
 
 -- ---- the verdict: that of the tree that is read; refused, if none is
 
@@ -29,15 +31,20 @@ verdict_of_read s (Some (Ok t)) = verdict_if (holds s t)
 abbrev pub verdict_on : Schema → List ℕ → Verdict
 verdict_on s bytes = verdict_of_read s (reading bytes)
 
--- ---- how many errors are counted: those that are written of the tree that is read; none, if none is
+-- ---- how many errors are counted: those that are written of the tree that is read, and of a quiet answer one; none,
+-- if no tree is read
 
-abbrev pub errors_of_read : ℕ → Schema → Option (Result Tree Pointer) → ℕ
-errors_of_read limit s None = 0
-errors_of_read limit s (Some (Err p)) = 0
-errors_of_read limit s (Some (Ok t)) = length (first_of limit (fail s t []))
+abbrev pub errors_of_tree : Output → ℕ → Schema → Tree → ℕ
+errors_of_tree Quiet limit s t = if holds s t then 0 else 1
+errors_of_tree output limit s t = length (first_of limit (fail s t []))
 
-abbrev pub errors_in : ℕ → Schema → List ℕ → ℕ
-errors_in limit s bytes = errors_of_read limit s (reading bytes)
+abbrev pub errors_of_read : Output → ℕ → Schema → Option (Result Tree Pointer) → ℕ
+errors_of_read output limit s None = 0
+errors_of_read output limit s (Some (Err p)) = 0
+errors_of_read output limit s (Some (Ok t)) = errors_of_tree output limit s t
+
+abbrev pub errors_in : Options → Schema → List ℕ → ℕ
+errors_in o s bytes = errors_of_read o.output o.limit s (reading bytes)
 
 -- ---- the text
 
@@ -60,7 +67,7 @@ IsAnswerOf o s file line bytes None text =
 IsAnswerOf o s file line bytes (Some (Err p)) text =
     (offset : ℕ) × (offset ≤ length bytes) × IsRefusalAt offset o.output file line bytes (Some p) text
 IsAnswerOf o s file line bytes (Some (Ok t)) text =
-    IsReportAs o.output o.verbose file line (first_of o.limit (fail s t [])) text
+    IsReportAs o.output o.verbose file line (is_cut o.limit (fail s t [])) (first_of o.limit (fail s t [])) text
 
 -- the text is the answer to the document of these bytes
 abbrev pub IsAnswer : Options → Schema → List ℕ → Option ℕ → List ℕ → List ℕ → Type 0

@@ -1,9 +1,10 @@
 -- What is written of a document that was read, by its errors.
-use Rattle.std.specs.Prelude.{◌≡◌, ℕ, List, [], ◌∷◌, ◌++◌, Bool, codes, eqb, take, if◌then◌else◌, Option, None}
+use Rattle.std.specs.Prelude.{◌≡◌, ◌&&◌, ℕ, List, [], ◌∷◌, ◌++◌, Bool, codes, eqb, length, nat_lt, take}
+use Rattle.std.specs.Prelude.{if◌then◌else◌, Option, None}
 use Rattle.jskw_report.specs.Fail.{Failure}
 use Rattle.jskw_service.specs.Parts.{HasEach}
-use Rattle.jskw_documents.specs.Shown.{IsErrorObject, IsErrorShown, IsLaterObject, objects_text}
-use Rattle.jskw_documents.specs.Shown.{place_members, place_words}
+use Rattle.jskw_documents.specs.Shown.{IsErrorObject, IsErrorShown, IsLaterObject, more_words}
+use Rattle.jskw_documents.specs.Shown.{objects_text, place_members, place_words}
 use Rattle.jskw_documents.specs.declared.options.Output.{Output}
 use Rattle.jskw_documents.specs.declared.options.Output.TheVariants.{Text, Basic, Quiet}
 
@@ -11,19 +12,27 @@ use Rattle.jskw_documents.specs.declared.options.Output.TheVariants.{Text, Basic
 abbrev pub first_of : ℕ → List Failure → List Failure
 first_of n fs = if eqb n 0 then fs else take n fs
 
--- a line for each error; nothing of a valid document, unless the answer is verbose
-abbrev pub IsLineReport : Bool → List ℕ → List Failure → List ℕ → Type 0
-IsLineReport verbose place [] text = text ≡ (if verbose then place ++ codes ": valid\n" else [])
-IsLineReport verbose place (f ∷ fs) text = HasEach (IsErrorShown place) (f ∷ fs) text
+-- there are more than so many, from 1 to 2^64 - 2; no list has more than 2^64 - 1
+abbrev pub is_cut : ℕ → List Failure → Bool
+is_cut n fs = nat_lt 0 n && nat_lt n 18446744073709551615 && nat_lt n (length fs)
 
--- the basic output, behind the members of the place
-abbrev pub IsBasicReport : List ℕ → List Failure → List ℕ → Type 0
-IsBasicReport members [] text = text ≡ members ++ codes ",\"valid\":true}\n"
-IsBasicReport members (f ∷ fs) text =
-    (first : List ℕ) × (rest : List ℕ) × IsErrorObject f first × HasEach IsLaterObject fs rest
-    × (text ≡ members ++ objects_text first rest)
+-- a line for each error, and one that says so if there are more; nothing of a valid document, unless the answer is
+-- verbose
+abbrev pub IsLineReport : Bool → List ℕ → Option ℕ → Bool → List Failure → List ℕ → Type 0
+IsLineReport verbose file line cut [] text =
+    text ≡ (if verbose then place_words file line None ++ codes ": valid\n" else [])
+IsLineReport verbose file line cut (f ∷ fs) text =
+    (lines : List ℕ) × HasEach (IsErrorShown file line) (f ∷ fs) lines
+    × (text ≡ lines ++ more_words (place_words file line None) cut)
 
-abbrev pub IsReportAs : Output → Bool → List ℕ → Option ℕ → List Failure → List ℕ → Type 0
-IsReportAs Text verbose file line fs text = IsLineReport verbose (place_words file line None) fs text
-IsReportAs Basic verbose file line fs text = IsBasicReport (place_members file line None) fs text
-IsReportAs Quiet verbose file line fs text = text ≡ []
+-- the basic output
+abbrev pub IsBasicReport : List ℕ → Option ℕ → Bool → List Failure → List ℕ → Type 0
+IsBasicReport file line cut [] text = text ≡ place_members file line None ++ codes ",\"valid\":true}\n"
+IsBasicReport file line cut (f ∷ fs) text =
+    (first : List ℕ) × (rest : List ℕ) × IsErrorObject line f first × HasEach (IsLaterObject line) fs rest
+    × (text ≡ place_members file line None ++ objects_text first rest cut)
+
+abbrev pub IsReportAs : Output → Bool → List ℕ → Option ℕ → Bool → List Failure → List ℕ → Type 0
+IsReportAs Text verbose file line cut fs text = IsLineReport verbose file line cut fs text
+IsReportAs Basic verbose file line cut fs text = IsBasicReport file line cut fs text
+IsReportAs Quiet verbose file line cut fs text = text ≡ []

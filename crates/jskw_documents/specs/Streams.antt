@@ -73,7 +73,8 @@ IsKept (Some kept) line = kept.items ≡ line
 IsKept None line = 0 < length line
 
 -- bytes were taken behind those of a line that is begun, so that the lines that they end are answered by the text
-pub record Takes (c : Checker) (file line : List ℕ) (before : Lines) (bytes text : List ℕ) (after : Lines) : Type 0 where
+pub record Takes (c : Checker) (file line : List ℕ) (before : Lines) (bytes text : List ℕ) (after : Lines)
+    : Type 0 where
   pub answers : AreAnswers c file before.next (lines_of line bytes) text before.verdict after.verdict
   pub next : after.next ≡ before.next + length (lines_of line bytes)
   pub begun : IsKept after.begun (begun_of line bytes)

@@ -1,25 +1,26 @@
 //! The answer to one document.
 #![tactic(auto, using(jskw_value::proofs::DecimalTrees::lawful_tree))]
 
-ghost use Rattle.std.specs.Prelude.{◌≡◌, ℕ, List, [], IfOk, length, option_map};
-ghost use Rattle.jskw_text.specs.Position.{line_at};
+ghost use Rattle.std.specs.Prelude.{◌≡◌, ℕ, List, [], IfOk, if◌then◌else◌, length, option_map};
+ghost use Rattle.jskw_text.specs.Position.{IsPlaceIn, line_at};
 ghost use Rattle.jskw_value.specs.DecimalTree.{decimal_tree};
 ghost use Rattle.jskw_report.specs.Errors.{failures_of};
 ghost use Rattle.jskw_report.specs.Fail.{fail, is_empty};
 ghost use Rattle.jskw_report.specs.Holds.{holds};
-ghost use Rattle.jskw_documents.specs.Documents.{IsAnswer, IsRefusalAt, errors_in, line_shown};
+ghost use Rattle.jskw_documents.specs.Documents.{IsAnswer, IsRefusalAt, errors_in, errors_of_tree, line_shown};
 ghost use Rattle.jskw_documents.specs.Documents.{verdict_if, verdict_on};
-ghost use Rattle.jskw_documents.specs.Reports.{IsReportAs, first_of};
+ghost use Rattle.jskw_documents.specs.Reports.{IsReportAs, first_of, is_cut};
 ghost use Rattle.jskw_documents.specs.Streams.{worse_of};
 
 use crate::checker::Checker;
-use crate::errors::report;
+use crate::errors::{Document, report};
 use crate::options::Output;
 use crate::place::{Place, refusal};
+use crate::starts::Starts;
 use jskw_array::SchemaNode;
 use jskw_report::{LazyLocation, ValidationContext, ValidationError};
 use jskw_service::Verdict;
-use jskw_text::{ReadFault, TreeReader, position_of};
+use jskw_text::{Position, ReadFault, TreeReader};
 use jskw_value::{DecimalJson, DecimalTree};
 use std::alloc::{AllocError, Global};
 
@@ -49,31 +50,29 @@ pub fn answer_to(
     ensures text { IfOk result (λ answer. IsAnswer checker.now.options checker.now.schema file.now line
         document.now answer.text.items) }
     ensures errors { IfOk result
-        (λ answer. answer.errors ≡ errors_in checker.now.options.limit checker.now.schema document.now) }
+        (λ answer. answer.errors ≡ errors_in checker.now.options checker.now.schema document.now) }
 {
     match reader.read(document) {
         Ok(tree) => {
-            let answer = answer_to_tree(alloc, checker, file, line, &tree);
+            let answer = answer_to_tree(alloc, checker, file, line, document, &tree);
             reader.reuse(tree);
             answer
         }
         Err(ReadFault::NotJson(reason, at)) => {
             let (output, why) = (checker.options.output, reason.sentence());
-            refuse(alloc, output, file, line, document, at.offset, None, why)
+            refuse(alloc, output, file, line, document, &at, None, why)
         }
         Err(ReadFault::Inexact(location, at)) => {
             let output = checker.options.output;
             let why = "the number has no exact decimal";
             let location = Some(location.as_str());
-            refuse(
-                alloc, output, file, line, document, at.offset, location, why,
-            )
+            refuse(alloc, output, file, line, document, &at, location, why)
         }
         Err(ReadFault::Memory(error)) => Err(error),
     }
 }
 
-// Returns the answer to a document that was not checked, for what stands at this offset.
+// Returns the answer to a document that was not checked, for what stands at this place of it.
 #[cold]
 fn refuse(
     alloc: Global,
@@ -81,20 +80,20 @@ fn refuse(
     file: &str,
     line: Option<usize>,
     document: &[u8],
-    offset: usize,
+    at: &Position,
     location: Option<&str>,
     why: &str,
 ) -> Result<Answer, AllocError>
+    requires { IsPlaceIn document.now at.now }
     ensures verdict { IfOk result (λ answer. answer.verdict ≡ Verdict.Refused) }
-    ensures text { IfOk result (λ answer. IsRefusalAt offset output file.now line document.now
+    ensures text { IfOk result (λ answer. IsRefusalAt at.now.offset output file.now line document.now
         (option_map (λ l. l.now) location.entry) answer.text.items) }
     ensures errors { IfOk result (λ answer. answer.errors ≡ 0) }
 {
-    let position = position_of(document, offset);
     let place = Place {
         file,
-        line: Some(shown_line(line, position.line)),
-        column: Some(position.column),
+        line: Some(shown_line(line, at.line)),
+        column: Some(at.column),
     };
     Ok(Answer {
         verdict: Verdict::Refused,
@@ -120,27 +119,90 @@ fn answer_to_tree(
     checker: &Checker,
     file: &str,
     line: Option<usize>,
+    document: &[u8],
     tree: &DecimalTree,
 ) -> Result<Answer, AllocError>
     ensures verdict { IfOk result (λ answer. answer.verdict
         ≡ verdict_if (holds checker.now.schema (decimal_tree tree.now))) }
-    ensures text { IfOk result (λ answer. IsReportAs checker.now.options.output
-        checker.now.options.verbose file.now line (first_of checker.now.options.limit
-        (fail checker.now.schema (decimal_tree tree.now) [])) answer.text.items) }
+    ensures text { IfOk result (λ answer. IsReportAs checker.now.options.output checker.now.options.verbose
+        file.now line (is_cut checker.now.options.limit (fail checker.now.schema (decimal_tree tree.now) []))
+        (first_of checker.now.options.limit (fail checker.now.schema (decimal_tree tree.now) []))
+        answer.text.items) }
+    ensures errors { IfOk result (λ answer. answer.errors ≡ errors_of_tree checker.now.options.output
+        checker.now.options.limit checker.now.schema (decimal_tree tree.now)) }
+{
+    match checker.options.output {
+        Output::Quiet => Ok(quiet_answer(alloc, &checker.schema, tree)),
+        Output::Text => answer_of_errors(alloc, checker, file, line, document, tree),
+        Output::Basic => answer_of_errors(alloc, checker, file, line, document, tree),
+    }
+}
+
+// Returns the answer without a text.
+fn quiet_answer(alloc: Global, schema: &SchemaNode<DecimalJson>, tree: &DecimalTree) -> Answer
+    ensures verdict { result.verdict ≡ verdict_if (holds schema.now (decimal_tree tree.now)) }
+    ensures text { result.text.items ≡ [] }
+    ensures errors { result.errors ≡ (if holds schema.now (decimal_tree tree.now) then 0 else 1) }
+{
+    let (verdict, errors) = match schema.is_valid(tree, &mut ValidationContext::new()) {
+        true => (Verdict::Valid, 0),
+        false => (Verdict::Invalid, 1),
+    };
+    Answer {
+        verdict,
+        errors,
+        text: Vec::new(alloc),
+    }
+}
+
+// Returns the answer that has the errors.
+fn answer_of_errors(
+    alloc: Global,
+    checker: &Checker,
+    file: &str,
+    line: Option<usize>,
+    document: &[u8],
+    tree: &DecimalTree,
+) -> Result<Answer, AllocError>
+    ensures verdict { IfOk result (λ answer. answer.verdict
+        ≡ verdict_if (holds checker.now.schema (decimal_tree tree.now))) }
+    ensures text { IfOk result (λ answer. IsReportAs checker.now.options.output checker.now.options.verbose
+        file.now line (is_cut checker.now.options.limit (fail checker.now.schema (decimal_tree tree.now) []))
+        (first_of checker.now.options.limit (fail checker.now.schema (decimal_tree tree.now) []))
+        answer.text.items) }
     ensures errors { IfOk result (λ answer. answer.errors ≡ length (first_of checker.now.options.limit
         (fail checker.now.schema (decimal_tree tree.now) []))) }
 {
-    let errors = first_errors(alloc, checker.options.limit, &checker.schema, tree)?;
-    let place = Place {
+    let (errors, is_cut) = shown_errors(alloc, checker.options.limit, &checker.schema, tree)?;
+    let starts = starts_for(alloc, errors.as_slice(), document)?;
+    let document = Document {
         file,
         line,
-        column: None,
+        starts: &starts,
     };
     Ok(Answer {
         verdict: verdict_of_errors(errors.as_slice()),
         errors: errors.len(),
-        text: report(alloc, &checker.options, &place, errors.as_slice())?,
+        text: report(
+            alloc,
+            &checker.options,
+            &document,
+            errors.as_slice(),
+            is_cut,
+        )?,
     })
+}
+
+// Returns where the items of a document begin, if it has errors; a second pass over its bytes.
+fn starts_for(
+    alloc: Global,
+    errors: &[ValidationError<'_, DecimalJson>],
+    document: &[u8],
+) -> Result<Starts, AllocError> {
+    match errors {
+        [] => Starts::of(alloc, b""),
+        [_, ..] => Starts::of(alloc, document),
+    }
 }
 
 // Returns the verdict on a document that has these errors.
@@ -151,6 +213,32 @@ fn verdict_of_errors(errors: &[ValidationError<'_, DecimalJson>]) -> Verdict
         [] => Verdict::Valid,
         [_, ..] => Verdict::Invalid,
     }
+}
+
+// Returns the first `limit` errors of the document, or all if `limit` is 0, and whether there are more.
+fn shown_errors<'i>(
+    alloc: Global,
+    limit: usize,
+    schema: &'i SchemaNode<DecimalJson>,
+    tree: &'i DecimalTree,
+) -> Result<(Vec<ValidationError<'i, DecimalJson>>, bool), AllocError>
+    ensures errors { IfOk result (λ shown. failures_of decimal_tree shown.0.items
+        ≡ first_of limit (fail schema.now (decimal_tree tree.now) [])) }
+    ensures more { IfOk result
+        (λ shown. shown.1 ≡ is_cut limit (fail schema.now (decimal_tree tree.now) [])) }
+{
+    if limit == 0 {
+        return Ok((first_errors(alloc, 0, schema, tree)?, false));
+    }
+    if limit == usize::MAX {
+        return Ok((first_errors(alloc, limit, schema, tree)?, false));
+    }
+    let mut errors = first_errors(alloc, limit + 1, schema, tree)?;
+    if errors.len() <= limit {
+        return Ok((errors, false));
+    }
+    errors.truncate(limit);
+    Ok((errors, true))
 }
 
 // Returns the first `limit` errors of the document, or all if `limit` is 0.

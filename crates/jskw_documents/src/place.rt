@@ -1,5 +1,6 @@
 //! Places: a file, and the line and the column in it.
 ghost use Rattle.std.specs.Prelude.{◌≡◌, ◌++◌, OnOk, IfOk, option_map};
+ghost use Rattle.jskw_sentence.specs.Place.{place_shown};
 ghost use Rattle.jskw_documents.specs.Shown.{place_members, place_words, refusal_text};
 
 use crate::options::Output;
@@ -7,6 +8,7 @@ use crate::words::{
     push_number_if_some, push_quoted_after, push_quoted_if_some, push_shown, push_shown_after,
     push_shown_if_some,
 };
+use jskw_sentence::shown_place;
 use jskw_service::push_bytes;
 use std::alloc::{AllocError, Global};
 
@@ -72,10 +74,20 @@ pub fn refusal(
         }
         Output::Text | Output::Quiet => {
             push_place(alloc, &mut text, place)?;
-            push_shown_if_some(&mut text, b": ", location)?;
+            push_shown_if_some(&mut text, b": ", shown_location(location))?;
             push_shown_after(&mut text, b": ", why)?;
             push_bytes(&mut text, b"\n")?;
             Ok(text)
         }
+    }
+}
+
+// Returns how the location of a number is written in a line, if there is one.
+fn shown_location(location: Option<&str>) -> Option<&str>
+    ensures { option_map (λ l. l.now) result ≡ option_map place_shown (option_map (λ l. l.now) location.entry) }
+{
+    match location {
+        None => None,
+        Some(pointer) => Some(shown_place(pointer)),
     }
 }

@@ -48,8 +48,7 @@ pub fn schema_of(
         return Ok(Err(not_json(alloc, file, text)?));
     };
     let Some(draft) = draft_chosen(options.draft, &value) else {
-        let why = "$schema names no known draft; --draft names one";
-        return Ok(Err(refuse_schema(alloc, file, why)?));
+        return Ok(Err(no_draft(alloc, file, &value)?));
     };
     let settings = Settings::new(draft, options.vocabularies, options.overridden);
     schema_under(alloc, file, options.allow_unchecked, &settings, &value)
@@ -144,16 +143,28 @@ fn draft_of_meta_schema(name: &str) -> Option<Draft>
     }
 }
 
-// Returns the line that says where a text is not JSON.
+// Returns the line that says which draft a schema names.
+fn no_draft(alloc: Global, file: &str, schema: &Value) -> Result<Vec<u8>, AllocError> {
+    let name = match schema {
+        Value::Object(members) => member_of(members, "$schema"),
+        _ => None,
+    };
+    let name = name.unwrap_or(schema).to_string(alloc)?;
+    let why = format!(in alloc; "$schema names no known draft: {name}; --draft names one")?;
+    refuse_schema(alloc, file, why.as_str())
+}
+
+// Returns the line that says where and why a text is not JSON.
 fn not_json(alloc: Global, file: &str, text: &[u8]) -> Result<Vec<u8>, AllocError> {
     match read_bytes(alloc, text) {
-        Err(ReadFault::NotJson(_, position)) => {
+        Err(ReadFault::NotJson(reason, position)) => {
             let place = Place {
                 file,
                 line: Some(position.line),
                 column: Some(position.column),
             };
-            refusal(alloc, Output::Text, &place, None, "the schema is not JSON")
+            let why = format!(in alloc; "the schema is {}", reason.sentence())?;
+            refusal(alloc, Output::Text, &place, None, why.as_str())
         }
         Err(ReadFault::Memory(error)) => Err(error),
         Ok(_) | Err(ReadFault::Inexact(..)) => {

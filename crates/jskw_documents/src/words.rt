@@ -1,7 +1,8 @@
 //! Parts of the texts that are written.
-ghost use Rattle.std.specs.Prelude.{◌≡◌, ◌++◌, ◌<◌, OnOk, option_map};
-ghost use Rattle.jskw_documents.specs.Shown.{control_escape, hex_digit, if_some, is_control, number_after};
-ghost use Rattle.jskw_documents.specs.Shown.{quoted_after, shown, shown_after, shown_byte};
+ghost use Rattle.std.specs.Prelude.{◌≡◌, ◌++◌, ◌<◌, IfOk, OnOk, get_or, option_map};
+ghost use Rattle.jskw_documents.specs.Shown.{behind_byte, escape_of, hex_digit, if_some, is_control, is_from};
+ghost use Rattle.jskw_documents.specs.Shown.{number_after, obeyed, obeyed_code, quoted_after, shown, shown_after};
+ghost use Rattle.jskw_documents.specs.Shown.{shown_byte, shown_first};
 
 use jskw_service::push_bytes;
 use serde_json::Value;
@@ -15,40 +16,118 @@ fn is_control(byte: u8) -> bool
 }
 
 // Returns the digit of a number below 16.
-fn hex_digit(digit: u8) -> u8
+fn hex_digit(digit: usize) -> u8
     requires { digit < 16 }
     ensures { result ≡ hex_digit digit }
 {
+    let digit = digit as u8;
     if digit < 10 { 48 + digit } else { 87 + digit }
 }
 
-// Appends the escape of a byte.
-fn push_escape(text: &mut Vec<u8>, byte: u8) -> Result<(), AllocError>
-    ensures { OnOk result (text.new.items ≡ text.old.items ++ control_escape byte) }
+// Appends the escape of a character.
+fn push_escape(text: &mut Vec<u8>, code: usize) -> Result<(), AllocError>
+    ensures { OnOk result (text.new.items ≡ text.old.items ++ escape_of code) }
 {
-    push_bytes(text, b"\\u00")?;
-    text.push(hex_digit(byte / 16))?;
-    text.push(hex_digit(byte % 16))?;
+    push_bytes(text, b"\\u")?;
+    text.push(hex_digit(code / 4096 % 16))?;
+    text.push(hex_digit(code / 256 % 16))?;
+    text.push(hex_digit(code / 16 % 16))?;
+    text.push(hex_digit(code % 16))?;
     Ok(())
 }
 
-// Appends a byte of a word.
-fn push_byte(text: &mut Vec<u8>, byte: u8) -> Result<(), AllocError>
-    ensures { OnOk result (text.new.items ≡ text.old.items ++ shown_byte byte) }
+// Returns whether a number is one of these.
+fn is_from(least: u8, most: u8, byte: u8) -> bool
+    ensures { result ≡ is_from least most byte }
+{
+    least <= byte && byte <= most
+}
+
+// Returns how many bytes the character has that three bytes begin with, if a terminal obeys it, or 0.
+fn obeyed(byte: u8, second: u8, third: u8) -> usize
+    ensures { result ≡ obeyed byte second third }
 {
     if is_control(byte) {
-        return push_escape(text, byte);
+        return 1;
     }
-    text.push(byte)?;
-    Ok(())
+    if byte == 194 && is_from(128, 159, second) {
+        return 2;
+    }
+    if byte == 226 && second == 128 && is_from(168, 174, third) {
+        return 3;
+    }
+    if byte == 226 && second == 129 && is_from(166, 169, third) {
+        return 3;
+    }
+    0
 }
 
-// Appends words.
-pub(crate) fn push_shown(text: &mut Vec<u8>, words: &[u8]) -> Result<(), AllocError>
+// Returns its code.
+fn obeyed_code(byte: u8, second: u8, third: u8) -> usize
+    ensures { result ≡ obeyed_code byte second third }
+{
+    if byte < 128 {
+        return byte as usize;
+    }
+    if byte == 194 {
+        return second as usize;
+    }
+    if second == 128 {
+        return 8064 + third as usize;
+    }
+    8128 + third as usize
+}
+
+// Appends what is written of the first of three bytes.
+fn push_first(text: &mut Vec<u8>, byte: u8, second: u8, third: u8) -> Result<(), AllocError>
+    ensures { OnOk result (text.new.items ≡ text.old.items ++ shown_first byte second third) }
+{
+    if obeyed(byte, second, third) == 0 {
+        text.push(byte)?;
+        return Ok(());
+    }
+    push_escape(text, obeyed_code(byte, second, third))
+}
+
+// Appends what is written of the first of three bytes, if so many are those of a character that is
+// written already, and returns how many behind it then are.
+fn push_byte(
+    text: &mut Vec<u8>,
+    passed: usize,
+    byte: u8,
+    second: u8,
+    third: u8,
+) -> Result<usize, AllocError>
+    ensures text { OnOk result (text.new.items ≡ text.old.items ++ shown_byte passed byte second third) }
+    ensures passed { IfOk result (λ n. n ≡ behind_byte passed byte second third) }
+{
+    if passed > 0 {
+        return Ok(passed - 1);
+    }
+    push_first(text, byte, second, third)?;
+    Ok(obeyed(byte, second, third).saturating_sub(1))
+}
+
+// Returns the byte at an index, or 0 behind the end.
+fn byte_at(bytes: &[u8], at: usize) -> u8
+    ensures { result ≡ get_or bytes.now at 0 }
+{
+    match bytes.get(at) {
+        Some(&byte) => byte,
+        None => 0,
+    }
+}
+
+/// Appends words. Of characters that a terminal obeys it appends the escapes of JSON: of those to
+/// U+001F, U+007F to U+009F, U+2028 to U+202E and U+2066 to U+2069.
+pub fn push_shown(text: &mut Vec<u8>, words: &[u8]) -> Result<(), AllocError>
     ensures { OnOk result (text.new.items ≡ text.old.items ++ shown words.now) }
 {
-    for &byte in words {
-        push_byte(text, byte)?;
+    let (mut rest, mut passed) = (words, 0);
+    'bytes: while let Some((byte, behind)) = rest.split_first() {
+        let (second, third) = (byte_at(behind, 0), byte_at(behind, 1));
+        passed = push_byte(text, passed, *byte, second, third)?;
+        rest = behind;
     }
     Ok(())
 }

@@ -1,11 +1,11 @@
 use Rattle.jskw_value.specs.DecimalTree.{decimal_tree}
 use Rattle.jskw_report.specs.Errors.{failure_of}
-use Rattle.jskw_documents.specs.Shown.{IsErrorShown, place_words}
+use Rattle.jskw_documents.specs.Shown.{IsErrorShown}
 use Rattle.jskw_service.proofs.Parts.{IsWritten}
 use Rattle.jskw_documents.proofs.errors.error_lines.Given as goal
 
 -- what is written, with what is left to write
 abbrev pub invariant-loop-error : goal.invariant-loop-error
 invariant-loop-error l =
-    IsWritten (IsErrorShown (place_words l.place.file.now l.place.line l.place.column)) (failure_of decimal_tree)
-    l.errors l.error-index l.text.items
+    IsWritten (IsErrorShown l.document.file.now l.document.line) (failure_of decimal_tree) l.errors l.error-index
+    l.text.items

@@ -8,7 +8,7 @@ use Rattle.jskw_documents.proofs.errors.later_objects.Goals as goal
 pub loop-error-preserved : goal.loop-error-preserved
 loop-error-preserved c =
     let l = c.loop-error in
-    next_written IsLaterObject
+    next_written (IsLaterObject c.args.document.now.line)
     (failure_of decimal_tree) c.args.errors.now l.error-index c.error-item.result l.text.items
     c.push_later_object.new.text.items c.loop-error-test.true c.error-item.is l.invariant
     c.in_ok-push_later_object.ensures
@@ -16,5 +16,5 @@ loop-error-preserved c =
 pub returns : goal.returns
 returns c =
     let l = c.loop-error in
-    all_written IsLaterObject
+    all_written (IsLaterObject c.args.document.now.line)
     (failure_of decimal_tree) c.args.errors.now l.error-index l.text.items (omega arith) l.invariant

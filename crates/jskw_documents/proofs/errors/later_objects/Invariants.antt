@@ -7,5 +7,4 @@ use Rattle.jskw_documents.proofs.errors.later_objects.Given as goal
 -- what is written, with what is left to write
 abbrev pub invariant-loop-error : goal.invariant-loop-error
 invariant-loop-error l =
-    IsWritten IsLaterObject (failure_of decimal_tree) l.errors
-    l.error-index l.text.items
+    IsWritten (IsLaterObject l.document.line) (failure_of decimal_tree) l.errors l.error-index l.text.items

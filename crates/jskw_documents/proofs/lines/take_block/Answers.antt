@@ -26,4 +26,5 @@ returns-clause-takes g c = λ line kept.
     block_end c.args.stream.now.checker.now c.args.stream.now.file.now line c.args.lines.now c.ends.lines _
     c.args.block.now c.ends.rest.now _ _ _ c.ends.text.items (c.ends.invariant.takes line kept) (search rules) refl refl
     (λ m is. c.joined.ensures m (subst (λ o. IsKept o m) (sym c.take.ensures.value) is))
-    (subst (Appends (g.W.Sink.contents c.ends.writer) (g.W.Sink.contents c.write_all.new.writer)) c.deref.ensures.value c.in-Ok.ensures.ok)
+    (subst (Appends (g.W.Sink.contents c.ends.writer) (g.W.Sink.contents c.write_all.new.writer))
+    c.deref.ensures.value c.in-Ok.ensures.ok)

@@ -5,13 +5,13 @@ use Rattle.jskw_report.specs.Fail.{fail, is_empty}
 use Rattle.jskw_report.proofs.HoldsIsNoFailure.{holds_empty}
 use Rattle.jskw_documents.specs.Documents.{verdict_if}
 use Rattle.jskw_documents.proofs.Verdicts.{first_empty}
-use Rattle.jskw_documents.proofs.answer.answer_to_tree.Goals as goal
+use Rattle.jskw_documents.proofs.answer.answer_of_errors.Goals as goal
 
 pub returns-clause-verdict : goal.returns-clause-verdict
 returns-clause-verdict c =
     let s = c.args.checker.now.schema in
     let t = decimal_tree c.args.tree.now in
     c.verdict_of_errors.ensures
-    ∙ ap (λ es. verdict_if (is_empty (failures_of decimal_tree es))) c.as_slice.ensures.value
-    ∙ ap (λ fs. verdict_if (is_empty fs)) c.in_ok-errors.ensures
+    ∙ ap (λ es. verdict_if (is_empty (failures_of decimal_tree es))) c.as_slice-2.ensures.value
+    ∙ ap (λ fs. verdict_if (is_empty fs)) c.in_ok-errors.ensures.errors
     ∙ ap verdict_if (first_empty c.args.checker.now.options.limit (fail s t []) ∙ sym (holds_empty s t []))
