@@ -205,7 +205,7 @@ SCHEMAS = [
     Case("the schema does not compile", "--schema wrong.json valid.json", "", 2, "",
          "wrong.json: the schema does not compile: -1 must be at least 0 [/items/minItems]\n"),
     Case("a limit with a fraction", "--schema fraction.json valid.json", "", 2, "",
-         "fraction.json: the schema does not compile: Not a whole number of 64 bits [/minimum]\n"),
+         "fraction.json: the schema does not compile: 1.5 is not a whole number of 64 bits [/minimum]\n"),
     Case("the schema is a number", "--schema number.json valid.json", "", 2, "",
          'number.json: the schema does not compile: 7 is of type integer, must be one of boolean, object []\n'),
     Case("keywords that are not checked", "--schema unchecked.json valid.json", "", 2, "", UNCHECKED),

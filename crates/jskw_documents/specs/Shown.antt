@@ -99,7 +99,8 @@ refusal_text Basic file line column location why =
     ++ (quoted_after (codes ",\"refused\":") why ++ codes "}\n"))
 refusal_text output file line column location why =
     place_words file line column
-    ++ (if_some (shown_after (codes ": ")) (option_map place_shown location) ++ (shown_after (codes ": ") why ++ codes "\n"))
+    ++ (if_some (shown_after (codes ": ")) (option_map place_shown location)
+    ++ (shown_after (codes ": ") why ++ codes "\n"))
 
 -- ---- a line that memory ran out for: FILE:LINE: refused: memory ran out
 
