@@ -31,6 +31,10 @@ obeyed b c d =
 abbrev pub obeyed_code : ℕ → ℕ → ℕ → ℕ
 obeyed_code b c d = if nat_lt b 128 then b else (if b == 194 then c else (if c == 128 then 8064 + d else 8128 + d))
 
+-- a byte that is a character by itself, and no such one
+abbrev pub is_plain : ℕ → Bool
+is_plain b = is_from 32 126 b
+
 abbrev pub hex_digit : ℕ → ℕ
 hex_digit n = if nat_lt n 10 then 48 + n else 87 + n
 

@@ -1,6 +1,7 @@
 //! Parts of the texts that are written.
 ghost use Rattle.std.specs.Prelude.{◌≡◌, ◌++◌, ◌<◌, IfOk, OnOk, get_or, option_map};
-ghost use Rattle.jskw_documents.specs.Shown.{behind_byte, escape_of, hex_digit, if_some, is_control, is_from};
+ghost use Rattle.std.specs.List.{prefix_len};
+ghost use Rattle.jskw_documents.specs.Shown.{behind_byte, escape_of, hex_digit, if_some, is_control, is_from, is_plain};
 ghost use Rattle.jskw_documents.specs.Shown.{number_after, obeyed, obeyed_code, quoted_after, shown, shown_after};
 ghost use Rattle.jskw_documents.specs.Shown.{shown_byte, shown_first};
 
@@ -118,16 +119,34 @@ fn byte_at(bytes: &[u8], at: usize) -> u8
     }
 }
 
+// Returns how many bytes at the beginning of words are printable ASCII.
+#[inline(always)]
+fn plain_len(words: &[u8]) -> usize
+    ensures { result ≡ prefix_len is_plain words.now }
+{
+    let mut at = 0;
+    'bytes: while at < words.len() && is_from(32, 126, words[at]) {
+        at += 1;
+    }
+    at
+}
+
 /// Appends words. Of characters that a terminal obeys it appends the escapes of JSON: of those to
 /// U+001F, U+007F to U+009F, U+2028 to U+202E and U+2066 to U+2069.
 pub fn push_shown(text: &mut Vec<u8>, words: &[u8]) -> Result<(), AllocError>
     ensures { OnOk result (text.new.items ≡ text.old.items ++ shown words.now) }
 {
     let (mut rest, mut passed) = (words, 0);
-    'bytes: while let Some((byte, behind)) = rest.split_first() {
-        let (second, third) = (byte_at(behind, 0), byte_at(behind, 1));
-        passed = push_byte(text, passed, *byte, second, third)?;
-        rest = behind;
+    'words: while let Some((byte, behind)) = rest.split_first() {
+        let plain = plain_len(rest);
+        if passed == 0 && plain > 0 {
+            push_bytes(text, &rest[..plain])?;
+            rest = &rest[plain..];
+        } else {
+            let (second, third) = (byte_at(behind, 0), byte_at(behind, 1));
+            passed = push_byte(text, passed, *byte, second, third)?;
+            rest = behind;
+        }
     }
     Ok(())
 }
