@@ -1,11 +1,11 @@
-"""What users try that is wrong, or that other packages allow: each has its answer, and none has a wrong one. One
-validator in many threads and processes."""
+"""What users try that is wrong, or that other packages allow, with its answer; a validator in threads and processes."""
 
 from __future__ import annotations
 
 import copy
 import json
 import multiprocessing
+import os
 import pickle
 import subprocess
 import sys
@@ -29,7 +29,7 @@ def run() -> None:
         check_pool("threads", pool, validator)
         asked = [*others.map(validator.is_valid, [b"[1]"] * 50), *pool.map(validator.is_valid, [b"[1]"] * 50)]
         check("two pools", asked, [True] * 100)
-    for method in "fork", "spawn":
+    for method in ["fork"] * ("asan" not in os.environ.get("LD_PRELOAD", "")) + ["spawn"]:
         with ProcessPoolExecutor(2, mp_context=multiprocessing.get_context(method)) as processes:
             check_pool(f"processes by {method}", processes, validator)
     closes_while_asked()
