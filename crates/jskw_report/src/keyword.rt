@@ -94,28 +94,12 @@ impl KeywordName {
     pub fn named(name: &str) -> Option<KeywordName>
         ensures { result ≡ keyword_named name.now }
     {
-        let keyword = match name {
-            "type" => KeywordName::TypeKeyword,
-            "minItems" => KeywordName::MinItems,
-            "maxItems" => KeywordName::MaxItems,
-            "items" => KeywordName::Items,
-            "prefixItems" => KeywordName::PrefixItems,
-            "additionalItems" => KeywordName::AdditionalItems,
-            "contains" => KeywordName::Contains,
-            "uniqueItems" => KeywordName::UniqueItems,
-            "const" => KeywordName::Const,
-            "enum" => KeywordName::Enum,
-            "minimum" => KeywordName::Minimum,
-            "maximum" => KeywordName::Maximum,
-            "exclusiveMinimum" => KeywordName::ExclusiveMinimum,
-            "exclusiveMaximum" => KeywordName::ExclusiveMaximum,
-            "multipleOf" => KeywordName::MultipleOf,
-            "minProperties" => KeywordName::MinProperties,
-            "maxProperties" => KeywordName::MaxProperties,
-            "required" => KeywordName::Required,
-            _ => return None,
-        };
-        Some(keyword)
+        for keyword in KeywordName::ALL {
+            if keyword.as_str() == name {
+                return Some(keyword);
+            }
+        }
+        None
     }
 
     // Returns the name behind a slash: the reference token of the keyword's member (RFC 6901).

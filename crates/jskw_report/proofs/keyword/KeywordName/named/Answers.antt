@@ -1,37 +1,17 @@
-use Rattle.std.proofs.Common.{◌≡◌, ℕ, List, Bool, true, false, refl, sym}
-use Rattle.std.proofs.lemmas.Slice.Eq.{bytes_eq-Decides}
+use Rattle.std.proofs.Common.{◌≡◌, ◌+◌, ◌∙◌, arith, rules, ap, sym, cond, drop, get_or, false, Some}
+use Rattle.std.specs.Prelude.{find}
 use Rattle.std.specs.Str.{bytes_eq}
+use Rattle.std.proofs.lemmas.List.{drop_more}
+use Rattle.jskw_report.specs.Setting.{keywords, name_of}
+use Rattle.jskw_report.specs.declared.keyword.KeywordName.TheVariants.{TypeKeyword}
 use Rattle.jskw_report.proofs.keyword.KeywordName.named.Goals as goal
 
--- another name is not this one
-other : (name : List ℕ) (known : List ℕ) → (name ≡ known → ⊥) → bytes_eq known name ≡ false
-other name known h = go (bytes_eq known name) refl
-  where
-    go : (b : Bool) → bytes_eq known name ≡ b → bytes_eq known name ≡ false
-    go true e = absurd (h (sym ((bytes_eq-Decides known name).0 e)))
-    go false e = e
-
-pub returns-in_default : goal.returns-in_default
-returns-in_default c =
-    let n = c.args.name.now in
-    let d = c.in_default in
-    rw (
-      other n _ d.not-type,
-      other n _ d.not-minItems,
-      other n _ d.not-maxItems,
-      other n _ d.not-items,
-      other n _ d.not-prefixItems,
-      other n _ d.not-additionalItems,
-      other n _ d.not-contains,
-      other n _ d.not-uniqueItems,
-      other n _ d.not-const,
-      other n _ d.not-enum,
-      other n _ d.not-minimum,
-      other n _ d.not-maximum,
-      other n _ d.not-exclusiveMinimum,
-      other n _ d.not-exclusiveMaximum,
-      other n _ d.not-multipleOf,
-      other n _ d.not-minProperties,
-      other n _ d.not-maxProperties,
-      other n _ d.not-required,
-    ) refl
+pub loop-keyword-preserved : goal.loop-keyword-preserved
+loop-keyword-preserved c =
+    let i = c.loop-keyword.keyword-index in
+    let w = get_or keywords i TypeKeyword in
+    let other : bytes_eq (name_of w) c.args.name.now ≡ false =
+    search (rules, c.as_str.ensures, c.eq.ensures, c.if-eq.false) in
+    ap (λ b. cond b (Some w) (find (λ v. bytes_eq (name_of v) c.args.name.now) (drop (i + 1) keywords))) (sym other)
+    ∙ ap (find (λ v. bytes_eq (name_of v) c.args.name.now)) (sym (drop_more keywords i TypeKeyword (omega arith)))
+    ∙ c.loop-keyword.invariant
