@@ -142,8 +142,8 @@ def tables(times):
         found = [is_valid(of_names(names, members, hit)) for hit in (True, False) for members in MEMBERS]
         yield row(str(names), [times[of_names(names, MEMBERS[-1], True)][0], *found], *widths)
     yield ""
-    yield f"    {'others':<40}{'compile':>12}{'is_valid':>14}"
+    yield f"    {'others':<39}{'compile':>8}{'is_valid':>13}"
     for name, (compiled, found) in times.items():
         if name not in told:
-            yield f"    {name:<40}{compiled:>12,.0f}{found:>14,.1f}"
+            yield f"    {name:<39}{compiled:>8,.0f}{found:>13,.1f}"
     yield ""

@@ -133,12 +133,12 @@ def times_its_text(launcher, base, schema, instance, text):
 def memory_lines(launcher):
     base = launcher.run(request("true", "1"))[0]
     for title, cases in (("instances", INSTANCES), ("schemas", SCHEMAS)):
-        yield f"    {title:<50}{'bytes':>12}{'times':>10}{'MB':>10}"
+        yield f"    {title:<42}{'bytes':>10}{'times':>6}{'MB':>6}"
         for name, make in cases:
             text = make()
             both = ("true", text) if title == "instances" else (text, "1")
             times, held = times_its_text(launcher, base, *both, text)
-            yield f"    {name:<50}{len(text):>12,}{times:>10.0f}{held:>10.0f}"
+            yield f"    {name:<42}{len(text):>10,}{times:>6.0f}{held:>6.0f}"
         yield ""
 
 
@@ -171,13 +171,13 @@ COSTLY = [
 
 
 def costly_lines(launcher):
-    yield f"    {'request':<52}{'bytes':>11}{'seconds':>10}{'/ reading':>11}{'MB':>8}{'output bytes':>15}"
+    yield f"    {'request':<50}{'bytes':>10}{'seconds':>8}{'/ reading':>10}{'MB':>5}{'output bytes':>13}"
     for name, make in COSTLY:
         schema, instance = make()
         held, seconds, output, _ = launcher.run(request(schema, instance))
         reading = launcher.run(only_read(schema, instance))[1]
         size = len(schema) + len(instance)
-        yield f"    {name:<52}{size:>11,}{seconds:>10.2f}{seconds / max(reading, 0.001):>11.1f}{held / 1024:>8.0f}{output:>15,}"
+        yield f"    {name:<50}{size:>10,}{seconds:>8.2f}{seconds / max(reading, 0.001):>10.1f}{held / 1024:>5.0f}{output:>13,}"
     yield ""
 
 
@@ -202,9 +202,9 @@ def stack_of(launcher, asked):
 
 
 def stack_lines(launcher):
-    yield f"    {'request':<52}{'KB of stack':>12}"
+    yield f"    {'request':<40}{'KB of stack':>12}"
     for name, make in STACK:
-        yield f"    {name:<52}{stack_of(launcher, request(*make())):>12}"
+        yield f"    {name:<40}{stack_of(launcher, request(*make())):>12}"
     yield ""
 
 

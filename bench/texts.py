@@ -3,8 +3,6 @@
 import json
 import random
 
-import from_text
-
 SIZE = 1_000_000
 
 
@@ -68,9 +66,8 @@ def kinds():
 
 
 def asked():
-    """A name, the text of a schema and a text: small ones of a service, and of each kind."""
-    small = [(name, compact(schema), compact(value)) for name, schema, value in from_text.SMALL]
-    return small + [(f"{name}, 1 MB", compact(schema), text) for name, text, schema in kinds()]
+    """A name, the text of a schema and a text of each kind."""
+    return [(name, compact(schema), text) for name, text, schema in kinds()]
 
 
 def hostile():

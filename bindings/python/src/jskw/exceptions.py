@@ -174,7 +174,7 @@ class NotJson(ValueError):
 
 
 class BadSetting(ValueError):
-    """A setting that there is not. The message names the setting, its value and what is allowed."""
+    """An unknown or malformed setting. The message names the setting, its value and what is allowed."""
 
 
 class InexactNumber(ValueError):
