@@ -386,6 +386,10 @@ STREAMS = [
          '{"file":"control.json","valid":false,"errors":[{"keywordLocation":"/items/type","instanceLocation":"/0",'
          '"line":1,"column":2,"error":"\\"é😀\\\\u0007\\\\n\\\\u001b[2J\\\\u007f\\" is of type string, must be integer"}]}\n'
          '{"file":"a\\nb","refused":"there is no such file"}\n'),
+    Case("basic, characters that a terminal obeys", f"{S} --output basic obeyed.json", "", 1,
+         '{"file":"obeyed.json","valid":false,"errors":[{"keywordLocation":"/items/type","instanceLocation":"/0",'
+         '"line":1,"column":2,"error":"\\"\\\\u0080\\\\u009f\u00a0\u2027\\\\u2028\\\\u202e\u202f\u2065\\\\u2066'
+         '\\\\u2069\u206a\\" is of type string, must be integer"}]}\n'),
 ]
 
 # Lines that memory runs out for: the options, the answer to `[-1]` as line N, and what is written of a line N that is
