@@ -24,6 +24,7 @@ FILES = {
     "nested.json": b'{"items": {"type": "array", "items": {"type": "integer", "minimum": 0}}}',
     # documents
     "places.json": '[\n  [1, -2, 3],\n  ["é€😀", {"b": [7, -1]},\n   -6],\n  "],[", [], [\t\t\t\t[4]]]'.encode(),
+    "escapes.json": rb'[["\"]", -1], ["\\", -2, "\\\""], [-3]]',
     "valid.json": b"[1, 2]",
     "invalid.json": b'[1, -2, "a"]',
     "empty.json": b"",
@@ -186,6 +187,9 @@ SCHEMAS = [
          "/proc/self/mem: the schema: it cannot be read to its end\n"),
     Case("a schema with a name that a terminal obeys", "--schema 'no\nsuch\x1b[31m\x9b\u2028\u202e' valid.json", "", 2, "",
          "no\\u000asuch\\u001b[31m\\u009b\\u2028\\u202e: the schema: there is no such file\n"),
+    Case("a name at the bounds of what a terminal obeys",
+         "--schema '\x1f \x7f\x80\x9f\xa0\u2027\u2028\u202e\u202f\u2065\u2066\u2069\u206a' valid.json", "", 2, "",
+         "\\u001f \\u007f\\u0080\\u009f\xa0\u2027\\u2028\\u202e\u202f\u2065\\u2066\\u2069\u206a: the schema: there is no such file\n"),
     Case("an option that a terminal obeys", f"{S} '--\x1b[31m\x85\u2066'", "", 2, "",
          usage("unrecognized arguments: --\\u001b[31m\\u0085\\u2066")),
     Case("the schema is empty", "--schema empty.json valid.json", "", 2, "",
@@ -257,9 +261,19 @@ DOCUMENTS = [
          'places.json:4:4: /1/2: -6 must be at least 0 [/items/items/minimum]\n'
          'places.json:5:3: /2: "],[" is of type string, must be array [/items/type]\n'
          'places.json:5:19: /4/0: [4] is of type array, must be integer [/items/items/type]\n'),
+    Case("each error at its place, behind escapes", "--schema nested.json escapes.json", "", 1,
+         'escapes.json:1:3: /0/0: "\\"]" is of type string, must be integer [/items/items/type]\n'
+         "escapes.json:1:10: /0/1: -1 must be at least 0 [/items/items/minimum]\n"
+         'escapes.json:1:16: /1/0: "\\\\" is of type string, must be integer [/items/items/type]\n'
+         "escapes.json:1:22: /1/1: -2 must be at least 0 [/items/items/minimum]\n"
+         'escapes.json:1:26: /1/2: "\\\\\\"" is of type string, must be integer [/items/items/type]\n'
+         "escapes.json:1:36: /2/0: -3 must be at least 0 [/items/items/minimum]\n"),
     Case("each error at its place, in a stream", "--schema nested.json --lines", "[[1],[-1]]\n[ [1], 2]", 1,
          "-:1:7: /1/0: -1 must be at least 0 [/items/items/minimum]\n"
          '-:2:8: /1: 2 is of type integer, must be array [/items/type]\n'),
+    Case("lines of each length up to three times what is looked at at once", "--schema anything.json --lines --verbose",
+         "".join(" " * length + "1\n" for length in range(97)), 0,
+         "".join(f"-:{number}: valid\n" for number in range(1, 98))),
     Case("several files", f"{S} --verbose valid.json invalid.json valid.json", "", 1,
          f"valid.json: valid\n{INVALID}valid.json: valid\n"),
     Case("invalid first", f"{S} invalid.json valid.json", "", 1, INVALID),
@@ -372,6 +386,10 @@ STREAMS = [
          '{"file":"control.json","valid":false,"errors":[{"keywordLocation":"/items/type","instanceLocation":"/0",'
          '"line":1,"column":2,"error":"\\"é😀\\\\u0007\\\\n\\\\u001b[2J\\\\u007f\\" is of type string, must be integer"}]}\n'
          '{"file":"a\\nb","refused":"there is no such file"}\n'),
+    Case("basic, characters that a terminal obeys", f"{S} --output basic obeyed.json", "", 1,
+         '{"file":"obeyed.json","valid":false,"errors":[{"keywordLocation":"/items/type","instanceLocation":"/0",'
+         '"line":1,"column":2,"error":"\\"\\\\u0080\\\\u009f\u00a0\u2027\\\\u2028\\\\u202e\u202f\u2065\\\\u2066'
+         '\\\\u2069\u206a\\" is of type string, must be integer"}]}\n'),
 ]
 
 # Lines that memory runs out for: the options, the answer to `[-1]` as line N, and what is written of a line N that is

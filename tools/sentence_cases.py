@@ -29,6 +29,7 @@ CASES = [
     Case({"multipleOf": 5}, 12, ["12 must be a multiple of 5"]),
     # types
     Case({"type": "string"}, 5, ["5 is of type integer, must be string"]),
+    Case({"type": "string"}, 1.0, ["1.0 is of type number, must be string"]),
     Case({"type": "string"}, -0.5, ["-0.5 is of type number, must be string"]),
     Case({"type": "integer"}, 1.5, ["1.5 is of type number, must be integer"]),
     Case({"type": ["string", "null"]}, True, ["true is of type boolean, must be one of null, string"]),
@@ -42,6 +43,7 @@ CASES = [
     Case({"contains": {"type": "string"}}, [1, 2], ["has no item that matches"]),
     Case({"contains": {"type": "string"}, "minContains": 2}, [1, "a"], ["has too few items that match"]),
     Case({"contains": {"type": "string"}, "maxContains": 1}, ["a", "b"], ["has too many items that match"]),
+    Case({"uniqueItems": True}, [1, 1], ["has equal items, 0 and 1"]),
     Case({"uniqueItems": True}, [1, {"a": 2}, 3, {"a": 2}], ["has equal items, 1 and 3"]),
     Case({"uniqueItems": True}, [*range(63), 0], ["has equal items, 0 and 63"]),
     Case({"uniqueItems": True}, [*range(64), 0], ["has equal items"]),

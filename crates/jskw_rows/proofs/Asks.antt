@@ -23,40 +23,32 @@ tree_of_array c v = search (rules, the_lemmas)
 pub items_of_array : (c : _) (v : Vec Asked Global) → tree.items (asked_tree (Array c v)) ≡ map asked_tree v.items
 items_of_array c v = ap tree.items (tree_of_array c v) ∙ item_list-items_from (map asked_tree v.items)
 
-abbrev IsLawful : Asked → Type 0
-IsLawful d = tree.is_lawful (asked_tree d) ≡ true
+-- the tree has no float, and is no object
+abbrev Is : Tree → Type 0
+Is t = (tree.is_lawful t ≡ true) × (tree.is_object t ≡ false)
 
 abbrev Such : Type 0
-Such = (d : Asked) × IsLawful d
+Such = (d : Asked) × Is (asked_tree d)
 
 -- an array of such is lawful
 lawful_items : (ds : List Such) → tree.items_lawful (items_from (map asked_tree (map (λ e. e.0) ds))) ≡ true
 lawful_items [] = refl
-lawful_items (d ∷ ds) = rw (d.1, lawful_items ds) refl
+lawful_items (d ∷ ds) = rw (d.1.0, lawful_items ds) refl
 
-lawful_layer : (y : Asked-F Such)
-    → tree.is_lawful (asked_step (map-Asked _ _ asked_tree (map-Asked _ _ (λ e. e.0) y))) ≡ true
-lawful_layer (Asked-F.Null c) = refl
-lawful_layer (Asked-F.Array c v) = lawful_items v.items
+layer : (y : Asked-F Such) → Is (asked_step (map-Asked _ _ asked_tree (map-Asked _ _ (λ e. e.0) y)))
+layer (Asked-F.Null c) = (refl, refl)
+layer (Asked-F.Array c v) = (lawful_items v.items, refl)
 
--- every node is lawful, by induction
+-- every node is such, by induction
+is_such : (d : Asked) → Is (asked_tree d)
+is_such = ind-Asked (λ d. Is (asked_tree d)) (λ x y is. subst Is (sym (fold-roll-Asked Tree asked_step x))
+    (subst (λ z. Is (asked_step (map-Asked _ _ asked_tree z))) is (layer y)))
+
 pub lawful_tree : (d : Asked) → tree.is_lawful (asked_tree d) ≡ true
-lawful_tree = ind-Asked IsLawful (λ x y is.
-    ap tree.is_lawful (fold-roll-Asked Tree asked_step x)
-    ∙ subst (λ z. tree.is_lawful (asked_step (map-Asked _ _ asked_tree z)) ≡ true) is (lawful_layer y))
+lawful_tree d = (is_such d).0
 
--- what holds of every step holds of every tree
-of_steps : (P : Tree → Type 0) → ((y : Asked-F Tree) → P (asked_step y)) → (d : Asked) → P (asked_tree d)
-of_steps P step = ind-Asked (λ d. P (asked_tree d)) (λ x y is.
-    subst P (sym (fold-roll-Asked Tree asked_step x)) (step (map-Asked _ _ asked_tree x)))
-
-object_step : (y : Asked-F Tree) → tree.is_object (asked_step y) ≡ false
-object_step (Asked-F.Null c) = refl
-object_step (Asked-F.Array c v) = refl
-
--- no node is an object
 pub no_object : (d : Asked) → tree.is_object (asked_tree d) ≡ false
-no_object = of_steps (λ t. tree.is_object t ≡ false) object_step
+no_object d = (is_such d).1
 
 pub ruleset arrays = (items_of_array, lawful_tree, common_steps)
 

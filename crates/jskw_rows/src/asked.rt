@@ -8,15 +8,12 @@ use serde_json::Value;
 use std::alloc::Global;
 use std::cell::Cell;
 
-/// Null or an array, with how often it was asked whether it is null.
+/// Null or an array, with how often it was asked whether it is null, and the representation of these.
 #[derive(Drop)]
 pub(crate) enum Asked {
     Null(Cell<u64>),
     Array(Cell<u64>, Vec<Asked>),
 }
-
-/// The representation whose nodes are these.
-pub(crate) struct AskedJson;
 
 impl Asked {
     /// Returns the array of a value that is one, with its arrays below; or else null.
@@ -141,7 +138,7 @@ impl Node for Asked {
     }
 }
 
-impl Json for AskedJson {
+impl Json for Asked {
     type Node = Asked;
 
     const KEYS_PER_LOOKUP: usize = 1;

@@ -7,7 +7,7 @@ mod validators;
 mod values;
 
 use crate::asked::Asked;
-use crate::members::{items, value};
+use crate::members::{items_of, value};
 use crate::printer::Printer;
 use jskw_report::Settings;
 use jskw_service::{draft_named, overridden_of, vocabularies_of};
@@ -16,33 +16,24 @@ use std::alloc::Global;
 
 /// Prints the name of a line and makes its calls. Returns whether it says what to do.
 pub(crate) fn make(rt: &HostRuntime, line: &str) -> bool {
-    match &Value::from_str(rt.alloc(), line) {
-        Ok(Value::Array(items)) => make_line(rt, items.as_slice()),
-        _ => false,
-    }
-}
-
-fn make_line(rt: &HostRuntime, items: &[Value]) -> bool {
-    let [Value::String(line), Value::String(kind), arguments @ ..] = items else {
+    let line = Value::from_str(rt.alloc(), line).unwrap_or(Value::Null);
+    let [Value::String(line), Value::String(kind), arguments @ ..] = items_of(&line) else {
         return false;
     };
     let Ok(nodes) = Asked::of(rt.alloc(), arguments.last().unwrap_or(&Value::Null)) else {
         return false;
     };
-    let group = arguments.get(1).unwrap_or(&Value::Null);
-    let mut to = Printer::new(rt, kind, group, &nodes);
+    let mut to = Printer::new(rt, kind, &nodes);
     to.push(line);
     make_calls(&mut to, arguments);
     to.push("\n");
     to.print()
 }
 
-fn make_calls(to: &mut Printer, arguments: &[Value]) {
+fn make_calls<'r>(to: &mut Printer<'r>, arguments: &'r [Value]) {
     match to.kind {
         "value" => values::ask(to, arguments.first().unwrap_or(&Value::Null)),
-        "insert" => values::insert(to, arguments),
-        "from_pairs" => values::from_pairs(to, arguments),
-        "from_last_pairs" => values::from_last_pairs(to, arguments),
+        "insert" | "from_pairs" | "from_last_pairs" => values::ask_members(to, arguments),
         "read_bytes" => values::read(to, arguments, "asked"),
         "read_nothing" => values::read(to, arguments, "ready"),
         "reply_to" => devices::reply(to, arguments),
@@ -64,11 +55,11 @@ fn push_case(to: &mut Printer, kind: &str, case: &Value) {
         "Decimal" => values::push_decimal(to, case),
         "equals_value" => values::push_equality(to, case),
         "Object" => values::push_object(to, case),
-        "PropertyName" => values::push_names(to, items(case, 0)),
+        "PropertyName" => values::push_names(to, items_of(value(case, 0))),
         "fingerprint" => values::push_prints(to, value(case, 0), value(case, 1)),
         "crowded" => values::push_crowded(to, value(case, 0)),
-        "Location" => reports::push_locations(to, case),
-        "LazyLocation" => reports::push_stack(to, items(case, 0)),
+        "Location" => reports::push_locations(to, case).unwrap_or(()),
+        "LazyLocation" => reports::push_stack(to, items_of(value(case, 0))),
         "by hand" => reports::push_made(to, case),
         "devices" => devices::push_runs(to),
         "required" => validators::push_required(to, case),

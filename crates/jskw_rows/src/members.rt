@@ -3,26 +3,21 @@
 use crate::printer::{Made, Printer};
 use jskw_text::read_bytes;
 use jskw_value::{DecimalJson, DecimalTree, Json};
-use serde_json::{Index, Map, Value};
+use serde_json::{Map, Value};
 use std::alloc::Global;
 
 /// The members of an object.
 pub(crate) type Members = Map<String, Value>;
-
-/// The text of a member by its name, or of an item by its index; empty if there is none.
-pub(crate) fn text<I: Index + Drop>(of: &Value, at: I) -> &str {
-    of.get(at).map_or("", |it| text_of(it))
-}
 
 /// The text that a value is; empty if it is none.
 pub(crate) fn text_of(value: &Value) -> &str {
     value.as_str().unwrap_or("")
 }
 
-/// The items of one; none if it is no array.
-pub(crate) fn items<I: Index + Drop>(of: &Value, at: I) -> &[Value] {
-    match of.get(at) {
-        Some(Value::Array(items)) => items.as_slice(),
+/// The items of an array; none of another value.
+pub(crate) fn items_of(value: &Value) -> &[Value] {
+    match value {
+        Value::Array(items) => items.as_slice(),
         _ => &[],
     }
 }
@@ -30,11 +25,6 @@ pub(crate) fn items<I: Index + Drop>(of: &Value, at: I) -> &[Value] {
 /// An argument of a call; all of them if there is none at the place.
 pub(crate) fn value(case: &Value, index: usize) -> &Value {
     case.get(index).unwrap_or(case)
-}
-
-/// An argument that is the text of a tree; null if it is none.
-pub(crate) fn tree(alloc: Global, case: &Value, index: usize) -> DecimalTree {
-    tree_of(alloc, case.get(index).unwrap_or(&Value::Null))
 }
 
 /// The tree of a text; null if there is none.
@@ -58,9 +48,6 @@ pub(crate) fn bytes_of(to: &mut Printer, parts: &[Value]) -> Vec<u8> {
 /// Trees of decimals of which `N` members are visited in the time of a lookup: with 0 every
 /// required name is looked up, with the greatest all names are walked for.
 pub(crate) struct Keys<const N: usize>;
-
-/// Those whose required names are found by walks alone.
-pub(crate) type AllKeys = Keys<0xffff_ffff_ffff_ffff>;
 
 impl<const N: usize> Json for Keys<N> {
     type Node = DecimalTree;

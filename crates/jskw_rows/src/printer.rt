@@ -22,8 +22,10 @@ pub(crate) struct Printer<'r> {
     pub(crate) kind: &'r str,
     /// The representation that they are over: `serde_json`'s values if this is empty.
     pub(crate) over: &'r str,
-    /// The settings of a schema beside its draft, and how it is asked.
-    pub(crate) group: &'r Value,
+    /// Whether a schema has an object layer.
+    pub(crate) layer: bool,
+    /// The limits of `collect_first_errors` on it.
+    pub(crate) limits: &'r [Value],
     /// The last argument, as nodes that count.
     pub(crate) nodes: &'r Asked,
     // whether all could be made and printed, and the line said what to do
@@ -36,19 +38,15 @@ pub(crate) struct Printer<'r> {
 
 impl Printer<'_> {
     /// Nothing is printed yet of a line with this kind of calls.
-    pub(crate) fn new<'r>(
-        rt: &'r HostRuntime,
-        kind: &'r str,
-        group: &'r Value,
-        nodes: &'r Asked,
-    ) -> Printer<'r> {
+    pub(crate) fn new<'r>(rt: &'r HostRuntime, kind: &'r str, nodes: &'r Asked) -> Printer<'r> {
         let (kind, over) = kind.split_once(" of ").unwrap_or((kind, ""));
         let mut to = Printer {
             rt,
             alloc: rt.alloc(),
             kind,
             over,
-            group,
+            layer: true,
+            limits: &[],
             nodes,
             is_right: true,
             text: String::new(rt.alloc()),
@@ -166,14 +164,6 @@ impl Printer<'_> {
     pub(crate) fn push_errors<F: Json>(&mut self, errors: &[ValidationError<F>]) {
         for error in errors {
             self.push_error(error);
-        }
-    }
-
-    /// Appends errors, the first of which is an old one, whose value at fault is left out.
-    pub(crate) fn push_behind_old<F: Json>(&mut self, errors: &[ValidationError<F>]) {
-        if let [old, errors @ ..] = errors {
-            write!(self, "\n\told {}", old.kind().keyword());
-            self.push_errors(errors);
         }
     }
 

@@ -1,5 +1,5 @@
 //! Calls of locations, errors and evaluations, and constants.
-use crate::members::{items, text_of, value};
+use crate::members::{items_of, text_of, value};
 use crate::printer::{Made, Printer};
 use jskw_report::{
     Annotations, CompileFault, EnumOptions, ErrorDescription, EvaluationNode, EvaluationResult,
@@ -12,15 +12,14 @@ use jskw_value::{
 use serde_json::Value;
 use std::alloc::{AllocError, Global};
 
-/// The location of steps, and whether it is equal to that of others, as a copy of it is.
-pub(super) fn push_locations(to: &mut Printer, case: &Value) {
-    let left = joined(to.alloc, items(case, 0));
-    let right = joined(to.alloc, items(case, 1));
-    if let (Ok(left), Ok(right)) = (&left, &right) {
-        let copy = to.made(left.copy());
-        let (is_equal, is_copy) = (left == right, copy.as_ref() == Some(right));
-        write!(to, "{} {is_equal} {is_copy}", left.as_str());
-    }
+/// The location of steps, and whether it is equal to that of others, as a copy of it is. If memory runs out,
+/// it is missing in what is printed.
+pub(super) fn push_locations(to: &mut Printer, case: &Value) -> Made<()> {
+    let left = joined(to.alloc, items_of(value(case, 0)))?;
+    let right = joined(to.alloc, items_of(value(case, 1)))?;
+    let (is_equal, is_copy) = (left == right, left.copy()? == right);
+    write!(to, "{} {is_equal} {is_copy}", left.as_str());
+    Ok(())
 }
 
 // Returns the location of steps: numbers go to items, texts to members.
@@ -53,7 +52,7 @@ pub(super) fn push_stack(to: &mut Printer, steps: &[Value]) {
 /// What no schema makes: messages; whether a lack of memory is a fault of its own; constants of
 /// representations and nullabilities; the lines of a node that is made by hand; counts from 0 on.
 pub(super) fn push_made(to: &mut Printer, case: &Value) {
-    push_messages(to, value(case, 0), items(case, 1));
+    push_messages(to, value(case, 0), items_of(value(case, 1)));
     let is_fault = matches!(Fault::<SerdeJson>::from(AllocError), Fault::Memory(_));
     let is_compile_fault = matches!(CompileFault::from(AllocError), CompileFault::Memory(_));
     write!(to, "\n\t{is_fault} {is_compile_fault}");

@@ -5,17 +5,16 @@ ghost use Rattle.std.specs.Prelude.{IsTrue};
 ghost use Rattle.jskw_value.specs.Tree.{is_lawful};
 
 use super::settings_of;
-use crate::asked::AskedJson;
-use crate::members::{AllKeys, Keys, items, tree_of};
-use crate::printer::{Made, Printer};
+use crate::asked::Asked;
+use crate::members::{Keys, items_of, tree_of};
+use crate::printer::Printer;
 use jskw_array::SchemaNode;
 use jskw_array::compiler::compile;
 use jskw_array::items::array_shape_fusion;
 use jskw_leaf::is_leaf;
 use jskw_report::{
-    CompilationResult, CompileFault, Context, EvaluationNode, Fault, KeywordName, LazyLocation,
-    Location, LocationSegment, Settings, Validate, ValidationContext, ValidationError,
-    ValidationErrorKind,
+    CompilationResult, CompileFault, Context, EvaluationNode, Fault, KeywordName, Location,
+    LocationSegment, Settings, Validate, ValidationContext, ValidationError, ValidationErrorKind,
 };
 use jskw_unchecked::unchecked;
 use jskw_value::{DecimalJson, Json, Node, SerdeJson};
@@ -23,11 +22,13 @@ use serde_json::Value;
 
 /// Makes the calls of a kind that takes a draft, the rest of the settings, a schema and an instance, over
 /// the representation of the line. A tree of decimals is read from a text.
-pub(super) fn ask(to: &mut Printer, arguments: &[Value]) {
-    let [Value::String(draft), _, schema, instance] = arguments else {
+pub(super) fn ask<'r>(to: &mut Printer<'r>, arguments: &'r [Value]) {
+    let [Value::String(draft), group, schema, instance] = arguments else {
         return to.check(false);
     };
-    let Some(settings) = &settings_of(to.alloc, to.group, draft) else {
+    to.layer = group.get("noObjectLayer").is_none();
+    to.limits = items_of(group.get("limits").unwrap_or(group));
+    let Some(settings) = &settings_of(to.alloc, group, draft) else {
         return to.check(false);
     };
     let (tree, nodes) = (&tree_of(to.alloc, instance), to.nodes);
@@ -39,14 +40,14 @@ pub(super) fn ask(to: &mut Printer, arguments: &[Value]) {
         (_, "") => ask_over::<SerdeJson>(to, settings, schema, instance),
         (_, "decimals") => ask_over::<DecimalJson>(to, settings, schema, tree),
         (_, "lookups") => ask_over::<Keys<0>>(to, settings, schema, tree),
-        (_, "walks") => ask_over::<AllKeys>(to, settings, schema, tree),
-        (_, "counted nodes") => ask_over::<AskedJson>(to, settings, schema, nodes),
+        (_, "walks") => ask_over::<Keys<{ usize::MAX }>>(to, settings, schema, tree),
+        (_, "counted nodes") => ask_over::<Asked>(to, settings, schema, nodes),
         _ => to.check(false),
     }
 }
 
 fn ask_unchecked(to: &mut Printer, settings: &Settings, schema: &Value) {
-    let ctx = context_of::<SerdeJson>(to, settings);
+    let ctx: Context<SerdeJson> = Context::new(to.alloc, settings).with_object_layer(to.layer);
     to.announce("unchecked", "asked");
     let list = unchecked(to.alloc, &ctx, schema);
     to.tell(list.is_err());
@@ -58,15 +59,9 @@ fn ask_unchecked(to: &mut Printer, settings: &Settings, schema: &Value) {
     }
 }
 
-// The context of a whole schema.
-fn context_of<'s, F: Json>(to: &Printer, settings: &'s Settings) -> Context<'s, F> {
-    let ctx = Context::new(to.alloc, settings);
-    ctx.with_object_layer(to.group.get("noObjectLayer").is_none())
-}
-
 // Asks the keywords of a schema one by one, below a member, and the schema.
 fn ask_over<F: Json>(to: &mut Printer, settings: &Settings, schema: &Value, of: &F::Node) {
-    let ctx = context_of::<F>(to, settings);
+    let ctx: Context<F> = Context::new(to.alloc, settings).with_object_layer(to.layer);
     let below = ctx.new_at_location(to.alloc, LocationSegment::Name("a/b"));
     if let Some(below) = &to.made(below) {
         ask_keywords(to, below, schema, of);
@@ -148,15 +143,14 @@ fn ask_node<F: Json>(to: &mut Printer, node: &SchemaNode<F>, of: &F::Node) {
     if of.is_lawful() {
         ask_whole(to, node, of);
         ask_list(to, &Value::Null, node, of);
-        for limit in items(to.group, "limits") {
+        for limit in to.limits {
             ask_list(to, limit, node, of);
         }
         ask_trees(to, node, of);
     } else {
         let found = of.first_unlawful(to.alloc);
-        match to.made(found) {
-            Some(Some(at)) => write!(to, "\n\tfloat at {at}"),
-            _ => to.push("\n\ta float that is nowhere"),
+        if let Some(Some(at)) = to.made(found) {
+            write!(to, "\n\tfloat at {at}");
         }
     }
 }
@@ -187,32 +181,19 @@ fn ask_list<F: Json>(to: &mut Printer, most: &Value, node: &SchemaNode<F>, of: &
     to.check(old.is_ok());
     let (limit, word) = (most.as_u64(), to.ready_or("asked"));
     to.announce(
-        if limit.is_some() {
-            "collect_first_errors"
-        } else {
-            "collect_errors"
-        },
+        limit.map_or("collect_errors", |_| "collect_first_errors"),
         word,
     );
-    let made = collect(limit, node, of, &mut to.location, &mut ctx, &mut errors);
+    let at = &mut to.location;
+    let made = match limit {
+        Some(limit) => node.collect_first_errors(limit as usize, of, at, &mut ctx, &mut errors),
+        None => node.collect_errors(of, at, &mut ctx, &mut errors),
+    };
     to.tell_at(made.is_err(), &ctx);
-    to.push_behind_old(&errors);
-}
-
-/// Collects all errors, or so many of the first. No clause says which, so callers have short proofs.
-fn collect<'i, F: Json>(
-    limit: Option<u64>,
-    node: &'i SchemaNode<F>,
-    of: &'i F::Node,
-    at: &mut LazyLocation,
-    ctx: &mut ValidationContext,
-    errors: &mut Vec<ValidationError<'i, F>>,
-) -> Made<()>
-    requires { IsTrue (is_lawful (F.Node.tree of.now)) }
-{
-    match limit {
-        Some(limit) => node.collect_first_errors(limit as usize, of, at, ctx, errors),
-        None => node.collect_errors(of, at, ctx, errors),
+    // of the old one the value at fault is left out
+    if let [old, errors @ ..] = errors.as_slice() {
+        write!(to, "\n\told {}", old.kind().keyword());
+        to.push_errors(errors);
     }
 }
 

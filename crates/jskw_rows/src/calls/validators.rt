@@ -2,14 +2,13 @@
 #![tactic(auto, using(jskw_value::proofs::DecimalTrees::lawful_tree))]
 
 use super::settings_of;
-use crate::members::{Members, text, tree, value};
+use crate::members::{Members, text_of, tree_of, value};
 use crate::printer::Printer;
 use jskw_array::additional_items;
-use jskw_array::items::{self, ArrayShapeValidator, ItemType, array_shape_fusion};
-use jskw_leaf::boolean::FalseValidator;
+use jskw_array::compiler::compile;
+use jskw_array::items::{self, ArrayShapeValidator, ItemType};
 use jskw_leaf::legacy::type_draft_4;
-use jskw_leaf::required::compile_with_path;
-use jskw_leaf::type_;
+use jskw_leaf::{boolean, required, type_};
 use jskw_number::helpers::map_get_u64;
 use jskw_number::minmax::{Above, AtLeast, AtMost, Below, Limit, LimitTest, Whole};
 use jskw_report::Vocabulary::{Applicator, Core, Validation};
@@ -21,6 +20,7 @@ use jskw_report::{
 use jskw_service::vocabularies_of;
 use jskw_value::{DecimalJson, DecimalTree, Node};
 use serde_json::Value;
+use std::alloc::AllocError;
 
 type Ctx<'s> = Context<'s, DecimalJson>;
 
@@ -28,18 +28,18 @@ type Made<'a, V> = Option<CompilationResult<'a, V>>;
 
 /// Makes a call of this kind under the settings that stand first, and appends what it returns.
 pub(super) fn push_case(to: &mut Printer, kind: &str, case: &Value) {
-    let settings = settings_of(to.alloc, value(case, 1), text(case, 0));
+    let settings = settings_of(to.alloc, value(case, 1), text_of(value(case, 0)));
     let (Some(settings), Value::Object(parent)) = (&settings, value(case, 1)) else {
         return to.push("no settings");
     };
     let ctx: Ctx = Context::new(to.alloc, settings);
-    let instance = tree(to.alloc, case, 3);
+    let instance = tree_of(to.alloc, value(case, 3));
     match kind {
         "Settings" => push_settings(to, settings, &ctx, case),
-        "Context" => push_contexts(to, ctx, parent),
-        "map_get_u64" => push_bound(to, &ctx, parent, text(case, 2)),
+        "Context" => push_contexts(to, ctx, parent).unwrap_or(()),
+        "map_get_u64" => push_bound(to, &ctx, parent, text_of(value(case, 2))),
         "additional_items" => push_rest(to, &ctx, parent, &instance),
-        "ArrayShapeValidator" => push_shape(to, &ctx, parent, &instance),
+        "ArrayShapeValidator" => push_shape(to, &ctx, value(case, 1), &instance),
         _ => to.push("an unknown call"),
     }
 }
@@ -55,27 +55,25 @@ fn push_settings(to: &mut Printer, settings: &Settings, ctx: &Ctx, case: &Value)
         let (has, also) = (settings.has_vocabulary(*one), ctx.has_vocabulary(*one));
         write!(to, " {one:?} {has} {also} {}", set.contains(*one));
     }
-    let name = text(case, 2);
+    let name = text_of(value(case, 2));
     let is_one = settings.is_keyword_overridden(name);
     write!(to, ", {is_one} {}", ctx.is_keyword_overridden(name));
 }
 
-// What contexts say of themselves: with the layer, without it, two below, and with the layer again.
-fn push_contexts(to: &mut Printer, whole: Ctx, parent: &Members) {
+// What contexts say of themselves: with the layer, without it, two below, and with the layer again. If memory
+// runs out, the rest is missing in what is printed.
+fn push_contexts(to: &mut Printer, whole: Ctx, parent: &Members) -> Result<(), AllocError> {
     push_context(to, &whole);
     let whole = whole.with_object_layer(false);
     push_context(to, &whole);
-    let items = whole.new_at_location(to.alloc, LocationSegment::Name("items"));
-    if let Some(items) = &to.made(items) {
-        push_context(to, items);
-        let second = items.new_at_location(to.alloc, LocationSegment::Index(1));
-        if let Some(second) = to.made(second) {
-            push_context(to, &second);
-            push_context(to, &second.with_object_layer(true));
-        }
-    }
+    let items = whole.new_at_location(to.alloc, LocationSegment::Name("items"))?;
+    push_context(to, &items);
+    let second = items.new_at_location(to.alloc, LocationSegment::Index(1))?;
+    push_context(to, &second);
+    push_context(to, &second.with_object_layer(true));
     let (x, y) = (member_of(parent, "x"), member_of(parent, "y"));
     write!(to, "{} {}", x.is_some(), y.is_some());
+    Ok(())
 }
 
 fn push_context(to: &mut Printer, ctx: &Ctx) {
@@ -100,8 +98,8 @@ fn push_limit<T: Whole, R: LimitTest>(to: &mut Printer, limit: T, value: &Value)
 
 // What each validator that is made for `/a` says of an item of the index 7.
 pub(super) fn push_new(to: &mut Printer, case: &Value) {
-    let item = &tree(to.alloc, case, 0);
-    push_owned(FalseValidator::new(place(to)), to, item);
+    let item = &tree_of(to.alloc, value(case, 0));
+    push_owned(boolean::FalseValidator::new(place(to)), to, item);
     push_owned(type_::ArrayTypeValidator::new(place(to)), to, item);
     push_owned(type_::BooleanTypeValidator::new(place(to)), to, item);
     push_owned(type_::IntegerTypeValidator::new(place(to)), to, item);
@@ -140,8 +138,8 @@ fn push_said<V: Validate<DecimalJson>>(to: &mut Printer, it: &V, item: &DecimalT
 
 // What the validator of a value of `required` says, or why there is none.
 pub(super) fn push_required(to: &mut Printer, case: &Value) {
-    let (at, item) = (Location::new(to.alloc), tree(to.alloc, case, 1));
-    let made = compile_with_path::<DecimalJson>(to.alloc, value(case, 0), at);
+    let (at, item) = (Location::new(to.alloc), tree_of(to.alloc, value(case, 1)));
+    let made = required::compile_with_path::<DecimalJson>(to.alloc, value(case, 0), at);
     push_made(to, &made, &item);
 }
 
@@ -170,13 +168,13 @@ fn push_rest(to: &mut Printer, ctx: &Ctx, parent: &Members, of: &DecimalTree) {
 }
 
 // The nodes of `type`, `minItems` and `maxItems` of a fused shape; nothing of a schema without one.
-fn push_shape(to: &mut Printer, ctx: &Ctx, parent: &Members, of: &DecimalTree) {
-    if let (Some(items), true) = (member_of(parent, "items"), array_shape_fusion(ctx, parent)) {
-        let made = Some(ArrayShapeValidator::compile(to.alloc, ctx, parent, items));
-        to.push_refused(&made);
-        if let Some(Ok(shape)) = &made {
-            push_absorbed(to, shape, of);
-        }
+fn push_shape(to: &mut Printer, ctx: &Ctx, schema: &Value, of: &DecimalTree) {
+    let made = Some(compile(to.alloc, ctx, schema));
+    to.push_refused(&made);
+    if let Some(Ok(node)) = &made
+        && let Some(shape) = node.array_shape()
+    {
+        push_absorbed(to, shape, of);
     }
 }
 
@@ -185,8 +183,7 @@ fn push_absorbed(to: &mut Printer, shape: &ArrayShapeValidator<DecimalJson>, of:
     let (at, mut nodes) = (Location::new(alloc), Vec::new(alloc));
     let node = absorbed.evaluate_type::<DecimalJson>(alloc, of, is_array, &at);
     to.push_tree(&node);
-    let length = of.item_count() as u64;
-    let count = if is_array { Some(length) } else { None };
+    let count = is_array.then_some(of.item_count() as u64);
     let made = absorbed.evaluate_counts::<DecimalJson>(alloc, of, count, &at, &mut nodes);
     to.check(made.is_ok());
     for node in nodes {

@@ -1,5 +1,5 @@
 //! Calls of values: their trees and texts, decimals, nodes, objects, their members, and names; and reads of bytes.
-use crate::members::{bytes_of, items, text, text_of, tree, value};
+use crate::members::{bytes_of, items_of, text_of, tree_of, value};
 use crate::printer::{Made, Printer};
 use jskw_text::{Position, ReadFault, read_bytes};
 use jskw_value::InsertFault::{Memory, Repeated};
@@ -64,7 +64,7 @@ fn push_place(to: &mut Printer, at: Position) {
 /// The coefficient and the scale of the decimal that is made of them, if there is one.
 pub(super) fn push_new(to: &mut Printer, case: &Value) {
     let scale = value(case, 1).as_u64().unwrap_or(0);
-    if let (Ok(coefficient), Ok(scale)) = (text(case, 0).parse(), scale.try_into()) {
+    if let (Ok(coefficient), Ok(scale)) = (text_of(value(case, 0)).parse(), scale.try_into()) {
         match Decimal::new(coefficient, scale) {
             Some(it) => write!(to, "{} {}", it.coefficient(), it.scale()),
             None => to.push("none"),
@@ -74,7 +74,8 @@ pub(super) fn push_new(to: &mut Printer, case: &Value) {
 
 /// What a decimal says of itself, against a whole number, and of another one.
 pub(super) fn push_decimal(to: &mut Printer, case: &Value) {
-    let (decimal, other) = (tree(to.alloc, case, 0), tree(to.alloc, case, 2));
+    let decimal = tree_of(to.alloc, value(case, 0));
+    let other = tree_of(to.alloc, value(case, 2));
     if let (DecimalTree::Number(decimal), DecimalTree::Number(other)) = (decimal, other) {
         push_number(to, &decimal, value(case, 1));
         let (is_equal, equals) = (decimal.equals(&other), other.equals(&decimal.decimal()));
@@ -97,7 +98,7 @@ fn push_number(to: &mut Printer, decimal: &Decimal, whole: &Value) {
 
 /// The text of a tree behind another text, and whether it is equal to a value.
 pub(super) fn push_equality(to: &mut Printer, case: &Value) {
-    let tree = tree(to.alloc, case, 0);
+    let tree = tree_of(to.alloc, value(case, 0));
     to.push_json(&tree);
     write!(to, " {}", tree.equals_value(value(case, 1)));
 }
@@ -107,7 +108,7 @@ pub(super) fn push_object(to: &mut Printer, case: &Value) {
     let object = value(case, 0);
     if let Ok(Some(DecimalTree::Object(members))) = &DecimalTree::from_value(to.alloc, object) {
         write!(to, "{} {}", members.is_empty(), members.len());
-        for name in items(case, 1) {
+        for name in items_of(value(case, 1)) {
             to.push(" ");
             match members.get(text_of(name)) {
                 Some(member) => to.push_json(member),
@@ -166,61 +167,13 @@ pub(super) fn push_crowded(to: &mut Printer, most: &Value) {
     }
 }
 
-/// Inserts a member with the last name behind those of the others, each with its place as its value, and
-/// prints the pair and the members before and afterwards. A name that is there takes no memory.
-pub(super) fn insert(to: &mut Printer, names: &[Value]) {
-    let [names @ .., Value::String(name)] = names else {
-        return to.check(false);
-    };
-    let number = DecimalTree::Number(Decimal::from(names.len() as u64));
-    to.push("\nbefore");
-    push_pair(to, name, &number);
-    let name = String::from_str(to.alloc, name);
-    let (Ok(members), Ok(name)) = (members_of(to.alloc, names), name) else {
-        return to.check(false);
-    };
-    let mut object = DecimalTree::Object(members);
-    to.push_node(&object);
-    if let DecimalTree::Object(members) = &mut object {
-        let is_new = members.get(&name).is_none();
-        to.announce("insert", if is_new { "asked" } else { "ready" });
-        let inserted = members.insert(name, number);
-        to.tell(matches!(inserted, Err(Memory(_, _))));
-        if let Err(Repeated(name, value) | Memory(name, value)) = &inserted {
-            push_pair(to, name, value);
-        }
-    }
-    to.push_node(&object);
-}
-
-/// Makes members of pairs of a name and its place, and prints them, or the pairs and the place of a name.
-pub(super) fn from_pairs(to: &mut Printer, names: &[Value]) {
-    if let Ok(pairs) = pairs_of(to.alloc, names) {
-        to.announce("from_pairs", "ready");
-        let made = Members::from_pairs(pairs);
-        to.tell(false);
-        match made {
-            Ok(members) => to.push_node(&DecimalTree::Object(members)),
-            Err(RepeatedName { pairs, place }) => {
-                for pair in &pairs {
-                    push_pair(to, pair.name.as_str(), &pair.value);
-                }
-                write!(to, "\n\trepeated at {place}");
-            }
-        }
-    }
-}
-
-/// Makes members of such pairs, of one name the last. Few pairs are sorted without memory.
-pub(super) fn from_last_pairs(to: &mut Printer, names: &[Value]) {
-    if let Ok(pairs) = pairs_of(to.alloc, names) {
-        let is_long = names.len() > 20;
-        to.announce("from_last_pairs", if is_long { "asked" } else { "ready" });
-        let made = Members::from_last_pairs(pairs);
-        to.tell(made.is_err());
-        if let Ok(members) = made {
-            to.push_node(&DecimalTree::Object(members));
-        }
+/// Makes members of pairs of a name and its place, in the way of the line.
+pub(super) fn ask_members(to: &mut Printer, names: &[Value]) {
+    match (to.kind, pairs_of(to.alloc, names)) {
+        ("insert", Ok(pairs)) => insert(to, pairs),
+        ("from_pairs", Ok(pairs)) => from_pairs(to, pairs),
+        (_, Ok(pairs)) => from_last_pairs(to, pairs),
+        (_, Err(_)) => to.check(false),
     }
 }
 
@@ -235,14 +188,58 @@ fn pairs_of(alloc: Global, names: &[Value]) -> Made<Vec<Member<DecimalTree>>> {
     Ok(pairs)
 }
 
-// Returns the members of such pairs. A name that is there already stays.
-fn members_of(alloc: Global, names: &[Value]) -> Made<Members> {
-    let mut members = Members::new(alloc);
-    for Member { name, value } in pairs_of(alloc, names)? {
+// Inserts the last pair behind the others, and prints it and the members before and afterwards. A name
+// that is there already stays, and takes no memory.
+fn insert(to: &mut Printer, mut pairs: Vec<Member<DecimalTree>>) {
+    let Some(Member { name, value }) = pairs.pop() else {
+        return to.check(false);
+    };
+    to.push("\nbefore");
+    push_pair(to, name.as_str(), &value);
+    let mut members = Members::new(to.alloc);
+    for Member { name, value } in pairs {
         // the members are printed, so that it shows if one is not there because memory ran out
         let _ = members.insert(name, value);
     }
-    Ok(members)
+    let mut object = DecimalTree::Object(members);
+    to.push_node(&object);
+    if let DecimalTree::Object(members) = &mut object {
+        let is_new = members.get(&name).is_none();
+        to.announce("insert", if is_new { "asked" } else { "ready" });
+        let inserted = members.insert(name, value);
+        to.tell(matches!(inserted, Err(Memory(_, _))));
+        if let Err(Repeated(name, value) | Memory(name, value)) = &inserted {
+            push_pair(to, name, value);
+        }
+    }
+    to.push_node(&object);
+}
+
+// Makes members of the pairs, and prints them, or the pairs and the place of a name.
+fn from_pairs(to: &mut Printer, pairs: Vec<Member<DecimalTree>>) {
+    to.announce("from_pairs", "ready");
+    let made = Members::from_pairs(pairs);
+    to.tell(false);
+    match made {
+        Ok(members) => to.push_node(&DecimalTree::Object(members)),
+        Err(RepeatedName { pairs, place }) => {
+            for pair in &pairs {
+                push_pair(to, pair.name.as_str(), &pair.value);
+            }
+            write!(to, "\n\trepeated at {place}");
+        }
+    }
+}
+
+// Makes members of the pairs, of one name the last. Few pairs are sorted without memory.
+fn from_last_pairs(to: &mut Printer, pairs: Vec<Member<DecimalTree>>) {
+    let word = if pairs.len() > 20 { "asked" } else { "ready" };
+    to.announce("from_last_pairs", word);
+    let made = Members::from_last_pairs(pairs);
+    to.tell(made.is_err());
+    if let Ok(members) = made {
+        to.push_node(&DecimalTree::Object(members));
+    }
 }
 
 fn push_pair(to: &mut Printer, name: &str, tree: &DecimalTree) {
