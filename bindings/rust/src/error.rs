@@ -338,26 +338,23 @@ pub(crate) fn refusal(text: Text, status: u32, told: &str, given: &[u8]) -> Erro
     let word = |index: usize| words.get(index).map(String::as_str).unwrap_or_default();
     let number = |index: usize| word(index).parse().ok();
     let place = |at| Some(Position { offset: number(at)?, line: number(at + 1)?, column: number(at + 2)? });
-    match status {
-        BAD_SCHEMA => {
+    match (status, place(1)) {
+        (BAD_SCHEMA, _) => {
             let [keyword, at, message, expected] = first_words(&words);
             let kind = kind(keyword, expected.into());
             let document = Arc::new(Document::new(given));
             let (at, message) = (at.into(), message.into());
             Error::Schema(Box::new(ValidationError { kind, at, keyword_at: String::new(), message, document }))
         }
-        NOT_JSON => {
+        (NOT_JSON, _) => {
             let position = place(0);
             let too_large = "has a number that is too large for a double, which JSON allows and jskw does not";
             let reason = if position.is_some() { word(4) } else { too_large };
             Error::NotJson { text, kind: word(3).into(), reason: reason.into(), position }
         }
-        INEXACT => match place(1) {
-            Some(position) => Error::Inexact { location: Document::new(given).find(word(0)).0, position },
-            None => Error::Status(status),
-        },
-        NO_MEMORY => Error::NoMemory,
-        other => Error::Status(other),
+        (INEXACT, Some(position)) => Error::Inexact { location: Document::new(given).find(word(0)).0, position },
+        (NO_MEMORY, _) => Error::NoMemory,
+        _ => Error::Status(status),
     }
 }
 
