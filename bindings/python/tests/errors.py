@@ -100,8 +100,8 @@ def copies() -> None:
             other = copied(error)
             got, wanted = ([getattr(one, name) for name in ATTRIBUTES] for one in (other, error))
             check("a copy of an error", (type(other), str(other), got), (type(error), str(error), wanted))
-    for one in (jskw.InexactNumber("/a/0", ["a", 0]), jskw.NotJson("schema", "is not JSON", 3, 1, 4, kind="comma"),
-                jskw.BadSetting("draft=1 is not one of '4'"), jskw.ValidationError("made by hand")):  # fmt: skip
+    for one in (jskw.InexactNumber("/a/0", ["a", 0], "1e400", 6, 1, 7), jskw.BadSetting("draft=1 is not one of '4'"),
+                jskw.NotJson("schema", "is not JSON", 3, 1, 4, kind="x"), jskw.ValidationError("by hand")):  # fmt: skip
         again = pickle.loads(pickle.dumps(one))
         check(f"a copy of {one!r}", (type(again), str(again), vars(again)), (type(one), str(one), vars(one)))
     _, error = validator.iter_errors(b"[{}, 1, {}]")

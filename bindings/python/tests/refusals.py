@@ -52,9 +52,10 @@ VALUES: list[tuple[Any, list[Any], str]] = [
     ("\ud800", [], SURROGATE), ({"a": {"\udc00": 1}}, ["a", "\udc00"], SURROGATE),
     (RING, ["a", 1] * 63 + ["a"], NESTS), (DEEP, [0] * 127, NESTS),
 ]  # fmt: skip
-INEXACT: list[tuple[Any, list[Any]]] = [
+# numbers that are not exact, each with its path, and in a text its offset, line and column
+INEXACT: list[Any] = [
     ({"a": [1e300]}, ["a", 0]), (2**64, []), (Decimal("1e-19"), []), ([0.1, 1.0000000000000002e-7], [1]),
-    (b'{"a": [1, 1e400]}', ["a", 1]), (b'{"a": [1, ' + b"1" * 5000 + b"]}", ["a", 1]),
+    (b'{"a": [1, 1e400]}', ["a", 1], 10, 1, 11), (b'{"\xc3\xa9":\n [' + b"1" * 5000 + b"]}", ["é", 0], 9, 2, 3),
 ]  # fmt: skip
 # numbers that the standard allows in a schema, and jskw does not take
 NUMBERS: list[tuple[Any, list[Any], str]] = [
@@ -143,10 +144,11 @@ def not_json() -> None:
 
 
 def numbers() -> None:
-    for value, path in INEXACT:
+    for value, *place in INEXACT:
         for name in "is_valid", "validate", "iter_errors", "evaluate":
             error = raised(getattr(jskw.Validator(True), name), value)
-            check(f"{str(value)[:40]} is not exact", (type(error), list(error.path)), (jskw.InexactNumber, path))
+            told = type(error), list(error.path), error.offset, error.line, error.column
+            check(f"{str(value)[:40]} is not exact", told, (jskw.InexactNumber, *place, *[None] * (4 - len(place))))
     for number in 10**5000, -(10**5000), 10**200, -(2**63) - 1:
         error = raised(is_valid, {"a": number})
         check("long", (type(error), error.instance == number, len(str(error)) < 300), (jskw.InexactNumber, True, True))

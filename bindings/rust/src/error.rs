@@ -211,7 +211,7 @@ pub enum Text {
     Instance,
 }
 
-/// Where a text stops being JSON.
+/// A place in a text.
 #[derive(Clone, Copy, Debug, PartialEq, Eq, Hash)]
 pub struct Position {
     /// The offset in bytes, from 0 on.
@@ -239,7 +239,7 @@ pub enum Error {
     NotJson { text: Text, kind: String, reason: String, position: Option<Position> },
     /// The instance has a number that is not exact, first at this location: it is no c / 10^k with c from -2^63 to
     /// 2^64-1 and k from 0 to 18, or from 1 to 18 if it is written with a point or an exponent.
-    Inexact(Location),
+    Inexact { location: Location, position: Position },
     /// Memory ran out.
     NoMemory,
     /// The library returned a status that this crate does not know.
@@ -255,22 +255,18 @@ impl fmt::Display for Error {
                 let shown: Vec<String> = members.iter().take(10).map(UncheckedMember::to_string).collect();
                 let more = members.len() - shown.len();
                 write!(f, "the schema has what is not checked: {}", shown.join(", "))?;
-                if more > 0 {
-                    write!(f, " and {more} more")
-                } else {
-                    Ok(())
+                if more == 0 {
+                    return Ok(());
                 }
+                write!(f, " and {more} more")
             }
             Error::NotJson { text, reason, position, .. } => {
                 let name = if *text == Text::Schema { "schema" } else { "instance" };
                 let is = if reason.starts_with("not ") { "is " } else { "" };
                 write!(f, "the {name} {is}{reason}")?;
-                match position {
-                    Some(Position { line, column, .. }) => write!(f, " at line {line}, column {column}"),
-                    None => Ok(()),
-                }
+                position.iter().try_for_each(|at| write!(f, " at line {}, column {}", at.line, at.column))
             }
-            Error::Inexact(location) => write!(f, "the number at {:?} is not exact", location.to_string()),
+            Error::Inexact { location, .. } => write!(f, "the number at {:?} is not exact", location.to_string()),
             Error::NoMemory => f.write_str("out of memory"),
             Error::Status(status) => write!(f, "the library returned the unknown status {status}"),
         }
@@ -330,7 +326,7 @@ impl Maker {
 }
 
 /// Returns the first words of a line; later libraries may write more.
-fn first_words<const COUNT: usize>(words: &[String]) -> [&str; COUNT] {
+pub(crate) fn first_words<const COUNT: usize>(words: &[String]) -> [&str; COUNT] {
     let mut first = [""; COUNT];
     first.iter_mut().zip(words).for_each(|(to, word)| *to = word);
     first
@@ -340,28 +336,25 @@ fn first_words<const COUNT: usize>(words: &[String]) -> [&str; COUNT] {
 pub(crate) fn refusal(text: Text, status: u32, told: &str, given: &[u8]) -> Error {
     let words = lines(told).next().unwrap_or_default();
     let word = |index: usize| words.get(index).map(String::as_str).unwrap_or_default();
-    let number = |index: usize| word(index).parse::<usize>().ok();
-    match status {
-        BAD_SCHEMA => {
+    let number = |index: usize| word(index).parse().ok();
+    let place = |at| Some(Position { offset: number(at)?, line: number(at + 1)?, column: number(at + 2)? });
+    match (status, place(1)) {
+        (BAD_SCHEMA, _) => {
             let [keyword, at, message, expected] = first_words(&words);
             let kind = kind(keyword, expected.into());
             let document = Arc::new(Document::new(given));
             let (at, message) = (at.into(), message.into());
             Error::Schema(Box::new(ValidationError { kind, at, keyword_at: String::new(), message, document }))
         }
-        NOT_JSON => {
-            let place = (number(0), number(1), number(2));
-            let position = match place {
-                (Some(offset), Some(line), Some(column)) => Some(Position { offset, line, column }),
-                _ => None,
-            };
+        (NOT_JSON, _) => {
+            let position = place(0);
             let too_large = "has a number that is too large for a double, which JSON allows and jskw does not";
             let reason = if position.is_some() { word(4) } else { too_large };
             Error::NotJson { text, kind: word(3).into(), reason: reason.into(), position }
         }
-        INEXACT => Error::Inexact(Document::new(given).find(word(0)).0),
-        NO_MEMORY => Error::NoMemory,
-        other => Error::Status(other),
+        (INEXACT, Some(position)) => Error::Inexact { location: Document::new(given).find(word(0)).0, position },
+        (NO_MEMORY, _) => Error::NoMemory,
+        _ => Error::Status(status),
     }
 }
 

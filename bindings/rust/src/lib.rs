@@ -21,7 +21,7 @@
 //! ```
 //! let cents = jskw::Validator::new(r#"{"items": {"minimum": 0}, "uniqueItems": true}"#)?;
 //! assert!(!cents.is_valid("[12.50, 12.5]")?);
-//! assert!(matches!(cents.is_valid("[1e400]"), Err(jskw::Error::Inexact(at)) if at.to_string() == "/0"));
+//! assert!(matches!(cents.is_valid("[1e400]"), Err(jskw::Error::Inexact { position, .. }) if position.column == 2));
 //! # Ok::<(), jskw::Error>(())
 //! ```
 //!

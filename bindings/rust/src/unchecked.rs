@@ -1,6 +1,6 @@
 //! What is not checked of a schema.
 
-use crate::error::{Document, Location, PathSegment};
+use crate::error::{first_words, Document, Location, PathSegment};
 use crate::library::lines;
 use std::fmt;
 
@@ -79,13 +79,10 @@ impl fmt::Display for UncheckedMember {
 
 /// Returns the members that a text has, a line each.
 pub(crate) fn members(text: &str, schema: &[u8]) -> Vec<UncheckedMember> {
-    if text.is_empty() {
-        return Vec::new();
-    }
     let document = Document::new(schema);
     let member = |words: Vec<String>| {
-        let word = |index: usize| words.get(index).map(String::as_str).unwrap_or_default();
-        UncheckedMember { location: document.find(word(0)).0, reason: UncheckedReason::named(word(1)) }
+        let [location, reason] = first_words(&words);
+        UncheckedMember { location: document.find(location).0, reason: UncheckedReason::named(reason) }
     };
     lines(text).map(member).collect()
 }

@@ -68,7 +68,8 @@ fn places() {
     assert!(format!("{error:?}").contains("kind: Type { types: [Null] }"));
     let float = Validator::new("true").and_then(|all| all.is_valid(r#"{"0":{"a\tb\\n/~":[1, 1e-19]}}"#));
     match float {
-        Err(Error::Inexact(location)) => {
+        Err(Error::Inexact { location, position }) => {
+            assert_eq!(position, Position { offset: 22, line: 1, column: 23 });
             assert_eq!(location.segments()[0], PathSegment::Property("0".into()));
             assert_eq!(location.segments()[2], PathSegment::Index(1));
             assert_eq!(location.to_string(), "/0/a\tb\\n~1~0/1");
@@ -76,7 +77,7 @@ fn places() {
         other => panic!("{other:?}"),
     }
     let named = Validator::new("true").and_then(|all| all.is_valid("{\"a\\r\":1e19999}"));
-    assert!(matches!(named, Err(Error::Inexact(location)) if location.to_string() == "/a\r"));
+    assert!(matches!(named, Err(Error::Inexact { location, .. }) if location.to_string() == "/a\r"));
 }
 
 #[test]
@@ -182,7 +183,7 @@ fn reasons() {
     let not_utf8 = all.is_valid(b"\"\xff\"").unwrap_err();
     assert_eq!(not_utf8.to_string(), "the instance is not JSON: the bytes are not UTF-8 at line 1, column 2");
     for text in ["[1e18, 2e18]", "[1, 5000000000000000000.0]"] {
-        assert!(matches!(all.is_valid(text), Err(Error::Inexact(at)) if at.to_string() == "/1"), "{text}");
+        assert!(matches!(all.is_valid(text), Err(Error::Inexact { location: at, .. }) if at.to_string() == "/1"));
     }
 }
 

@@ -68,7 +68,7 @@ fn result(part: &[&str]) -> (&'static str, String) {
     match outcome {
         Ok(found) => found,
         Err(Error::NotJson { .. }) => ("not JSON", String::new()),
-        Err(Error::Inexact(location)) => ("inexact", location.to_string()),
+        Err(Error::Inexact { location, .. }) => ("inexact", location.to_string()),
         Err(Error::Schema(error)) => ("bad schema", format!("{}|{}", error.kind().keyword(), error.instance_path())),
         Err(error) => panic!("{error}"),
     }

@@ -47,7 +47,7 @@ module _ (a b : Asked) (g : Grows a b) where
   option_grows (boolean c) asks = tt
   option_grows (number n) asks = tt
   option_grows (string s) asks = g.text asks
-  option_grows (array ds) asks = g.whole asks
+  option_grows (array ds) asks = g.items_whole asks
   option_grows (object ms) asks = g.whole asks
 
   pub options_grow : (ds : Items) → AsksOptions a ds → AsksOptions b ds

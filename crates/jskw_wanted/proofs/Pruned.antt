@@ -11,8 +11,9 @@ use Rattle.std.specs.Str.{bytes_eq}
 use Rattle.serde_json.specs.Data as value
 use Rattle.serde_json.specs.Data.{Data}
 use Rattle.jskw_value.specs.Equality as equality
-use Rattle.jskw_value.specs.Equality.{equal}
-use Rattle.jskw_value.specs.Serde.{tree_of}
+use Rattle.jskw_value.specs.Equality.{equal, items_alike}
+use Rattle.jskw_value.specs.Number.{num_equal}
+use Rattle.jskw_value.specs.Serde.{items_of, tree_of}
 use Rattle.jskw_value.specs.Tree.{Tree, null, boolean, number, string, array, object, Items, no_items, item, Members}
 use Rattle.jskw_value.specs.Tree.{no_members, member, items, item_list, member_list, members, is_array, is_object}
 use Rattle.jskw_value.specs.Tree.{has_name}
@@ -212,7 +213,8 @@ option_stays (value.boolean b) ls t sees =
 option_stays (value.number n) ls t sees =
     outline_stays (equal (tree_of (value.number n))) (λ r s. refl, λ ts us. refl, λ ms ns. refl) ls t
 option_stays (value.string s) ls t sees = text_stays ls t s sees
-option_stays (value.array ds) ls t sees = ap (equal (tree_of (value.array ds))) (whole_stays ls t sees)
+option_stays (value.array ds) ls t sees =
+    ap₂ (λ is us. is && items_alike num_equal (items_of ds) us) (array_stays ls t) (whole_items ls t sees)
 option_stays (value.object ms) ls t sees = ap (equal (tree_of (value.object ms))) (whole_stays ls t sees)
 
 options_stay : (ds : value.Items) (ls : List Level) (t : Tree) → SeesOptions ds ls

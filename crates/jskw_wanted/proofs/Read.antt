@@ -216,7 +216,7 @@ module _ (a : Asked) (ls : List Level) (part : a.is_whole ≡ false)
   option_seen (boolean b) asks = tt
   option_seen (number n) asks = tt
   option_seen (string s) asks = asks
-  option_seen (array ds) asks = absurd (true≢false (sym asks ∙ part))
+  option_seen (array ds) asks = whole asks
   option_seen (object ms) asks = absurd (true≢false (sym asks ∙ part))
 
   options_seen : (ds : Items) → AsksOptions a ds → SeesOptions ds Level-here

@@ -47,7 +47,7 @@ are_all (Those names) = false
 -- what a comparison with the value looks at is asked for
 abbrev pub AsksOption : Asked → Data → Type 0
 AsksOption a (string s) = a.has_text ≡ true
-AsksOption a (array ds) = a.is_whole ≡ true
+AsksOption a (array ds) = a.are_items_whole ≡ true
 AsksOption a (object ms) = a.is_whole ≡ true
 AsksOption a d = ⊤
 

@@ -31,10 +31,10 @@ are_names_wanted (Part text (Those names) ∷ ls) = false
 
 -- ---- keywords without subschemas
 
--- what a value is compared with: a string by its text, an array or an object by all of it
+-- what a value is compared with: a string by its text, an array by all of its items, an object by all of it
 abbrev pub SeesOption : Data → List Level → Type 0
 SeesOption (value.string s) ls = is_text_wanted ls ≡ true
-SeesOption (value.array ds) ls = is_whole ls ≡ true
+SeesOption (value.array ds) ls = is_whole (of_items ls) ≡ true
 SeesOption (value.object ms) ls = is_whole ls ≡ true
 SeesOption _ ls = ⊤
 

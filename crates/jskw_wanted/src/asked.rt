@@ -208,7 +208,8 @@ impl<'v> Asked<'v> {
     {
         match option {
             Value::String(_) => self.has_text = true,
-            Value::Array(_) | Value::Object(_) => self.is_whole = true,
+            Value::Array(_) => self.are_items_whole = true,
+            Value::Object(_) => self.is_whole = true,
             _ => {}
         }
     }

@@ -180,11 +180,15 @@ class BadSetting(ValueError):
 class InexactNumber(ValueError):
     """The instance has a number that is not exact: it is no c / 10^k with c from -2^63 to 2^64-1 and k from 0 to 18, or
     from 1 to 18 if it is written with a point or an exponent. `instance_location` is the location of the first, `path`
-    the same as a deque, and `instance` the number, as it is written in a text."""
+    the same as a deque, `instance` the number as it stands in a text, and `offset`, `line`, `column` as of NotJson."""
 
-    def __init__(self, instance_location: str, path: Iterable[Step] = (), instance: Any = None) -> None:
-        super().__init__(instance_location, deque(path), instance)
+    def __init__(
+        self, instance_location: str, path: Iterable[Step] = (), instance: Any = None, offset: int | None = None,
+        line: int | None = None, column: int | None = None,
+    ) -> None:  # fmt: skip
         self.instance_location, self.path, self.instance = instance_location, deque(path), instance
+        self.offset, self.line, self.column = offset, line, column
+        super().__init__(instance_location, self.path, instance, offset, line, column)
 
     def __str__(self) -> str:
         where = f"{_shown(self.instance)} at {self.instance_location!r}"

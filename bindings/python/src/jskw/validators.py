@@ -179,9 +179,9 @@ class Validator(Schema):
         if status == NOT_JSON:
             raise refusal("instance", told)
         if status == INEXACT:
-            location = told[0][0]
+            location, *place = told[0]
             number, *path = find(value_of(instance, as_written=True), location)
-            raise InexactNumber(location, path, number)
+            raise InexactNumber(location, path, number, *(map(int, place[:3]) if isinstance(instance, TEXT) else ()))
         return told
 
     def close(self) -> None:
