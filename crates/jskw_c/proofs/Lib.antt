@@ -5,7 +5,6 @@ mod CrossingSchemas
 mod CrossingValues
 mod Exchanges
 mod Handles
-mod Limits
 mod LongValues
 mod Texts
 mod OutcomesOfInstances

@@ -6,11 +6,10 @@ use Rattle.jskw_report.specs.Evaluation.{Evaluation, is_valid, tree}
 use Rattle.jskw_report.specs.Fail.{Failure, fail, is_empty}
 use Rattle.jskw_report.specs.Holds.{holds}
 use Rattle.jskw_report.specs.Keyword.{Schema}
-use Rattle.jskw_report.specs.Observe.{limited}
 use Rattle.jskw_report.proofs.HoldsIsNoFailure.{holds_empty}
 use Rattle.jskw_report.proofs.EvaluationValidity.{tree_valid}
-use Rattle.jskw_c.specs.Asked.{SaysErrors, SaysFirst, SaysTree, limit_numbered}
-use Rattle.jskw_c.specs.Asked.{verdict_status}
+use Rattle.jskw_service.specs.FirstErrors.{first_of}
+use Rattle.jskw_c.specs.Asked.{SaysErrors, SaysFirst, SaysTree, verdict_status}
 use Rattle.jskw_c.specs.Evaluated.{evaluation_text}
 use Rattle.jskw_c.specs.Line.{AreErrorLines}
 use Rattle.jskw_c.specs.Replies.{IsOutcomeOnTree}
@@ -20,7 +19,7 @@ use Rattle.jskw_c.specs.declared.ask.Outcome.{Outcome}
 -- the first so many errors
 pub reports_errors : (limit : ℕ) (s : Schema) (t : Tree) (outcome : Outcome)
     → outcome.status ≡ verdict_status (is_empty (fail s t []))
-    → AreErrorLines (limited (limit_numbered limit) (fail s t [])) outcome.text.items
+    → AreErrorLines (first_of limit (fail s t [])) outcome.text.items
     → IsOutcomeOnTree (SaysErrors limit) s t outcome
 reports_errors limit s t outcome st text =
     record { status_is = st ∙ ap verdict_status (sym (holds_empty s t [])); text_is = text }

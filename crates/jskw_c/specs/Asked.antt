@@ -1,5 +1,5 @@
 -- What is asked of a handle and an instance in bytes.
-use Rattle.std.specs.Prelude.{◌≡◌, ℕ, List, [], Bool, true, false, eqb, if◌then◌else◌, take, Option, None, Some}
+use Rattle.std.specs.Prelude.{◌≡◌, ℕ, List, [], Bool, true, false, take, Option, None, Some}
 use Rattle.std.specs.Prelude.{Result, Ok, Err}
 use Rattle.jskw_value.specs.Pointer.{Pointer}
 use Rattle.jskw_value.specs.Tree.{Tree}
@@ -8,7 +8,7 @@ use Rattle.jskw_report.specs.Evaluation.{tree}
 use Rattle.jskw_report.specs.Fail.{fail}
 use Rattle.jskw_report.specs.Holds.{holds}
 use Rattle.jskw_report.specs.Keyword.{Schema}
-use Rattle.jskw_report.specs.Observe.{limited}
+use Rattle.jskw_service.specs.FirstErrors.{first_of}
 use Rattle.jskw_c.specs.Evaluated.{evaluation_text}
 use Rattle.jskw_c.specs.Line.{AreErrorLines, IsInexactLine, IsPositionLine}
 use Rattle.jskw_c.specs.Status.{VALID, INVALID, NOT_JSON, INEXACT, NO_SCHEMA}
@@ -49,13 +49,9 @@ abbrev pub IsDetail : (Schema → Tree → List ℕ → Type 0) → Option Schem
 IsDetail Says None bytes text = text ≡ []
 IsDetail Says (Some s) bytes text = IsDetailOf Says s bytes (reading bytes) text
 
--- 0 is no limit
-abbrev pub limit_numbered : ℕ → Option ℕ
-limit_numbered n = if eqb n 0 then None else Some n
-
--- a line for each of the first `limit` errors, or for each error
+-- a line for each of the first `limit` errors, or for each error if `limit` is 0
 abbrev pub SaysErrors : ℕ → Schema → Tree → List ℕ → Type 0
-SaysErrors limit s t text = AreErrorLines (limited (limit_numbered limit) (fail s t [])) text
+SaysErrors limit s t text = AreErrorLines (first_of limit (fail s t [])) text
 
 -- the line of the first error, if there is one
 abbrev pub SaysFirst : Schema → Tree → List ℕ → Type 0

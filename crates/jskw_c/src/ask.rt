@@ -7,9 +7,8 @@ ghost use Rattle.jskw_text.specs.Position.{IsPlaceIn};
 ghost use Rattle.jskw_text.specs.ReadFault.{IsBrokenAt};
 ghost use Rattle.jskw_text.specs.Reading.{reading};
 ghost use Rattle.jskw_report.specs.Errors.{failures_of};
-ghost use Rattle.jskw_report.specs.Fail.{fail, is_empty};
-ghost use Rattle.jskw_report.specs.Observe.{limited};
-ghost use Rattle.jskw_c.specs.Asked.{Says, SaysFirst, asked_status, limit_numbered, verdict_status};
+ghost use Rattle.jskw_report.specs.Fail.{is_empty};
+ghost use Rattle.jskw_c.specs.Asked.{Says, SaysFirst, asked_status, verdict_status};
 ghost use Rattle.jskw_c.specs.Compiled.{IsPositionOf, compiled_of, setting_numbered};
 ghost use Rattle.jskw_c.specs.Line.{IsPositionLine};
 ghost use Rattle.jskw_c.specs.Replies.{CompilesBytes, IsOutcome, IsOutcomeOnTree, IsOutcomeOnBytes};
@@ -23,7 +22,7 @@ use crate::status::{BAD_SCHEMA, BAD_SETTING, INEXACT, INVALID, NOT_JSON, VALID};
 use jskw_array::SchemaNode;
 use jskw_array::compiler::compile;
 use jskw_report::{CompileFault, Context, Fault, LazyLocation, ValidationContext, ValidationError};
-use jskw_service::read_value;
+use jskw_service::{first_errors, read_value};
 use jskw_text::{NotJsonReason, Position, ReadFault, read_bytes};
 use jskw_value::{DecimalJson, DecimalTree};
 use jskw_wanted::wanted;
@@ -190,7 +189,7 @@ fn outcome_on(
     match detail {
         Detail::FirstError => first_error_of(alloc, schema, instance),
         Detail::Errors(limit) => {
-            let errors = collect(alloc, limit, schema, instance)?;
+            let errors = first_errors(alloc, limit as usize, schema, instance)?;
             Ok(Outcome {
                 status: status_of_errors(errors.as_slice()),
                 text: error_lines(alloc, errors.as_slice())?,
@@ -204,28 +203,6 @@ fn outcome_on(
             })
         }
     }
-}
-
-// Collects the first `limit` errors of the instance, or all if `limit` is 0.
-fn collect<'i>(
-    alloc: Global,
-    limit: u64,
-    schema: &'i SchemaNode<DecimalJson>,
-    instance: &'i DecimalTree,
-) -> Result<Vec<ValidationError<'i, DecimalJson>>, AllocError>
-    ensures { IfOk result (λ errors. failures_of decimal_tree errors.items
-        ≡ limited (limit_numbered limit) (fail schema.now (decimal_tree instance.now) [])) }
-{
-    let mut errors = Vec::new(alloc);
-    let mut location = LazyLocation::new(alloc);
-    let mut ctx = ValidationContext::new();
-    if limit == 0 {
-        schema.collect_errors(instance, &mut location, &mut ctx, &mut errors)?;
-    } else {
-        let limit = limit as usize;
-        schema.collect_first_errors(limit, instance, &mut location, &mut ctx, &mut errors)?;
-    }
-    Ok(errors)
 }
 
 // Returns the line of the first error of the instance.

@@ -35,7 +35,7 @@ pub(crate) fn push_number(
     ensures { OnOk result (text.new.items ≡ text.old.items ++ decimal number) }
 {
     let digits = format!(in alloc; "{number}")?;
-    text.extend_from_slice(digits.as_bytes())
+    push_bytes(text, digits.as_bytes())
 }
 
 // Appends a string in quotes.
@@ -44,5 +44,5 @@ pub(crate) fn push_string(alloc: Global, text: &mut Vec<u8>, value: &str) -> Res
 {
     let value = Value::String(String::from_str(alloc, value)?);
     let quoted = value.to_string(alloc)?;
-    text.extend_from_slice(quoted.as_bytes())
+    push_bytes(text, quoted.as_bytes())
 }

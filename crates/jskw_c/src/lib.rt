@@ -39,9 +39,9 @@ mod unchecked;
 use crate::ask::{Detail, compile_schema, outcome_of, validity};
 use crate::buffer::{write_no_memory, write_text};
 use crate::handle::SchemaHandle;
-use crate::status::{INVALID, NO_MEMORY, NO_SCHEMA, REFUSED, VALID};
+use crate::status::{NO_MEMORY, NO_SCHEMA, VALID};
 use crate::unchecked::unchecked_of;
-use jskw_service::{Verdict, reply_to};
+use jskw_service::reply_to;
 use std::alloc::{AllocError, Global};
 
 /// Writes the version of this library and that of the logic that it is proved in, a line each.
@@ -70,19 +70,11 @@ pub extern "C" fn jskw_answer(
         (status_of_verdict (verdict request.now)) buffer.old buffer.new length.new }
 {
     match reply_to(alloc, request) {
-        Ok(reply) => write_text(exit_status(reply.verdict()), reply.text(), buffer, length),
+        Ok(reply) => {
+            let status = jskw_service::status(&Ok(reply.verdict()));
+            write_text(u32::from(status), reply.text(), buffer, length)
+        }
         Err(AllocError) => write_no_memory(length),
-    }
-}
-
-// Returns the exit status of the program.
-fn exit_status(verdict: Verdict) -> u32
-    ensures { result ≡ status_of_verdict verdict }
-{
-    match verdict {
-        Verdict::Valid => VALID,
-        Verdict::Invalid => INVALID,
-        Verdict::Refused => REFUSED,
     }
 }
 

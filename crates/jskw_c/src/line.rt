@@ -10,6 +10,7 @@ ghost use Rattle.jskw_c.specs.Unchecked.{member_line};
 use crate::expected::expected_text;
 use jskw_report::ValidationError;
 use jskw_sentence::{schema_sentence, sentence};
+use jskw_service::push_bytes;
 use jskw_text::{NotJsonReason, Position};
 use jskw_unchecked::UncheckedMember;
 use jskw_value::{DecimalJson, SerdeJson};
@@ -21,9 +22,9 @@ fn push_word(text: &mut Vec<u8>, word: &[u8]) -> Result<(), AllocError>
 {
     for &byte in word {
         match byte {
-            b'\t' => text.extend_from_slice(b"\\t")?,
-            b'\n' => text.extend_from_slice(b"\\n")?,
-            b'\\' => text.extend_from_slice(b"\\\\")?,
+            b'\t' => push_bytes(text, b"\\t")?,
+            b'\n' => push_bytes(text, b"\\n")?,
+            b'\\' => push_bytes(text, b"\\\\")?,
             _ => text.push(byte)?,
         }
     }
@@ -67,7 +68,7 @@ pub(crate) fn inexact_line(
     let place = format!(in alloc; "{}\t{}\t{}\n", at.offset, at.line, at.column)?;
     let mut text = Vec::new(alloc);
     push_word_and(&mut text, location.as_bytes(), b'\t')?;
-    text.extend_from_slice(place.as_bytes())?;
+    push_bytes(&mut text, place.as_bytes())?;
     Ok(text)
 }
 

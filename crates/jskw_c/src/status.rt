@@ -1,11 +1,10 @@
-//! The statuses that calls return. `include/jskw.h` and `specs/Status.antt` have the same numbers.
+//! The statuses that calls return. `include/jskw.h` and `specs/Status.antt` have the same numbers; those of
+//! `jskw_answer` are from `jskw_service::status`.
 
 /// The instance is valid. For `jskw_compile`: the handle has the schema.
 pub(crate) const VALID: u32 = 0;
 /// The instance has errors.
 pub(crate) const INVALID: u32 = 1;
-/// For `jskw_answer`: there is no verdict, and the answer says why.
-pub(crate) const REFUSED: u32 = 2;
 /// The schema or the instance is not JSON.
 pub(crate) const NOT_JSON: u32 = 3;
 /// The instance contains a number that is not exact.

@@ -1,16 +1,13 @@
 -- What is written of a document that was read, by its errors.
-use Rattle.std.specs.Prelude.{◌≡◌, ◌&&◌, ℕ, List, [], ◌∷◌, ◌++◌, Bool, codes, eqb, length, nat_lt, take}
+use Rattle.std.specs.Prelude.{◌≡◌, ◌&&◌, ℕ, List, [], ◌∷◌, ◌++◌, Bool, codes, length, nat_lt}
 use Rattle.std.specs.Prelude.{if◌then◌else◌, Option, None}
 use Rattle.jskw_report.specs.Fail.{Failure}
+pub use Rattle.jskw_service.specs.FirstErrors.{first_of}
 use Rattle.jskw_service.specs.Parts.{HasEach}
 use Rattle.jskw_documents.specs.Shown.{IsErrorObject, IsErrorShown, IsLaterObject, more_words}
 use Rattle.jskw_documents.specs.Shown.{objects_text, place_members, place_words}
 use Rattle.jskw_documents.specs.declared.options.Output.{Output}
 use Rattle.jskw_documents.specs.declared.options.Output.TheVariants.{Text, Basic, Quiet}
-
--- the first so many, or all for 0
-abbrev pub first_of : ℕ → List Failure → List Failure
-first_of n fs = if eqb n 0 then fs else take n fs
 
 -- there are more than so many, from 1 to 2^64 - 2; no list has more than 2^64 - 1
 abbrev pub is_cut : ℕ → List Failure → Bool

@@ -18,8 +18,8 @@ use crate::options::Output;
 use crate::place::{Place, refusal};
 use crate::starts::Starts;
 use jskw_array::SchemaNode;
-use jskw_report::{LazyLocation, ValidationContext, ValidationError};
-use jskw_service::Verdict;
+use jskw_report::{ValidationContext, ValidationError};
+use jskw_service::{Verdict, first_errors};
 use jskw_text::{Position, ReadFault, TreeReader};
 use jskw_value::{DecimalJson, DecimalTree};
 use std::alloc::{AllocError, Global};
@@ -239,27 +239,6 @@ fn shown_errors<'i>(
     }
     errors.truncate(limit);
     Ok((errors, true))
-}
-
-// Returns the first `limit` errors of the document, or all if `limit` is 0.
-fn first_errors<'i>(
-    alloc: Global,
-    limit: usize,
-    schema: &'i SchemaNode<DecimalJson>,
-    tree: &'i DecimalTree,
-) -> Result<Vec<ValidationError<'i, DecimalJson>>, AllocError>
-    ensures { IfOk result (λ errors. failures_of decimal_tree errors.items
-        ≡ first_of limit (fail schema.now (decimal_tree tree.now) [])) }
-{
-    let mut errors = Vec::new(alloc);
-    let mut location = LazyLocation::new(alloc);
-    let mut ctx = ValidationContext::new();
-    if limit == 0 {
-        schema.collect_errors(tree, &mut location, &mut ctx, &mut errors)?;
-    } else {
-        schema.collect_first_errors(limit, tree, &mut location, &mut ctx, &mut errors)?;
-    }
-    Ok(errors)
 }
 
 /// Returns the worse of two verdicts: that of a document that was not checked, that of an invalid

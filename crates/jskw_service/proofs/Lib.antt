@@ -1,3 +1,4 @@
 pub mod Reading
 pub mod Requests
 pub mod Parts
+pub mod FirstErrors

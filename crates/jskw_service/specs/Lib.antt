@@ -4,3 +4,4 @@ pub mod Answer
 pub mod Reply
 pub mod Run
 pub mod Parts
+pub mod FirstErrors

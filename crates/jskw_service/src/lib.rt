@@ -4,6 +4,7 @@
 //! - [`run`] reads a request and writes the answer.
 //! - [`reply_to`] answers a request that is in memory.
 //! - [`reply_to_instance`] answers an instance under a schema that is already compiled.
+//! - [`first_errors`] collects errors up to a limit.
 //!
 //! A request is a JSON object with a schema, an instance and settings, an answer a text of lines: the
 //! repository's docs/USE.md lists the members of the one and the lines of the other, under "The
@@ -14,6 +15,7 @@
 
 mod bytes;
 mod device;
+mod errors;
 mod io;
 mod request;
 mod service;
@@ -21,6 +23,7 @@ mod std_device;
 
 pub use bytes::push_bytes;
 pub use device::{DeviceFault, Sink, Source};
+pub use errors::first_errors;
 pub use io::{ReadFault, read_all, write_all};
 pub use request::{draft_named, overridden_of, vocabularies_of, vocabulary_named};
 pub use service::{Reply, RunFault, Verdict, read_value, reply_to, reply_to_instance, run, status};

@@ -13,11 +13,12 @@ ghost use Rattle.jskw_service.specs.Reply.{text_in, verdict_in};
 ghost use Rattle.jskw_service.specs.Run.{WritesBeginning, IsOutput, Writes, status_of};
 
 use crate::device::{DeviceFault, Sink, Source};
+use crate::errors::first_errors;
 use crate::io::{ReadFault, read_all, write_all};
 use crate::request::{Request, request_of};
 use jskw_array::SchemaNode;
 use jskw_array::compiler::compile;
-use jskw_report::{CompileFault, Context, LazyLocation, ValidationContext, ValidationError};
+use jskw_report::{CompileFault, Context, ValidationError};
 use jskw_value::{Node, SerdeJson};
 use serde_json::Value;
 use std::alloc::{AllocError, Global};
@@ -211,10 +212,7 @@ pub fn reply_to_instance(
         let text = format!(in alloc; "refused: float\t{location}\n")?;
         return Ok(Reply::Answer(Verdict::Refused, text));
     }
-    let mut errors = Vec::new(alloc);
-    let mut location = LazyLocation::new(alloc);
-    let mut ctx = ValidationContext::new();
-    schema.collect_errors(instance, &mut location, &mut ctx, &mut errors)?;
+    let errors = first_errors(alloc, 0, schema, instance)?;
     reply_of_errors(alloc, errors.as_slice())
 }
 

@@ -1,10 +1,10 @@
 use Rattle.std.proofs.Common.{◌≡◌, ◌∙◌, [], ap}
 use Rattle.jskw_value.specs.DecimalTree.{decimal_tree}
 use Rattle.jskw_report.specs.Fail.{fail, is_empty}
-use Rattle.jskw_report.specs.Observe.{limited}
-use Rattle.jskw_c.specs.Asked.{limit_numbered, verdict_status}
+use Rattle.jskw_service.specs.FirstErrors.{first_of}
+use Rattle.jskw_service.proofs.FirstErrors.{first_empty}
+use Rattle.jskw_c.specs.Asked.{verdict_status}
 use Rattle.jskw_c.specs.Line.{AreErrorLines}
-use Rattle.jskw_c.proofs.Limits.{limited_empty}
 use Rattle.jskw_c.proofs.OutcomesOfInstances.{reports_errors, reports_tree}
 use Rattle.jskw_c.proofs.ask.outcome_on.Goals as goal
 
@@ -14,10 +14,10 @@ returns-in_ok-error_lines-in-Errors c =
     let t = decimal_tree c.args.instance.now in
     let limit = c.in-Errors.limit in
     let status : c.status_of_errors.result ≡ verdict_status (is_empty (fail s t [])) =
-    rw (c.as_slice.ensures.value, c.in_ok-errors-in-Errors.ensures, limited_empty limit (fail s t [])) at
+    rw (c.as_slice.ensures.value, c.in_ok-errors-in-Errors.ensures, first_empty limit (fail s t [])) at
     c.status_of_errors.ensures in
     let text = c.in_ok-error_lines-in-Errors.field-0.items in
-    let lines : AreErrorLines (limited (limit_numbered limit) (fail s t [])) text =
+    let lines : AreErrorLines (first_of limit (fail s t [])) text =
     rw (c.as_slice-in-Errors.ensures.value, c.in_ok-errors-in-Errors.ensures) at
     c.in_ok-error_lines-in-Errors.ensures in
     rw c.in-Errors.is (reports_errors limit s t _ status lines)

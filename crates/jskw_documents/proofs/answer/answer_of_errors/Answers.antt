@@ -3,8 +3,8 @@ use Rattle.jskw_value.specs.DecimalTree.{decimal_tree}
 use Rattle.jskw_report.specs.Errors.{failures_of}
 use Rattle.jskw_report.specs.Fail.{fail, is_empty}
 use Rattle.jskw_report.proofs.HoldsIsNoFailure.{holds_empty}
+use Rattle.jskw_service.proofs.FirstErrors.{first_empty}
 use Rattle.jskw_documents.specs.Documents.{verdict_if}
-use Rattle.jskw_documents.proofs.Verdicts.{first_empty}
 use Rattle.jskw_documents.proofs.answer.answer_of_errors.Goals as goal
 
 pub returns-clause-verdict : goal.returns-clause-verdict

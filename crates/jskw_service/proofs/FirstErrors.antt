@@ -1,8 +1,8 @@
--- The verdict by the first errors.
+-- Errors up to a limit.
 use Rattle.std.proofs.Common.{◌≡◌, ℕ, zero, suc, Bool, true, false, true≢false, eqb, if◌then◌else◌, List, [], ◌∷◌, refl}
 use Rattle.std.proofs.Common.{take}
 use Rattle.jskw_report.specs.Fail.{Failure, is_empty}
-use Rattle.jskw_documents.specs.Reports.{first_of}
+use Rattle.jskw_service.specs.FirstErrors.{first_of}
 
 empty_if : (b : Bool) (n : ℕ) (fs : List Failure) → eqb n 0 ≡ b
     → is_empty (if b then fs else take n fs) ≡ is_empty fs
