@@ -1,8 +1,8 @@
 //! The files of the system, and standard output.
-ghost use Rattle.std.specs.Prelude.{None};
+ghost use Rattle.std.specs.Prelude.{◌≡◌, None, is_some};
 
-use jskw_documents::{Folder, Opened, UNREAD};
-use jskw_service::StdSource;
+use jskw_documents::{FileSource, Folder, Opened};
+use jskw_service::{DeviceFault, Source};
 use std::fs::{self, File, OpenFile};
 use std::io::{self, ErrorKind, Read, StdinLock, Write};
 
@@ -14,9 +14,17 @@ pub(crate) struct HostFolder<'r> {
 
 // A file, or standard input.
 #[derive(Drop)]
-pub(crate) enum Input {
+enum Device {
     Standard(StdinLock<'static>),
     File(File),
+}
+
+// A file that is read, or standard input.
+#[derive(Drop)]
+pub(crate) struct Input {
+    device: Device,
+    // Why a read failed.
+    fault: Option<&'static str>,
 }
 
 // Standard output.
@@ -43,25 +51,53 @@ impl Write for Output<'_> {
     }
 }
 
-impl Read for Input {
-    fn read(&mut self, buf: &mut [u8]) -> io::Result<usize> {
-        match self {
-            Input::Standard(reader) => reader.read(buf),
-            Input::File(file) => file.read(buf),
+impl Source for Input {
+    // What a file has is not known before it is read.
+    ghost remaining = { λ _. None };
+
+    ghost has_failed = { λ i. is_some i.fault };
+
+    fn read(&mut self, buf: &mut [u8]) -> Result<usize, DeviceFault> {
+        let count = match &mut self.device {
+            Device::Standard(reader) => reader.read(buf),
+            Device::File(file) => file.read(buf),
+        };
+        match count {
+            Ok(count) => Ok(count),
+            Err(error) => {
+                self.fault = Some(why_unread(&error));
+                Err(DeviceFault)
+            }
+        }
+    }
+}
+
+impl FileSource for Input {
+    fn why_failed(&self) -> &'static str {
+        self.fault.unwrap_or(UNREAD)
+    }
+}
+
+impl Input {
+    fn new(device: Device) -> Input
+        ensures { result.fault ≡ None }
+    {
+        Input {
+            device,
+            fault: None,
         }
     }
 }
 
 impl Folder for HostFolder<'_> {
-    type Reader = StdSource<Input>;
+    type Reader = Input;
 
-    // What a file has is not known before it is read.
     ghost bytes_of = { λ _ _. None };
 
-    fn open(&self, name: &str) -> Result<Opened<StdSource<Input>>, &'static str> {
+    fn open(&self, name: &str) -> Result<Opened<Input>, &'static str> {
         if name == "-" {
             return Ok(Opened {
-                reader: StdSource::new(Input::Standard(self.rt.reader())),
+                reader: Input::new(Device::Standard(self.rt.reader())),
                 size: None,
             });
         }
@@ -69,7 +105,7 @@ impl Folder for HostFolder<'_> {
             Ok(file) => {
                 let size = size_of(&file);
                 Ok(Opened {
-                    reader: StdSource::new(Input::File(file)),
+                    reader: Input::new(Device::File(file)),
                     size,
                 })
             }
@@ -98,12 +134,16 @@ fn size_of(file: &File) -> Option<u64> {
     }
 }
 
-// Returns why a file could not be opened.
+// Why a file is refused that cannot be opened or read, unless more is known.
+const UNREAD: &str = "it cannot be read to its end";
+
+// Returns why a file could not be opened or read.
 fn why_unread(error: &io::Error) -> &'static str {
     match error.kind() {
         ErrorKind::NotFound => "there is no such file",
         ErrorKind::IsADirectory => "it is a folder",
         ErrorKind::PermissionDenied => "it may not be read",
+        ErrorKind::WouldBlock => "it is non-blocking, and nothing is there to read yet",
         _ => UNREAD,
     }
 }

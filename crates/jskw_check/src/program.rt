@@ -14,10 +14,10 @@ use crate::given::{Command, Given};
 use crate::trouble::Trouble;
 use crate::usage::{HELP, USAGE, VERSION};
 use jskw_documents::{
-    CheckFault, Checker, Folder, Output, Place, UNREAD, Watcher, check_files, push_shown, refusal,
-    schema_of,
+    CheckFault, Checker, FileSource, Folder, Output, Place, Watcher, check_files, push_shown,
+    refusal, schema_of,
 };
-use jskw_service::{ReadFault, Sink, Source, push_bytes, read_all, status, write_all};
+use jskw_service::{ReadFault, Sink, push_bytes, read_all, status, write_all};
 use std::alloc::{AllocError, Global};
 
 // The status if something could not be checked.
@@ -176,7 +176,7 @@ fn read_schema<F: Folder>(
 }
 
 // Reads a reader to its end, or returns that it cannot be read.
-fn read_whole<R: Source>(
+fn read_whole<R: FileSource>(
     alloc: Global,
     reader: &mut R,
 ) -> Result<Result<Vec<u8>, &'static str>, Trouble>
@@ -188,7 +188,7 @@ fn read_whole<R: Source>(
 {
     match read_all(alloc, reader) {
         Ok(text) => Ok(Ok(text)),
-        Err(ReadFault::Device) => Ok(Err(UNREAD)),
+        Err(ReadFault::Device) => Ok(Err(reader.why_failed())),
         Err(ReadFault::Memory) => Err(Trouble::Memory),
     }
 }

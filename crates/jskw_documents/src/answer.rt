@@ -1,7 +1,7 @@
 //! The answer to one document.
 #![tactic(auto, using(jskw_value::proofs::DecimalTrees::lawful_tree))]
 
-ghost use Rattle.std.specs.Prelude.{◌≡◌, ℕ, List, [], IfOk, if◌then◌else◌, length, option_map};
+ghost use Rattle.std.specs.Prelude.{◌≡◌, ℕ, List, [], false, IfOk, if◌then◌else◌, length, option_map};
 ghost use Rattle.jskw_text.specs.Position.{IsPlaceIn, line_at};
 ghost use Rattle.jskw_value.specs.DecimalTree.{decimal_tree};
 ghost use Rattle.jskw_report.specs.Errors.{failures_of};
@@ -14,7 +14,7 @@ ghost use Rattle.jskw_documents.specs.Streams.{worse_of};
 
 use crate::checker::Checker;
 use crate::errors::{Document, report};
-use crate::options::Output;
+use crate::options::{Options, Output};
 use crate::place::{Place, refusal};
 use crate::starts::Starts;
 use jskw_array::SchemaNode;
@@ -70,6 +70,54 @@ pub fn answer_to(
         }
         Err(ReadFault::Memory(error)) => Err(error),
     }
+}
+
+// Answers a document as `answer_to` does, and reads it twice unless it is valid: at first what the
+// schema looks at alone.
+pub(crate) fn quick_answer_to(
+    alloc: Global,
+    checker: &Checker,
+    file: &str,
+    line: Option<usize>,
+    document: &[u8],
+    reader: &mut TreeReader,
+) -> Result<Answer, AllocError>
+    ensures verdict { IfOk result
+        (λ answer. answer.verdict ≡ verdict_on checker.now.schema document.now) }
+    ensures text { IfOk result (λ answer. IsAnswer checker.now.options checker.now.schema file.now line
+        document.now answer.text.items) }
+    ensures errors { IfOk result
+        (λ answer. answer.errors ≡ errors_in checker.now.options checker.now.schema document.now) }
+{
+    if checker.schema.finds_valid(document, reader) {
+        return valid_answer(alloc, &checker.options, file, line);
+    }
+    answer_to(alloc, checker, file, line, document, reader)
+}
+
+// Returns the answer to a valid document.
+fn valid_answer(
+    alloc: Global,
+    options: &Options,
+    file: &str,
+    line: Option<usize>,
+) -> Result<Answer, AllocError>
+    ensures verdict { IfOk result (λ answer. answer.verdict ≡ Verdict.Valid) }
+    ensures text { IfOk result (λ answer.
+        IsReportAs options.now.output options.now.verbose file.now line false [] answer.text.items) }
+    ensures errors { IfOk result (λ answer. answer.errors ≡ 0) }
+{
+    let starts = Starts::of(alloc, b"")?;
+    let document = Document {
+        file,
+        line,
+        starts: &starts,
+    };
+    Ok(Answer {
+        verdict: Verdict::Valid,
+        errors: 0,
+        text: report(alloc, options, &document, &[], false)?,
+    })
 }
 
 // Returns the answer to a document that was not checked, for what stands at this place of it.
@@ -132,7 +180,7 @@ fn answer_to_tree(
         checker.now.options.limit checker.now.schema (decimal_tree tree.now)) }
 {
     match checker.options.output {
-        Output::Quiet => Ok(quiet_answer(alloc, &checker.schema, tree)),
+        Output::Quiet => Ok(quiet_answer(alloc, checker.schema.node(), tree)),
         Output::Text => answer_of_errors(alloc, checker, file, line, document, tree),
         Output::Basic => answer_of_errors(alloc, checker, file, line, document, tree),
     }
@@ -173,7 +221,7 @@ fn answer_of_errors(
     ensures errors { IfOk result (λ answer. answer.errors ≡ length (first_of checker.now.options.limit
         (fail checker.now.schema (decimal_tree tree.now) []))) }
 {
-    let (errors, is_cut) = shown_errors(alloc, checker.options.limit, &checker.schema, tree)?;
+    let (errors, is_cut) = shown_errors(alloc, checker.options.limit, checker.schema.node(), tree)?;
     let starts = starts_for(alloc, errors.as_slice(), document)?;
     let document = Document {
         file,

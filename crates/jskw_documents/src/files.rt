@@ -8,15 +8,12 @@ use crate::answer::worse_of;
 use crate::checker::Checker;
 use crate::document::check_document;
 use crate::fault::CheckFault;
-use crate::folder::Folder;
+use crate::folder::{FileSource, Folder};
 use crate::lines::check_lines;
 use crate::place::{Place, refusal};
 use crate::watcher::Watcher;
 use jskw_service::{Sink, Source, Verdict, write_all};
 use std::alloc::Global;
-
-/// Why a file is refused whose device failed.
-pub const UNREAD: &str = "it cannot be read to its end";
 
 /// Checks the files of these names, one behind the other, writes the answers and nothing else, and
 /// returns the worst verdict. Each file is one document, or, if `lines` is set, each of its lines is.
@@ -92,7 +89,7 @@ fn check_file<F: Folder, W: Sink, V: Watcher>(
 }
 
 // Checks a file that was opened. If its device fails, it is refused.
-fn check_opened<R: Source, W: Sink, V: Watcher>(
+fn check_opened<R: FileSource, W: Sink, V: Watcher>(
     alloc: Global,
     checker: &Checker,
     lines: bool,
@@ -115,7 +112,7 @@ fn check_opened<R: Source, W: Sink, V: Watcher>(
 {
     match check_reader(alloc, checker, lines, name, reader, writer, watcher) {
         Ok(said) => Ok(said),
-        Err(CheckFault::Read) => refuse(alloc, checker, name, UNREAD, writer),
+        Err(CheckFault::Read) => refuse(alloc, checker, name, reader.why_failed(), writer),
         Err(fault) => Err(fault),
     }
 }

@@ -12,10 +12,16 @@ pub struct Opened<R> {
     pub size: Option<u64>,
 }
 
+/// What gives the bytes of a file.
+pub trait FileSource: Source {
+    /// Returns why a read has failed.
+    fn why_failed(&self) -> &'static str;
+}
+
 /// What opens files by their names.
 pub trait Folder {
     /// What gives the bytes of a file.
-    type Reader: Source + Drop;
+    type Reader: FileSource + Drop;
 
     /// The bytes of the file of each name, if they are known.
     ghost bytes_of: { Self → List ℕ → Option (List ℕ) };

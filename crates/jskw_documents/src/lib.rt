@@ -13,11 +13,13 @@
 
 mod answer;
 mod checker;
+mod compiled;
 mod document;
 mod errors;
 mod fault;
 mod files;
 mod folder;
+mod line_reader;
 mod lines;
 mod lost;
 mod options;
@@ -30,10 +32,11 @@ mod words;
 
 pub use answer::{Answer, answer_to, worse_of};
 pub use checker::Checker;
+pub use compiled::CompiledSchema;
 pub use document::check_document;
 pub use fault::CheckFault;
-pub use files::{UNREAD, check_files};
-pub use folder::{Folder, Opened};
+pub use files::check_files;
+pub use folder::{FileSource, Folder, Opened};
 pub use lines::check_lines;
 pub use options::{Options, Output};
 pub use place::{Place, refusal};

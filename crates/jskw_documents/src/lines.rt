@@ -9,14 +9,14 @@ ghost use Rattle.jskw_documents.specs.Streams.{AnswersBegun, AnswersLine, Answer
 ghost use Rattle.jskw_documents.specs.Streams.{Ends, IsFirstLine, IsKept, Moves, Takes, Told, is_in_line};
 ghost use Rattle.jskw_documents.specs.Streams.{last_line_of};
 
-use crate::answer::{Answer, answer_to, worse_of};
+use crate::answer::{Answer, worse_of};
 use crate::checker::Checker;
 use crate::fault::CheckFault;
+use crate::line_reader::LineReader;
 use crate::lost::{named, write_lost};
 use crate::stream::Stream;
 use crate::watcher::{Counts, Watcher};
 use jskw_service::{Sink, Source, Verdict, write_all};
-use jskw_text::TreeReader;
 use std::alloc::Global;
 use std::mem;
 
@@ -36,7 +36,7 @@ pub(crate) struct Lines {
     // The worst verdict on the lines before it.
     pub(crate) verdict: Verdict,
     // What reads lines.
-    pub(crate) reader: TreeReader,
+    pub(crate) reader: LineReader,
     // The counts so far.
     pub(crate) counts: Counts,
 }
@@ -107,7 +107,7 @@ fn read_lines<R: Source, W: Sink, V: Watcher>(
         next: 1,
         begun: Some(Vec::new(stream.alloc)),
         verdict: Verdict::Valid,
-        reader: TreeReader::new(stream.alloc),
+        reader: LineReader::new(stream.alloc),
         counts: Counts::new(),
     };
     let mut block = [0u8; BLOCK];
@@ -319,7 +319,7 @@ fn said_of<W: Sink>(
     stream: &Stream<'_, '_>,
     number: usize,
     line: Option<&[u8]>,
-    reader: &mut TreeReader,
+    reader: &mut LineReader,
     text: &mut Vec<u8>,
     writer: &mut W,
 ) -> Result<(Verdict, usize), CheckFault>
@@ -334,7 +334,7 @@ fn said_of<W: Sink>(
     match pushed_answer(stream, number, line, reader, text) {
         Some(answer) => Ok((answer.verdict, answer.errors)),
         None => {
-            *reader = TreeReader::new(stream.alloc);
+            *reader = LineReader::new(stream.alloc);
             refuse(stream, number, text, writer)?;
             Ok((Verdict::Refused, 0))
         }
@@ -346,7 +346,7 @@ fn pushed_answer(
     stream: &Stream<'_, '_>,
     number: usize,
     line: Option<&[u8]>,
-    reader: &mut TreeReader,
+    reader: &mut LineReader,
     text: &mut Vec<u8>,
 ) -> Option<Answer>
     ensures { MatchOption result (text.new.items ≡ text.old.items)
@@ -356,16 +356,7 @@ fn pushed_answer(
         × (answer.verdict ≡ verdict_on stream.now.checker.now.schema document)) }
 {
     let line = line?;
-    let number = Some(number);
-    let answer = answer_to(
-        stream.alloc,
-        stream.checker,
-        stream.file,
-        number,
-        line,
-        reader,
-    );
-    let Ok(answer) = answer else {
+    let Ok(answer) = reader.answer(stream, number, line) else {
         return None;
     };
     match text.extend_from_slice(&answer.text) {

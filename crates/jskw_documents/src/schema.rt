@@ -6,10 +6,10 @@ ghost use Rattle.jskw_documents.specs.Schemas.{IsSchemaGiven, covered_schema, dr
 ghost use Rattle.jskw_documents.specs.Schemas.{draft_of_meta_schema, draft_of_schema, draft_of_value, how_read};
 ghost use Rattle.jskw_documents.specs.Schemas.{schema_given, schema_under};
 
+use crate::compiled::CompiledSchema;
 use crate::options::Output;
 use crate::place::{Place, refusal};
 use crate::words::push_shown_after;
-use jskw_array::SchemaNode;
 use jskw_array::compiler::compile;
 use jskw_report::context::member_of;
 use jskw_report::{CompileFault, Context, Draft, Settings, ValidationError, VocabularySet};
@@ -18,6 +18,7 @@ use jskw_service::{push_bytes, read_value};
 use jskw_text::{ReadFault, read_bytes};
 use jskw_unchecked::{UncheckedMember, unchecked};
 use jskw_value::{DecimalJson, SerdeJson};
+use jskw_wanted::wanted;
 use serde_json::Value;
 use std::alloc::{AllocError, Global};
 
@@ -41,7 +42,7 @@ pub fn schema_of(
     file: &str,
     text: &[u8],
     options: SchemaOptions,
-) -> Result<Result<SchemaNode<DecimalJson>, Vec<u8>>, AllocError>
+) -> Result<Result<CompiledSchema, Vec<u8>>, AllocError>
     ensures { IfOk result (λ made. IsSchemaGiven made (schema_given (how_read options) text.now)) }
 {
     let Some(value) = read_value(alloc, text)? else {
@@ -61,7 +62,7 @@ fn schema_under(
     allow_unchecked: bool,
     settings: &Settings,
     value: &Value,
-) -> Result<Result<SchemaNode<DecimalJson>, Vec<u8>>, AllocError>
+) -> Result<Result<CompiledSchema, Vec<u8>>, AllocError>
     ensures { IfOk result (λ made. IsSchemaGiven made (schema_under allow_unchecked
         (with_object_layer false settings.now) (view value.now))) }
 {
@@ -69,7 +70,10 @@ fn schema_under(
     let ctx = ctx.with_object_layer(false);
     let members = unchecked(alloc, &ctx, value)?;
     match compile(alloc, &ctx, value) {
-        Ok(schema) => covered_schema(alloc, file, allow_unchecked, schema, members.as_slice()),
+        Ok(node) => {
+            let schema = CompiledSchema::new(node, wanted(alloc, value)?);
+            covered_schema(alloc, file, allow_unchecked, schema, members.as_slice())
+        }
         Err(CompileFault::Bad(error)) => Ok(Err(bad_schema(alloc, file, &error)?)),
         Err(CompileFault::Memory(error)) => Err(error),
     }
@@ -80,9 +84,9 @@ fn covered_schema(
     alloc: Global,
     file: &str,
     allow_unchecked: bool,
-    schema: SchemaNode<DecimalJson>,
+    schema: CompiledSchema,
     members: &[UncheckedMember],
-) -> Result<Result<SchemaNode<DecimalJson>, Vec<u8>>, AllocError>
+) -> Result<Result<CompiledSchema, Vec<u8>>, AllocError>
     ensures { IfOk result
         (λ made. IsSchemaGiven made (covered_schema allow_unchecked members.now (Ok schema))) }
 {
