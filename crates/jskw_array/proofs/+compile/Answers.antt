@@ -125,7 +125,7 @@ compiler::push_keywords-compile_keyword-compiled-requires g t c κs within =
 
 pub compiler::push_keywords-loop-keyword-init : goal.compiler::push_keywords-loop-keyword-init
 compiler::push_keywords-loop-keyword-init g t c =
-    record { left = refl; fused = refl; begins = c.requires.begins }
+    record { whole = refl; fused = refl; begins = c.requires.begins }
 
 pub compiler::push_keywords-loop-keyword-preserved-in_default
     : goal.compiler::push_keywords-loop-keyword-preserved-in_default
@@ -135,9 +135,9 @@ compiler::push_keywords-loop-keyword-preserved-in_default g t c =
     let none : active_member c.args.ctx.now.setting (members_view c.args.parent.now.entries) w ≡ None =
     search (rules, c.requires.values, c.active_member.ensures, c.in_default.is) in
     record {
-      left =
+      whole =
           turn_silent _ _ _ _ _ _ c.args.keywords.now l.keyword-index keyword_name.TypeKeyword c.loop-keyword-test.true
-          l.invariant.left (inactive_reads w c.args.ctx.now _ none);
+          l.invariant.whole (inactive_reads w c.args.ctx.now _ none);
       fused = l.invariant.fused;
       begins = l.invariant.begins;
     }
@@ -149,9 +149,9 @@ compiler::push_keywords-loop-keyword-preserved g t c =
     let found : active_member c.args.ctx.now.setting (members_view c.args.parent.now.entries) w
     ≡ Some (view c.in-Some.schema.now) = search (rules, c.requires.values, c.active_member.ensures, c.in-Some.is) in
     record {
-      left =
+      whole =
           turn_made _ _ _ _ _ _ c.args.keywords.now l.keyword-index keyword_name.TypeKeyword c.loop-keyword-test.true
-          l.invariant.left _
+          l.invariant.whole _
           (ap (λ read. after (keywords_of l.parts.items)
           (before (keyword_location c.args.ctx.now.location w) read (Ok no_keywords)))
           (active_reads w c.args.ctx.now _ _ found)
@@ -171,7 +171,7 @@ compiler::push_keywords-returns-in_err-push_part-clause-made g t c =
     passed_by_try new new c.in_err-push_part.field-0.0 _ _ _ c.from_residual.ensures.1
     (c.in_err-push_part.ensures.made _ c.compile_keyword-compiled.ensures)
     (λ x refused. turn_refused _ _ _ _ _ _ c.args.keywords.now l.keyword-index keyword_name.TypeKeyword
-    c.loop-keyword-test.true l.invariant.left x
+    c.loop-keyword-test.true l.invariant.whole x
     (ap (λ read. after (keywords_of l.parts.items)
     (before (keyword_location c.args.ctx.now.location w) read (Ok no_keywords)))
     (active_reads w c.args.ctx.now _ _ found) ∙ refused))
@@ -184,7 +184,7 @@ compiler::push_keywords-returns-clause-made g t c =
     let ms = members_view c.args.parent.now.entries in
     turn_end (keywords_of c.loop-keyword.parts.items) _ c.args.ctx.now.setting c.args.ctx.now.location ms
     (λ name. readings_named name ms) c.args.keywords.now c.loop-keyword.keyword-index c.loop-keyword-test.false
-    c.loop-keyword.invariant.left
+    c.loop-keyword.invariant.whole
 
 -- ---- an array of schemas
 
@@ -246,12 +246,12 @@ prefix_items::compile-returns-in_default g t c =
     let ms = members_view c.args.parent.now.entries in
     let d = view c.args.schema.now in
     let lost : as_array d ≡ None = search (rules, c.as_array.ensures) in
-    let part = wrong (of_type Array) (keyword_location c.args.ctx.now.location keyword_name.PrefixItems) d in
+    let refusal = wrong (of_type Array) (keyword_location c.args.ctx.now.location keyword_name.PrefixItems) d in
     compiles_as (validator_keyword {F = g.row.F.Denot} {Node = g.row.F-Node.Denot} {Number = g.row.F-Node-Number.Denot}
-    {Key = g.row.F-Node-PreparedKey.Denot}) (Some (Err c.no_array.result)) _ (Some part)
+    {Key = g.row.F-Node-PreparedKey.Denot}) (Some (Err c.no_array.result)) _ (Some refusal)
     (prefix_refused c.args.ctx.now ms d lost)
     (refused_whole (λ (k : Keyword). k) (validator_keyword {F = g.row.F.Denot} {Node = g.row.F-Node.Denot}
-    {Number = g.row.F-Node-Number.Denot} {Key = g.row.F-Node-PreparedKey.Denot}) c.no_array.result part part
+    {Number = g.row.F-Node-Number.Denot} {Key = g.row.F-Node-PreparedKey.Denot}) c.no_array.result refusal refusal
     c.no_array.ensures (λ r e. e))
 
 pub prefix_items::compile-returns : goal.prefix_items::compile-returns
