@@ -9,7 +9,7 @@ ghost use Rattle.jskw_array.specs.Words.{items_view, keyword_location, keyword_r
 ghost use Rattle.jskw_array.specs.Words.{map_ok, members_view, object, of_types, read, read_each, schemas_of};
 ghost use Rattle.jskw_array.specs.Words.{shape_keywords, true, validator_keyword, view, wrong, keywords_read};
 
-mod keyword;
+pub(crate) mod keyword;
 pub(crate) mod members;
 
 use crate::each::Each;

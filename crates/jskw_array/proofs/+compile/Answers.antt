@@ -1,9 +1,9 @@
 use Rattle.std.proofs.Common.{rules, ◌≡◌, Bool, ℕ, Some, None, Result, Ok, Err, true, false, drop, get_or, refl, sym}
 use Rattle.std.proofs.Common.{ap, ap₂, subst, ◌∙◌, arith}
 use Rattle.jskw_array.specs.Words.{Array, Keyword, CompilesTo, Refusal, Schema, absorbed_keywords, active_member, after}
-use Rattle.jskw_array.specs.Words.{is_some, shape_in, append_keywords, as_array, before, boxed_bounds, contains}
+use Rattle.jskw_array.specs.Words.{is_some, shape_in, as_array, before, boxed_bounds, contains}
 use Rattle.jskw_array.specs.Words.{fused_keywords, get_member, is_fused, is_items_schema, items_depth, items_from}
-use Rattle.jskw_array.specs.Words.{bare_keyword, items_start, items_view, join_ok, keyword, keyword_location}
+use Rattle.jskw_array.specs.Words.{bare_keyword, items_start, items_view, join_ok, keyword_location}
 use Rattle.jskw_array.specs.Words.{keywords, keywords_of}
 use Rattle.jskw_array.specs.Words.{map_ok, members_view, name_of, no_keywords, of_type, readings_named, read}
 use Rattle.jskw_array.specs.Words.{read_bounds, read_keywords, array_schema_count, shape_keywords}
@@ -15,7 +15,7 @@ use Rattle.jskw_array.proofs.CompiledSchemas.{after_none as after_no_schemas, ea
 use Rattle.jskw_array.proofs.CompiledSchemas.{schemas_in}
 use Rattle.jskw_leaf.proofs.PassedFaults.{compiles_as, passed_by_try, refused_whole}
 use Rattle.jskw_leaf.proofs.FusedReading.{fused_items, is_there}
-use Rattle.jskw_array.proofs.FusedReading.{fused_behind, is_one, items_value, shape_reads}
+use Rattle.jskw_array.proofs.FusedReading.{fused_behind, is_one, shape_reads}
 use Rattle.jskw_array.proofs.KeywordReadings.{additional_absent, additional_false, additional_of_schema}
 use Rattle.jskw_array.proofs.KeywordReadings.{additional_true, contains_of_schema, contains_read, items_of_array}
 use Rattle.jskw_array.proofs.KeywordReadings.{items_of_one, items_silent, prefix_of_array, prefix_refused, read_boolean}
@@ -87,9 +87,9 @@ compiler::push_shape-compile-requires g t c κs within =
     let below = member_depth (name_of keyword_name.Items) ms (view c.in-Some.items.now) found in
     (omega (arith, below, c.decreases), search (rules, found, c.requires.fused))
 
-pub items::array_shape::ArrayShapeValidator::compile-compile_schema-requires
-    : goal.items::array_shape::ArrayShapeValidator::compile-compile_schema-requires
-items::array_shape::ArrayShapeValidator::compile-compile_schema-requires g t c κs within =
+pub items::array_shape::ArrayShapeValidator::compile-compile_schema-compiled-requires
+    : goal.items::array_shape::ArrayShapeValidator::compile-compile_schema-compiled-requires
+items::array_shape::ArrayShapeValidator::compile-compile_schema-compiled-requires g t c κs within =
     let one =
     (is_one c.args.ctx.now (members_view c.args.parent.now.entries) (view c.args.items.now) c.requires.fused
     c.requires.items).0 in
@@ -106,10 +106,8 @@ items::array_shape::ArrayShapeValidator::compile-returns g t c =
     {Key = g.row.F-Node-PreparedKey.Denot} in
     let absorbed = absorbed_keywords c.in_ok-absorbed.absorbed.value in
     let all = shape_reads point ms d c.requires.fused c.requires.items absorbed c.in_ok-absorbed.ensures in
-    subst (CompilesTo of_shape c.with_items.result) (ap (λ q. map_ok
-    (λ k. append_keywords absorbed (keyword q k no_keywords)) (items_value point.setting point.location ms d))
-    c.in_ok-location.ensures ∙ sym all)
-    (c.with_items.ensures _ c.compile_schema.ensures)
+    subst (CompilesTo of_shape c.with_items.result) (sym all)
+    (c.with_items.ensures _ c.compile_schema-compiled.ensures)
 
 -- ---- the keywords of an object
 
