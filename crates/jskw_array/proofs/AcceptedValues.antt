@@ -30,9 +30,9 @@ about_arrays (validator.Rest v) h = rest_about v
 about_arrays (validator.Matching v) h = refl
 about_arrays (validator.Bare v) h = refl
 
--- ---- the values that all units accept
+-- ---- the values that all parts accept
 
--- what the units before the index i and then the others accept, all accept
+-- what the parts before the index i and then the others accept, all accept
 module _ {F Node Number Key : Type 0} (us : List (Part F Node Number Key)) where
   abbrev pub Accepted : QuickSet → ℕ → Type 0
   Accepted q i =

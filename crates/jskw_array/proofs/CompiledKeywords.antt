@@ -22,10 +22,10 @@ after_none (Err e) = refl
 
 -- nothing is left
 pub turn_end : (done : Keywords) (all : Result Keywords Refusal) (s : Setting) (p : Pointer) (ms : Members)
-    (parts : List ℕ → Option ValueReadings) (ws : List KeywordName) (i : ℕ) → length ws ≤ i
-    → after done (read_keywords (drop i ws) s p ms parts) ≡ all → all ≡ Ok done
-turn_end done all s p ms parts ws i past e =
-    sym e ∙ ap (λ xs. after done (read_keywords xs s p ms parts)) (drop_all i ws past) ∙ ap Ok (append_none done)
+    (named : List ℕ → Option ValueReadings) (ws : List KeywordName) (i : ℕ) → length ws ≤ i
+    → after done (read_keywords (drop i ws) s p ms named) ≡ all → all ≡ Ok done
+turn_end done all s p ms named ws i past e =
+    sym e ∙ ap (λ xs. after done (read_keywords xs s p ms named)) (drop_all i ws past) ∙ ap Ok (append_none done)
 
 after_made : (done : Keywords) (q : Pointer) (k : Keyword) (r : Result Keywords Refusal)
     → after done (before q (Some (Ok k)) r) ≡ after (append_keywords done (keyword q k no_keywords)) r
@@ -63,19 +63,19 @@ module _ {V : Type 0} (means : V → Keyword) (done : Keywords) (q : Pointer) wh
 -- ---- the turn at the keyword of index i
 
 module _ (done : Keywords) (all : Result Keywords Refusal) (s : Setting) (p : Pointer) (ms : Members)
-    (parts : List ℕ → Option ValueReadings) (ws : List KeywordName) (i : ℕ) (w : KeywordName)
-    (within : i < length ws) (e : after done (read_keywords (drop i ws) s p ms parts) ≡ all) where
+    (named : List ℕ → Option ValueReadings) (ws : List KeywordName) (i : ℕ) (w : KeywordName)
+    (within : i < length ws) (e : after done (read_keywords (drop i ws) s p ms named) ≡ all) where
   abbrev read_here : Asserts
-  read_here = read_keyword (get_or ws i w) s p ms (parts (name_of (get_or ws i w)))
+  read_here = read_keyword (get_or ws i w) s p ms (named (name_of (get_or ws i w)))
 
   abbrev here : Pointer
   here = keyword_location p (get_or ws i w)
 
   abbrev rest : Result Keywords Refusal
-  rest = read_keywords (drop (i + 1) ws) s p ms parts
+  rest = read_keywords (drop (i + 1) ws) s p ms named
 
   step : after done (before here read_here rest) ≡ all
-  step = ap (after done) (sym (at_drop_more (λ xs. read_keywords xs s p ms parts) ws i w within)) ∙ e
+  step = ap (after done) (sym (at_drop_more (λ xs. read_keywords xs s p ms named) ws i w within)) ∙ e
 
   -- it asserts nothing
   pub turn_silent : read_here ≡ None → after done rest ≡ all
@@ -141,7 +141,7 @@ module _ (w : KeywordName) (point : CompilePoint) (ms : Members) where
       go true at = member_depth (name_of w) ms d at
       go false at = cc
 
--- ---- units
+-- ---- parts
 
 -- what is said of an Ok, said otherwise
 pub ok_then : {A E : Type 0} {P Q : A → Type 0} (r : Result A E) → ((a : A) → P a → Q a) → IfOk r P → IfOk r Q

@@ -1,8 +1,8 @@
 -- The keywords of parts that are put together.
-use Rattle.std.proofs.Common.{◌≡◌, ◌≢◌, Result, Ok, Err, ℕ, ◌+◌, ◌<◌, ◌≤◌, List, [], ◌∷◌, ◌++◌, length, get_or, drop}
+use Rattle.std.proofs.Common.{◌≡◌, ℕ, ◌+◌, ◌<◌, ◌≤◌, List, [], ◌∷◌, ◌++◌, length, get_or, drop}
 use Rattle.std.proofs.Common.{Vec, Global, false, Box, ◌||◌, Option, None, Some, refl, ap, subst, sym, ◌∙◌}
 use Rattle.jskw_array.specs.Words.{ArrayShapeValidator, IfSome, IsBeginning, Keywords, OfKeyword, Part, Schema, Shape}
-use Rattle.jskw_array.specs.Words.{is_some, option_map, Keyword, Pointer, Refusal, absorbed_keywords, map_ok}
+use Rattle.jskw_array.specs.Words.{is_some, option_map, absorbed_keywords}
 use Rattle.jskw_array.specs.Words.{ShapeBegins, append_keywords, hands_on_required, keyword, keywords_delegate}
 use Rattle.jskw_array.specs.Words.{keywords_of, no_keywords, own_keyword, schemas_delegate, schemas_of, shape_in}
 use Rattle.jskw_array.specs.Words.{shape_keywords, validator_keyword}
@@ -91,9 +91,9 @@ lent_begins (Some v) o e ks all is begins =
 
 -- of a whole vector
 abbrev pub keywords_in : {F Node Number Key : Type 0} → Vec (Part F Node Number Key) Global → Keywords
-keywords_in units = keywords_of units.items
+keywords_in parts = keywords_of parts.items
 
--- ---- which of them hand a `required` on
+-- ---- which of them delegate a `required`
 
 module _ {F Node Number Key : Type 0} (us : List (Part F Node Number Key)) (i : ℕ) where
   pub delegates_end : length us ≤ i → keywords_delegate (keywords_of (drop i us)) ≡ false

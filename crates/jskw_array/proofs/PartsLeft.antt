@@ -2,7 +2,7 @@
 use Rattle.std.proofs.Common.{◌≡◌, ℕ, zero, suc, ◌+◌, ◌<◌, ◌≤◌, List, [], ◌∷◌, ◌++◌, length, get_or, take, drop, Bool}
 use Rattle.std.proofs.Common.{true, false, ◌&&◌, if◌then◌else◌, refl, sym, subst, ap, ap₂, ◌∙◌, arith, Global, Vec}
 use Rattle.std.proofs.lemmas.Bool.{and_parts, true≢false}
-use Rattle.jskw_array.specs.Words.{CountsUpTo, IsKnown, IsLeft, Knows, Part, Pointer, Schema, ShapeBegins, Tree}
+use Rattle.jskw_array.specs.Words.{CountsUpTo, IsKnown, Remain, Knows, Part, Pointer, Schema, ShapeBegins, Tree}
 use Rattle.jskw_array.specs.Words.{all_applications, is_in, all_fail, all_height, all_hold, all_needed, all_pairs}
 use Rattle.jskw_array.specs.Words.{applications, fail, height, holds, in_outline, keywords_of, marked, meaning_holds}
 use Rattle.jskw_array.specs.Words.{meaning_needed, schema_object, part_meaning, schema_of}
@@ -14,7 +14,7 @@ use Rattle.jskw_report.proofs.HoldsIsNoFailure.{no_element}
 use Rattle.jskw_array.proofs.WalksOverParts.{part_empty, part_tall}
 
 module _ {F Node Number Key : Type 0} where
-  -- ---- the first units
+  -- ---- the first parts
 
   first_more : (us : List (Part F Node Number Key)) (i : ℕ) (u : Part F Node Number Key) (t : Tree) → i < length us
       → u ≡ get_or us i u
@@ -106,11 +106,11 @@ module _ {F Node Number Key : Type 0} where
   object_applied true q delegates us t = refl
   object_applied false q delegates us t = refl
 
-  -- the units behind those that hold are left of the schema
+  -- the parts behind those that hold are left of the schema
   pub behind_held : (s : Schema) (q : Pointer) (delegates : Bool) (us : List (Part F Node Number Key))
       (k : ℕ) (t : Tree)
       → s ≡ schema_object q (marked delegates us) (keywords_of us) → all_hold (keywords_of (take k us)) t ≡ true
-      → IsLeft s t (drop k us)
+      → Remain s t (drop k us)
   behind_held s q delegates us k t is held = record {
     answer = ap (λ r. holds r t) is ∙ left_holds t k us held;
     errors = λ p. ap (λ r. fail r t p) is ∙ left_fails t k us p held;
@@ -121,8 +121,8 @@ module _ {F Node Number Key : Type 0} where
     lower = let whole = ap height is in let rest = left_height k us in omega (arith, whole, rest);
   }
 
-  -- one application, and those of the units that are left
-  pub left_within : {s : Schema} {t : Tree} {us : List (Part F Node Number Key)} → IsLeft s t us → (wanted : Bool)
+  -- one application, and those of the parts that are left
+  pub left_within : {s : Schema} {t : Tree} {us : List (Part F Node Number Key)} → Remain s t us → (wanted : Bool)
       → {before ctx next n : ℕ} → CountsUpTo before ctx 1 → CountsUpTo ctx next n
       → n ≤ all_applications wanted (keywords_of us) t → CountsUpTo before next (applications wanted s t)
   left_within left wanted one counted within = record {
@@ -130,13 +130,13 @@ module _ {F Node Number Key : Type 0} where
     to = omega (arith, left.applied wanted, within, one.to, counted.to);
   }
 
-  -- ---- a schema by its units
+  -- ---- a schema by its parts
 
   module _ {a : Assertions F Node Number Key} {us : Vec (Part F Node Number Key) Global}
       {xs : List (Part F Node Number Key)} (is : a ≡ Keywords us) (value : xs ≡ us.items) where
-    pub schema_by_units : {s : Schema} {q : Pointer} {delegates : Bool} → schema_of q delegates a ≡ s
+    pub schema_by_parts : {s : Schema} {q : Pointer} {delegates : Bool} → schema_of q delegates a ≡ s
         → s ≡ schema_object q (marked delegates xs) (keywords_of xs)
-    schema_by_units {s} {q} {delegates} view =
+    schema_by_parts {s} {q} {delegates} view =
         sym view ∙ ap (schema_of q delegates) is
         ∙ ap (λ ys. schema_object q (marked delegates ys) (keywords_of ys)) (sym value)
 
@@ -150,19 +150,19 @@ module _ {F Node Number Key : Type 0} where
   accepts_all b Never knows q delegates t h = absurd (true≢false (sym h ∙ knows t))
   accepts_all b (Keywords us) knows q delegates t h = knows.0.values t h
 
-  -- ---- one unit
+  -- ---- one part
 
-  only_unit : (us : List (Part F Node Number Key)) (u d : Part F Node Number Key) → 1 ≤ length us → length us < 2
+  only_part : (us : List (Part F Node Number Key)) (u d : Part F Node Number Key) → 1 ≤ length us → length us < 2
       → u ≡ get_or us 0 d → us ≡ u ∷ []
-  only_unit [] u d least few is = absurd (omega arith)
-  only_unit (v ∷ []) u d least few is = ap (λ w. w ∷ []) (sym is)
-  only_unit (v ∷ w ∷ us) u d least few is = absurd (omega arith)
+  only_part [] u d least few is = absurd (omega arith)
+  only_part (v ∷ []) u d least few is = ap (λ w. w ∷ []) (sym is)
+  only_part (v ∷ w ∷ us) u d least few is = absurd (omega arith)
 
   module _ (us : List (Part F Node Number Key)) (u d : Part F Node Number Key) (least : 1 ≤ length us)
       (few : length us < 2) (is : u ≡ get_or us 0 d) where
     pub only_holds : (t : Tree) → all_hold (keywords_of us) t ≡ meaning_holds (part_meaning u) t
     only_holds t =
-        ap (λ xs. all_hold (keywords_of xs) t) (only_unit us u d least few is)
+        ap (λ xs. all_hold (keywords_of xs) t) (only_part us u d least few is)
         ∙ and_true (meaning_holds (part_meaning u) t)
       where
         and_true : (b : Bool) → (b && true) ≡ b
@@ -171,10 +171,10 @@ module _ {F Node Number Key : Type 0} where
 
     pub only_needs : (t : Tree) → meaning_needed (part_meaning u) t ≤ all_needed (keywords_of us) t
     only_needs t =
-        let alone = ap (λ xs. all_needed (keywords_of xs) t) (only_unit us u d least few is) in
+        let alone = ap (λ xs. all_needed (keywords_of xs) t) (only_part us u d least few is) in
         omega (arith, alone)
 
     pub only_lower : part_tall u ≤ all_height (keywords_of us)
     only_lower =
-        let alone = ap (λ xs. all_height (keywords_of xs)) (only_unit us u d least few is) in
+        let alone = ap (λ xs. all_height (keywords_of xs)) (only_part us u d least few is) in
         omega (arith, alone)

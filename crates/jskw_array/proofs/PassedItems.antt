@@ -18,7 +18,7 @@ use Rattle.jskw_array.proofs.ReportingWalks.{items_applications, taken_applied}
 pub passes_none : (valid : Tree → Bool) (t : Tree) (start : ℕ) → PassesOver valid t start start
 passes_none valid t start = record {
   from = omega arith;
-  within = omega arith;
+  in_range = omega arith;
   valid = ap (λ n. list_all valid (take n (drop start (items t)))) {x = start - start} {y = 0} (omega arith);
 }
 
@@ -38,7 +38,7 @@ module _ (t : Tree) (start i : ℕ) (u : Tree) (from : start ≤ i) (within : i 
       → PassesOver valid t start (i + 1)
   passes_more valid passed here = record {
     from = omega (arith, from);
-    within = omega (arith, from, within, length-drop start (items t));
+    in_range = omega (arith, from, within, length-drop start (items t));
     valid =
         ap (list_all valid) one_more ∙ list_all-append valid (items_between start i t) (u ∷ [])
         ∙ ap₂ (λ a b. a && (b && true)) passed.valid here;
@@ -84,7 +84,7 @@ module _ (t : Tree) (start middle end : ℕ) (from : start ≤ middle) (to : mid
       → PassesOver valid t start end
   passes_both valid first second = record {
     from = omega (arith, from, to);
-    within = omega (arith, from, to, second.within, length-drop start (items t), length-drop middle (items t));
+    in_range = omega (arith, from, to, second.in_range, length-drop start (items t), length-drop middle (items t));
     valid =
         ap (list_all valid) both
         ∙ list_all-append valid (items_between start middle t) (items_between middle end t)
@@ -110,14 +110,14 @@ pub passes_too : (p q : Tree → Bool) → ((u : Tree) → p u ≡ true → q u 
     → PassesOver p t start end → PassesOver q t start end
 passes_too p q weaker t start end passed = record {
   from = passed.from;
-  within = passed.within;
+  in_range = passed.in_range;
   valid = all_too p q weaker (items_between start end t) passed.valid;
 }
 
 -- there are as many of them as the indices say
 pub passed_length : (valid : Tree → Bool) (t : Tree) (start end : ℕ) → PassesOver valid t start end
     → length (items_between start end t) ≡ end - start
-passed_length valid t start end passed = length-take-le (end - start) (drop start (items t)) passed.within
+passed_length valid t start end passed = length-take-le (end - start) (drop start (items t)) passed.in_range
 
 -- those that pass a check before the first that fails it, if all that pass it are valid
 pub leading_passed : (s : Schema) (check : Tree → Bool) → ((t : Tree) → check t ≡ true → holds s t ≡ true) → (t : Tree)
@@ -125,7 +125,7 @@ pub leading_passed : (s : Schema) (check : Tree → Bool) → ((t : Tree) → ch
     → end ≤ length (items t) → PassesOver (holds s) t start end
 leading_passed s check valid t start end from first within = record {
   from = omega (arith, first);
-  within = omega (arith, first, within, from, length-drop start (items t));
+  in_range = omega (arith, first, within, from, length-drop start (items t));
   valid =
       subst (λ n. list_all (holds s) (take n (drop start (items t))) ≡ true)
       {x = leading check (drop start (items t))} {y = end - start} (omega (arith, first))
@@ -140,12 +140,12 @@ module _ (s : Schema) (t : Tree) (start i : ℕ) (passed : PassesOver (holds s) 
 
   pub passed_holds : list_all (holds s) (drop start (items t)) ≡ list_all (holds s) (drop i (items t))
   passed_holds =
-      taken_holds s (i - start) (drop start (items t)) passed.within passed.valid ∙ ap (list_all (holds s)) behind
+      taken_holds s (i - start) (drop start (items t)) passed.in_range passed.valid ∙ ap (list_all (holds s)) behind
 
   pub passed_fails : (p : Pointer)
       → each_item (fail s) start (drop start (items t)) p ≡ each_item (fail s) i (drop i (items t)) p
   passed_fails p =
-      taken_fails s (i - start) (drop start (items t)) start p passed.within passed.valid
+      taken_fails s (i - start) (drop start (items t)) start p passed.in_range passed.valid
       ∙ ap₂ (λ j us. each_item (fail s) j us p) {x = start + (i - start)} {y = i} (omega (arith, passed.from)) behind
 
   pub passed_applied : (wanted : Bool) → sum_by (needed s) (items_between start i t)
@@ -153,8 +153,8 @@ module _ (s : Schema) (t : Tree) (start i : ℕ) (passed : PassesOver (holds s) 
   passed_applied wanted =
       subst (λ us. sum_by (needed s) (items_between start i t) + items_applications wanted s us
       ≤ items_applications wanted s (drop start (items t))) behind
-      (taken_applied wanted s (i - start) (drop start (items t)) passed.within passed.valid)
+      (taken_applied wanted s (i - start) (drop start (items t)) passed.in_range passed.valid)
 
   -- each of them is an application at least
   pub passed_least : i - start ≤ sum_by (needed s) (items_between start i t)
-  passed_least = taken_least s (i - start) (drop start (items t)) passed.within
+  passed_least = taken_least s (i - start) (drop start (items t)) passed.in_range

@@ -55,7 +55,7 @@ module _ {F Node Number Key : Type 0} (tree : Node → Tree) {old now : Report F
   counted_here : {next : ℕ} → CountsUpTo ctx next (here (keeps_list now)) → CountsUpTo ctx next (here (keeps_list old))
   counted_here {next} counted = subst (λ w. CountsUpTo ctx next (here w)) walk.reported.same counted
 
-  -- the first part was reported, and more is wanted
+  -- `first` was reported, and more is wanted
   pub walk_on : {new : Report F Node Number Key} {next : ℕ} → Reports tree now new first (Ok tt)
       → CountsUpTo ctx next (here (keeps_list now))
       → Walk tree old new rest all before next (less (keeps_list old)) bound
@@ -69,7 +69,7 @@ module _ {F Node Number Key : Type 0} (tree : Node → Tree) {old now : Report F
         to = omega (arith, walk.to, c.to, h);
       }
 
-  -- it stopped in the first part
+  -- it stopped in `first`
   pub walk_stopped : {new : Report F Node Number Key} {r : Result Unit Stop} {x : Stop} → IsErrAnd r (λ y. y ≡ x)
       → Reports tree now new first (Err x) → Reports tree old new all r
   walk_stopped {new} {r} {x} gives reports = reported_stopped tree first rest r x reported_here gives reports
@@ -115,12 +115,12 @@ pub taken_applied : (wanted : Bool) (s : Schema) (n : ℕ) (ts : List Tree) → 
 taken_applied true s n ts within valid = taken_pairs s n ts within
 taken_applied false s n ts within valid = taken_needed s n ts within valid
 
--- where the first failure alone is wanted, a part of the walk that passed holds
+-- where the first failure alone is wanted, an item or a part that was passed holds
 passed : (holds_here : Bool) (first : List Failure) → holds_here ≡ is_empty first → (false ≡ false → first ≡ [])
     → holds_here ≡ true
 passed holds_here first is none = is ∙ ap is_empty (none refl)
 
--- with the part behind, or without it
+-- with what is behind, or without it
 branch : (b : Bool) (here rest whole : ℕ) → whole ≡ here + (if b then rest else 0) → b ≡ true → here + rest ≤ whole
 branch true here rest whole is e = omega (arith, is)
 branch false here rest whole is e = absurd (true≢false (sym e))
@@ -182,13 +182,13 @@ each_step ss ts i s t schema_within within schema_is is p = record {
     more true none = omega (arith, all)
     more false none = branch (holds s t) _ _ _ some (passed (holds s t) _ (holds_empty s t (item_location p i)) none)
 
--- at a unit
-pub unit_step : {F Node Number Key : Type 0} (us : List (Part F Node Number Key)) (i : ℕ) (u : Part F Node Number Key)
+-- at a part
+pub part_step : {F Node Number Key : Type 0} (us : List (Part F Node Number Key)) (i : ℕ) (u : Part F Node Number Key)
     → i < length us → u ≡ get_or us i u → (t : Tree) (p : Pointer)
     → Step (all_fail (keywords_of (drop i us)) t p) (meaning_fail (part_meaning u) t p)
     (all_fail (keywords_of (drop (i + 1) us)) t p) (λ w. meaning_applications w (part_meaning u) t)
     (λ w. all_applications w (keywords_of (drop (i + 1) us)) t) (λ w. all_applications w (keywords_of (drop i us)) t)
-unit_step us i u within is t p = record { is = fail_at us i u within is t p; within = one; behind = more }
+part_step us i u within is t p = record { is = fail_at us i u within is t p; within = one; behind = more }
   where
     all : all_pairs (keywords_of (drop i us)) t
         ≡ meaning_pairs (part_meaning u) t + all_pairs (keywords_of (drop (i + 1) us)) t

@@ -20,9 +20,9 @@ module _ (ts : List Tree) (i : ℕ) (t : Tree) (within : i < length ts) (is : t 
       → sum_to_failure p f (drop i ts) ≡ f t + (if p t then sum_to_failure p f (drop (i + 1) ts) else 0)
   until_at p f = ap (sum_to_failure p f) (drop_here ts i t within is)
 
-  pub units_at : (s : Schema) (p : Pointer) → evaluate_each (tree s) i (drop i ts) p
+  pub nodes_at : (s : Schema) (p : Pointer) → evaluate_each (tree s) i (drop i ts) p
       ≡ tree s t (item_location p i) ∷ evaluate_each (tree s) (i + 1) (drop (i + 1) ts) p
-  units_at s p = ap (λ us. evaluate_each (tree s) i us p) (drop_here ts i t within is)
+  nodes_at s p = ap (λ us. evaluate_each (tree s) i us p) (drop_here ts i t within is)
       ∙ ap (λ j. tree s t (item_location p i) ∷ evaluate_each (tree s) j (drop (i + 1) ts) p) (omega arith)
 
 -- ---- a schema for each item
@@ -42,9 +42,9 @@ module _ (ss : List Schema) (ts : List Tree) (i : ℕ) (s : Schema) (t : Tree)
       ≡ pairs s t + each_pairs (schemas_of (drop (i + 1) ss)) (drop (i + 1) ts)
   each_pairs_at = at_both (λ rs us. each_pairs (schemas_of rs) us)
 
-  pub each_units_at : (p : Pointer) → evaluate_pairs (schemas_of (drop i ss)) i (drop i ts) p
+  pub each_nodes_at : (p : Pointer) → evaluate_pairs (schemas_of (drop i ss)) i (drop i ts) p
       ≡ tree s t (item_location p i) ∷ evaluate_pairs (schemas_of (drop (i + 1) ss)) (i + 1) (drop (i + 1) ts) p
-  each_units_at p = at_both (λ rs us. evaluate_pairs (schemas_of rs) i us p) ∙ ap (λ j. tree s t (item_location p i)
+  each_nodes_at p = at_both (λ rs us. evaluate_pairs (schemas_of rs) i us p) ∙ ap (λ j. tree s t (item_location p i)
       ∷ evaluate_pairs (schemas_of (drop (i + 1) ss)) j (drop (i + 1) ts) p) (omega arith)
 
   pub each_fails_at : (p : Pointer) → each_fails (schemas_of (drop i ss)) i (drop i ts) p
@@ -85,8 +85,8 @@ module _ (ss : List Schema) (ts : List Tree) (i : ℕ) (end : min (length ts) (l
       at_end (λ rs us. each_fails (schemas_of rs) i us p) [] (λ us. refl)
       (λ rs. no_item_fails (schemas_of rs) i p) ss ts i end
 
-  pub each_units_end : (p : Pointer) → evaluate_pairs (schemas_of (drop i ss)) i (drop i ts) p ≡ []
-  each_units_end p =
+  pub each_nodes_end : (p : Pointer) → evaluate_pairs (schemas_of (drop i ss)) i (drop i ts) p ≡ []
+  each_nodes_end p =
       at_end (λ rs us. evaluate_pairs (schemas_of rs) i us p) [] (λ us. refl)
       (λ rs. no_item_unit (schemas_of rs) i p) ss ts i end
 

@@ -28,7 +28,7 @@ module _ {F Node Number Key : Type 0} where
       → meaning_holds (part_meaning u) t ≡ is_empty (meaning_fail (part_meaning u) t p)
   part_empty u t p = keyword_empty (validator_keyword (own_keyword u).validator) t p
 
--- the unit u stands at the index i
+-- the part u stands at the index i
 module _ {F Node Number Key : Type 0} (us : List (Part F Node Number Key)) (i : ℕ) (u : Part F Node Number Key)
     (within : i < length us) (is : u ≡ get_or us i u) where
   abbrev rest : List (Part F Node Number Key)
@@ -77,10 +77,10 @@ module _ {F Node Number Key : Type 0} (us : List (Part F Node Number Key)) (i : 
   delegates_at = ap keywords_delegate here
 
   -- its node was gathered behind those before it
-  pub unit_taken : (t : Tree) (p : Pointer) (done now all : List Evaluation)
+  pub part_taken : (t : Tree) (p : Pointer) (done now all : List Evaluation)
       → now ≡ done ++ node_at (own_keyword u).location p (meaning_unit (part_meaning u) t p) ∷ []
       → done ++ units (keywords_of (drop i us)) t p ≡ all → now ++ units (keywords_of rest) t p ≡ all
-  unit_taken t p done now all is whole =
+  part_taken t p done now all is whole =
       let x = node_at (own_keyword u).location p (meaning_unit (part_meaning u) t p) in
       let behind = units (keywords_of rest) t p in
       ap (λ es. es ++ behind) is ∙ append_assoc done (x ∷ []) behind
@@ -90,12 +90,12 @@ pub keywords_end : {F Node Number Key : Type 0} (us : List (Part F Node Number K
     → keywords_of (drop i us) ≡ no_keywords
 keywords_end us i end = ap keywords_of (drop_all i us end)
 
--- none of the units is higher than all
-pub unit_height : {F Node Number Key : Type 0} (us : List (Part F Node Number Key)) (i : ℕ) (u : Part F Node Number Key)
+-- none of the parts is higher than all
+pub part_height : {F Node Number Key : Type 0} (us : List (Part F Node Number Key)) (i : ℕ) (u : Part F Node Number Key)
     → i < length us → u ≡ get_or us i u → part_tall u ≤ all_height (keywords_of us)
-unit_height [] i u within is = absurd (omega arith)
-unit_height (r ∷ us) zero u within is = let e = ap part_tall is in omega (arith, e)
-unit_height (r ∷ us) (suc i) u within is = let below = unit_height us i u (omega arith) is in omega (arith, below)
+part_height [] i u within is = absurd (omega arith)
+part_height (r ∷ us) zero u within is = let e = ap part_tall is in omega (arith, e)
+part_height (r ∷ us) (suc i) u within is = let below = part_height us i u (omega arith) is in omega (arith, below)
 
 -- ---- the keyword k that a part is
 
@@ -123,7 +123,7 @@ module _ {F Node Number Key : Type 0} (u : Part F Node Number Key) (k : LocatedV
 
 -- ---- `false`, and any schema
 
--- the node of `false` tells its error
+-- the node of `false` has its error
 pub refused_tree : (q : Pointer) (t : Tree) (p : Pointer)
     → node_at q p (of_errors (fail (false_schema q) t p)) ≡ tree (false_schema q) t p
 unfolding of_errors

@@ -48,13 +48,13 @@ module _ {F Node Number Key : Type 0} where
 
   -- for this tree these parts are as good as the schema: they say the same of it, take no more applications, and are
   -- lower
-  pub record IsLeft (s : Schema) (t : Tree) (us : List (Part F Node Number Key)) : Type 0 where
+  pub record Remain (s : Schema) (t : Tree) (us : List (Part F Node Number Key)) : Type 0 where
     pub answer : holds s t ≡ all_hold (keywords_of us) t
     pub errors : (p : Pointer) → fail s t p ≡ all_fail (keywords_of us) t p
     pub applied : (wanted : Bool) → 1 + all_applications wanted (keywords_of us) t ≤ applications wanted s t
     pub lower : 1 + all_height (keywords_of us) ≤ height s
 
   -- these parts are left of the schema for this tree, or it is `false`
-  abbrev pub LeftParts : Schema → Tree → Option (Bor (List (Part F Node Number Key))) → Type 0
-  LeftParts s t None = s ≡ false_schema (schema_location s)
-  LeftParts s t (Some us) = IsLeft s t us.now
+  abbrev pub RemainingParts : Schema → Tree → Option (Bor (List (Part F Node Number Key))) → Type 0
+  RemainingParts s t None = s ≡ false_schema (schema_location s)
+  RemainingParts s t (Some us) = Remain s t us.now

@@ -40,7 +40,7 @@ module _ {F Node Number Key : Type 0} where
   abbrev pub part_delegates : Part F Node Number Key → Bool
   part_delegates u = keyword_delegates (validator_keyword (own_keyword u).validator)
 
-  -- the first fused shape that a part is within, if there is one
+  -- the first fused shape that a part is in, if there is one
   abbrev pub shape_in : List (Part F Node Number Key) → Option (ArrayShapeValidator F Node Number Key)
   shape_in [] = None
   shape_in (Shape v ∷ us) = Some v.value

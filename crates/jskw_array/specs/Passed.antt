@@ -11,7 +11,7 @@ items_between start end t = take (end - start) (drop start (items t))
 -- items from `start` on and before `end` are there, and all of them pass the test
 pub record PassesOver (test : Tree → Bool) (t : Tree) (start end : ℕ) : Type 0 where
   pub from : start ≤ end
-  pub within : end - start ≤ length (drop start (items t))
+  pub in_range : end - start ≤ length (drop start (items t))
   pub valid : list_all test (items_between start end t) ≡ true
 
 -- the count went from `old` to `new`: up by no less than the first bound, unless it reached its end, and by no more

@@ -64,7 +64,7 @@ pub use Rattle.jskw_array.specs.Limits.{deciding_count, failing_locations, locat
 pub use Rattle.jskw_array.specs.Fused.{IsBeginning, fused_keywords, shape_keywords, shape_meaning}
 pub use Rattle.jskw_array.specs.Parts.{ShapeBegins, after, keywords_of, keywords_read, own_keyword, part_delegates}
 pub use Rattle.jskw_array.specs.Parts.{part_meaning, shape_in}
-pub use Rattle.jskw_array.specs.Node.{HasParts, IsLeft, Knows, LeftParts, boolean_schema, marked, schema_of}
+pub use Rattle.jskw_array.specs.Node.{HasParts, Remain, Knows, RemainingParts, boolean_schema, marked, schema_of}
 pub use Rattle.jskw_array.specs.Accepted.{AddsKeyword, AllValid, AreSettled, ArraysAreValid, IsKnown, SetsAccept}
 pub use Rattle.jskw_array.specs.Accepted.{arrays_cost, in_arrays, in_rest, in_sets, in_typed, items_cost, rest_cost}
 pub use Rattle.jskw_array.specs.Passed.{CountsBetween, PassesOver, items_between}

@@ -123,7 +123,7 @@ fn settled_parts<F: Json>(parts: &[Part<F>]) -> SettledParts
 // Returns the index of the first item from `start` on that is no array of the outline of which the
 // part holds, or the number of items; `start` if the part is no bare type check. Applies nothing.
 #[inline(never)]
-pub(crate) fn typed_end<F: Json>(
+pub(crate) fn first_outside<F: Json>(
     outline: &Outline,
     part: &Part<F>,
     start: usize,
@@ -231,9 +231,9 @@ impl ItemSets {
             CountsBetween ctx.old ctx.new cost cost }
     {
         let (end, applied) = if self.rest.is_some() {
-            self.passed::<true, N>(start, instance)
+            self.first_outside::<true, N>(start, instance)
         } else {
-            self.passed::<false, N>(start, instance)
+            self.first_outside::<false, N>(start, instance)
         };
         ctx.count_more(applied);
         ctx.count_more(end - start);
@@ -245,7 +245,11 @@ impl ItemSets {
     // `HAS_REST` is whether the items behind the first ones have a set: so a loop over tuples does not
     // ask.
     #[inline(always)]
-    fn passed<const HAS_REST: bool, N: Node>(&self, start: usize, instance: &N) -> (usize, usize)
+    fn first_outside<const HAS_REST: bool, N: Node>(
+        &self,
+        start: usize,
+        instance: &N,
+    ) -> (usize, usize)
         requires lawful { IsTrue (is_lawful (N.tree instance.now)) }
         requires start { start ≤ length (items (N.tree instance.now)) }
         requires rest { is_some self.now.rest ≡ HAS_REST }
@@ -271,7 +275,7 @@ impl ItemSets {
     fn item_count<const HAS_REST: bool, N: Node>(&self, instance: &N) -> Option<usize>
         requires lawful { IsTrue (is_lawful (N.tree instance.now)) }
         requires rest { is_some self.now.rest ≡ HAS_REST }
-        ensures within { IfSome result (λ n. in_arrays self.now (N.tree instance.now) ≡ true) }
+        ensures in_set { IfSome result (λ n. in_arrays self.now (N.tree instance.now) ≡ true) }
         ensures most { IfSome result (λ n. n ≤ items_cost self.now (N.tree instance.now)) }
         ensures least { IfSome result (λ n.
             min (items_cost self.now (N.tree instance.now)) u64.MAX ≤ n) }

@@ -9,7 +9,7 @@ ghost use Rattle.jskw_array.specs.Words.{items_view, keyword_location, keyword_r
 ghost use Rattle.jskw_array.specs.Words.{map_ok, members_view, object, of_types, read, read_each, schemas_of};
 ghost use Rattle.jskw_array.specs.Words.{shape_keywords, true, validator_keyword, view, wrong, keywords_read};
 
-mod keyword;
+pub(crate) mod keyword;
 pub(crate) mod members;
 
 use crate::each::Each;
@@ -106,8 +106,8 @@ fn boolean_node<F: Json>(
 }
 
 // Returns the node of an object, if its parts were made. `delegates` is whether its `required` is
-// delegated. Not a part of the recursion, so that the frames of a deep schema do without what this
-// one needs.
+// delegated. It is not in the recursion, so that the frames of a deep schema do without what this one
+// needs.
 #[inline(never)]
 fn node_of<'a, F: Json>(
     alloc: Global,
@@ -165,7 +165,7 @@ fn push_parts<'a, F: Json>(
 }
 
 // Appends the parts of the keywords of the fused shape of an object to an empty vector: `items` is
-// within the shape.
+// in the shape.
 #[inline(never)]
 #[cycle(compile)]
 fn push_shape<'a, F: Json>(

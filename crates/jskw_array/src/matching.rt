@@ -40,7 +40,7 @@ impl ItemBounds {
     }
 
     // Returns the keyword location of the error for this number of matches, or `None` if it is
-    // within the bounds.
+    // between the bounds.
     fn failing_location(&self, matches: u64) -> Option<&KeywordLocation>
         ensures { locations_of result ≡ failing_bound (bounds_of self.now) matches }
     {

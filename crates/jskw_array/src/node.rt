@@ -1,7 +1,7 @@
 //! A compiled schema: the validators of its keywords, in the order in which a schema is read.
 ghost use Rattle.std.specs.Prelude.{◌≡◌, ◌+◌, ◌-◌, ◌≤◌, if◌then◌else◌};
 ghost use Rattle.jskw_array.specs.Words.{AllValid, IsBeginning, CountsUpTo, HasParts, IfOk, IfSome, IsTrue};
-ghost use Rattle.jskw_array.specs.Words.{LeftParts, Reports, applications, fail, hands_on_required};
+ghost use Rattle.jskw_array.specs.Words.{RemainingParts, Reports, applications, fail, hands_on_required};
 ghost use Rattle.jskw_array.specs.Words.{keeps_list, holds, is_fused_schema, is_lawful, is_some, items};
 ghost use Rattle.jskw_array.specs.Words.{length, item_location, keywords_in, min, needed, pairs, path_of};
 ghost use Rattle.jskw_array.specs.Words.{schema_location, shape_keywords, sum_by, tree, true, PassesOver};
@@ -9,7 +9,7 @@ ghost use Rattle.jskw_array.specs.Words.{CountsBetween, items_between};
 
 mod making;
 
-use crate::accepted::{Accepted, typed_end};
+use crate::accepted::{Accepted, first_outside};
 use crate::evaluation::{begin_node, end_node, evaluate_refusal, push_unit};
 use crate::items::ArrayShapeValidator;
 use crate::part::{Part, first_shape, parts_are_valid};
@@ -125,8 +125,12 @@ impl<F: Json> Subschema<F> {
 
     // Counts one application of the schema, and returns the parts that are not known to hold of the
     // instance, or `None` for `false`.
-    fn apply(&self, instance: &F::Node, ctx: &mut ValidationContext) -> Option<&[Part<F>]>
-        ensures parts { LeftParts self.now (F.Node.tree instance.now) result }
+    fn count_and_remaining_parts(
+        &self,
+        instance: &F::Node,
+        ctx: &mut ValidationContext,
+    ) -> Option<&[Part<F>]>
+        ensures parts { RemainingParts self.now (F.Node.tree instance.now) result }
         ensures applied { min (ctx.old + 1) u64.MAX ≤ ctx.new }
         ensures counted { CountsUpTo ctx.old ctx.new 1 }
     {
@@ -194,7 +198,7 @@ impl<F: Json> Subschema<F> {
         let settled = &self.accepted.settled;
         match &parts[settled.count..] {
             [part] => {
-                let end = typed_end(&settled.outline, part, start, instance, ctx);
+                let end = first_outside(&settled.outline, part, start, instance, ctx);
                 ctx.count_more(end - start);
                 end
             }
@@ -239,7 +243,7 @@ impl<F: Json> Subschema<F> {
         ensures applied { min (ctx.old + 1) u64.MAX ≤ ctx.new }
         ensures counted { CountsUpTo ctx.old ctx.new (needed self.now (F.Node.tree instance.now)) }
     {
-        let Some(parts) = self.apply(instance, ctx) else {
+        let Some(parts) = self.count_and_remaining_parts(instance, ctx) else {
             return false;
         };
         match parts {
@@ -266,7 +270,7 @@ impl<F: Json> Subschema<F> {
         ensures counted { CountsUpTo ctx.old ctx.new
             (applications (keeps_list report.old) self.now (F.Node.tree instance.now)) }
     {
-        let Some(parts) = self.apply(instance, ctx) else {
+        let Some(parts) = self.count_and_remaining_parts(instance, ctx) else {
             let kind = ValidationErrorKind::FalseSchema;
             return report_error(kind, self.location(), instance, location, report);
         };

@@ -14,7 +14,7 @@ use jskw_value::Json;
 pub(crate) enum Part<F: Json> {
     // Any keyword.
     Keyword(LocatedValidator<F>),
-    // `items`, within the fused shape that the node lends.
+    // `items`, in the fused shape that the node lends.
     Shape(Box<ArrayShapeValidator<F>>),
 }
 
@@ -74,7 +74,7 @@ pub(crate) fn some_part_delegates<F: Json>(parts: &[Part<F>]) -> bool
     false
 }
 
-// Returns the first fused shape that a part is within, if there is one.
+// Returns the first fused shape that a part is in, if there is one.
 pub(crate) fn first_shape<F: Json>(parts: &[Part<F>]) -> Option<&ArrayShapeValidator<F>>
     ensures { option_map (λ v. v.now) result ≡ shape_in parts.now }
 {

@@ -9,7 +9,9 @@ use crate::rest::Rest;
 use jskw_leaf::LeafValidator;
 use jskw_leaf::in_place::BareItems;
 use jskw_number::{Outline, QuickSet};
-use jskw_report::{EvaluationResult, LazyLocation, Report, Stop, Validate, ValidationContext};
+use jskw_report::{
+    EvaluationResult, KeywordLocation, LazyLocation, Report, Stop, Validate, ValidationContext,
+};
 use jskw_value::Json;
 use std::alloc::{AllocError, Global};
 
@@ -95,6 +97,16 @@ impl<F: Json> Validator<F> {
             Validator::Leaf(v) => v.outline(),
             Validator::Rest(v) => Outline::between(0, v.start as u64),
             _ => Outline::of(self.quick_set()),
+        }
+    }
+
+    // Returns a keyword location that the validator has: of its errors, or of its one subschema.
+    pub(crate) fn location(&self) -> Option<&KeywordLocation> {
+        match self {
+            Validator::Leaf(v) => Some(v.location()),
+            Validator::Rest(v) => Some(v.node.location()),
+            Validator::Matching(v) => Some(v.node.location()),
+            Validator::Each(_) | Validator::Bare(_) => None,
         }
     }
 

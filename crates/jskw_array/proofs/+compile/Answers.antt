@@ -1,9 +1,9 @@
 use Rattle.std.proofs.Common.{rules, ◌≡◌, Bool, ℕ, Some, None, Result, Ok, Err, true, false, drop, get_or, refl, sym}
 use Rattle.std.proofs.Common.{ap, ap₂, subst, ◌∙◌, arith}
 use Rattle.jskw_array.specs.Words.{Array, Keyword, CompilesTo, Refusal, Schema, absorbed_keywords, active_member, after}
-use Rattle.jskw_array.specs.Words.{is_some, shape_in, append_keywords, as_array, before, boxed_bounds, contains}
+use Rattle.jskw_array.specs.Words.{is_some, shape_in, as_array, before, boxed_bounds, contains}
 use Rattle.jskw_array.specs.Words.{fused_keywords, get_member, is_fused, is_items_schema, items_depth, items_from}
-use Rattle.jskw_array.specs.Words.{bare_keyword, items_start, items_view, join_ok, keyword, keyword_location}
+use Rattle.jskw_array.specs.Words.{bare_keyword, items_start, items_view, join_ok, keyword_location}
 use Rattle.jskw_array.specs.Words.{keywords, keywords_of}
 use Rattle.jskw_array.specs.Words.{map_ok, members_view, name_of, no_keywords, of_type, readings_named, read}
 use Rattle.jskw_array.specs.Words.{read_bounds, read_keywords, array_schema_count, shape_keywords}
@@ -15,7 +15,7 @@ use Rattle.jskw_array.proofs.CompiledSchemas.{after_none as after_no_schemas, ea
 use Rattle.jskw_array.proofs.CompiledSchemas.{schemas_in}
 use Rattle.jskw_leaf.proofs.PassedFaults.{compiles_as, passed_by_try, refused_whole}
 use Rattle.jskw_leaf.proofs.FusedReading.{fused_items, is_there}
-use Rattle.jskw_array.proofs.FusedReading.{fused_behind, is_one, items_value, shape_reads}
+use Rattle.jskw_array.proofs.FusedReading.{fused_behind, is_one, shape_reads}
 use Rattle.jskw_array.proofs.KeywordReadings.{additional_absent, additional_false, additional_of_schema}
 use Rattle.jskw_array.proofs.KeywordReadings.{additional_true, contains_of_schema, contains_read, items_of_array}
 use Rattle.jskw_array.proofs.KeywordReadings.{items_of_one, items_silent, prefix_of_array, prefix_refused, read_boolean}
@@ -87,9 +87,9 @@ compiler::push_shape-compile-requires g t c κs within =
     let below = member_depth (name_of keyword_name.Items) ms (view c.in-Some.items.now) found in
     (omega (arith, below, c.decreases), search (rules, found, c.requires.fused))
 
-pub items::array_shape::ArrayShapeValidator::compile-compile_schema-requires
-    : goal.items::array_shape::ArrayShapeValidator::compile-compile_schema-requires
-items::array_shape::ArrayShapeValidator::compile-compile_schema-requires g t c κs within =
+pub items::array_shape::ArrayShapeValidator::compile-compile_schema-compiled-requires
+    : goal.items::array_shape::ArrayShapeValidator::compile-compile_schema-compiled-requires
+items::array_shape::ArrayShapeValidator::compile-compile_schema-compiled-requires g t c κs within =
     let one =
     (is_one c.args.ctx.now (members_view c.args.parent.now.entries) (view c.args.items.now) c.requires.fused
     c.requires.items).0 in
@@ -106,10 +106,8 @@ items::array_shape::ArrayShapeValidator::compile-returns g t c =
     {Key = g.row.F-Node-PreparedKey.Denot} in
     let absorbed = absorbed_keywords c.in_ok-absorbed.absorbed.value in
     let all = shape_reads point ms d c.requires.fused c.requires.items absorbed c.in_ok-absorbed.ensures in
-    subst (CompilesTo of_shape c.with_items.result) (ap (λ q. map_ok
-    (λ k. append_keywords absorbed (keyword q k no_keywords)) (items_value point.setting point.location ms d))
-    c.in_ok-location.ensures ∙ sym all)
-    (c.with_items.ensures _ c.compile_schema.ensures)
+    subst (CompilesTo of_shape c.with_items.result) (sym all)
+    (c.with_items.ensures _ c.compile_schema-compiled.ensures)
 
 -- ---- the keywords of an object
 
@@ -125,7 +123,7 @@ compiler::push_keywords-compile_keyword-compiled-requires g t c κs within =
 
 pub compiler::push_keywords-loop-keyword-init : goal.compiler::push_keywords-loop-keyword-init
 compiler::push_keywords-loop-keyword-init g t c =
-    record { left = refl; fused = refl; begins = c.requires.begins }
+    record { whole = refl; fused = refl; begins = c.requires.begins }
 
 pub compiler::push_keywords-loop-keyword-preserved-in_default
     : goal.compiler::push_keywords-loop-keyword-preserved-in_default
@@ -135,9 +133,9 @@ compiler::push_keywords-loop-keyword-preserved-in_default g t c =
     let none : active_member c.args.ctx.now.setting (members_view c.args.parent.now.entries) w ≡ None =
     search (rules, c.requires.values, c.active_member.ensures, c.in_default.is) in
     record {
-      left =
+      whole =
           turn_silent _ _ _ _ _ _ c.args.keywords.now l.keyword-index keyword_name.TypeKeyword c.loop-keyword-test.true
-          l.invariant.left (inactive_reads w c.args.ctx.now _ none);
+          l.invariant.whole (inactive_reads w c.args.ctx.now _ none);
       fused = l.invariant.fused;
       begins = l.invariant.begins;
     }
@@ -149,9 +147,9 @@ compiler::push_keywords-loop-keyword-preserved g t c =
     let found : active_member c.args.ctx.now.setting (members_view c.args.parent.now.entries) w
     ≡ Some (view c.in-Some.schema.now) = search (rules, c.requires.values, c.active_member.ensures, c.in-Some.is) in
     record {
-      left =
+      whole =
           turn_made _ _ _ _ _ _ c.args.keywords.now l.keyword-index keyword_name.TypeKeyword c.loop-keyword-test.true
-          l.invariant.left _
+          l.invariant.whole _
           (ap (λ read. after (keywords_of l.parts.items)
           (before (keyword_location c.args.ctx.now.location w) read (Ok no_keywords)))
           (active_reads w c.args.ctx.now _ _ found)
@@ -171,7 +169,7 @@ compiler::push_keywords-returns-in_err-push_part-clause-made g t c =
     passed_by_try new new c.in_err-push_part.field-0.0 _ _ _ c.from_residual.ensures.1
     (c.in_err-push_part.ensures.made _ c.compile_keyword-compiled.ensures)
     (λ x refused. turn_refused _ _ _ _ _ _ c.args.keywords.now l.keyword-index keyword_name.TypeKeyword
-    c.loop-keyword-test.true l.invariant.left x
+    c.loop-keyword-test.true l.invariant.whole x
     (ap (λ read. after (keywords_of l.parts.items)
     (before (keyword_location c.args.ctx.now.location w) read (Ok no_keywords)))
     (active_reads w c.args.ctx.now _ _ found) ∙ refused))
@@ -184,7 +182,7 @@ compiler::push_keywords-returns-clause-made g t c =
     let ms = members_view c.args.parent.now.entries in
     turn_end (keywords_of c.loop-keyword.parts.items) _ c.args.ctx.now.setting c.args.ctx.now.location ms
     (λ name. readings_named name ms) c.args.keywords.now c.loop-keyword.keyword-index c.loop-keyword-test.false
-    c.loop-keyword.invariant.left
+    c.loop-keyword.invariant.whole
 
 -- ---- an array of schemas
 
@@ -246,12 +244,12 @@ prefix_items::compile-returns-in_default g t c =
     let ms = members_view c.args.parent.now.entries in
     let d = view c.args.schema.now in
     let lost : as_array d ≡ None = search (rules, c.as_array.ensures) in
-    let part = wrong (of_type Array) (keyword_location c.args.ctx.now.location keyword_name.PrefixItems) d in
+    let refusal = wrong (of_type Array) (keyword_location c.args.ctx.now.location keyword_name.PrefixItems) d in
     compiles_as (validator_keyword {F = g.row.F.Denot} {Node = g.row.F-Node.Denot} {Number = g.row.F-Node-Number.Denot}
-    {Key = g.row.F-Node-PreparedKey.Denot}) (Some (Err c.no_array.result)) _ (Some part)
+    {Key = g.row.F-Node-PreparedKey.Denot}) (Some (Err c.no_array.result)) _ (Some refusal)
     (prefix_refused c.args.ctx.now ms d lost)
     (refused_whole (λ (k : Keyword). k) (validator_keyword {F = g.row.F.Denot} {Node = g.row.F-Node.Denot}
-    {Number = g.row.F-Node-Number.Denot} {Key = g.row.F-Node-PreparedKey.Denot}) c.no_array.result part part
+    {Number = g.row.F-Node-Number.Denot} {Key = g.row.F-Node-PreparedKey.Denot}) c.no_array.result refusal refusal
     c.no_array.ensures (λ r e. e))
 
 pub prefix_items::compile-returns : goal.prefix_items::compile-returns

@@ -55,7 +55,7 @@ abbrev pub invariant-compiler::push_keywords-loop-keyword : goal.invariant-compi
 invariant-compiler::push_keywords-loop-keyword g l =
     let ms = members_view l.parent.entries in
     record {
-      left : after (keywords_of l.parts.items) (read_keywords (drop l.keyword-index l.keywords) l.ctx.setting
+      whole : after (keywords_of l.parts.items) (read_keywords (drop l.keyword-index l.keywords) l.ctx.setting
           l.ctx.location ms (λ name. readings_named name ms))
           ≡ after (keywords_of l.initial.parts.items)
           (read_keywords l.keywords l.ctx.setting l.ctx.location ms (λ name. readings_named name ms));

@@ -8,10 +8,10 @@ use Rattle.jskw_array.specs.Words.{one_keyword, own_keyword, pairs}
 use Rattle.jskw_array.specs.Words.{part_meaning, path_of, result_of, schemas_of, tree, units, validator_keyword}
 use Rattle.jskw_report.proofs.GatheredNodes.{appended, gathered_all, index_end, index_met, node_end, node_met}
 use Rattle.jskw_report.proofs.EvaluationValidity.{tree_valid}
-use Rattle.jskw_array.proofs.WalksOverParts.{keywords_end, own_counted, own_gives, own_lower, pairs_at, unit_height}
-use Rattle.jskw_array.proofs.WalksOverParts.{unit_taken}
+use Rattle.jskw_array.proofs.WalksOverParts.{keywords_end, own_counted, own_gives, own_lower, pairs_at, part_height}
+use Rattle.jskw_array.proofs.WalksOverParts.{part_taken}
 use Rattle.jskw_array.proofs.MatchedItems.{matching_is_unit}
-use Rattle.jskw_array.proofs.WalksOverItems.{each_lower, each_pairs_at, each_units_at, each_units_end, sum_at, units_at}
+use Rattle.jskw_array.proofs.WalksOverItems.{each_lower, each_pairs_at, each_nodes_at, each_nodes_end, sum_at, nodes_at}
 use Rattle.jskw_array.proofs.+evaluate.Goals as goal
 
 -- ---- a schema for each item
@@ -51,7 +51,7 @@ each::EachValidate::evaluate-loop-index-preserved g t c =
     let within = c.index.ensures in
     let cost = each_pairs_at ss ts l.index s u (omega arith) (omega arith) within c.item-item.ensures.value in
     let next =
-    each_units_at ss ts l.index s u (omega arith) (omega arith) within c.item-item.ensures.value p in
+    each_nodes_at ss ts l.index s u (omega arith) (omega arith) within c.item-item.ensures.value p in
     record {
       last = l.invariant.last;
       gathered = appended (tree s u (item_location p l.index) ∷ []) _ behind _ _ _ next made l.invariant.gathered;
@@ -67,7 +67,7 @@ each::EachValidate::evaluate-returns-clause-gives g t c =
     let instance = g.F.Node.Rooted.tree c.args.instance.now in
     let p = path_of c.args.location.now in
     c.unit.ensures p
-    (gathered_all _ _ _ (each_units_end v.nodes.items (items instance) l.index (omega arith) p) l.invariant.gathered)
+    (gathered_all _ _ _ (each_nodes_end v.nodes.items (items instance) l.index (omega arith) p) l.invariant.gathered)
 
 -- ---- one schema for the items from an index on
 
@@ -88,7 +88,7 @@ rest::RestValidate::evaluate-loop-index-preserved g t c =
     ∙ ap (λ q. l.children.items ++ tree s u (item_location (path_of q) l.index) ∷ []) l.invariant.location in
     let behind = evaluate_each (tree s) (l.index + 1) (drop (l.index + 1) ts) p in
     let cost = sum_at ts l.index u (omega arith) c.item-item.ensures.value (pairs s) in
-    let next = units_at ts l.index u (omega arith) c.item-item.ensures.value s p in
+    let next = nodes_at ts l.index u (omega arith) c.item-item.ensures.value s p in
     record {
       last = l.invariant.last;
       gathered = appended (tree s u (item_location p l.index) ∷ []) _ behind _ _ _ next made l.invariant.gathered;
@@ -149,7 +149,7 @@ pub node::Subschema::evaluate_instance_below-evaluate-made-requires
     : goal.node::Subschema::evaluate_instance_below-evaluate-made-requires
 node::Subschema::evaluate_instance_below-evaluate-made-requires g t c κs within =
     let l = c.loop-part in
-    let lower = unit_height c.in-Some.parts.now l.part-index c.part-item.result c.loop-part-test.true c.part-item.is in
+    let lower = part_height c.in-Some.parts.now l.part-index c.part-item.result c.loop-part-test.true c.part-item.is in
     let own = own_lower c.part-item.result c.keyword-keyword.result.now c.keyword-keyword.ensures in
     let whole = ap height l.invariant.whole.1 in
     (omega (arith, own, lower, whole, c.decreases), search rules)
@@ -195,7 +195,7 @@ node::Subschema::evaluate_instance_below-loop-part-preserved g t c =
     record {
       whole = l.invariant.whole;
       gathered =
-          unit_taken us l.part-index u c.loop-part-test.true c.part-item.is instance p _ _ _ more
+          part_taken us l.part-index u c.loop-part-test.true c.part-item.is instance p _ _ _ more
           l.invariant.gathered;
       path = l.invariant.path;
       location = c.evaluate-made.ensures.location ∙ l.invariant.location;

@@ -2,7 +2,7 @@ use Rattle.std.proofs.Common.{rules, ◌∙◌, false, refl, sym, arith}
 use Rattle.jskw_array.specs.Words.{holds, items, needed}
 use Rattle.jskw_array.proofs.AcceptedValues.{counted_within, one_needed}
 use Rattle.jskw_array.proofs.PartsLeft.{left_within, only_holds, only_lower, only_needs}
-use Rattle.jskw_array.proofs.WalksOverParts.{own_holds, own_lower, own_needs, passed_at, stopped_at, unit_height}
+use Rattle.jskw_array.proofs.WalksOverParts.{own_holds, own_lower, own_needs, passed_at, stopped_at, part_height}
 use Rattle.jskw_array.proofs.WalksOverItems.{each_holds_end, each_lower, until_at}
 use Rattle.jskw_array.proofs.PassedItems.{passed_applied, passed_holds}
 use Rattle.jskw_array.proofs.+is_valid.Goals as goal
@@ -74,12 +74,12 @@ pub rest::RestValidate::is_valid-is_valid-requires : goal.rest::RestValidate::is
 rest::RestValidate::is_valid-is_valid-requires g t c κs within =
     (omega (arith, c.decreases), search rules)
 
--- ---- the units
+-- ---- the parts
 
 pub part::parts_are_valid-is_valid-requires : goal.part::parts_are_valid-is_valid-requires
 part::parts_are_valid-is_valid-requires g t c κs within =
     let lower =
-    unit_height c.args.parts.now c.loop-part.part-index c.part-item.result c.loop-part-test.true c.part-item.is in
+    part_height c.args.parts.now c.loop-part.part-index c.part-item.result c.loop-part-test.true c.part-item.is in
     let own = own_lower c.part-item.result c.keyword.result.now c.keyword.ensures in
     (omega (arith, own, lower, c.decreases), search rules)
 
@@ -171,7 +171,7 @@ node::Subschema::keywords_are_valid-returns-in-len1-clause-counted g t c =
     (g.F.Node.Rooted.tree c.args.instance.now) in
     let needs =
     own_needs c.part-item.result c.keyword.result.now c.keyword.ensures (g.F.Node.Rooted.tree c.args.instance.now) in
-    left_within c.in-Some.ensures.parts false c.apply.ensures.counted c.is_valid.ensures.counted
+    left_within c.in-Some.ensures.parts false c.count_and_remaining_parts.ensures.counted c.is_valid.ensures.counted
     (omega (arith, needs, only))
 
 pub node::Subschema::keywords_are_valid-returns-in_default-parts-clause-answer
@@ -182,4 +182,5 @@ node::Subschema::keywords_are_valid-returns-in_default-parts-clause-answer g t c
 pub node::Subschema::keywords_are_valid-returns-in_default-parts-clause-counted
     : goal.node::Subschema::keywords_are_valid-returns-in_default-parts-clause-counted
 node::Subschema::keywords_are_valid-returns-in_default-parts-clause-counted g t c =
-    left_within c.in-Some.ensures.parts false c.apply.ensures.counted c.parts_are_valid.ensures.counted (omega arith)
+    left_within c.in-Some.ensures.parts false c.count_and_remaining_parts.ensures.counted
+    c.parts_are_valid.ensures.counted (omega arith)

@@ -2,11 +2,11 @@ use Rattle.std.proofs.Common.{rules, ◌∙◌, refl, ap, subst, arith}
 use Rattle.jskw_array.specs.Words.{Reports, all_fail, fail, item_location, items, keeps_list, CountsUpTo, path_of}
 use Rattle.jskw_report.proofs.ReportedFailures.{reported_all, reports_memory, reports_none}
 use Rattle.jskw_array.proofs.AcceptedValues.{counted_within, no_errors}
-use Rattle.jskw_array.proofs.WalksOverParts.{keywords_end, own_lower, unit_height}
+use Rattle.jskw_array.proofs.WalksOverParts.{keywords_end, own_lower, part_height}
 use Rattle.jskw_leaf.proofs.TypeWalks.{entered}
 use Rattle.jskw_array.proofs.WalksOverItems.{each_fails_end, each_lower}
 use Rattle.jskw_array.proofs.PassedItems.{passed_applied, passed_fails}
-use Rattle.jskw_array.proofs.ReportingWalks.{each_applied, each_step, item_step, one_applied, rest_applied, unit_step}
+use Rattle.jskw_array.proofs.ReportingWalks.{each_applied, each_step, item_step, one_applied, rest_applied, part_step}
 use Rattle.jskw_array.proofs.ReportingWalks.{walk_begun, walk_counted, walk_on, walk_stopped}
 use Rattle.jskw_array.proofs.+report.Goals as goal
 
@@ -170,17 +170,17 @@ node::Subschema::report_errors-loop-part-init g t c =
     let left = c.in-Some.ensures.parts in
     record {
       walk =
-          walk_begun tree old (left.errors (path_of c.args.location.now)) c.apply.ensures.counted
+          walk_begun tree old (left.errors (path_of c.args.location.now)) c.count_and_remaining_parts.ensures.counted
           (omega (arith, left.applied (keeps_list old)));
       location = refl;
-      applied = c.apply.ensures.applied;
+      applied = c.count_and_remaining_parts.ensures.applied;
       lower = left.lower;
     }
 
 pub node::Subschema::report_errors-report_errors-requires : goal.node::Subschema::report_errors-report_errors-requires
 node::Subschema::report_errors-report_errors-requires g t c κs within =
     let l = c.loop-part in
-    let lower = unit_height c.in-Some.parts.now l.part-index c.part-item.result c.loop-part-test.true c.part-item.is in
+    let lower = part_height c.in-Some.parts.now l.part-index c.part-item.result c.loop-part-test.true c.part-item.is in
     let own = own_lower c.part-item.result c.keyword.result.now c.keyword.ensures in
     (omega (arith, own, lower, l.invariant.lower, c.decreases), search rules)
 
@@ -190,7 +190,7 @@ node::Subschema::report_errors-returns-in_err-report_errors-clause-reported g t 
     let l = c.loop-part in
     let tree = g.F.Node.Rooted.tree in
     let step =
-    unit_step c.in-Some.parts.now l.part-index c.part-item.result c.loop-part-test.true c.part-item.is
+    part_step c.in-Some.parts.now l.part-index c.part-item.result c.loop-part-test.true c.part-item.is
     (tree c.args.instance.now) (path_of c.args.location.now) in
     walk_stopped tree l.invariant.walk step c.from_residual.ensures.1
     (rw c.keyword.ensures at (rw l.invariant.location at c.in_err-report_errors.ensures.reported))
@@ -201,7 +201,7 @@ node::Subschema::report_errors-returns-in_err-report_errors-clause-counted g t c
     let l = c.loop-part in
     let tree = g.F.Node.Rooted.tree in
     let step =
-    unit_step c.in-Some.parts.now l.part-index c.part-item.result c.loop-part-test.true c.part-item.is
+    part_step c.in-Some.parts.now l.part-index c.part-item.result c.loop-part-test.true c.part-item.is
     (tree c.args.instance.now) (path_of c.args.location.now) in
     walk_counted tree l.invariant.walk step (rw c.keyword.ensures at c.in_err-report_errors.ensures.counted)
 
@@ -211,7 +211,7 @@ node::Subschema::report_errors-loop-part-preserved g t c =
     let tree = g.F.Node.Rooted.tree in
     let next = c.in_ok-report_errors.ensures in
     let step =
-    unit_step c.in-Some.parts.now l.part-index c.part-item.result c.loop-part-test.true c.part-item.is
+    part_step c.in-Some.parts.now l.part-index c.part-item.result c.loop-part-test.true c.part-item.is
     (tree c.args.instance.now) (path_of c.args.location.now) in
     record {
       walk =

@@ -46,9 +46,9 @@ pub(crate) fn push_part<'a, F: Json>(
     }
 }
 
-// Returns the location of a keyword: that of the validator's errors, if it is the same, else one that
-// is made. The errors of a limit of Draft 4 may have that of another keyword.
-fn location_of<F: Json>(
+// Returns the location of a keyword: one that the validator has, if that is the same, else one that is
+// made. The errors of a limit of Draft 4 may have that of another keyword.
+pub(crate) fn location_of<F: Json>(
     alloc: Global,
     ctx: &Context<'_, F>,
     keyword: KeywordName,
@@ -56,8 +56,7 @@ fn location_of<F: Json>(
 ) -> Result<KeywordLocation, AllocError>
     ensures { IfOk result (λ location. location ≡ keyword_location ctx.now.location keyword) }
 {
-    if let Validator::Leaf(leaf) = validator {
-        let location = leaf.location();
+    if let Some(location) = validator.location() {
         if location.is_member(ctx.location(), keyword.as_str()) {
             return location.copy();
         }

@@ -4,16 +4,17 @@
 ghost use Rattle.std.specs.Prelude.{◌≡◌, ◌-◌};
 ghost use Rattle.jskw_array.specs.Words.{items, length, true, IsTrue, Keyword};
 ghost use Rattle.jskw_array.specs.Words.{CompilesTo, Refusal, Result, Some, absorbed_keywords, append_keywords};
-ghost use Rattle.jskw_array.specs.Words.{fused_keywords, get_member, is_fused, keyword, map_ok, members_view};
-ghost use Rattle.jskw_array.specs.Words.{name_of, no_keywords, shape_keywords, shape_meaning};
+ghost use Rattle.jskw_array.specs.Words.{fused_keywords, get_member, is_fused, keyword, keyword_location, map_ok};
+ghost use Rattle.jskw_array.specs.Words.{members_view, name_of, no_keywords, shape_keywords, shape_meaning};
 ghost use Rattle.jskw_array.specs.Words.{validator_keyword, view, read_keywords, readings_named};
 
+use crate::compiler::keyword::location_of;
 use crate::items::{self, AbsorbedKeywords};
 use crate::part::LocatedValidator;
 use crate::validator::Validator;
 use jskw_report::{
-    CompilationResult, Context, EvaluationResult, KeywordLocation, KeywordName, LazyLocation,
-    Report, Stop, Validate, ValidationContext,
+    CompilationResult, Context, EvaluationResult, KeywordName, LazyLocation, Report, Stop,
+    Validate, ValidationContext,
 };
 use jskw_value::Json;
 use serde_json::{Map, Value};
@@ -54,13 +55,9 @@ impl<F: Json> ArrayShapeValidator<F> {
             (read_keywords fused_keywords ctx.now.setting ctx.now.location ms
             (λ name. readings_named name ms)) }
     {
-        let location = ctx.keyword_location(alloc, KeywordName::Items)?;
         let absorbed = AbsorbedKeywords::compile(alloc, ctx, parent)?;
-        with_items(
-            absorbed,
-            location,
-            items::compile_schema(alloc, ctx, parent, items),
-        )
+        let compiled = items::compile_schema(alloc, ctx, parent, items);
+        with_items(alloc, ctx, absorbed, compiled)
     }
 
     /// Returns the keywords that are checked with `items`: `type`, `minItems` and `maxItems`.
@@ -74,16 +71,19 @@ impl<F: Json> ArrayShapeValidator<F> {
 // Returns the validator of the other keywords and of `items`, if that was compiled.
 #[inline(never)]
 fn with_items<'a, F: Json>(
+    alloc: Global,
+    ctx: &Context<'_, F>,
     absorbed: Box<AbsorbedKeywords>,
-    location: KeywordLocation,
     compiled: CompilationResult<'a, Validator<F>>,
 ) -> CompilationResult<'a, ArrayShapeValidator<F>>
     ensures { (read : Result Keyword Refusal) → CompilesTo validator_keyword compiled.entry read
-        → CompilesTo shape_keywords result (map_ok (λ k. append_keywords
-        (absorbed_keywords absorbed.value) (keyword location k no_keywords)) read) }
+        → CompilesTo shape_keywords result (map_ok (λ k. append_keywords (absorbed_keywords absorbed.value)
+        (keyword (keyword_location ctx.now.location KeywordName.Items) k no_keywords)) read) }
 {
+    let validator = compiled?;
+    let location = location_of(alloc, ctx, KeywordName::Items, &validator)?;
     let items = LocatedValidator {
-        validator: compiled?,
+        validator,
         location,
     };
     let absorbed = Box::into_inner(absorbed);

@@ -8,9 +8,9 @@ loop-index-preserved g c =
     let l = c.loop-index in
     record {
       last = l.invariant.last;
-      within =
+      in_front =
           in_sets_next c.args.self.now.front.items (items (g.N.Rooted.tree c.args.instance.now)) l.index _ _
-          (omega arith) (omega arith) c.index.ensures c.item.ensures.value l.invariant.within
+          (omega arith) (omega arith) c.index.ensures c.item.ensures.value l.invariant.in_front
           (sym c.contains.ensures ∙ c.if-not-contains.false);
     }
 
@@ -18,6 +18,6 @@ pub returns : goal.returns
 returns g c =
     let l = c.loop-index in (
       in_sets_end c.args.self.now.front.items (items (g.N.Rooted.tree c.args.instance.now)) l.index (omega arith)
-          l.invariant.within,
+          l.invariant.in_front,
       omega arith,
     )

@@ -7,5 +7,5 @@ invariant-loop-index g l =
     let ts = items (g.N.Rooted.tree l.instance) in
     record {
       last : l.front ≡ min (length ts) (length l.self.front.items);
-      within : in_sets (take l.index l.self.front.items) ts ≡ true;
+      in_front : in_sets (take l.index l.self.front.items) ts ≡ true;
     }

@@ -19,12 +19,12 @@ returns-clause-counted g c =
     let both : Passed end × Counted end =
     elim c.if-is_some.branch [
       | then-is_some w ↦ (
-        subst Passed (sym w.end-is) w.passed.ensures.passed,
-        subst Counted (sym w.end-is) w.passed.ensures.counted,
+        subst Passed (sym w.end-is) w.first_outside.ensures.passed,
+        subst Counted (sym w.end-is) w.first_outside.ensures.counted,
       )
       | else-is_some w ↦ (
-        subst Passed (sym w.end-is) w.passed-else-is_some.ensures.passed,
-        subst Counted (sym w.end-is) w.passed-else-is_some.ensures.counted,
+        subst Passed (sym w.end-is) w.first_outside-else-is_some.ensures.passed,
+        subst Counted (sym w.end-is) w.first_outside-else-is_some.ensures.counted,
       )
     ] in
     lists_counted a t start end.0 end.1 both.0 both.1 (record { applied = first.applied; counted = first.counted })

@@ -2,7 +2,7 @@ use Rattle.std.proofs.Common.{◌∙◌, ap, refl, subst, sym, arith}
 use Rattle.std.proofs.lemmas.List.{take_rest}
 use Rattle.jskw_array.specs.Words.{ArraysAreValid, IfSome, Knows, drop, holds, in_arrays, in_typed, items_between}
 use Rattle.jskw_array.proofs.AcceptedArrays.{arrays_least, arrays_within, schema_arrays, typed_valid}
-use Rattle.jskw_array.proofs.PartsLeft.{schema_by_units}
+use Rattle.jskw_array.proofs.PartsLeft.{schema_by_parts}
 use Rattle.jskw_array.proofs.PassedItems.{passed_least, passed_length, passes_too}
 use Rattle.jskw_array.proofs.node.Subschema.skip_arrays.Goals as goal
 
@@ -13,7 +13,7 @@ returns-in-Some-clause-passed g c =
     let t = g.F.Node.Rooted.tree c.args.instance.now in
     let us = c.in-Keywords.parts.items in
     let known = (subst (Knows n.accepted) c.in-Keywords.is c.self.invariant.1).0 in
-    let is = schema_by_units c.in-Keywords.is refl c.self.view_is in
+    let is = schema_by_parts c.in-Keywords.is refl c.self.view_is in
     let a = c.deref.result.now in
     let valid =
     subst (ArraysAreValid us) (sym c.deref.ensures)
@@ -28,7 +28,7 @@ returns-in-Some-clause-counted g c =
     let t = g.F.Node.Rooted.tree c.args.instance.now in
     let us = c.in-Keywords.parts.items in
     let known = (subst (Knows n.accepted) c.in-Keywords.is c.self.invariant.1).0 in
-    let is = schema_by_units c.in-Keywords.is refl c.self.view_is in
+    let is = schema_by_parts c.in-Keywords.is refl c.self.view_is in
     let a = c.deref.result.now in
     let valid =
     subst (ArraysAreValid us) (sym c.deref.ensures)
@@ -51,15 +51,14 @@ returns-in-len1-clause-passed g c =
     let t = g.F.Node.Rooted.tree c.args.instance.now in
     let us = c.in-Keywords.parts.items in
     let known = (subst (Knows n.accepted) c.in-Keywords.is c.self.invariant.1).0 in
-    let is = schema_by_units c.in-Keywords.is refl c.self.view_is in
+    let is = schema_by_parts c.in-Keywords.is refl c.self.view_is in
     let b = n.accepted.settled in
     let u = c.part-item.result in
     let rest = take_rest c.deref-2.result.now b.count ∙ ap (drop b.count) c.deref-2.ensures.value in
     let valid =
     typed_valid s n.location n.delegates us _ b u _ is known.settled rest c.in-len1.len_at_least c.in-len1.len_below
     c.part-item.is in
-    let passed = passes_too (in_typed b.outline u) (holds s) valid t c.args.start _ c.typed_end-end.ensures.passed in
-    passed
+    passes_too (in_typed b.outline u) (holds s) valid t c.args.start _ c.first_outside-end.ensures.passed
 
 pub returns-in-len1-clause-counted : goal.returns-in-len1-clause-counted
 returns-in-len1-clause-counted g c =
@@ -68,16 +67,17 @@ returns-in-len1-clause-counted g c =
     let t = g.F.Node.Rooted.tree c.args.instance.now in
     let us = c.in-Keywords.parts.items in
     let known = (subst (Knows n.accepted) c.in-Keywords.is c.self.invariant.1).0 in
-    let is = schema_by_units c.in-Keywords.is refl c.self.view_is in
+    let is = schema_by_parts c.in-Keywords.is refl c.self.view_is in
     let b = n.accepted.settled in
     let u = c.part-item.result in
     let rest = take_rest c.deref-2.result.now b.count ∙ ap (drop b.count) c.deref-2.ensures.value in
     let valid =
     typed_valid s n.location n.delegates us _ b u _ is known.settled rest c.in-len1.len_at_least c.in-len1.len_below
     c.part-item.is in
-    let passed = passes_too (in_typed b.outline u) (holds s) valid t c.args.start _ c.typed_end-end.ensures.passed in
+    let passed =
+    passes_too (in_typed b.outline u) (holds s) valid t c.args.start _ c.first_outside-end.ensures.passed in
     let least = passed_least s t c.args.start _ passed in
-    let same = c.typed_end-end.ensures.applied in
+    let same = c.first_outside-end.ensures.applied in
     let counted = c.count_more.ensures in
     record {
       applied = omega (arith, same, counted.applied);

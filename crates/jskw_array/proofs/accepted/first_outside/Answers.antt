@@ -2,7 +2,7 @@ use Rattle.std.proofs.Common.{◌∙◌, ◌&&◌, ap, ap₂, arith, refl, sym}
 use Rattle.jskw_array.specs.Words.{in_typed, keyword_holds, validator_keyword}
 use Rattle.jskw_array.proofs.PassedItems.{passes_more, passes_none}
 use Rattle.jskw_array.proofs.WalksOverParts.{own_holds}
-use Rattle.jskw_array.proofs.accepted.typed_end.Goals as goal
+use Rattle.jskw_array.proofs.accepted.first_outside.Goals as goal
 
 pub loop-index-init : goal.loop-index-init
 loop-index-init g c = record {

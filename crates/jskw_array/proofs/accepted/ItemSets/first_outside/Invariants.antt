@@ -1,6 +1,6 @@
 use Rattle.jskw_array.specs.Words.{in_arrays, items_cost}
 use Rattle.jskw_array.proofs.PassedItems.{Passing}
-use Rattle.jskw_array.proofs.accepted.ItemSets.passed.Given as goal
+use Rattle.jskw_array.proofs.accepted.ItemSets.first_outside.Given as goal
 
 abbrev pub invariant-loop-index : goal.invariant-loop-index
 invariant-loop-index g l =

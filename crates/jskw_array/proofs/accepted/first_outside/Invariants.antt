@@ -1,6 +1,6 @@
 use Rattle.std.proofs.Common.{◌≡◌}
 use Rattle.jskw_array.specs.Words.{PassesOver, in_typed, items, length}
-use Rattle.jskw_array.proofs.accepted.typed_end.Given as goal
+use Rattle.jskw_array.proofs.accepted.first_outside.Given as goal
 
 abbrev pub invariant-loop-index : goal.invariant-loop-index
 invariant-loop-index g l =
