@@ -11,8 +11,7 @@ abbrev pub quotient : ℕ → ℕ → Option ℕ
 quotient a b = if a % b == 0 then Some (a / b) else None
 
 -- The number without its sign is digits_of p * 10 ^ tens_up p / 10 ^ tens_down p: all digits as one number, moved by
--- the
--- point and the exponent. This is that number times 10 ^ k, where that is whole.
+-- the point and the exponent. This is that number times 10 ^ k, where that is whole.
 unfoldable pub scaled : Parts → ℕ → Option ℕ
 scaled p k = quotient (digits_of p * 10 ^ (tens_up p + k)) (10 ^ tens_down p)
 
@@ -34,8 +33,7 @@ abbrev pub scale_of : Parts → ℕ
 scale_of p = min 18 (max 1 (tens_down p - tens_up p))
 
 -- With neither a point nor an exponent the scale is 0. Otherwise it is as many digits as are written, or fewer where
--- only
--- that is in range, and never 0, so that 1.0 is not written as an integer.
+-- only that is in range, and never 0, so that 1.0 is not written as an integer.
 abbrev pub decimal_from : Bool → Parts → Option Num
 decimal_from negative p = if is_integer p then at_scale negative p 0 else at_most negative p (scale_of p)
 

@@ -64,8 +64,7 @@ max_depth = 127
 abbrev pub document : List ℕ → Option json.Json
 document text = option_and_then (λ p. json.if_last p.0 p.1) (json.value max_depth (tokens text))
 
--- The tree of bytes, or the location of the first number that is not exact; nothing where the bytes are not
--- UTF-8
--- or no JSON.
+-- The tree of bytes, or the location of the first number that is not exact; nothing where the bytes are not UTF-8 or no
+-- JSON.
 abbrev pub reading : List ℕ → Option (Result Tree Pointer)
 reading bytes = option_map tree_of (if is_utf8 bytes then document bytes else None)
