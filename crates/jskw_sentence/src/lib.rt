@@ -12,9 +12,8 @@
 
 mod bounded;
 pub mod error_sentence;
-pub mod types;
+mod types;
 pub mod value;
 
 pub use error_sentence::{schema_sentence, sentence, shown_place};
-pub use types::{TYPES, type_name};
 pub use value::push_value;
