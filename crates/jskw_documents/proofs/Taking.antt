@@ -1,6 +1,6 @@
 -- What is taken of a stream, and the answers, step by step.
-use Rattle.std.proofs.Common.{◌≡◌, ◌<◌, ℕ, suc, ◌+◌, List, [], ◌∷◌, ◌++◌, true, length, Option, Some, refl, sym, ap, ◌∙◌}
-use Rattle.std.proofs.Common.{add-zero, arith, length-append, subst, Result, Ok, Err, IfOk, OnOk}
+use Rattle.std.proofs.Common.{◌≡◌, ◌<◌, ℕ, suc, ◌+◌, List, [], ◌∷◌, ◌++◌, true, length, Option, refl, sym, ap, ◌∙◌}
+use Rattle.std.proofs.Common.{Some, add-zero, arith, length-append, subst, Result, Ok, Err, IfOk, OnOk}
 use Rattle.std.proofs.lemmas.List.{append-nil, append_assoc}
 use Rattle.std.specs.Io.KnownBytes.{Appends, IsAtEnd}
 use Rattle.std.proofs.KnownBytes.{Appends-nil, Appends-trans, Consumes-nil, Consumes-trans}

@@ -317,7 +317,8 @@ fn pushed_answer(
 ) -> Option<Answer>
     ensures { MatchOption result (text.new.items ≡ text.old.items)
         (λ answer. (document : List ℕ) → IfSome line.entry (λ l. l.now ≡ document)
-        → IsAnswer stream.now.checker.now stream.now.file.now (Some number) document answer.text.items × (text.new.items ≡ text.old.items ++ answer.text.items)
+        → IsAnswer stream.now.checker.now stream.now.file.now (Some number) document answer.text.items
+        × (text.new.items ≡ text.old.items ++ answer.text.items)
         × (answer.verdict ≡ verdict_on stream.now.checker.now.schema document)) }
 {
     let line = line?;
