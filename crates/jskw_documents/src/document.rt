@@ -74,8 +74,8 @@ fn answer_to_all<R: Source>(
     requires { R.has_failed reader.old ≡ false }
     ensures answer { IfOk result (λ made. (bytes : List ℕ)
         × Consumes (R.remaining reader.old) (R.remaining reader.new) bytes × IsAtEnd (R.remaining reader.new)
-        × IsAnswer stream.now.checker.now.options stream.now.checker.now.schema stream.now.file.now None bytes
-        made.0.text.items × (made.0.verdict ≡ verdict_on stream.now.checker.now.schema bytes)) }
+        × IsAnswer stream.now.checker.now stream.now.file.now None bytes made.0.text.items
+        × (made.0.verdict ≡ verdict_on stream.now.checker.now.schema bytes)) }
     ensures works { OnOk result (R.has_failed reader.new ≡ false) }
     ensures memory { IsErrOf result SourceFault.Memory → R.has_failed reader.new ≡ false }
     ensures device { IsErrOf result SourceFault.Device → R.has_failed reader.new ≡ true }

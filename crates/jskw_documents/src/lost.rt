@@ -1,5 +1,5 @@
 //! What is written of a document that memory runs out for.
-ghost use Rattle.std.specs.Prelude.{◌≡◌, OnOk, is_err};
+ghost use Rattle.std.specs.Prelude.{◌≡◌, OnOk, false, is_err};
 ghost use Rattle.std.specs.Io.KnownBytes.{Appends};
 ghost use Rattle.jskw_documents.specs.Shown.{before_line, if_some, lost_text, memory_words, number_after};
 
