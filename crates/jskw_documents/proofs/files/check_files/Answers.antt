@@ -5,8 +5,16 @@ use Rattle.std.specs.List.{All}
 use Rattle.jskw_report.proofs.GatheredNodes.{drop_here}
 use Rattle.jskw_documents.specs.Files.{AnswersFile, AnswersFiles}
 use Rattle.jskw_documents.specs.declared.stream.Stream.{Stream}
-use Rattle.jskw_documents.proofs.Answered.{AnswersSoFar, Writes, all_files_answered, next_answered}
+use Rattle.jskw_documents.proofs.Answered.{AnswersSoFar, Writes, all_files_answered, next_answered, none_answered}
 use Rattle.jskw_documents.proofs.files.check_files.Goals as goal
+
+pub loop-stream-init : goal.loop-stream-init
+loop-stream-init g c = record {
+  answers =
+      none_answered c.args.checker.now c.args.lines (g.F.Folder.bytes_of c.args.folder.now)
+      (map (λ s. s.file.now) c.deref-stream-items.result.now) (g.W.Sink.contents c.args.writer.now);
+  writes = c.requires;
+}
 
 pub loop-stream-preserved : goal.loop-stream-preserved
 loop-stream-preserved g c =
