@@ -49,8 +49,8 @@ fn write_line<W: Sink>(
     }
 }
 
-// Writes that memory ran out for a document of a stream: for the line of this number, or for all. It
-// takes no memory.
+// Writes that memory ran out for the line of this number, or for a file that is one document. It takes
+// no memory.
 pub(crate) fn write_lost<W: Sink>(
     stream: &Stream<'_, '_>,
     line: Option<usize>,
