@@ -27,6 +27,7 @@ FILES = {
     "escapes.json": rb'[["\"]", -1], ["\\", -2, "\\\""], [-3]]',
     "valid.json": b"[1, 2]",
     "invalid.json": b'[1, -2, "a"]',
+    "minus.json": b"[-1]",
     "empty.json": b"",
     "newline.json": b"\n",
     "spaces.json": b"  \n  ",
@@ -394,13 +395,22 @@ STREAMS = [
          '\\\\u2069\u206a\\" is of type string, must be integer"}]}\n'),
 ]
 
-# Lines that memory runs out for: the options, the answer to `[-1]` as line N, and what is written of a line N that is
-# refused.
+
+def named(file, line):
+    return f'{{"file":"{file}",' + (f'"line":{line},' if line else "")
+
+
+def lost(file, line):
+    return f"{file}:{line}: refused: memory ran out\n" if line else f"{file}: refused: memory ran out\n"
+
+
+# What memory runs out for: the options, the answer to `[-1]`, and what is written of a document that is refused, each of
+# a file and the number of its line, or 0 if it is one document.
 SHORT_OF_MEMORY = [
-    ("text", [], f"-:{{}}:2: /0: {MINUS_1}\n".format, "-:{}: refused: memory ran out\n".format),
-    ("basic", ["--output", "basic"], lambda line: f'{{"file":"-","line":{line},{basic_minus_1(line)}',
-     lambda line: f'{{"file":"-","line":{line},"refused":"memory ran out"}}\n'),
-    ("quiet", ["--output", "quiet"], lambda line: "", "-:{}: refused: memory ran out\n".format),
+    ("text", [], lambda file, line: f"{file}:{line or 1}:2: /0: {MINUS_1}\n", lost),
+    ("basic", ["--output", "basic"], lambda file, line: named(file, line) + basic_minus_1(line or 1),
+     lambda file, line: named(file, line) + '"refused":"memory ran out"}\n'),
+    ("quiet", ["--output", "quiet"], lambda file, line: "", lost),
 ]
 
 CASES = [*ARGUMENTS, *SCHEMAS, *DOCUMENTS, *STREAMS]

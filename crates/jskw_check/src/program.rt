@@ -1,5 +1,5 @@
 //! What the program does, over any files, outputs and watcher.
-ghost use Rattle.std.specs.Prelude.{◌≡◌, ℕ, List, false, true, map, string_bytes, IfOk, OnErr};
+ghost use Rattle.std.specs.Prelude.{◌≡◌, ℕ, List, false, true, map, string_bytes, IfOk, IsErrOf, OnErr};
 ghost use Rattle.std.specs.Io.KnownBytes.{Appends};
 ghost use Rattle.jskw_service.specs.Run.{status_of_verdict};
 ghost use Rattle.jskw_service.specs.declared.service.Verdict.{Verdict};
@@ -17,7 +17,7 @@ use jskw_documents::{
     CheckFault, Checker, FileSource, Folder, Output, Place, Watcher, check_files, push_shown,
     refusal, schema_of,
 };
-use jskw_service::{ReadFault, Sink, push_bytes, read_all, status, write_all};
+use jskw_service::{Sink, SourceFault, push_bytes, read_all, status, write_all};
 use std::alloc::{AllocError, Global};
 
 // The status if something could not be checked.
@@ -30,7 +30,8 @@ pub(crate) trait Show: Watcher {
 }
 
 // Does what the words ask for, and returns the exit status. Neither output may have failed before the
-// call. What cannot be written to `errors` is left out.
+// call. What cannot be written to `errors` is left out. Memory runs out only before anything is written
+// to `out`.
 pub(crate) fn run<F: Folder, O: Sink, E: Sink, S: Show>(
     alloc: Global,
     words: &[String],
@@ -45,6 +46,7 @@ pub(crate) fn run<F: Folder, O: Sink, E: Sink, S: Show>(
         (O.contents out.old) (O.contents out.new) (E.has_failed errors.new)
         (E.contents errors.old) (E.contents errors.new)) }
     ensures failed { O.has_failed out.new ≡ is_output_trouble result }
+    ensures unwritten { IsErrOf result Trouble.Memory → out.new ≡ out.old }
     ensures short { asks_for_lines (command (map string_bytes words.now)) ≡ false → is_length_trouble result ≡ false }
 {
     match command_of(alloc, words)? {
@@ -88,6 +90,7 @@ fn print<O: Sink>(out: &mut O, text: &str) -> Result<u8, Trouble>
     ensures prints { IfOk result (λ status. (status ≡ 0)
         × Appends (O.contents out.old) (O.contents out.new) text.now) }
     ensures failed { O.has_failed out.new ≡ is_output_trouble result }
+    ensures unwritten { IsErrOf result Trouble.Memory → out.new ≡ out.old }
     ensures short { is_length_trouble result ≡ false }
 {
     match write_all(out, text.as_bytes()) {
@@ -121,6 +124,7 @@ fn check<F: Folder, O: Sink, E: Sink, S: Show>(
         (O.contents out.old) (O.contents out.new) (E.has_failed errors.new)
         (E.contents errors.old) (E.contents errors.new)) }
     ensures failed { O.has_failed out.new ≡ is_output_trouble result }
+    ensures unwritten { IsErrOf result Trouble.Memory → out.new ≡ out.old }
     ensures short { given.lines ≡ false → is_length_trouble result ≡ false }
 {
     let Given {
@@ -188,8 +192,8 @@ fn read_whole<R: FileSource>(
 {
     match read_all(alloc, reader) {
         Ok(text) => Ok(Ok(text)),
-        Err(ReadFault::Device) => Ok(Err(reader.why_failed())),
-        Err(ReadFault::Memory) => Err(Trouble::Memory),
+        Err(SourceFault::Device) => Ok(Err(reader.why_failed())),
+        Err(SourceFault::Memory) => Err(Trouble::Memory),
     }
 }
 
@@ -208,6 +212,7 @@ fn check_under<F: Folder, O: Sink, V: Watcher>(
         × AnswersFiles checker.now lines (F.bytes_of folder.now) (map string_bytes files.now) said text
         × Appends (O.contents out.old) (O.contents out.new) text × (status ≡ status_of_verdict said)) }
     ensures failed { O.has_failed out.new ≡ is_output_trouble result }
+    ensures unwritten { IsErrOf result Trouble.Memory → out.new ≡ out.old }
     ensures short { lines ≡ false → is_length_trouble result ≡ false }
 {
     match check_files(alloc, checker, lines, folder, files, out, watcher) {

@@ -1,34 +1,76 @@
 -- The answers to files, one by one.
 use Rattle.std.proofs.Common.{◌≡◌, ℕ, List, [], ◌∷◌, ◌++◌, Bool, true, false, Option, Some, None, Result, Ok, Err, IfOk}
-use Rattle.std.proofs.Common.{refl, sym, subst, inr}
+use Rattle.std.proofs.Common.{◌⊎◌, ◌∙◌, ap, refl, sym, subst, inl, inr}
+use Rattle.std.specs.Prelude.{codes}
 use Rattle.std.proofs.lemmas.List.{append-nil, append_assoc}
-use Rattle.std.specs.Io.KnownBytes.{Appends}
+use Rattle.std.specs.Io.KnownBytes.{Appends, Consumes, IsAtEnd}
 use Rattle.std.proofs.KnownBytes.{Appends-nil, Appends-trans}
 use Rattle.jskw_service.specs.declared.service.Verdict.{Verdict}
 use Rattle.jskw_service.specs.declared.service.Verdict.TheVariants.{Valid, Invalid, Refused}
-use Rattle.jskw_documents.specs.Files.{AnswersFile, AnswersFiles, AnswersPart, BeginsWithBytes}
-use Rattle.jskw_documents.specs.Files.{IsUnread}
+use Rattle.json.specs.Print.{escape_byte}
+use Rattle.jskw_documents.specs.Devices.{AnswersDocument, LosesDocument}
+use Rattle.jskw_documents.specs.Files.{AnswersFile, AnswersFiles, AnswersPart, AnswersWhole, BeginsWithBytes}
+use Rattle.jskw_documents.specs.Files.{HasBytes, IsUnread}
+use Rattle.jskw_documents.specs.Shown.{lost_text, memory_words, name_words}
 use Rattle.jskw_documents.specs.Streams.{worse_of}
 use Rattle.jskw_documents.specs.declared.checker.Checker.{Checker}
-
-nothing_begins : (r : Option (List ℕ)) → BeginsWithBytes r []
-nothing_begins None = tt
-nothing_begins (Some xs) = (xs, refl)
+use Rattle.jskw_documents.specs.declared.options.Output.{Output}
+use Rattle.jskw_documents.specs.declared.options.Output.TheVariants.{Text, Basic, Quiet}
 
 -- what was written goes from v to w, by a text of this kind
 abbrev pub Writes : (List ℕ → Type 0) → Option (List ℕ) → Option (List ℕ) → Type 0
 Writes Is v w = (text : List ℕ) × Is text × Appends v w text
 
--- a document that could not be read to its end: nothing was written
-pub part_document : (c : Checker) (file : List ℕ) (r v w : Option (List ℕ)) → w ≡ v
-    → Writes (AnswersPart c false file r) v w
-part_document c file r v w same = (
-  [],
-  record { bytes = []; begins = nothing_begins r; answer = refl },
-  subst (λ z. Appends v z []) (sym same) (Appends-nil v),
+-- ---- a file that is one document
+
+consumed : (r s : Option (List ℕ)) (bytes : List ℕ) → Consumes r s bytes → IsAtEnd s → HasBytes r bytes
+consumed None s bytes read end = tt
+consumed (Some xs) None bytes read end = absurd read
+consumed (Some xs) (Some ys) bytes read end = read ∙ ap (λ z. bytes ++ z) end ∙ append-nil bytes
+
+some_bytes : (r : Option (List ℕ)) → (bytes : List ℕ) × HasBytes r bytes
+some_bytes None = ([], tt)
+some_bytes (Some xs) = (xs, refl)
+
+whole_file : (said : Verdict) (c : Checker) (file : List ℕ) (r s v w : Option (List ℕ))
+    → AnswersDocument c file said r s v w ⊎ LosesDocument c file said v w
+    → Writes (AnswersWhole c false file r said) v w
+whole_file said c file r s v w (inl a) = (
+  a.text,
+  record { bytes = a.bytes; has = consumed r s a.bytes a.read a.whole; answer = inl (a.answer, a.says) },
+  a.wrote,
 )
+whole_file said c file r s v w (inr a) =
+    let all = some_bytes r in (
+      lost_text c.options.output file None,
+      record { bytes = all.0; has = all.1; answer = inr (refl, a.says) },
+      a.wrote,
+    )
+
+-- it was answered, or memory ran out for it
+pub whole_document : {E : Type 0} (made : Result Verdict E) (c : Checker) (lines : Bool) (file : List ℕ)
+    (r s v w : Option (List ℕ)) → lines ≡ false
+    → IfOk made (λ said. AnswersDocument c file said r s v w ⊎ LosesDocument c file said v w)
+    → IfOk made (λ said. Writes (AnswersWhole c lines file r said) v w)
+whole_document (Ok said) c lines file r s v w one a =
+    subst (λ z. Writes (AnswersWhole c z file r said) v w) (sym one) (whole_file said c file r s v w a)
+whole_document (Err e) c lines file r s v w one a = tt
 
 -- ---- a file
+
+nothing_begins : (r : Option (List ℕ)) → BeginsWithBytes r []
+nothing_begins None = tt
+nothing_begins (Some xs) = (xs, refl)
+
+nothing_read : (c : Checker) (lines : Bool) (file : List ℕ) (r : Option (List ℕ)) → AnswersPart c lines file r []
+nothing_read c true file r = record { bytes = []; begins = nothing_begins r; answer = (Valid, (refl, refl)) }
+nothing_read c false file r = record { bytes = []; begins = nothing_begins r; answer = refl }
+
+-- nothing was written
+pub nothing_written : (c : Checker) (lines : Bool) (file : List ℕ) (r v w : Option (List ℕ)) → w ≡ v
+    → Writes (AnswersPart c lines file r) v w
+nothing_written c lines file r v w same =
+    ([], nothing_read c lines file r, subst (λ z. Appends v z []) (sym same) (Appends-nil v))
 
 -- a refusal was written
 abbrev pub Refuses : Checker → List ℕ → Option (List ℕ) → Option (List ℕ) → Verdict → Type 0
@@ -53,16 +95,22 @@ refuses_behind (Ok said) c lines file r v w x part a = (
 )
 refuses_behind (Err e) c lines file r v w x part a = tt
 
-nothing_read : (c : Checker) (lines : Bool) (file : List ℕ) (r : Option (List ℕ)) → AnswersPart c lines file r []
-nothing_read c true file r = record { bytes = []; begins = nothing_begins r; answer = (Valid, (refl, refl)) }
-nothing_read c false file r = record { bytes = []; begins = nothing_begins r; answer = refl }
-
 -- a file that was not opened
 pub refuses_unopened : {E : Type 0} (made : Result Verdict E) (c : Checker) (lines : Bool) (file : List ℕ)
     (r v w : Option (List ℕ)) → IfOk made (Refuses c file v w)
     → IfOk made (λ said. Writes (AnswersFile c lines file r said) v w)
 refuses_unopened made c lines file r v w a =
-    refuses_behind made c lines file r v v w ([], nothing_read c lines file r, Appends-nil v) a
+    refuses_behind made c lines file r v v w (nothing_written c lines file r v v refl) a
+
+-- that memory ran out is a reason
+pub lost_unread : (output : Output) (file : List ℕ) → IsUnread output file (lost_text output file None)
+unfolding escape_byte
+lost_unread Basic file =
+    (codes "memory ran out", ap (λ z. z ++ memory_words Basic) (sym (append-nil (name_words Basic file))))
+lost_unread Text file =
+    (codes "refused: memory ran out", ap (λ z. z ++ memory_words Text) (sym (append-nil (name_words Text file))))
+lost_unread Quiet file =
+    (codes "refused: memory ran out", ap (λ z. z ++ memory_words Quiet) (sym (append-nil (name_words Quiet file))))
 
 -- ---- files
 

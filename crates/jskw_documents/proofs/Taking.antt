@@ -1,12 +1,13 @@
 -- What is taken of a stream, and the answers, step by step.
 use Rattle.std.proofs.Common.{◌≡◌, ◌<◌, ℕ, suc, ◌+◌, List, [], ◌∷◌, ◌++◌, true, length, Option, refl, sym, ap, ◌∙◌}
-use Rattle.std.proofs.Common.{add-zero, arith, length-append, subst, Result, Ok, Err, IfOk, OnOk}
+use Rattle.std.proofs.Common.{Some, add-zero, arith, length-append, subst, Result, Ok, Err, IfOk, OnOk}
 use Rattle.std.proofs.lemmas.List.{append-nil, append_assoc}
 use Rattle.std.specs.Io.KnownBytes.{Appends, IsAtEnd}
 use Rattle.std.proofs.KnownBytes.{Appends-nil, Appends-trans, Consumes-nil, Consumes-trans}
 use Rattle.jskw_service.specs.declared.service.Verdict.{Verdict}
 use Rattle.jskw_service.specs.declared.service.Verdict.TheVariants.{Valid}
-use Rattle.jskw_documents.specs.Streams.{AnswersBegun, AnswersLine, AnswersLines, AnswersNext, AreAnswers, IsKept}
+use Rattle.jskw_documents.specs.Documents.{IsAnswered}
+use Rattle.jskw_documents.specs.Streams.{AnswersBegun, AnswersLines, AnswersNext, AreAnswers, IsKept}
 use Rattle.jskw_documents.specs.Streams.{Moves, Takes, Told, begun_of, is_in_line, last_line_of, lines_of, worse_of}
 use Rattle.jskw_documents.specs.declared.checker.Checker.{Checker}
 use Rattle.jskw_documents.specs.declared.lines.Lines.{Lines}
@@ -47,12 +48,12 @@ told_then v w u x y z t s one two = (
 )
 
 -- what is ready is written, and the text behind it
-pub told_behind : (v w u : Option (List ℕ)) (x y ready s t : List ℕ) → ready ≡ x → y ≡ [] → s ≡ t
-    → Appends v w ready → Appends w u s → Told v x u y t
-told_behind v w u x y ready s t is none same first second = (
-  ready ++ s,
-  Appends-trans v w u ready s first second,
-  ap (λ z. (ready ++ s) ++ z) none ∙ append-nil (ready ++ s) ∙ ap (λ z. z ++ s) is ∙ ap (λ z. x ++ z) same,
+pub told_behind : (v w u : Option (List ℕ)) (x y ready t : List ℕ) → ready ≡ x → y ≡ [] → Appends v w ready
+    → Appends w u t → Told v x u y t
+told_behind v w u x y ready t is none first second = (
+  ready ++ t,
+  Appends-trans v w u ready t first second,
+  ap (λ z. (ready ++ t) ++ z) none ∙ append-nil (ready ++ t) ∙ ap (λ z. z ++ t) is,
 )
 
 -- ---- bytes that are taken
@@ -87,8 +88,8 @@ pub takes_line : (c : Checker) (file line : List ℕ) (a e b : Lines) (xs : List
     → (t : List ℕ) × Takes c file line a (xs ++ (10 ∷ [])) t b × Told v x w y t
 takes_line c file line a e b xs v w x y inside number worst kept made =
     let ends : lines_of line (xs ++ (10 ∷ [])) ≡ (line ++ xs) ∷ [] = line_ended line xs inside in
-    let answers : AnswersLine c file a.next (line ++ xs) made.answer made.said =
-    subst (λ n. AnswersLine c file n (line ++ xs) made.answer made.said) number made.answers in (
+    let answers : IsAnswered c file (Some a.next) (line ++ xs) made.answer made.said =
+    subst (λ n. IsAnswered c file (Some n) (line ++ xs) made.answer made.said) number made.answers in (
       made.answer,
       record {
         answers =

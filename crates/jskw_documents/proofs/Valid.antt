@@ -15,7 +15,7 @@ use Rattle.jskw_wanted.specs.Seen.{Sees}
 use Rattle.jskw_wanted.proofs.Pruned.{the_law}
 use Rattle.jskw_documents.specs.Documents.{IsAnswerOf, errors_of_read, errors_of_tree, verdict_if, verdict_of_read}
 use Rattle.jskw_documents.specs.Reports.{IsReportAs, first_of, is_cut}
-use Rattle.jskw_documents.specs.declared.options.Options.{Options}
+use Rattle.jskw_documents.specs.declared.checker.Checker.{Checker}
 use Rattle.jskw_documents.specs.declared.options.Output.{Output}
 use Rattle.jskw_documents.specs.declared.options.Output.TheVariants.{Text, Basic, Quiet}
 use Rattle.jskw_documents.proofs.Cut.{uncut}
@@ -45,14 +45,15 @@ never_cut n fs none =
     sym (uncut n fs (first_of (n + 1) fs) refl (subst (λ gs. length gs ≤ n) (sym first) (omega arith)))
 
 -- the report on no error is the answer
-pub valid_answer : (o : Options) (s : Schema) (file : List ℕ) (line : Option ℕ) (bytes : List ℕ)
-    (read : Option (Result Tree Pointer)) (text : List ℕ) → verdict_of_read s read ≡ Valid
-    → IsReportAs o.output o.verbose file line false [] text → IsAnswerOf o s file line bytes read text
-valid_answer o s file line bytes None text is report = cc
-valid_answer o s file line bytes (Some (Err p)) text is report = cc
-valid_answer o s file line bytes (Some (Ok t)) text is report =
-    let none = no_failure s t (holds_if (holds s t) is) in
-    let fs = fail s t [] in
+pub valid_answer : (c : Checker) (file : List ℕ) (line : Option ℕ) (bytes : List ℕ)
+    (read : Option (Result Tree Pointer)) (text : List ℕ) → verdict_of_read c.schema read ≡ Valid
+    → IsReportAs c.options.output c.options.verbose file line false [] text → IsAnswerOf c file line bytes read text
+valid_answer c file line bytes None text is report = cc
+valid_answer c file line bytes (Some (Err p)) text is report = cc
+valid_answer c file line bytes (Some (Ok t)) text is report =
+    let o = c.options in
+    let none = no_failure c.schema t (holds_if (holds c.schema t) is) in
+    let fs = fail c.schema t [] in
     subst (λ cut. IsReportAs o.output o.verbose file line cut (first_of o.limit fs) text)
     (sym (never_cut o.limit fs none))
     (subst (λ gs. IsReportAs o.output o.verbose file line false gs text) (sym (no_first o.limit fs none)) report)

@@ -2,7 +2,9 @@
 use Rattle.std.specs.Prelude.{◌≡◌, ℕ, List, Bool, true, false, Option, None, Result, Err, codes}
 use Rattle.std.specs.Io.KnownBytes.{Appends, Consumes, IsAtEnd}
 use Rattle.jskw_service.specs.declared.service.Verdict.{Verdict}
+use Rattle.jskw_service.specs.declared.service.Verdict.TheVariants.{Refused}
 use Rattle.jskw_documents.specs.Documents.{IsAnswer, verdict_on}
+use Rattle.jskw_documents.specs.Shown.{lost_text}
 use Rattle.jskw_documents.specs.declared.checker.Checker.{Checker}
 use Rattle.jskw_documents.specs.declared.fault.CheckFault.{CheckFault}
 use Rattle.jskw_documents.specs.declared.fault.CheckFault.TheVariants.{Memory, Read, TooLong, Write}
@@ -41,6 +43,11 @@ pub record AnswersDocument (c : Checker) (file : List ℕ) (said : Verdict) (r s
   pub text : List ℕ
   pub read : Consumes r s bytes
   pub whole : IsAtEnd s
-  pub answer : IsAnswer c.options c.schema file None bytes text
+  pub answer : IsAnswer c file None bytes text
   pub says : said ≡ verdict_on c.schema bytes
   pub wrote : Appends v w text
+
+-- memory ran out for the document, and that was written; this is the verdict
+pub record LosesDocument (c : Checker) (file : List ℕ) (said : Verdict) (v w : Option (List ℕ)) : Type 0 where
+  pub says : said ≡ Refused
+  pub wrote : Appends v w (lost_text c.options.output file None)

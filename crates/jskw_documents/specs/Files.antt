@@ -2,7 +2,7 @@
 use Rattle.std.specs.Prelude.{◌≡◌, ◌⊎◌, ℕ, List, [], ◌∷◌, ◌++◌, Bool, true, false, Option, Some, None, ⊤}
 use Rattle.jskw_service.specs.declared.service.Verdict.{Verdict}
 use Rattle.jskw_service.specs.declared.service.Verdict.TheVariants.{Valid, Refused}
-use Rattle.jskw_documents.specs.Documents.{IsAnswer, verdict_on}
+use Rattle.jskw_documents.specs.Documents.{IsAnswered}
 use Rattle.jskw_documents.specs.Shown.{refusal_text}
 use Rattle.jskw_documents.specs.Streams.{AreAnswers, documents_of, lines_of, worse_of}
 use Rattle.jskw_documents.specs.declared.checker.Checker.{Checker}
@@ -22,8 +22,7 @@ BeginsWithBytes (Some known) bytes = (rest : List ℕ) × (known ≡ bytes ++ re
 
 abbrev pub IsFileAnswer : Checker → Bool → List ℕ → List ℕ → List ℕ → Verdict → Type 0
 IsFileAnswer c true file bytes text said = AreAnswers c file 1 (documents_of bytes) text Valid said
-IsFileAnswer c false file bytes text said =
-    IsAnswer c.options c.schema file None bytes text × (said ≡ verdict_on c.schema bytes)
+IsFileAnswer c false file bytes text said = IsAnswered c file None bytes text said
 
 -- those to the lines that were read whole, before the file could not be read on; a document was not
 abbrev pub IsBegunAnswer : Checker → Bool → List ℕ → List ℕ → List ℕ → Type 0
@@ -36,7 +35,7 @@ IsUnread output file text = (why : List ℕ) × (text ≡ refusal_text output fi
 
 -- ---- one file
 
--- the file was read to its end
+-- the file is answered, as one document or line by line
 pub record AnswersWhole (c : Checker) (lines : Bool) (file : List ℕ) (known : Option (List ℕ)) (said : Verdict)
     (text : List ℕ) : Type 0 where
   pub bytes : List ℕ

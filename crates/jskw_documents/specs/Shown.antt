@@ -106,7 +106,7 @@ refusal_text output file line column location why =
     ++ (if_some (shown_after (codes ": ")) (option_map place_shown location)
     ++ (shown_after (codes ": ") why ++ codes "\n"))
 
--- ---- a line that memory ran out for: FILE:LINE: refused: memory ran out
+-- ---- a document that memory ran out for: FILE: refused: memory ran out, of a line FILE:LINE: ..
 
 abbrev pub name_words : Output → List ℕ → List ℕ
 name_words Basic file = quoted_after (codes "{\"file\":") file
@@ -120,8 +120,9 @@ abbrev pub memory_words : Output → List ℕ
 memory_words Basic = codes ",\"refused\":\"memory ran out\"}\n"
 memory_words output = codes ": refused: memory ran out\n"
 
-abbrev pub lost_line : Output → List ℕ → ℕ → List ℕ
-lost_line output file n = name_words output file ++ (before_line output ++ (decimal n ++ memory_words output))
+abbrev pub lost_text : Output → List ℕ → Option ℕ → List ℕ
+lost_text output file line =
+    name_words output file ++ (if_some (number_after (before_line output)) line ++ memory_words output)
 
 -- ---- errors, each with some message
 

@@ -1,11 +1,10 @@
 -- The lines of a stream, each of which is a document, and the answers to them.
 use Rattle.std.specs.Prelude.{◌≡◌, ℕ, suc, ◌+◌, eqb, List, [], ◌∷◌, ◌++◌, length, if◌then◌else◌, Option, Some, Bool}
-use Rattle.std.specs.Prelude.{◌<◌, ◌⊎◌, None, Vec, take, drop, true, false}
+use Rattle.std.specs.Prelude.{◌<◌, None, Vec, take, drop, true, false}
 use Rattle.std.specs.Io.KnownBytes.{Appends, Consumes, IsAtEnd}
 use Rattle.jskw_service.specs.declared.service.Verdict.{Verdict}
 use Rattle.jskw_service.specs.declared.service.Verdict.TheVariants.{Valid, Invalid, Refused}
-use Rattle.jskw_documents.specs.Documents.{IsAnswer, verdict_on}
-use Rattle.jskw_documents.specs.Shown.{lost_line}
+use Rattle.jskw_documents.specs.Documents.{IsAnswered}
 use Rattle.jskw_documents.specs.declared.checker.Checker.{Checker}
 use Rattle.jskw_documents.specs.declared.lines.Lines.{Lines}
 
@@ -54,18 +53,12 @@ worse_of Valid Valid = Valid
 
 -- ---- answers
 
--- a line is answered, or it is refused because memory ran out; and the verdict
-abbrev pub AnswersLine : Checker → List ℕ → ℕ → List ℕ → List ℕ → Verdict → Type 0
-AnswersLine c file n d text said =
-    (IsAnswer c.options c.schema file (Some n) d text × (said ≡ verdict_on c.schema d))
-    ⊎ ((text ≡ lost_line c.options.output file n) × (said ≡ Refused))
-
 -- the text has the answer to each document, in order; the first is line n; the worst verdict goes from v to w
 abbrev pub AreAnswers : Checker → List ℕ → ℕ → List (List ℕ) → List ℕ → Verdict → Verdict → Type 0
 AreAnswers c file n [] text v w = (text ≡ []) × (w ≡ v)
 AreAnswers c file n (d ∷ ds) text v w =
-    (first : List ℕ) × (rest : List ℕ) × (said : Verdict) × (text ≡ first ++ rest) × AnswersLine c file n d first said
-    × AreAnswers c file (suc n) ds rest (worse_of v said) w
+    (first : List ℕ) × (rest : List ℕ) × (said : Verdict) × (text ≡ first ++ rest)
+    × IsAnswered c file (Some n) d first said × AreAnswers c file (suc n) ds rest (worse_of v said) w
 
 -- what is kept of a line that is begun: its bytes, or nothing, if memory ran out for them
 abbrev pub IsKept : {A : Type 0} → Option (Vec ℕ A) → List ℕ → Type 0
@@ -88,7 +81,7 @@ pub record AnswersNext (c : Checker) (file document : List ℕ) (before after : 
     (w : Option (List ℕ)) (y : List ℕ) : Type 0 where
   pub answer : List ℕ
   pub said : Verdict
-  pub answers : AnswersLine c file before.next document answer said
+  pub answers : IsAnswered c file (Some before.next) document answer said
   pub next : after.next ≡ before.next + 1
   pub verdict : after.verdict ≡ worse_of before.verdict said
   pub told : Told v x w y answer

@@ -7,16 +7,16 @@ ghost use Rattle.jskw_value.specs.DecimalTree.{decimal_tree};
 ghost use Rattle.jskw_report.specs.Errors.{failures_of};
 ghost use Rattle.jskw_report.specs.Fail.{fail, is_empty};
 ghost use Rattle.jskw_report.specs.Holds.{holds};
-ghost use Rattle.jskw_documents.specs.Documents.{IsAnswer, IsRefusalAt, errors_in, errors_of_tree, line_shown};
-ghost use Rattle.jskw_documents.specs.Documents.{verdict_if, verdict_on};
+ghost use Rattle.jskw_documents.specs.Documents.{IsAnswer, IsAnswerToTree, IsRefusalAt, errors_in};
+ghost use Rattle.jskw_documents.specs.Documents.{errors_of_tree, line_shown, verdict_if, verdict_on};
 ghost use Rattle.jskw_documents.specs.Reports.{IsReportAs, first_of, is_cut};
 ghost use Rattle.jskw_documents.specs.Streams.{worse_of};
 
-use crate::checker::Checker;
 use crate::errors::{Document, report};
-use crate::options::{Options, Output};
+use crate::options::Output;
 use crate::place::{Place, refusal};
 use crate::starts::Starts;
+use crate::stream::Stream;
 use jskw_array::SchemaNode;
 use jskw_report::{ValidationContext, ValidationError};
 use jskw_service::{Verdict, first_errors};
@@ -38,35 +38,29 @@ pub struct Answer {
 /// Answers the document of these bytes, which is a file, or a line of one. `reader` can serve for any
 /// number of documents.
 pub fn answer_to(
-    alloc: Global,
-    checker: &Checker,
-    file: &str,
+    stream: &Stream<'_, '_>,
     line: Option<usize>,
     document: &[u8],
     reader: &mut TreeReader,
 ) -> Result<Answer, AllocError>
     ensures verdict { IfOk result
-        (λ answer. answer.verdict ≡ verdict_on checker.now.schema document.now) }
-    ensures text { IfOk result (λ answer. IsAnswer checker.now.options checker.now.schema file.now line
-        document.now answer.text.items) }
-    ensures errors { IfOk result
-        (λ answer. answer.errors ≡ errors_in checker.now.options checker.now.schema document.now) }
+        (λ answer. answer.verdict ≡ verdict_on stream.now.checker.now.schema document.now) }
+    ensures text { IfOk result (λ answer. IsAnswer stream.now.checker.now stream.now.file.now line document.now
+        answer.text.items) }
+    ensures errors { IfOk result (λ answer. answer.errors ≡ errors_in stream.now.checker.now document.now) }
 {
     match reader.read(document) {
         Ok(tree) => {
-            let answer = answer_to_tree(alloc, checker, file, line, document, &tree);
+            let answer = answer_to_tree(stream, line, document, &tree);
             reader.reuse(tree);
             answer
         }
         Err(ReadFault::NotJson(reason, at)) => {
-            let (output, why) = (checker.options.output, reason.sentence());
-            refuse(alloc, output, file, line, document, &at, None, why)
+            refuse(stream, line, document, &at, None, reason.sentence())
         }
         Err(ReadFault::Inexact(location, at)) => {
-            let output = checker.options.output;
-            let why = "the number has no exact decimal";
-            let location = Some(location.as_str());
-            refuse(alloc, output, file, line, document, &at, location, why)
+            let (location, why) = (Some(location.as_str()), "the number has no exact decimal");
+            refuse(stream, line, document, &at, location, why)
         }
         Err(ReadFault::Memory(error)) => Err(error),
     }
@@ -75,57 +69,48 @@ pub fn answer_to(
 // Answers a document as `answer_to` does, and reads it twice unless it is valid: at first what the
 // schema looks at alone.
 pub(crate) fn quick_answer_to(
-    alloc: Global,
-    checker: &Checker,
-    file: &str,
+    stream: &Stream<'_, '_>,
     line: Option<usize>,
     document: &[u8],
     reader: &mut TreeReader,
 ) -> Result<Answer, AllocError>
     ensures verdict { IfOk result
-        (λ answer. answer.verdict ≡ verdict_on checker.now.schema document.now) }
-    ensures text { IfOk result (λ answer. IsAnswer checker.now.options checker.now.schema file.now line
-        document.now answer.text.items) }
-    ensures errors { IfOk result
-        (λ answer. answer.errors ≡ errors_in checker.now.options checker.now.schema document.now) }
+        (λ answer. answer.verdict ≡ verdict_on stream.now.checker.now.schema document.now) }
+    ensures text { IfOk result (λ answer. IsAnswer stream.now.checker.now stream.now.file.now line document.now
+        answer.text.items) }
+    ensures errors { IfOk result (λ answer. answer.errors ≡ errors_in stream.now.checker.now document.now) }
 {
-    if checker.schema.finds_valid(document, reader) {
-        return valid_answer(alloc, &checker.options, file, line);
+    if stream.checker.schema.finds_valid(document, reader) {
+        return valid_answer(stream, line);
     }
-    answer_to(alloc, checker, file, line, document, reader)
+    answer_to(stream, line, document, reader)
 }
 
 // Returns the answer to a valid document.
-fn valid_answer(
-    alloc: Global,
-    options: &Options,
-    file: &str,
-    line: Option<usize>,
-) -> Result<Answer, AllocError>
+fn valid_answer(stream: &Stream<'_, '_>, line: Option<usize>) -> Result<Answer, AllocError>
     ensures verdict { IfOk result (λ answer. answer.verdict ≡ Verdict.Valid) }
-    ensures text { IfOk result (λ answer.
-        IsReportAs options.now.output options.now.verbose file.now line false [] answer.text.items) }
+    ensures text { IfOk result (λ answer. IsReportAs stream.now.checker.now.options.output
+        stream.now.checker.now.options.verbose stream.now.file.now line false [] answer.text.items) }
     ensures errors { IfOk result (λ answer. answer.errors ≡ 0) }
 {
-    let starts = Starts::of(alloc, b"")?;
+    let starts = Starts::of(stream.alloc, b"")?;
     let document = Document {
-        file,
+        file: stream.file,
         line,
         starts: &starts,
     };
+    let options = &stream.checker.options;
     Ok(Answer {
         verdict: Verdict::Valid,
         errors: 0,
-        text: report(alloc, options, &document, &[], false)?,
+        text: report(stream.alloc, options, &document, &[], false)?,
     })
 }
 
 // Returns the answer to a document that was not checked, for what stands at this place of it.
 #[cold]
 fn refuse(
-    alloc: Global,
-    output: Output,
-    file: &str,
+    stream: &Stream<'_, '_>,
     line: Option<usize>,
     document: &[u8],
     at: &Position,
@@ -134,19 +119,20 @@ fn refuse(
 ) -> Result<Answer, AllocError>
     requires { IsPlaceIn document.now at.now }
     ensures verdict { IfOk result (λ answer. answer.verdict ≡ Verdict.Refused) }
-    ensures text { IfOk result (λ answer. IsRefusalAt at.now.offset output file.now line document.now
-        (option_map (λ l. l.now) location.entry) answer.text.items) }
+    ensures text { IfOk result (λ answer. IsRefusalAt at.now.offset stream.now.checker.now.options.output
+        stream.now.file.now line document.now (option_map (λ l. l.now) location.entry) answer.text.items) }
     ensures errors { IfOk result (λ answer. answer.errors ≡ 0) }
 {
     let place = Place {
-        file,
+        file: stream.file,
         line: Some(shown_line(line, at.line)),
         column: Some(at.column),
     };
+    let output = stream.checker.options.output;
     Ok(Answer {
         verdict: Verdict::Refused,
         errors: 0,
-        text: refusal(alloc, output, &place, location, why)?,
+        text: refusal(stream.alloc, output, &place, location, why)?,
     })
 }
 
@@ -163,26 +149,23 @@ fn shown_line(line: Option<usize>, within: usize) -> usize
 
 // Returns the answer to a document that was read.
 fn answer_to_tree(
-    alloc: Global,
-    checker: &Checker,
-    file: &str,
+    stream: &Stream<'_, '_>,
     line: Option<usize>,
     document: &[u8],
     tree: &DecimalTree,
 ) -> Result<Answer, AllocError>
     ensures verdict { IfOk result (λ answer. answer.verdict
-        ≡ verdict_if (holds checker.now.schema (decimal_tree tree.now))) }
-    ensures text { IfOk result (λ answer. IsReportAs checker.now.options.output checker.now.options.verbose
-        file.now line (is_cut checker.now.options.limit (fail checker.now.schema (decimal_tree tree.now) []))
-        (first_of checker.now.options.limit (fail checker.now.schema (decimal_tree tree.now) []))
-        answer.text.items) }
-    ensures errors { IfOk result (λ answer. answer.errors ≡ errors_of_tree checker.now.options.output
-        checker.now.options.limit checker.now.schema (decimal_tree tree.now)) }
+        ≡ verdict_if (holds stream.now.checker.now.schema (decimal_tree tree.now))) }
+    ensures text { IfOk result (λ answer. IsAnswerToTree stream.now.checker.now stream.now.file.now line
+        (decimal_tree tree.now) answer.text.items) }
+    ensures errors { IfOk result (λ answer. answer.errors ≡ errors_of_tree stream.now.checker.now.options.output
+        stream.now.checker.now.options.limit stream.now.checker.now.schema (decimal_tree tree.now)) }
 {
+    let checker = stream.checker;
     match checker.options.output {
-        Output::Quiet => Ok(quiet_answer(alloc, checker.schema.node(), tree)),
-        Output::Text => answer_of_errors(alloc, checker, file, line, document, tree),
-        Output::Basic => answer_of_errors(alloc, checker, file, line, document, tree),
+        Output::Quiet => Ok(quiet_answer(stream.alloc, checker.schema.node(), tree)),
+        Output::Text => answer_of_errors(stream, line, document, tree),
+        Output::Basic => answer_of_errors(stream, line, document, tree),
     }
 }
 
@@ -205,26 +188,23 @@ fn quiet_answer(alloc: Global, schema: &SchemaNode<DecimalJson>, tree: &DecimalT
 
 // Returns the answer that has the errors.
 fn answer_of_errors(
-    alloc: Global,
-    checker: &Checker,
-    file: &str,
+    stream: &Stream<'_, '_>,
     line: Option<usize>,
     document: &[u8],
     tree: &DecimalTree,
 ) -> Result<Answer, AllocError>
     ensures verdict { IfOk result (λ answer. answer.verdict
-        ≡ verdict_if (holds checker.now.schema (decimal_tree tree.now))) }
-    ensures text { IfOk result (λ answer. IsReportAs checker.now.options.output checker.now.options.verbose
-        file.now line (is_cut checker.now.options.limit (fail checker.now.schema (decimal_tree tree.now) []))
-        (first_of checker.now.options.limit (fail checker.now.schema (decimal_tree tree.now) []))
-        answer.text.items) }
-    ensures errors { IfOk result (λ answer. answer.errors ≡ length (first_of checker.now.options.limit
-        (fail checker.now.schema (decimal_tree tree.now) []))) }
+        ≡ verdict_if (holds stream.now.checker.now.schema (decimal_tree tree.now))) }
+    ensures text { IfOk result (λ answer. IsAnswerToTree stream.now.checker.now stream.now.file.now line
+        (decimal_tree tree.now) answer.text.items) }
+    ensures errors { IfOk result (λ answer. answer.errors ≡ length (first_of stream.now.checker.now.options.limit
+        (fail stream.now.checker.now.schema (decimal_tree tree.now) []))) }
 {
+    let (alloc, checker) = (stream.alloc, stream.checker);
     let (errors, is_cut) = shown_errors(alloc, checker.options.limit, checker.schema.node(), tree)?;
     let starts = starts_for(alloc, errors.as_slice(), document)?;
     let document = Document {
-        file,
+        file: stream.file,
         line,
         starts: &starts,
     };

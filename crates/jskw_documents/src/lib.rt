@@ -1,6 +1,7 @@
 //! Checks documents against a compiled schema: files, and the lines of streams.
 //!
 //! - [`schema_of`] compiles the schema of a text.
+//! - [`Stream`] names what is checked, and has what it is checked against.
 //! - [`answer_to`] answers one document that is in memory.
 //! - [`check_document`] reads a document from a reader and writes the answer.
 //! - [`check_lines`] does so for each line of a reader, and keeps one line in memory at a time.
@@ -41,5 +42,6 @@ pub use lines::check_lines;
 pub use options::{Options, Output};
 pub use place::{Place, refusal};
 pub use schema::{SchemaOptions, schema_of};
+pub use stream::Stream;
 pub use watcher::{Counts, Watcher};
 pub use words::push_shown;

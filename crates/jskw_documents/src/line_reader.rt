@@ -37,14 +37,13 @@ impl LineReader {
     ) -> Result<Answer, AllocError>
         ensures verdict { IfOk result
             (λ answer. answer.verdict ≡ verdict_on stream.now.checker.now.schema line.now) }
-        ensures text { IfOk result (λ answer. IsAnswer stream.now.checker.now.options
-            stream.now.checker.now.schema stream.now.file.now (Some number) line.now answer.text.items) }
+        ensures text { IfOk result (λ answer. IsAnswer stream.now.checker.now stream.now.file.now (Some number)
+            line.now answer.text.items) }
     {
-        let (alloc, checker, file) = (stream.alloc, stream.checker, stream.file);
         let answer = if self.valid_lines < IN_A_ROW {
-            answer_to(alloc, checker, file, Some(number), line, &mut self.trees)?
+            answer_to(stream, Some(number), line, &mut self.trees)?
         } else {
-            quick_answer_to(alloc, checker, file, Some(number), line, &mut self.trees)?
+            quick_answer_to(stream, Some(number), line, &mut self.trees)?
         };
         self.valid_lines = match answer.verdict {
             Verdict::Valid => self.valid_lines.saturating_add(1),

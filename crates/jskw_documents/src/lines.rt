@@ -1,23 +1,21 @@
 //! The lines of a stream, each of which is a document.
 ghost use Rattle.std.specs.Prelude.{◌≡◌, ◌<◌, ◌++◌, [], ◌∷◌, ℕ, List, false, true, IfOk, IfSome, MatchOption, OnOk};
-ghost use Rattle.std.specs.Prelude.{IsErrOf, length, take, ◌≤◌};
+ghost use Rattle.std.specs.Prelude.{IsErrOf, Some, length, take, ◌≤◌};
 ghost use Rattle.std.specs.Io.KnownBytes.{Appends, IsAtEnd};
-ghost use Rattle.jskw_documents.specs.Documents.{IsAnswer, verdict_on};
+ghost use Rattle.jskw_documents.specs.Documents.{IsAnswer, IsAnswered, verdict_on};
 ghost use Rattle.jskw_documents.specs.Devices.{is_memory_fault, is_read_fault, is_write_fault};
-ghost use Rattle.jskw_documents.specs.Shown.{lost_line};
-ghost use Rattle.jskw_documents.specs.Streams.{AnswersBegun, AnswersLine, AnswersLines, AnswersNext, AreAnswers};
+ghost use Rattle.jskw_documents.specs.Shown.{lost_text};
+ghost use Rattle.jskw_documents.specs.Streams.{AnswersBegun, AnswersLines, AnswersNext, AreAnswers};
 ghost use Rattle.jskw_documents.specs.Streams.{Ends, IsFirstLine, IsKept, Moves, Takes, Told, is_in_line};
 ghost use Rattle.jskw_documents.specs.Streams.{last_line_of};
 
 use crate::answer::{Answer, worse_of};
-use crate::checker::Checker;
 use crate::fault::CheckFault;
 use crate::line_reader::LineReader;
-use crate::lost::{named, write_lost};
+use crate::lost::write_lost;
 use crate::stream::Stream;
 use crate::watcher::{Counts, Watcher};
 use jskw_service::{Sink, Source, Verdict, write_all};
-use std::alloc::Global;
 use std::mem;
 
 // The number of bytes that one read can return at most.
@@ -53,40 +51,8 @@ pub(crate) struct Lines {
 /// # Errors
 ///
 /// Fails if a device does, or if the reader gave 2^64 blocks or lines. If the reader failed, the
-/// answers to all lines that were read to their end are written. Memory runs out only before anything
-/// is read.
+/// answers to all lines that were read to their end are written.
 pub fn check_lines<R: Source, W: Sink, V: Watcher>(
-    alloc: Global,
-    checker: &Checker,
-    file: &str,
-    reader: &mut R,
-    writer: &mut W,
-    watcher: &mut V,
-) -> Result<Verdict, CheckFault>
-    requires reader_works { R.has_failed reader.old ≡ false }
-    requires writer_works { W.has_failed writer.old ≡ false }
-    ensures answers { IfOk result (λ said. AnswersLines checker.now file.now said
-        (R.remaining reader.old) (R.remaining reader.new) (W.contents writer.old) (W.contents writer.new)) }
-    ensures works { OnOk result (R.has_failed reader.new ≡ false) }
-    ensures failed { W.has_failed writer.new ≡ is_write_fault result }
-    ensures read_failed { IsErrOf result CheckFault.Read → R.has_failed reader.new ≡ true }
-    ensures begun { IsErrOf result CheckFault.Read → AnswersBegun checker.now file.now
-        (R.remaining reader.old) (R.remaining reader.new) (W.contents writer.old) (W.contents writer.new) }
-    ensures unread { IsErrOf result CheckFault.Memory → reader.new ≡ reader.old }
-    ensures unwritten { IsErrOf result CheckFault.Memory → writer.new ≡ writer.old }
-{
-    let name = named(alloc, checker.options.output, file)?;
-    let stream = Stream {
-        alloc,
-        checker,
-        file,
-        name,
-    };
-    read_lines(&stream, reader, writer, watcher)
-}
-
-// Reads a stream to its end, and writes the answers.
-fn read_lines<R: Source, W: Sink, V: Watcher>(
     stream: &Stream<'_, '_>,
     reader: &mut R,
     writer: &mut W,
@@ -325,7 +291,7 @@ fn said_of<W: Sink>(
 ) -> Result<(Verdict, usize), CheckFault>
     requires { W.has_failed writer.old ≡ false }
     ensures answer { IfOk result (λ said. (document : List ℕ) → IfSome line.entry (λ l. l.now ≡ document)
-        → (answer : List ℕ) × AnswersLine stream.now.checker.now stream.now.file.now number document answer said.0
+        → (answer : List ℕ) × IsAnswered stream.now.checker.now stream.now.file.now (Some number) document answer said.0
         × Told (W.contents writer.old) text.old.items (W.contents writer.new) text.new.items answer) }
     ensures failed { W.has_failed writer.new ≡ is_write_fault result }
     ensures no_read { is_read_fault result ≡ false }
@@ -351,8 +317,8 @@ fn pushed_answer(
 ) -> Option<Answer>
     ensures { MatchOption result (text.new.items ≡ text.old.items)
         (λ answer. (document : List ℕ) → IfSome line.entry (λ l. l.now ≡ document)
-        → IsAnswer stream.now.checker.now.options stream.now.checker.now.schema stream.now.file.now
-        (Some number) document answer.text.items × (text.new.items ≡ text.old.items ++ answer.text.items)
+        → IsAnswer stream.now.checker.now stream.now.file.now (Some number) document answer.text.items
+        × (text.new.items ≡ text.old.items ++ answer.text.items)
         × (answer.verdict ≡ verdict_on stream.now.checker.now.schema document)) }
 {
     let line = line?;
@@ -374,7 +340,7 @@ fn refuse<W: Sink>(
 ) -> Result<(), CheckFault>
     requires { W.has_failed writer.old ≡ false }
     ensures told { OnOk result (Told (W.contents writer.old) text.old.items (W.contents writer.new)
-        text.new.items (lost_line stream.now.checker.now.options.output stream.now.file.now number)) }
+        text.new.items (lost_text stream.now.checker.now.options.output stream.now.file.now (Some number))) }
     ensures failed { W.has_failed writer.new ≡ is_write_fault result }
     ensures no_read { is_read_fault result ≡ false }
     ensures memory { is_memory_fault result ≡ false }
@@ -383,7 +349,7 @@ fn refuse<W: Sink>(
     let Ok(()) = write_all(writer, &ready) else {
         return Err(CheckFault::Write);
     };
-    match write_lost(writer, stream.checker.options.output, &stream.name, number) {
+    match write_lost(stream, Some(number), writer) {
         Ok(()) => Ok(()),
         Err(_) => Err(CheckFault::Write),
     }

@@ -2,7 +2,7 @@
 ghost use Rattle.std.specs.Prelude.{◌≡◌, ℕ, false, true, take, is_err, OnOk, OnErr};
 ghost use Rattle.std.specs.Prelude.{IfOk, IsErrOf};
 ghost use Rattle.std.specs.Io.KnownBytes.{Consumes, Appends, IsAtEnd};
-ghost use Rattle.jskw_service.specs.declared.io.ReadFault.TheVariants.{Memory, Device};
+ghost use Rattle.jskw_service.specs.declared.io.SourceFault.TheVariants.{Memory, Device};
 
 use crate::device::{DeviceFault, Sink, Source};
 use std::alloc::{AllocError, Global};
@@ -12,26 +12,26 @@ const BLOCK: usize = 65536;
 
 /// Why reading stopped before the end.
 #[derive(Clone, Copy, Debug, PartialEq, Eq)]
-pub enum ReadFault {
+pub enum SourceFault {
     /// Memory ran out.
     Memory,
     /// The device failed.
     Device,
 }
 
-impl From<AllocError> for ReadFault {
+impl From<AllocError> for SourceFault {
     ghost from_gives = { λ _ e. e ≡ Memory };
 
-    fn from(_e: AllocError) -> ReadFault {
-        ReadFault::Memory
+    fn from(_e: AllocError) -> SourceFault {
+        SourceFault::Memory
     }
 }
 
-impl From<DeviceFault> for ReadFault {
+impl From<DeviceFault> for SourceFault {
     ghost from_gives = { λ _ e. e ≡ Device };
 
-    fn from(_e: DeviceFault) -> ReadFault {
-        ReadFault::Device
+    fn from(_e: DeviceFault) -> SourceFault {
+        SourceFault::Device
     }
 }
 
@@ -42,14 +42,14 @@ impl From<DeviceFault> for ReadFault {
 /// Fails if the reader does, or if memory runs out.
 // Not inlined: the block would stay on the stack while the request is answered.
 #[inline(never)]
-pub fn read_all<R: Source>(alloc: Global, reader: &mut R) -> Result<Vec<u8>, ReadFault>
+pub fn read_all<R: Source>(alloc: Global, reader: &mut R) -> Result<Vec<u8>, SourceFault>
     requires { R.has_failed reader.old ≡ false }
     ensures bytes { IfOk result
         (λ input. Consumes (R.remaining reader.old) (R.remaining reader.new) input.items) }
     ensures whole { OnOk result (IsAtEnd (R.remaining reader.new)) }
     ensures works { OnOk result (R.has_failed reader.new ≡ false) }
-    ensures memory { IsErrOf result ReadFault.Memory → R.has_failed reader.new ≡ false }
-    ensures device { IsErrOf result ReadFault.Device → R.has_failed reader.new ≡ true }
+    ensures memory { IsErrOf result SourceFault.Memory → R.has_failed reader.new ≡ false }
+    ensures device { IsErrOf result SourceFault.Device → R.has_failed reader.new ≡ true }
 {
     let mut input = Vec::new(alloc);
     let mut block = [0u8; BLOCK];

@@ -24,7 +24,7 @@ mod std_device;
 pub use bytes::push_bytes;
 pub use device::{DeviceFault, Sink, Source};
 pub use errors::first_errors;
-pub use io::{ReadFault, read_all, write_all};
+pub use io::{SourceFault, read_all, write_all};
 pub use request::{draft_named, overridden_of, vocabularies_of, vocabulary_named};
 pub use service::{Reply, RunFault, Verdict, read_value, reply_to, reply_to_instance, run, status};
 pub use std_device::{StdSink, StdSource};

@@ -14,7 +14,7 @@ ghost use Rattle.jskw_service.specs.Run.{WritesBeginning, IsOutput, Writes, stat
 
 use crate::device::{DeviceFault, Sink, Source};
 use crate::errors::first_errors;
-use crate::io::{ReadFault, read_all, write_all};
+use crate::io::{SourceFault, read_all, write_all};
 use crate::request::{Request, request_of};
 use jskw_array::SchemaNode;
 use jskw_array::compiler::compile;
@@ -139,8 +139,8 @@ fn reply_to_all<R: Source>(alloc: Global, reader: &mut R) -> Result<Reply, Devic
             Ok(reply) => Ok(reply),
             Err(AllocError) => Ok(Reply::NoMemory),
         },
-        Err(ReadFault::Memory) => Ok(Reply::NoMemory),
-        Err(ReadFault::Device) => Err(DeviceFault),
+        Err(SourceFault::Memory) => Ok(Reply::NoMemory),
+        Err(SourceFault::Device) => Err(DeviceFault),
     }
 }
 

@@ -1,6 +1,6 @@
 use Rattle.std.proofs.Common.{◌≡◌, [], false, refl, rules}
 use Rattle.jskw_documents.proofs.Taking.{all_answered_if, begun_answered, moves_then}
-use Rattle.jskw_documents.proofs.lines.read_lines.Goals as goal
+use Rattle.jskw_documents.proofs.lines.check_lines.Goals as goal
 
 pub reads-preserved : goal.reads-preserved
 reads-preserved g c = record {

@@ -1,6 +1,6 @@
 use Rattle.std.proofs.Common.{◌≡◌, [], false}
 use Rattle.jskw_documents.specs.Streams.{Moves}
-use Rattle.jskw_documents.proofs.lines.read_lines.Given as goal
+use Rattle.jskw_documents.proofs.lines.check_lines.Given as goal
 
 -- what was read is taken, and its answers are written
 abbrev pub invariant-reads : goal.invariant-reads
