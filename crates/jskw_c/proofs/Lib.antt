@@ -3,6 +3,7 @@ mod CrossingLevels
 mod CrossingReaders
 mod CrossingSchemas
 mod CrossingValues
+mod EmptySlices
 mod Exchanges
 mod Handles
 mod LongValues
