@@ -1,5 +1,4 @@
 mod CrossingLeaves
-mod CrossingLevels
 mod CrossingReaders
 mod CrossingSchemas
 mod CrossingValues

@@ -77,8 +77,7 @@ fault_status (not_json bytes) = NOT_JSON
 fault_status (bad_schema e) = BAD_SCHEMA
 
 -- where the reader of instances finds no JSON either, the line of a place; it takes numbers that `serde_json` does
--- not, such
--- as `1e999`, and then there is no text
+-- not, such as `1e999`, and then there is no text
 abbrev pub IsPositionOf : List ℕ → Option (Result Tree Pointer) → List ℕ → Type 0
 IsPositionOf bytes None text = IsPositionLine bytes text
 IsPositionOf bytes (Some r) text = text ≡ []
