@@ -10,5 +10,5 @@ mod Texts
 mod OutcomesOfInstances
 mod OutcomesOfRefusals
 mod Pruned
-mod Unrepeated
+mod LinesOfTexts
 mod Joined
