@@ -2,7 +2,7 @@
  * libraries libjskw.a and libjskw.so; link with one of them.
  *
  * Proved of each function: its contract in crates/jskw_c/src/lib.rt, for callers that keep to the rules below. Not
- * proved: that this header agrees with those functions, and the C compiler.
+ * proved: that this header agrees with those functions, that NULL does as other pointers do, and the C compiler.
  *
  * What a caller owes; nothing checks it:
  *   - `bytes` and `size` are one block of that many bytes, at most PTRDIFF_MAX, which no one writes during the call. A

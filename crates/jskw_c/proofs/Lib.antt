@@ -1,8 +1,8 @@
 mod CrossingLeaves
-mod CrossingLevels
 mod CrossingReaders
 mod CrossingSchemas
 mod CrossingValues
+mod EmptySlices
 mod Exchanges
 mod Handles
 mod LongValues
@@ -10,5 +10,5 @@ mod Texts
 mod OutcomesOfInstances
 mod OutcomesOfRefusals
 mod Pruned
-mod Unrepeated
+mod LinesOfTexts
 mod Joined

@@ -4,7 +4,6 @@ use Rattle.std.specs.Prelude.{Option, Some, None}
 use Rattle.std.specs.Str.{is_utf8}
 use Rattle.json.specs.Json.{Json, null, boolean, number, string, array, object, Items, no_items, item, Members}
 use Rattle.json.specs.Json.{no_members, member, document}
-use Rattle.json.specs.Strict.{HasUniqueKeys}
 use Rattle.jskw_value.specs.Pointer.{Pointer, item_location, member_location}
 use Rattle.jskw_c.specs.Line.{words_line}
 
@@ -47,8 +46,3 @@ repeated_of (Some j) = repeated_in [] j
 -- of a whole text, if it is one
 abbrev pub repeated_lines : List ℕ → List ℕ
 repeated_lines bytes = if is_utf8 bytes then repeated_of (document bytes) else []
-
--- a text in which no object has a name twice
-abbrev pub IsUniquelyNamed : Option Json → Type 0
-IsUniquelyNamed None = ⊥
-IsUniquelyNamed (Some j) = HasUniqueKeys j

@@ -84,7 +84,7 @@ fn push_place(alloc: Global, text: &mut Vec<u8>, node: &EvaluationNode) -> Resul
 }
 
 // Appends the keywords of the errors of a node.
-#[tactic(auto, unfolding(crate::specs::Evaluated::errors_text))]
+#[tactic(auto, using(jskw_service::proofs::Parts::three_parts), unfolding(crate::specs::Evaluated::errors_text))]
 fn push_errors(alloc: Global, text: &mut Vec<u8>, node: &EvaluationNode) -> Result<(), AllocError>
     ensures { OnOk result (text.new.items ≡ text.old.items ++ errors_text (keywords_at node.now)) }
 {

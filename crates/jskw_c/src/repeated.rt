@@ -1,11 +1,11 @@
 //! The members of a text of JSON that a later one of the same name replaces.
-ghost use Rattle.std.specs.Prelude.{◌≡◌, ◌++◌, OnOk, IfOk, IsTrue, not, string_bytes};
+ghost use Rattle.std.specs.Prelude.{◌≡◌, ◌++◌, OnOk, IfOk, not, string_bytes};
 ghost use Rattle.json.specs.Json.{document};
 ghost use Rattle.json.specs.Value.{items_view, members_view, value_view};
 ghost use Rattle.jskw_value.specs.Pointer.{item_location, member_location};
 ghost use Rattle.jskw_c.specs.Names.{HasNames, HasNamesAnd};
 ghost use Rattle.jskw_c.specs.Repeated.{has_member_named, repeated_in, repeated_in_items, repeated_in_members};
-ghost use Rattle.jskw_c.specs.Repeated.{IsUniquelyNamed, repeated_lines, repeated_of};
+ghost use Rattle.jskw_c.specs.Repeated.{repeated_lines, repeated_of};
 
 use crate::line::push_reason;
 use jskw_value::pointer::{push_index, push_name};
@@ -23,23 +23,9 @@ pub(crate) fn push_repeated(
 ) -> Result<(), AllocError>
     ensures { OnOk result (text.new.items ≡ text.old.items ++ repeated_lines bytes.now) }
 {
-    let Ok(json) = from_utf8(bytes) else {
-        return Ok(());
-    };
-    if has_unique_names(alloc, json)? {
-        return Ok(());
-    }
-    push_all(alloc, text, json)
-}
-
-// Returns whether a text is JSON in which no object has a name twice.
-fn has_unique_names(alloc: Global, json: &str) -> Result<bool, AllocError>
-    ensures { IfOk result (λ unique. IsTrue unique → IsUniquelyNamed (document json.now)) }
-{
-    match Value::parse_strict(alloc, json, &mut Scratch::new(alloc)) {
-        Ok(_) => Ok(true),
-        Err(Error::OutOfMemory) => Err(AllocError),
-        Err(_) => Ok(false),
+    match from_utf8(bytes) {
+        Ok(json) => push_all(alloc, text, json),
+        Err(_) => Ok(()),
     }
 }
 

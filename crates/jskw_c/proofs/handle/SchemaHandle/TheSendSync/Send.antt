@@ -15,7 +15,7 @@ use Rattle.jskw_c.specs.contracts.compiled.CompiledSchema as compiled
 use Rattle.jskw_c.specs.contracts.compiled.CompiledSchema.TheInside as inside
 use Rattle.jskw_c.specs.contracts.handle.SchemaHandle.{the_row, the_type}
 use Rattle.jskw_text.specs.contracts.wanted.Level as level
-use Rattle.jskw_c.proofs.CrossingLevels.{level_send, level_sync}
+use Rattle.jskw_text.proofs.wanted.Level.TheSendSync as level'
 use Rattle.jskw_c.proofs.CrossingReaders.{reader_send}
 use Rattle.jskw_c.proofs.CrossingValues.{row_send}
 use Rattle.jskw_c.proofs.CrossingSchemas.{schema_row, schema_send, schema_sync}
@@ -24,7 +24,7 @@ owner_send : IsSend compiled.the_row
 owner_send = view_send _ _ _ _ _ (declared_send inside.the_type (
   std.Arc-send schema_row schema_send schema_sync,
   (
-    std.Arc-send _ (std.Vec-send level.the_row level_send) (std.Vec-sync level.the_row level_sync),
+    std.Arc-send _ (std.Vec-send level.the_row level'.the_send) (std.Vec-sync level.the_row level'.the_sync),
     (row_send reader_send, tt),
   ),
 ))
