@@ -21,4 +21,3 @@ pub mod SameTrees
 pub mod SchemaMembers
 pub mod SmallerNodes
 pub mod Twins
-pub mod TypeReading
