@@ -7,6 +7,7 @@ pub mod FewDigits
 mod Lanes
 mod Lexemes
 mod ShortNumbers
+mod Spans
 pub mod Members
 pub mod Numbers
 mod Passing

@@ -1,10 +1,11 @@
 -- Numbers of few digits without an exponent, within a text.
 use Rattle.std.proofs.Common.{◌≡◌, ℕ, ◌+◌, ◌-◌, ◌*◌, ◌%◌, ◌^◌, ◌<◌, ◌≤◌, ◌==◌, ◌||◌, List}
-use Rattle.std.proofs.Common.{length, drop, take, get_or, Bool, true, false, cond, Option, Some, None, IfSome}
+use Rattle.std.proofs.Common.{length, drop, take, get_or, lt-ltb, ◌&&◌, Bool, true, false}
+use Rattle.std.proofs.Common.{cond, Option, Some, None, IfSome}
 use Rattle.std.proofs.Common.{option_map, option_and_then, inl, inr, ◌⊎◌, refl, sym, ap, ◌∙◌, arith, length-drop}
 use Rattle.std.proofs.Common.{add-zero, is_some, lt_of_not-le}
 use Rattle.std.proofs.Common.{length-take-le}
-use Rattle.std.proofs.lemmas.Bool.{cases_Bool, eqb-true, ne_eqb, false≢true, eq-eqb}
+use Rattle.std.proofs.lemmas.Bool.{cases_Bool, eqb-true, ne_eqb, false≢true, true≢false, eq-eqb}
 use Rattle.std.proofs.lemmas.List.{drop-drop, drop-take, get_or-drop, get_or-take, take-take}
 use Rattle.std.proofs.lemmas.List.{get_or_default}
 use Rattle.std.proofs.lemmas.List.Folds.{drop_split}
@@ -21,7 +22,7 @@ use Rattle.json.specs.Word.{is_operator, is_space, head, ends_word, after_digits
 use Rattle.json.specs.Word.{after_fraction}
 use Rattle.json.specs.Word.{after_exponent, after_number}
 use Rattle.jskw_value.specs.Decimal.{value}
-use Rattle.jskw_value.specs.Number.{Num}
+use Rattle.jskw_value.specs.Number.{Num, is_decimal, signed}
 use Rattle.jskw_value.specs.declared.decimal.Decimal.{Decimal}
 use Rattle.jskw_text.proofs.Lexemes.{prefix_kept}
 use Rattle.jskw_text.proofs.FewDigits.{made, whole_read, fraction_read}
@@ -157,6 +158,28 @@ module _ (d : List ℕ) (start : ℕ) (negative : Bool) (r : Option Decimal) whe
             (omega (arith, t_long))
             whole_is size_of (made_is ∙ ap (made negative size) scale)
 
+-- a whole number, its decimal being x
+pub whole_unsigned : (d : List ℕ) (start point : ℕ) (negative : Bool) (whole : ℕ) (x : Decimal) → point ≤ length d
+    → start < point → point ≤ start + 18 → point ≡ start + digits_len (drop start d)
+    → (head (drop start d) ≡ 48 → point - start ≡ 1) → ends_word (drop point d) ≡ true
+    → whole ≡ (0 * 10 ^ (point - start) + digits_value 10 (slice_range d start point)) % 2 ^ 64
+    → option_map value (Some x) ≡ made negative whole 0 → IsUnsignedAt negative d start point (value x)
+whole_unsigned d start point negative whole x within some few digits first ended is made_is =
+    let n = point - start in
+    let more : start + n ≡ point = omega arith in
+    let no_point = λ (e : head (drop point d) ≡ 46).
+    true≢false (sym ended ∙ ap (λ b. is_operator b || is_space b) e) in
+    record {
+      within = within;
+      forward = some;
+      passed = ap (λ o. option_and_then after_exponent (option_and_then after_fraction o))
+          (whole_passed d start n (omega (arith, digits)) (omega arith) first ∙ ap (λ k. Some (drop k d)) more)
+          ∙ ap (option_and_then after_exponent) (no_fraction_passed (drop point d) no_point)
+          ∙ exponent_passed (drop point d) ended;
+      denotes = whole_denotes d start negative (Some x) point whole within some few digits is made_is;
+      ended = ended;
+    }
+
 -- ---- with the sign
 
 is_some_none : {A : Type 0} {a : A} → None ≡ Some a → ⊥
@@ -220,6 +243,30 @@ negative_number d from end x minus u =
           ∙ ap (λ l. decimal_from true (scan l)) rest ∙ u.denotes;
       ended = u.ended;
     }
+
+-- a whole number without a sign or a zero in front
+pub whole_number : (d : List ℕ) (from end : ℕ) → end ≤ length d → from < end → end ≤ from + 18
+    → end ≡ from + digits_len (drop from d) → 48 < head (drop from d) → ends_word (drop end d) ≡ true
+    → (x : Num) × IsNumberAt d from end x
+whole_number d from end within some few digits first ended =
+    let n = (0 * 10 ^ (end - from) + digits_value 10 (slice_range d from end)) % 2 ^ 64 in
+    let small : n < 2 ^ 64 = omega arith in
+    let x : Decimal = record {
+      size = n;
+      is_negative = false;
+      scale = 0;
+      sign = λ e. absurd (false≢true e);
+      word = small;
+      low = λ e. absurd (false≢true e);
+      short = omega arith;
+    } in
+    let fits = ap (λ b. b && true) (lt-ltb n (2 ^ 64) small) in
+    let made_is = sym (taken (is_decimal (signed false n) 0) (Some (value x)) None fits) in (
+      value x,
+      plain_number d from end (value x) (λ e. omega (arith, e, first))
+          (whole_unsigned d from end false n x within some few digits (λ e. omega (arith, e, first)) ended refl
+          made_is),
+    )
 
 -- a number has a byte
 pub some_bytes : (d : List ℕ) (from end : ℕ) → from ≤ end → IsNumber (slice_range d from end) → from < end

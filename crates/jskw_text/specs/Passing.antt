@@ -4,7 +4,8 @@ use Rattle.std.specs.Prelude.{Some, None, option_and_then, Result, Ok}
 use Rattle.std.specs.List.{slice_range}
 use Rattle.fast_float.specs.Text.{scan}
 use Rattle.json.specs.Json.{value, items, members, parse_map}
-use Rattle.json.specs.Lex.{Lexeme, token as token_lexeme, colon, begins_colon, between, lex, Place, fresh}
+use Rattle.json.specs.Lex.{Lexeme, token as token_lexeme, colon, operator_lexeme, begins_colon, between}
+use Rattle.json.specs.Lex.{lex, Place, fresh}
 use Rattle.json.specs.Lex.{after_value, may_begin, punctuate}
 use Rattle.json.specs.Print.{IsNumber}
 use Rattle.json.specs.Token as token
@@ -38,6 +39,10 @@ pub record IsUnsignedAt (negative : Bool) (bytes : List ℕ) (start end : ℕ) (
       ≡ Some (drop end bytes)
   pub denotes : decimal_from negative (scan (slice_range bytes start end)) ≡ Some d
   pub ended : ends_word (drop end bytes) ≡ true
+
+-- a bracket, brace, comma or colon comes first, which is this byte
+abbrev pub PassesByte : ℕ → List ℕ → List ℕ → Type 0
+PassesByte x old new = Passes old (operator_lexeme x ∷ []) new
 
 -- a number comes first that denotes d
 abbrev pub PassesNumber : List ℕ → Num → List ℕ → Type 0
@@ -123,6 +128,10 @@ SkipsLeaf old new = (t : Tree) × PassesLeaf old t new
 
 abbrev pub SkipsName : List ℕ → List ℕ → Type 0
 SkipsName old new = (k : List ℕ) × PassesName old k new
+
+-- what is between two offsets of a text is passed over
+abbrev pub Spans : (List ℕ → List ℕ → Type 0) → List ℕ → ℕ → ℕ → Type 0
+Spans Skipped text from to = (from ≤ to) × (to ≤ length text) × Skipped (drop from text) (drop to text)
 
 -- a value, items behind the bracket of their array, members behind the brace of their object
 abbrev pub Skips : ℕ → List ℕ → List ℕ → Type 0

@@ -1,15 +1,16 @@
 //! The rest of a text, and what comes first in it.
-ghost use Rattle.std.specs.Prelude.{◌≡◌, [], ◌∷◌, ◌++◌, IfNone, IfOk, IfSome, MatchBool, IsTrue, length, string_bytes};
+ghost use Rattle.std.specs.Prelude.{◌≡◌, ◌≤◌, [], ◌∷◌, ◌++◌, IfNone, IfOk, IfSome, MatchBool, IsTrue, length};
+ghost use Rattle.std.specs.Prelude.{string_bytes};
 ghost use Rattle.json.specs.Lex.{class, operator, operator_lexeme, token, between, lex};
 ghost use Rattle.json.specs.Token.{string};
 ghost use Rattle.json.specs.Word.{head, ends_word};
 ghost use Rattle.jskw_value.specs.Decimal.{value};
-ghost use Rattle.jskw_text.specs.Passing.{Passes, PassesNumber};
+ghost use Rattle.jskw_text.specs.Passing.{Passes, PassesNumber, Skips, SkipsItems, SkipsMembers};
 
 use crate::escape::unescape;
-use crate::scan::{
-    behind_spaces, byte_at, ends_word, has_at, number_at, plain_end, short_number_at,
-};
+use crate::scan::{behind_spaces, byte_at, has_word_at, number_at, plain_end, short_number_at};
+use crate::skip::{skip, skip_items, skip_members};
+use crate::spare::Spare;
 use jskw_value::Decimal;
 use std::alloc::AllocError;
 use std::marker::Model;
@@ -149,14 +150,52 @@ impl<'a> Cursor<'a> {
         Some(decimal)
     }
 
+    // Passes over the next value. Returns whether it did.
+    #[inline(always)]
+    pub(crate) fn skips(&mut self, spare: &mut Spare, depth: usize) -> bool
+        ensures skipped { IsTrue result → Skips depth self.old self.new }
+        ensures shorter { IsTrue result → length self.new ≤ length self.old }
+    {
+        let Some(end) = skip(self.text, self.at, spare, depth) else {
+            return false;
+        };
+        self.at = end;
+        true
+    }
+
+    // Passes over the items up to the end of an array. Returns whether it did.
+    #[inline(always)]
+    pub(crate) fn skips_items(&mut self, spare: &mut Spare, depth: usize) -> bool
+        ensures skipped { IsTrue result → SkipsItems depth self.old self.new }
+        ensures shorter { IsTrue result → length self.new ≤ length self.old }
+    {
+        let Some(end) = skip_items(self.text, self.at, spare, depth) else {
+            return false;
+        };
+        self.at = end;
+        true
+    }
+
+    // Passes over the members up to the end of an object. Returns whether it did.
+    #[inline(always)]
+    pub(crate) fn skips_members(&mut self, spare: &mut Spare, depth: usize) -> bool
+        ensures skipped { IsTrue result → SkipsMembers depth self.old self.new }
+        ensures shorter { IsTrue result → length self.new ≤ length self.old }
+    {
+        let Some(end) = skip_members(self.text, self.at, spare, depth) else {
+            return false;
+        };
+        self.at = end;
+        true
+    }
+
     // Passes over a name if it comes first as a word. Returns whether it did.
     #[inline(always)]
     pub(crate) fn takes_word(&mut self, name: &[u8]) -> bool
         ensures { MatchBool result ((self.old ≡ name.now ++ self.new) × IsTrue (ends_word self.new))
             (self.new ≡ self.old) }
     {
-        let bytes = self.text.as_bytes();
-        if !has_at(bytes, self.at, name) || !ends_word(byte_at(bytes, self.at + name.len())) {
+        if !has_word_at(self.text.as_bytes(), self.at, name) {
             return false;
         }
         self.at += name.len();

@@ -14,7 +14,6 @@ ghost use Rattle.jskw_text.specs.Reading.{reading};
 ghost use Rattle.jskw_text.specs.Wanted.{IsRead, is_text_wanted};
 
 use crate::cursor::Cursor;
-use crate::skip::{skip, skip_items, skip_members};
 use crate::sorted::put;
 use crate::spare::Spare;
 use crate::tree::MAX_DEPTH;
@@ -117,7 +116,7 @@ fn read_text(
 // Reads the content of a string that has escapes.
 #[cold]
 #[inline(never)]
-pub(crate) fn read_escaped(cursor: &mut Cursor<'_>, spare: &mut Spare) -> Result<String, Unread>
+fn read_escaped(cursor: &mut Cursor<'_>, spare: &mut Spare) -> Result<String, Unread>
     requires { head cursor.old ≡ 34 }
     ensures { IfOk result (λ content.
         Passes cursor.old (token (string (string_bytes content)) ∷ []) cursor.new) }
@@ -131,7 +130,7 @@ pub(crate) fn read_escaped(cursor: &mut Cursor<'_>, spare: &mut Spare) -> Result
 
 // Reads a number, a boolean or null.
 #[inline(always)]
-pub(crate) fn read_word(cursor: &mut Cursor<'_>) -> Result<DecimalTree, Unread>
+fn read_word(cursor: &mut Cursor<'_>) -> Result<DecimalTree, Unread>
     ensures { IfOk result (λ tree. PassesLeaf cursor.old (decimal_tree tree) cursor.new) }
 {
     if let Some(decimal) = cursor.short_number() {
@@ -163,7 +162,9 @@ fn read_items(
     ensures shorter { OnOk result (length cursor.new ≤ length cursor.old) }
 {
     if wanted.is_empty() {
-        skip_items(cursor, spare, depth)?;
+        if !cursor.skips_items(spare, depth) {
+            return Err(Unread::Text);
+        }
         return Ok(Vec::new(spare.alloc));
     }
     if cursor.takes(b']') {
@@ -199,7 +200,9 @@ fn read_members(
     ensures shorter { OnOk result (length cursor.new ≤ length cursor.old) }
 {
     if wanted.is_empty() {
-        skip_members(cursor, spare, depth)?;
+        if !cursor.skips_members(spare, depth) {
+            return Err(Unread::Text);
+        }
         return Ok(Members::new(spare.alloc));
     }
     if cursor.takes(b'}') {
@@ -215,7 +218,11 @@ fn read_members(
                 let value = read(cursor, spare, of_value, has_text, depth)?;
                 in_order = put(&mut found, Member { name, value }, in_order)?;
             }
-            None => skip(cursor, spare, depth)?,
+            None => {
+                if !cursor.skips(spare, depth) {
+                    return Err(Unread::Text);
+                }
+            }
         }
         if !cursor.takes(b',') {
             break;

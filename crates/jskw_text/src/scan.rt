@@ -5,11 +5,11 @@ ghost use Rattle.std.specs.Float.Numeral.{digits_len};
 ghost use Rattle.std.specs.List.{prefix_len, slice_range};
 ghost use Rattle.std.specs.Simd.Lanes.{mask_l};
 ghost use Rattle.std.specs.Str.Parse.{digits_value};
-ghost use Rattle.json.specs.Lex.{between, lex};
-ghost use Rattle.json.specs.Run.{is_plain, is_stop};
+ghost use Rattle.json.specs.Lex.{between, class, lex, operator};
+ghost use Rattle.json.specs.Run.{is_no_digit, is_plain, is_stop};
 ghost use Rattle.json.specs.Word.{after_whole, ends_word, head, is_operator, is_space};
 ghost use Rattle.jskw_value.specs.Decimal.{value};
-ghost use Rattle.jskw_text.specs.Passing.{IsNumberAt, IsUnsignedAt};
+ghost use Rattle.jskw_text.specs.Passing.{IsNumberAt, IsUnsignedAt, PassesByte, SkipsLeaf, SkipsName, SkipsText, Spans};
 
 use crate::number::parse_decimal;
 use core::dec2flt::read_digits;
@@ -70,14 +70,14 @@ fn behind_some_spaces(bytes: &[u8], from: usize) -> usize
     at
 }
 
-// Returns a bit for each byte at which the plain text of a string stops.
+// Returns a bit for each byte at which the plain text of a string stops. With its second bit turned, a
+// quote comes right behind the control bytes.
 #[inline(always)]
 fn stops(bytes: u8x16) -> u64
     ensures { result ≡ mask_l (map is_stop bytes) }
 {
-    (bytes.simd_eq(u8x16::splat(b'"'))
-        | bytes.simd_eq(u8x16::splat(b'\\'))
-        | bytes.simd_lt(u8x16::splat(0x20))).to_bitmask()
+    (bytes.simd_eq(u8x16::splat(b'\\'))
+        | (bytes ^ u8x16::splat(2)).simd_le(u8x16::splat(0x20))).to_bitmask()
 }
 
 // Returns the offset of the first quote, backslash or control byte from an offset on, or the length.
@@ -128,12 +128,140 @@ fn plain_end_slowly(bytes: &[u8], from: usize) -> usize
     at
 }
 
+// Returns the offset behind a string without escapes or a whole number that begins at an offset. Returns
+// `None` if it is another value, is long, or ends with the text.
+#[inline(always)]
+pub(crate) fn leaf_end(bytes: &[u8], at: usize) -> Option<usize>
+    requires { at ≤ length bytes.now }
+    ensures { IfSome result (Spans SkipsLeaf bytes.now at) }
+{
+    if bytes.len() - at < 19 {
+        return None;
+    }
+    if bytes[at] == b'"' {
+        text_end(bytes, at)
+    } else {
+        whole_number_end(bytes, at)
+    }
+}
+
+// Returns the offset behind a name without escapes that begins at an offset, and its colon. Returns `None`
+// if it is no such name, is long, or ends with the text.
+#[inline(always)]
+pub(crate) fn name_end(bytes: &[u8], at: usize) -> Option<usize>
+    requires { at ≤ length bytes.now }
+    ensures { IfSome result (Spans SkipsName bytes.now at) }
+{
+    if bytes.len() - at < 19 || bytes[at] != b'"' {
+        return None;
+    }
+    let end = text_end(bytes, at)?;
+    if bytes[end] != b':' {
+        return None;
+    }
+    Some(end + 1)
+}
+
+// Returns the offset behind the string that begins at an offset, if it has no escapes and is short.
+#[inline(always)]
+fn text_end(bytes: &[u8], at: usize) -> Option<usize>
+    requires room { at + 19 ≤ length bytes.now }
+    requires quote { get_or bytes.now at 0 ≡ 34 }
+    ensures inside { IfSome result (λ end. end < length bytes.now) }
+    ensures text { IfSome result (Spans SkipsText bytes.now at) }
+{
+    let stop = plain_end_in_blocks(bytes, at + 1)?;
+    if bytes[stop] != b'"' {
+        return None;
+    }
+    Some(stop + 1)
+}
+
+// Returns what `plain_end` does, if that is within two blocks, and not among the last two bytes.
+#[inline(always)]
+fn plain_end_in_blocks(bytes: &[u8], from: usize) -> Option<usize>
+    requires { from + 18 ≤ length bytes.now }
+    ensures value { IfSome result (λ stop. stop ≡ from + prefix_len is_plain (drop from bytes.now)) }
+    ensures bound { IfSome result (λ stop. stop + 1 < length bytes.now) }
+{
+    let found = stops(u8x16::from_slice(&bytes[from..]));
+    if found != 0 {
+        return Some(from + found.trailing_zeros() as usize);
+    }
+    if bytes.len() - from < 34 {
+        return None;
+    }
+    let found = stops(u8x16::from_slice(&bytes[from + 16..]));
+    if found != 0 {
+        return Some(from + 16 + found.trailing_zeros() as usize);
+    }
+    None
+}
+
+// Returns the offset behind the number that begins at an offset, if it has up to 15 digits and nothing
+// else.
+#[inline(always)]
+fn whole_number_end(bytes: &[u8], at: usize) -> Option<usize>
+    requires { at + 19 ≤ length bytes.now }
+    ensures { IfSome result (Spans SkipsLeaf bytes.now at) }
+{
+    if bytes[at] < b'1' || bytes[at] > b'9' {
+        return None;
+    }
+    let found = other_than_digits(u8x16::from_slice(&bytes[at..]));
+    if found == 0 {
+        return None;
+    }
+    let end = at + found.trailing_zeros() as usize;
+    if !ends_word(bytes[end]) {
+        return None;
+    }
+    Some(end)
+}
+
+// Returns a bit for each byte that is no digit.
+#[inline(always)]
+fn other_than_digits(bytes: u8x16) -> u64
+    ensures { result ≡ mask_l (map is_no_digit bytes) }
+{
+    (bytes - u8x16::splat(b'0'))
+        .simd_ge(u8x16::splat(10))
+        .to_bitmask()
+}
+
+// Returns the offset behind a bracket, brace, comma or colon that comes next, with or without spaces before it.
+#[inline(always)]
+pub(crate) fn behind_byte(bytes: &[u8], from: usize, byte: u8) -> Option<usize>
+    requires within { from ≤ length bytes.now }
+    requires operator { class byte ≡ operator }
+    ensures { IfSome result (Spans (PassesByte byte) bytes.now from) }
+{
+    if byte_at(bytes, from) == byte {
+        return Some(from + 1);
+    }
+    let at = behind_spaces(bytes, from);
+    if byte_at(bytes, at) == byte {
+        return Some(at + 1);
+    }
+    None
+}
+
 // Returns whether these bytes come at an offset.
-pub(crate) fn has_at(bytes: &[u8], at: usize, name: &[u8]) -> bool
+fn has_at(bytes: &[u8], at: usize, name: &[u8]) -> bool
     requires { at ≤ length bytes.now }
     ensures { IsTrue result → drop at bytes.now ≡ name.now ++ drop (at + length name.now) bytes.now }
 {
     bytes[at..].starts_with(name)
+}
+
+// Returns whether these bytes come at an offset as a word.
+#[inline(always)]
+pub(crate) fn has_word_at(bytes: &[u8], at: usize, name: &[u8]) -> bool
+    requires { at ≤ length bytes.now }
+    ensures { IsTrue result → (drop at bytes.now ≡ name.now ++ drop (at + length name.now) bytes.now)
+        × IsTrue (ends_word (drop (at + length name.now) bytes.now)) }
+{
+    has_at(bytes, at, name) && ends_word(byte_at(bytes, at + name.len()))
 }
 
 // Returns the decimal of the number at an offset, and the offset behind it, if it has up to 18

@@ -1,126 +1,184 @@
-//! Values that are passed over: all that is checked of a value is checked of them, and nothing is kept.
-ghost use Rattle.std.specs.Prelude.{◌≡◌, ◌≤◌, OnOk, length};
-ghost use Rattle.json.specs.Word.{head};
-ghost use Rattle.jskw_text.specs.Passing.{Skips, SkipsItems, SkipsLeaf, SkipsMembers, SkipsName, SkipsText};
+//! Values that are passed over: all that is checked of a value is checked of them, and nothing is kept. Each
+//! function takes an offset and returns the one behind what it passes over, or `None` if it gives up: the
+//! text is refused, or memory ran out.
+ghost use Rattle.std.specs.Prelude.{◌≡◌, ◌≤◌, IfSome, IsTrue, get_or, length, true};
+ghost use Rattle.std.specs.Str.{IsUtf8};
+ghost use Rattle.jskw_text.specs.Passing.{Skips, SkipsItems, SkipsLeaf, SkipsMembers, SkipsName, SkipsText, Spans};
 
-use crate::cursor::Cursor;
-use crate::quick::{Unread, read_escaped, read_word};
+use crate::escape::unescape;
+use crate::scan::{
+    behind_byte, behind_spaces, byte_at, has_word_at, leaf_end, name_end, number_at, plain_end,
+    short_number_at,
+};
 use crate::spare::Spare;
 
 // Passes over the next value.
 #[cycle(skip)]
 #[inline(always)]
-pub(crate) fn skip(cursor: &mut Cursor<'_>, spare: &mut Spare, depth: usize) -> Result<(), Unread>
-    ensures ok { OnOk result (Skips depth cursor.old cursor.new) }
-    ensures shorter { OnOk result (length cursor.new ≤ length cursor.old) }
+pub(crate) fn skip(text: &str, from: usize, spare: &mut Spare, depth: usize) -> Option<usize>
+    requires within { from ≤ length text.now }
+    requires utf8 { IsUtf8 text.now }
+    ensures { IfSome result (Spans (Skips depth) text.now from) }
 {
-    cursor.skip_spaces();
-    match cursor.peek() {
-        b'"' => skip_text(cursor, spare),
+    if let Some(end) = leaf_end(text.as_bytes(), from) {
+        return Some(end);
+    }
+    let at = behind_spaces(text.as_bytes(), from);
+    match byte_at(text.as_bytes(), at) {
+        b'"' => skip_text(text, at, spare),
         b'[' => {
             if depth == 0 {
-                return Err(Unread::Text);
+                return None;
             }
-            cursor.advance();
-            skip_items(cursor, spare, depth - 1)
+            skip_items(text, at + 1, spare, depth - 1)
         }
         b'{' => {
             if depth == 0 {
-                return Err(Unread::Text);
+                return None;
             }
-            cursor.advance();
-            skip_members(cursor, spare, depth - 1)
+            skip_members(text, at + 1, spare, depth - 1)
         }
-        _ => skip_word(cursor),
+        _ => skip_word(text, at),
     }
 }
 
 // Passes over a string.
-#[inline(always)]
-fn skip_text(cursor: &mut Cursor<'_>, spare: &mut Spare) -> Result<(), Unread>
-    requires { head cursor.old ≡ 34 }
-    ensures { OnOk result (SkipsText cursor.old cursor.new) }
+#[inline(never)]
+fn skip_text(text: &str, at: usize, spare: &mut Spare) -> Option<usize>
+    requires utf8 { IsUtf8 text.now }
+    requires quote { get_or text.now at 32 ≡ 34 }
+    ensures { IfSome result (Spans SkipsText text.now at) }
 {
-    if cursor.string().is_none() {
-        let _ = read_escaped(cursor, spare)?;
+    let stop = plain_end(text.as_bytes(), at + 1);
+    if byte_at(text.as_bytes(), stop) == b'"' {
+        return Some(stop + 1);
     }
-    Ok(())
+    skip_escaped(text, at, spare)
+}
+
+// Passes over a string that has escapes.
+#[cold]
+#[inline(never)]
+fn skip_escaped(text: &str, at: usize, spare: &mut Spare) -> Option<usize>
+    requires utf8 { IsUtf8 text.now }
+    requires quote { get_or text.now at 32 ≡ 34 }
+    ensures { IfSome result (Spans SkipsText text.now at) }
+{
+    let Ok(mut content) = spare.text("") else {
+        return None;
+    };
+    let Ok(Some(stop)) = unescape(text, at + 1, &mut content) else {
+        return None;
+    };
+    Some(stop + 1)
 }
 
 // Passes over a number, a boolean or null.
-#[inline(always)]
-fn skip_word(cursor: &mut Cursor<'_>) -> Result<(), Unread>
-    ensures { OnOk result (SkipsLeaf cursor.old cursor.new) }
+#[inline(never)]
+fn skip_word(text: &str, at: usize) -> Option<usize>
+    requires { at ≤ length text.now }
+    ensures { IfSome result (Spans SkipsLeaf text.now at) }
 {
-    let _ = read_word(cursor)?;
-    Ok(())
+    if let Some((_, end)) = short_number_at(text.as_bytes(), at) {
+        return Some(end);
+    }
+    if let Some(end) = named_end(text.as_bytes(), at) {
+        return Some(end);
+    }
+    let (_, end) = number_at(text, at)?;
+    Some(end)
+}
+
+// Passes over a boolean or null.
+#[inline(always)]
+fn named_end(bytes: &[u8], at: usize) -> Option<usize>
+    requires { at ≤ length bytes.now }
+    ensures { IfSome result (Spans SkipsLeaf bytes.now at) }
+{
+    if has_word_at(bytes, at, b"true") {
+        return Some(at + 4);
+    }
+    if has_word_at(bytes, at, b"false") {
+        return Some(at + 5);
+    }
+    if has_word_at(bytes, at, b"null") {
+        return Some(at + 4);
+    }
+    None
 }
 
 // Passes over the items up to the end of an array.
 #[cycle(skip)]
 #[inline(never)]
-pub(crate) fn skip_items(
-    cursor: &mut Cursor<'_>,
-    spare: &mut Spare,
-    depth: usize,
-) -> Result<(), Unread>
-    ensures ok { OnOk result (SkipsItems depth cursor.old cursor.new) }
-    ensures shorter { OnOk result (length cursor.new ≤ length cursor.old) }
+pub(crate) fn skip_items(text: &str, from: usize, spare: &mut Spare, depth: usize) -> Option<usize>
+    requires within { from ≤ length text.now }
+    requires utf8 { IsUtf8 text.now }
+    ensures { IfSome result (Spans (SkipsItems depth) text.now from) }
 {
-    if cursor.takes(b']') {
-        return Ok(());
+    if let Some(end) = behind_byte(text.as_bytes(), from, b']') {
+        return Some(end);
     }
+    let mut at = from;
     'items: loop {
-        skip(cursor, spare, depth)?;
-        if !cursor.takes(b',') {
-            break;
-        }
+        let end = skip(text, at, spare, depth)?;
+        let Some(next) = behind_byte(text.as_bytes(), end, b',') else {
+            return behind_byte(text.as_bytes(), end, b']');
+        };
+        at = next;
     }
-    if !cursor.takes(b']') {
-        return Err(Unread::Text);
-    }
-    Ok(())
 }
 
 // Passes over the members up to the end of an object.
 #[cycle(skip)]
 #[inline(never)]
 pub(crate) fn skip_members(
-    cursor: &mut Cursor<'_>,
+    text: &str,
+    from: usize,
     spare: &mut Spare,
     depth: usize,
-) -> Result<(), Unread>
-    ensures ok { OnOk result (SkipsMembers depth cursor.old cursor.new) }
-    ensures shorter { OnOk result (length cursor.new ≤ length cursor.old) }
+) -> Option<usize>
+    requires within { from ≤ length text.now }
+    requires utf8 { IsUtf8 text.now }
+    ensures { IfSome result (Spans (SkipsMembers depth) text.now from) }
 {
-    if cursor.takes(b'}') {
-        return Ok(());
+    if let Some(end) = behind_byte(text.as_bytes(), from, b'}') {
+        return Some(end);
     }
+    let mut at = from;
     'members: loop {
-        skip_name(cursor, spare)?;
-        skip(cursor, spare, depth)?;
-        if !cursor.takes(b',') {
-            break;
-        }
+        let value = skip_name(text, at, spare)?;
+        let end = skip(text, value, spare, depth)?;
+        let Some(next) = behind_byte(text.as_bytes(), end, b',') else {
+            return behind_byte(text.as_bytes(), end, b'}');
+        };
+        at = next;
     }
-    if !cursor.takes(b'}') {
-        return Err(Unread::Text);
-    }
-    Ok(())
 }
 
 // Passes over a name and its colon.
 #[inline(always)]
-fn skip_name(cursor: &mut Cursor<'_>, spare: &mut Spare) -> Result<(), Unread>
-    ensures { OnOk result (SkipsName cursor.old cursor.new) }
+fn skip_name(text: &str, from: usize, spare: &mut Spare) -> Option<usize>
+    requires within { from ≤ length text.now }
+    requires utf8 { IsUtf8 text.now }
+    ensures { IfSome result (Spans SkipsName text.now from) }
 {
-    cursor.skip_spaces();
-    if cursor.peek() != b'"' {
-        return Err(Unread::Text);
+    match name_end(text.as_bytes(), from) {
+        Some(end) => Some(end),
+        None => skip_any_name(text, from, spare),
     }
-    skip_text(cursor, spare)?;
-    if !cursor.takes(b':') {
-        return Err(Unread::Text);
+}
+
+// Passes over any name and its colon.
+#[inline(never)]
+fn skip_any_name(text: &str, from: usize, spare: &mut Spare) -> Option<usize>
+    requires within { from ≤ length text.now }
+    requires utf8 { IsUtf8 text.now }
+    ensures { IfSome result (Spans SkipsName text.now from) }
+{
+    let at = behind_spaces(text.as_bytes(), from);
+    if byte_at(text.as_bytes(), at) != b'"' {
+        return None;
     }
-    Ok(())
+    let end = skip_text(text, at, spare)?;
+    behind_byte(text.as_bytes(), end, b':')
 }

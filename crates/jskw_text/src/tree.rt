@@ -93,18 +93,17 @@ fn read_text(
     let mut cursor = Cursor::new(text);
     match read_quickly(&mut cursor, spare, wanted) {
         Ok(tree) => Ok(tree),
-        Err(Unread::Text) => read_slowly(alloc, text, cursor.offset(), kept),
+        Err(Unread::Text) => read_slowly(alloc, text, kept),
         Err(Unread::Memory(e)) => Err(ReadFault::Memory(e)),
     }
 }
 
-// Reads the tree that a text denotes, or finds why it is refused. It was given up at this offset.
+// Reads the tree that a text denotes, or finds why it is refused.
 #[cold]
 #[inline(never)]
 fn read_slowly(
     alloc: Global,
     text: &str,
-    given_up: usize,
     kept: &mut Option<Box<Scratch>>,
 ) -> Result<DecimalTree, ReadFault>
     requires { IsTrue (is_utf8 text.now) }
@@ -117,7 +116,7 @@ fn read_slowly(
     }
     match read_all(alloc, text, scratch) {
         Ok(tree) => Ok(tree),
-        Err(stop) => Err(fault_of(alloc, text, given_up, stop)?),
+        Err(stop) => Err(fault_of(alloc, text, stop)?),
     }
 }
 
@@ -154,7 +153,7 @@ fn broken(text: &str) -> ReadFault
 // Returns the fault of a text that is JSON, for a stop.
 #[cold]
 #[inline(never)]
-fn fault_of(alloc: Global, text: &str, given_up: usize, stop: Stop) -> Result<ReadFault, AllocError>
+fn fault_of(alloc: Global, text: &str, stop: Stop) -> Result<ReadFault, AllocError>
     requires utf8 { IsTrue (is_utf8 text.now) }
     requires json { IsSome (document text.now) }
     requires stop { IsStopOf text.now stop }
@@ -165,8 +164,21 @@ fn fault_of(alloc: Global, text: &str, given_up: usize, stop: Stop) -> Result<Re
         Stop::Broken => Ok(broken(text)),
         Stop::Inexact(steps) => {
             let location = location_of(alloc, &steps)?;
-            Ok(ReadFault::Inexact(location, place_in(text, given_up)))
+            Ok(ReadFault::Inexact(location, place_in(text, given_up(alloc, text)?)))
         }
+    }
+}
+
+// Returns the offset at which a text is given up whose numbers are all wanted: if it is JSON, that of the
+// first that is not exact.
+#[cold]
+fn given_up(alloc: Global, text: &str) -> Result<usize, AllocError>
+    requires { IsTrue (is_utf8 text.now) }
+{
+    let mut cursor = Cursor::new(text);
+    match read_quickly(&mut cursor, &mut Spare::new(alloc), &[Level::Whole]) {
+        Err(Unread::Memory(e)) => Err(e),
+        _ => Ok(cursor.offset()),
     }
 }
 

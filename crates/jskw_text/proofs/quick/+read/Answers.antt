@@ -1,4 +1,4 @@
-use Rattle.std.proofs.Common.{◌≡◌, [], ◌∷◌, ◌++◌, map, string_bytes, sym, ap, ◌∙◌}
+use Rattle.std.proofs.Common.{◌≡◌, [], ◌∷◌, ◌++◌, map, string_bytes, refl, sym, ap, ◌∙◌}
 use Rattle.std.proofs.Common.{subst, arith, length, ◌==◌}
 use Rattle.std.proofs.lemmas.Bool.{true≢false}
 use Rattle.std.proofs.lemmas.List.{map-append}
@@ -21,7 +21,7 @@ use Rattle.jskw_text.proofs.Pruned.{member_skipped, none_alike, object_alike}
 use Rattle.jskw_text.proofs.Pruned.{one_more_alike, text_taken, leaf_taken, when_some, when_none}
 use Rattle.jskw_text.proofs.quick.+read.Goals as goal
 use Rattle.jskw_text.proofs.quick.+read.Goals.{read_members-in-Some+in_ok-value-in-Some+in_ok-in_order-in-Some}
-use Rattle.jskw_text.proofs.quick.+read.Goals.{read_members-in-None+in_ok-skip-in-None}
+use Rattle.jskw_text.proofs.quick.+read.Goals.{read_members-in-None+else-not-skips}
 
 pub read-returns-in-34-clause-ok : goal.read-returns-in-34-clause-ok
 read-returns-in-34-clause-ok t c =
@@ -137,11 +137,11 @@ read_members-members-preserved t c =
     let depth = c.args.depth in
     let left = c.members.invariant in
     let found = members_seen (lasts c.members.found.items) in
-    let more = members_seen (lasts c.match-branch-4.found.items) in
+    let more = members_seen (lasts c.match-branch-3.found.items) in
     let named = c.read_name.new.cursor in
-    let inner = c.match-branch-4.cursor in
+    let inner = c.match-branch-3.cursor in
     let taken : ReadsMember w depth c.members.cursor more left.0 inner =
-    elim c.match-branch-4.branch [
+    elim c.match-branch-3.branch [
       | read_members-in-Some+in_ok-value-in-Some+in_ok-in_order-in-Some b ↦
           member_kept w depth c.members.cursor (string_bytes b.in-Some.name) named
           (decimal_tree b.in_ok-value-in-Some.value)
@@ -152,10 +152,10 @@ read_members-members-preserved t c =
           c.of_values-of_value.ensures b.in_ok-value-in-Some.ensures.ok)
           b.in_ok-value-in-Some.ensures.shorter
           (ap (λ v. members_seen (lasts v.items)) b.found-is ∙ b.in_ok-in_order-in-Some.ensures) b.cursor-is
-      | read_members-in-None+in_ok-skip-in-None b ↦
-          member_skipped w depth c.members.cursor named b.skip.new.cursor inner found more left.0 left.2
+      | read_members-in-None+else-not-skips b ↦
+          member_skipped w depth c.members.cursor named b.skips.new.self inner found more left.0 left.2
           (when_none (PassesUnwanted w c.members.cursor named) c.in_ok-name.field-0 b.in-None.is
-          c.in_ok-name.ensures.unwanted) b.in_ok-skip-in-None.ensures.ok b.in_ok-skip-in-None.ensures.shorter
+          c.in_ok-name.ensures.unwanted) (b.if-not-skips.ensures.skipped refl) (b.if-not-skips.ensures.shorter refl)
           (ap (λ v. members_seen (lasts v.items)) b.found-is) b.cursor-is
     ] in (
       put taken.0 taken.2 left.0,
@@ -170,11 +170,11 @@ read_members-returns-clause-ok t c =
     let depth = c.args.depth in
     let left = c.members.invariant in
     let found = members_seen (lasts c.members.found.items) in
-    let more = members_seen (lasts c.match-branch-4.found.items) in
+    let more = members_seen (lasts c.match-branch-3.found.items) in
     let named = c.read_name.new.cursor in
-    let inner = c.match-branch-4.cursor in
+    let inner = c.match-branch-3.cursor in
     let taken : ReadsMember w depth c.members.cursor more left.0 inner =
-    elim c.match-branch-4.branch [
+    elim c.match-branch-3.branch [
       | read_members-in-Some+in_ok-value-in-Some+in_ok-in_order-in-Some b ↦
           member_kept w depth c.members.cursor (string_bytes b.in-Some.name) named
           (decimal_tree b.in_ok-value-in-Some.value)
@@ -185,10 +185,10 @@ read_members-returns-clause-ok t c =
           c.of_values-of_value.ensures b.in_ok-value-in-Some.ensures.ok)
           b.in_ok-value-in-Some.ensures.shorter
           (ap (λ v. members_seen (lasts v.items)) b.found-is ∙ b.in_ok-in_order-in-Some.ensures) b.cursor-is
-      | read_members-in-None+in_ok-skip-in-None b ↦
-          member_skipped w depth c.members.cursor named b.skip.new.cursor inner found more left.0 left.2
+      | read_members-in-None+else-not-skips b ↦
+          member_skipped w depth c.members.cursor named b.skips.new.self inner found more left.0 left.2
           (when_none (PassesUnwanted w c.members.cursor named) c.in_ok-name.field-0 b.in-None.is
-          c.in_ok-name.ensures.unwanted) b.in_ok-skip-in-None.ensures.ok b.in_ok-skip-in-None.ensures.shorter
+          c.in_ok-name.ensures.unwanted) (b.if-not-skips.ensures.skipped refl) (b.if-not-skips.ensures.shorter refl)
           (ap (λ v. members_seen (lasts v.items)) b.found-is) b.cursor-is
     ] in
     let us = put taken.0 taken.2 left.0 in (

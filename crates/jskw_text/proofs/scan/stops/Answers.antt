@@ -1,7 +1,7 @@
 use Rattle.std.proofs.Common.{arith}
 use Rattle.std.proofs.lemmas.Simd.{zip2_splat}
 use Rattle.json.specs.Run.{is_stop}
-use Rattle.jskw_text.proofs.Lanes.{hit, below, either, masked}
+use Rattle.jskw_text.proofs.Lanes.{hit, at_most, either, beside, masked}
 use Rattle.jskw_text.proofs.scan.stops.Goals as goal
 
 pub returns : goal.returns
@@ -9,5 +9,4 @@ returns c =
     let v = c.args.bytes in
     let long = c.fits-bytes.0 in
     masked _ is_stop v _ (omega arith) c.fits-bytes.1
-    (either _ _ v (either _ _ v (zip2_splat hit v 16 34 long) (zip2_splat hit v 16 92 long))
-    (zip2_splat below v 16 32 long)) tt
+    (either _ _ v (zip2_splat hit v 16 92 long) (beside at_most _ 32 16 v long (zip2_splat _ v 16 2 long))) tt

@@ -1,9 +1,9 @@
-use Rattle.std.proofs.Common.{◌≡◌, ◌+◌, ◌-◌, drop, Some, option_map, option_and_then, true, refl, ◌||◌, sym, ap, ◌∙◌}
+use Rattle.std.proofs.Common.{◌≡◌, ◌+◌, ◌-◌, drop, Some, option_map, true, refl, ◌||◌, sym, ap, ◌∙◌}
 use Rattle.std.proofs.Common.{arith, rules}
-use Rattle.json.specs.Word.{is_operator, is_space, ends_word, after_fraction, after_exponent}
+use Rattle.json.specs.Word.{is_operator, is_space, ends_word}
 use Rattle.jskw_value.specs.Decimal.{value}
 use Rattle.jskw_text.proofs.FewDigits.{made}
-use Rattle.jskw_text.proofs.ShortNumbers.{exponent_passed, whole_passed, no_fraction_passed, whole_denotes}
+use Rattle.jskw_text.proofs.ShortNumbers.{whole_passed, whole_unsigned}
 use Rattle.jskw_text.proofs.scan.unsigned_at.Goals as goal
 
 pub with_fraction-requires-clause-passed : goal.with_fraction-requires-clause-passed
@@ -24,23 +24,11 @@ returns c =
     let point = read.result.0 in
     let few = c.if-not-are_few.ensures in
     let x = c.in_ok-decimal.decimal in
-    let n = point - start in
-    let more : start + n ≡ point = omega (arith, read.ensures.end) in
     let is : c.from_parts.result ≡ Some x = search rules in
     let made_is : option_map value (Some x) ≡ made c.args.is_negative read.result.1 0 =
     ap (option_map value) (sym is) ∙ c.from_parts.ensures in
     let ended : ends_word (drop point d) ≡ true =
     ap (λ b. is_operator b || is_space b) (sym c.byte_at-2.ensures.head) ∙ search rules in
-    let whole = whole_passed d start n (omega (arith, read.ensures.end)) (few.some refl) (few.zero refl) in
-    record {
-      within = read.ensures.within;
-      forward = omega (arith, few.some refl);
-      passed = ap (λ o. option_and_then after_exponent (option_and_then after_fraction o))
-          (whole ∙ ap (λ k. Some (drop k d)) more)
-          ∙ ap (option_and_then after_exponent)
-          (no_fraction_passed (drop point d) (λ e. omega (arith, c.byte_at.ensures.head)))
-          ∙ exponent_passed (drop point d) ended;
-      denotes = whole_denotes d start c.args.is_negative (Some x) point read.result.1 read.ensures.within
-          (omega (arith, few.some refl)) (omega (arith, few.few refl)) read.ensures.end read.ensures.value made_is;
-      ended = ended;
-    }
+    whole_unsigned d start point c.args.is_negative read.result.1 x read.ensures.within
+    (omega (arith, few.some refl)) (omega (arith, few.few refl)) read.ensures.end (few.zero refl) ended
+    read.ensures.value made_is
