@@ -1,17 +1,22 @@
 -- What a keyword expected, as JSON without spaces.
-use Rattle.std.specs.Prelude.{◌≡◌, ℕ, List, [], ◌++◌, false, codes, decimal, filter, if◌then◌else◌, leb, length}
+use Rattle.std.specs.Prelude.{◌≡◌, ℕ, List, [], ◌∷◌, ◌++◌, false, codes, decimal, filter, if◌then◌else◌, leb, length}
 use Rattle.std.specs.Prelude.{map}
 use Rattle.std.specs.Fmt.{signed_decimal}
 use Rattle.json.specs.Print.{quoted}
 use Rattle.serde_json.specs.Data.{Data}
 use Rattle.serde_json.specs.Written.{compact_text, has_float}
-use Rattle.jskw_value.specs.Types.{all_types, contains, type_name}
+use Rattle.jskw_value.specs.Types.{contains, type_name}
 use Rattle.jskw_value.specs.declared.types.JsonType.{JsonType}
+use Rattle.jskw_value.specs.declared.types.JsonType.TheVariants.{Array, Boolean, Integer, Null, Number, Object, String}
 use Rattle.jskw_report.specs.Kind.{ErrorKind, EnumOptions, Payload, payload_of}
 use Rattle.jskw_report.specs.Kind as kind
 use Rattle.jskw_report.specs.declared.error.TypeKind.{TypeKind}
 use Rattle.jskw_report.specs.declared.error.TypeKind.TheVariants.{Single, Multiple}
 use Rattle.jskw_c.specs.Evaluated.{strings_text}
+
+-- the types, in alphabetical order
+abbrev pub all_types : List JsonType
+all_types = Array ∷ Boolean ∷ Integer ∷ Null ∷ Number ∷ Object ∷ String ∷ []
 
 -- an array of the names of types
 abbrev pub names_text : List JsonType → List ℕ

@@ -1,16 +1,18 @@
 //! What a keyword expected, as JSON.
 ghost use Rattle.std.specs.Prelude.{◌≡◌, ◌<◌, ◌++◌, IfOk, OnOk, decimal, false, filter, length, map, true};
 ghost use Rattle.std.specs.Fmt.{signed_decimal};
-ghost use Rattle.jskw_value.specs.Types.{all_types, contains, type_name};
+ghost use Rattle.jskw_value.specs.Types.{contains, type_name};
 ghost use Rattle.jskw_report.specs.Errors.{kind_of, enum_options_of};
 ghost use Rattle.json.specs.Print.{quoted};
 ghost use Rattle.serde_json.specs.View.{view};
 ghost use Rattle.serde_json.specs.Written.{compact_text};
 ghost use Rattle.jskw_c.specs.Evaluated.{strings_text};
-ghost use Rattle.jskw_c.specs.Expected.{IsCompact, IsOptionsText, IsExpected, names_text, types_text};
+ghost use Rattle.jskw_c.specs.Expected.{IsCompact, IsOptionsText, IsExpected, all_types, names_text};
+ghost use Rattle.jskw_c.specs.Expected.{types_text};
 
 use crate::json_parts::{push_comma, push_string};
 use jskw_report::{EnumOptions, Payload, TypeKind, ValidationErrorKind};
+use jskw_sentence::{TYPES, type_name};
 use jskw_service::push_bytes;
 use jskw_value::types::{JsonType, JsonTypeSet};
 use serde_json::Value;
@@ -105,7 +107,7 @@ fn types_text(alloc: Global, kind: TypeKind) -> Result<Vec<u8>, AllocError>
     ensures { IfOk result (λ text. text.items ≡ types_text kind) }
 {
     match kind {
-        TypeKind::Single(json_type) => string_text(alloc, json_type.as_str()),
+        TypeKind::Single(json_type) => string_text(alloc, type_name(json_type)),
         TypeKind::Multiple(types) => names_text(alloc, types),
     }
 }
@@ -128,10 +130,10 @@ fn push_names(alloc: Global, text: &mut Vec<u8>, types: JsonTypeSet) -> Result<(
         ++ strings_text false (map type_name (filter (contains types) all_types))) }
 {
     let mut later = false;
-    for json_type in JsonType::ALL {
+    for json_type in TYPES {
         if types.contains(json_type) {
             push_comma(text, later)?;
-            push_string(alloc, text, json_type.as_str())?;
+            push_string(alloc, text, type_name(json_type))?;
             later = true;
         }
     }

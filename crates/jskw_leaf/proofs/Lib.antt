@@ -6,6 +6,7 @@ pub mod FusedErrors
 pub mod FusedReading
 pub mod IntegerSets
 pub mod ItemCounts
+pub mod LeafKeywords
 pub mod Lookups
 pub mod MissingNames
 pub mod NameMarks

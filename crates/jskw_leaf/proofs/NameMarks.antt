@@ -7,14 +7,14 @@ use Rattle.std.proofs.lemmas.Cmp.{nat_list_eq_equiv}
 use Rattle.std.proofs.lemmas.List.{at_drop_all, drop_more}
 use Rattle.std.proofs.lemmas.List.Sorted.{list_any-IsPermutation}
 use Rattle.std.proofs.lemmas.Map.Keys.{any_passes_from_place, apart_from_distinct}
-use Rattle.std.proofs.lemmas.Nat.Bits.{bit_at_or, bit_at-pow_same, bit_at-pow_other, bit_at_ones}
+use Rattle.std.proofs.lemmas.Nat.Bits.{bit_at_or, bit_at-zero, bit_at-pow_same, bit_at-pow_other, bit_at_ones}
 use Rattle.std.proofs.lemmas.Option.{get_or_from_slice_get, slice_get-get_or, slice_get_within}
 use Rattle.std.proofs.lemmas.Slice.Eq.{bytes_eq-Decides}
 use Rattle.std.specs.Int.{bit_at}
 use Rattle.std.specs.List.{IsDistinct}
 use Rattle.std.specs.List.Sorted.{IsPermutation}
 use Rattle.std.specs.Str.{bytes_eq}
-use Rattle.jskw_value.specs.Tree.{Tree, has_name}
+use Rattle.jskw_value.specs.Tree.{Tree, has_name, names}
 use Rattle.jskw_leaf.specs.Options.{some_text}
 use Rattle.jskw_leaf.specs.Required.{is_among, MarksNames}
 
@@ -81,6 +81,9 @@ unwanted ws i w k h e =
 bit_of : (b : Bool) → cond b 1 0 ≤ 1
 bit_of true = omega arith
 bit_of false = omega arith
+
+pub mark_start : (t : Tree) (ws : List (List ℕ)) → MarksBefore 0 (names t) t ws
+mark_start t ws i w e = rw (bit_at-zero i) (omega arith)
 
 pub mark_end : (m : ℕ) (t : Tree) (ws : List (List ℕ)) → MarksBefore m [] t ws → MarksNames m t ws
 mark_end m t ws h i w e = let r = h i w e in omega (arith, r)

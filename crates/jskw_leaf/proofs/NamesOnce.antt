@@ -7,7 +7,7 @@ use Rattle.std.proofs.lemmas.Bool.{cond_both}
 use Rattle.std.proofs.lemmas.Cmp.{nat_list_eq_equiv}
 use Rattle.std.proofs.lemmas.List.{append-nil, at_drop_all, at_drop_more}
 use Rattle.std.proofs.lemmas.List.Folds.{list_any-append}
-use Rattle.std.proofs.lemmas.Map.Keys.{IsDistinct-push}
+use Rattle.std.proofs.lemmas.Map.Keys.{IsDistinct-cons, IsDistinct-push}
 use Rattle.std.proofs.lemmas.Map.Made.{alike_from_same}
 use Rattle.std.proofs.lemmas.Map.Text.{is_eq-slice_cmp}
 use Rattle.std.proofs.lemmas.Slice.Eq.{bytes_eq-Decides}
@@ -151,6 +151,9 @@ added_once done [] d = d
 added_once done (n ∷ ns) d =
     added_once (add done n) ns (cond_both (is_among done n) done (done ++ n ∷ []) (IsDistinct bytes_eq) (λ h. d)
     (IsDistinct-push nat_list_eq_equiv done n d))
+
+pub one_once : (n : List ℕ) → IsDistinct bytes_eq (n ∷ [])
+one_once n = IsDistinct-cons bytes_eq n [] tt distinct_none
 
 -- the names that were read are distinct
 pub read_once : (r : Result (List (List ℕ)) Refusal) (ns : List (List ℕ)) → map_ok distinct r ≡ Ok ns

@@ -1,12 +1,12 @@
 -- What the fingerprints of options tell.
-use Rattle.std.proofs.Common.{◌≡◌, ◌≢◌, ℕ, zero, suc, ◌+◌, ◌≤◌, ◌<◌, ◌==◌, List, [], ◌∷◌, length, get_or, drop}
-use Rattle.std.proofs.Common.{All, Bool, true, false, ◌||◌, sym, refl, ap, ◌∙◌, arith}
-use Rattle.std.proofs.lemmas.Bool.{and_parts, both_ways, cond_both, eqb-true, false_from_ne_true}
+use Rattle.std.proofs.Common.{◌≡◌, ◌≢◌, ℕ, zero, suc, ◌+◌, ◌≤◌, ◌<◌, ◌==◌, List, [], ◌∷◌, ◌++◌, length, get_or, drop}
+use Rattle.std.proofs.Common.{All, Bool, true, false, ◌&&◌, ◌||◌, sym, refl, ap, ◌∙◌, arith}
+use Rattle.std.proofs.lemmas.Bool.{and_from, and_parts, both_ways, cond_both, eqb-true, eq-eqb, false_from_ne_true}
 use Rattle.std.proofs.lemmas.Bool.{ltb-true, ltb-false, true_from_ne_false}
 use Rattle.std.proofs.lemmas.List.{get_or-drop, length-drop}
 use Rattle.std.proofs.lemmas.List.Elements.{All-from_get_or, All-tail}
 use Rattle.std.proofs.lemmas.List.Filters.{All-dedup}
-use Rattle.std.proofs.lemmas.List.Folds.{list_all_at, list_any_none}
+use Rattle.std.proofs.lemmas.List.Folds.{list_all-append, list_all_at, list_any_none}
 use Rattle.std.proofs.lemmas.List.Sorted.{All-permutation, list_any-IsPermutation}
 use Rattle.std.proofs.lemmas.List.Sums.{AllPass-from_list_all, list_all-from_AllPass}
 use Rattle.std.specs.List.{list_all, dedup, dedup_from}
@@ -35,6 +35,19 @@ pub fingerprinted_moved : (seed : ℕ) (os ps : List FingerprintedValue) → IsP
 fingerprinted_moved seed os ps m h =
     list_all-from_AllPass (is_fingerprinted seed) ps (All-permutation (λ o. is_fingerprinted seed o ≡ true) os ps m
     (AllPass-from_list_all (is_fingerprinted seed) os h))
+
+-- one more
+pub fingerprinted_more : (seed : ℕ) (os : List FingerprintedValue) (o : FingerprintedValue)
+    → o.fingerprint ≡ fingerprint seed unlimited (value_tree o.value)
+    → is_distinct_within unlimited (value_tree o.value) ≡ true → list_all (is_fingerprinted seed) os ≡ true
+    → list_all (is_fingerprinted seed) (os ++ o ∷ []) ≡ true
+fingerprinted_more seed os o same own known =
+    list_all-append (is_fingerprinted seed) os (o ∷ [])
+    ∙ and_from (list_all (is_fingerprinted seed) os) (is_fingerprinted seed o && true) known
+    (and_from (is_fingerprinted seed o) true (and_from
+    (o.fingerprint == fingerprint seed unlimited (value_tree o.value))
+    (is_distinct_within unlimited (value_tree o.value))
+    (eq-eqb o.fingerprint (fingerprint seed unlimited (value_tree o.value)) same) own) refl)
 
 -- one of them
 fingerprinted_at : (seed : ℕ) (os : List FingerprintedValue) (i : ℕ) (d : FingerprintedValue)

@@ -21,3 +21,4 @@ pub mod SameTrees
 pub mod SchemaMembers
 pub mod SmallerNodes
 pub mod Twins
+pub mod TypeReading

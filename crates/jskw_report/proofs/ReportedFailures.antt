@@ -3,7 +3,7 @@ use Rattle.std.proofs.Common.{◌≡◌, ◌≤◌, ◌+◌, ◌-◌, ℕ, zero,
 use Rattle.std.proofs.Common.{Some, Result, Ok, Err, OnOk, IsErrAnd, refl, subst, sym, ap, ◌∙◌, append_assoc}
 use Rattle.std.proofs.Common.{append-nil, length-append, arith}
 use Rattle.std.proofs.Math.Seq.{take-append-add}
-use Rattle.std.proofs.lemmas.List.{nil_from_length, take-append-le}
+use Rattle.std.proofs.lemmas.List.{nil_from_length, take-append-le, take_all}
 use Rattle.std.specs.declared.alloc.AllocError.{AllocError}
 use Rattle.jskw_value.specs.Tree.{Tree}
 use Rattle.jskw_report.specs.Errors.{failures_of}
@@ -42,6 +42,10 @@ limited_more : (n : Option ℕ) (first rest : List Failure)
     → (more : List Failure) × (limited n (first ++ rest) ≡ limited n first ++ more)
 limited_more None first rest = (rest, refl)
 limited_more (Some n) first rest = take_more n first rest
+
+limited_all : (n : Option ℕ) (fs : List Failure) → Fits n fs → limited n fs ≡ fs
+limited_all None fs fits = refl
+limited_all (Some n) fs fits = take_all n fs (omega (arith, fits))
 
 fits_none : (n : Option ℕ) → Fits n []
 fits_none None = tt

@@ -17,6 +17,17 @@ const TYPES: [JsonType; 7] = [
     JsonType::Object,
 ];
 
+// The types in alphabetical order of their names.
+const TYPES_BY_NAME: [JsonType; 7] = [
+    JsonType::Array,
+    JsonType::Boolean,
+    JsonType::Integer,
+    JsonType::Null,
+    JsonType::Number,
+    JsonType::Object,
+    JsonType::String,
+];
+
 impl<F: Json> ValidationError<'_, F> {
     /// Returns the message of the error, in English. It describes the node at fault; nodes, names
     /// and values of the schema are written as compact JSON, as [`Node::write_json`] does.
@@ -116,7 +127,7 @@ fn option_count(options: &EnumOptions) -> usize {
     match options {
         EnumOptions::Listed(Value::Array(values)) => values.len(),
         EnumOptions::Listed(_) => 0,
-        EnumOptions::TypeNames => JsonType::ALL.len(),
+        EnumOptions::TypeNames => TYPES_BY_NAME.len(),
     }
 }
 
@@ -127,7 +138,7 @@ fn write_option(options: &EnumOptions, index: usize, text: &mut String) -> Resul
             Some(option) => option.write_json(text),
             None => Ok(()),
         },
-        EnumOptions::TypeNames => match JsonType::ALL.get(index) {
+        EnumOptions::TypeNames => match TYPES_BY_NAME.get(index) {
             Some(json_type) => write_type(*json_type, text),
             None => Ok(()),
         },
@@ -168,5 +179,14 @@ fn write_type_set(types: JsonTypeSet, text: &mut String) -> Result<(), AllocErro
 
 // Appends the name of the type in quotes.
 fn write_type(json_type: JsonType, text: &mut String) -> Result<(), AllocError> {
-    write!(text, "\"{}\"", json_type.as_str())
+    let name = match json_type {
+        JsonType::Array => "array",
+        JsonType::Boolean => "boolean",
+        JsonType::Integer => "integer",
+        JsonType::Null => "null",
+        JsonType::Number => "number",
+        JsonType::Object => "object",
+        JsonType::String => "string",
+    };
+    write!(text, "\"{name}\"")
 }

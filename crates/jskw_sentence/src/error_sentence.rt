@@ -3,7 +3,7 @@ ghost use Rattle.std.specs.Prelude.{◌≡◌, [], ◌∷◌, codes};
 ghost use Rattle.jskw_sentence.specs.Place.{place_shown};
 
 use crate::bounded::push_piece;
-use crate::types::push_types;
+use crate::types::{push_types, type_name};
 use crate::value::{push_value, write_text, write_value};
 use jskw_report::{EnumOptions, Location, TypeKind, ValidationError, ValidationErrorKind};
 use jskw_value::types::{JsonType, JsonTypeSet};
@@ -125,15 +125,17 @@ fn write_demand<N: Node>(
 // Returns the name of the type of a value, `integer` for a number that is written as one.
 fn shown_type<N: Node>(value: &N) -> &'static str {
     match value.as_number() {
-        Some(number) if number.is_lawful() && number.is_written_as_integer() => "integer",
-        _ => value.json_type().as_str(),
+        Some(number) if number.is_lawful() && number.is_written_as_integer() => type_name(
+            JsonType::Integer,
+        ),
+        _ => type_name(value.json_type()),
     }
 }
 
 // Appends types, one of which was demanded.
 fn write_types(text: &mut String, kind: TypeKind) -> Result<(), AllocError> {
     match kind {
-        TypeKind::Single(json_type) => text.push_str(json_type.as_str()),
+        TypeKind::Single(json_type) => text.push_str(type_name(json_type)),
         TypeKind::Multiple(types) if types == JsonTypeSet::empty() => text.push_str("of none"),
         TypeKind::Multiple(types) => {
             text.push_str("one of ")?;

@@ -12,8 +12,9 @@
 
 mod bounded;
 pub mod error_sentence;
-mod types;
+pub mod types;
 pub mod value;
 
 pub use error_sentence::{schema_sentence, sentence, shown_place};
+pub use types::{TYPES, type_name};
 pub use value::push_value;

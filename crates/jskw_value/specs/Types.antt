@@ -52,13 +52,9 @@ type_name Number = codes "number"
 type_name Object = codes "object"
 type_name String = codes "string"
 
--- the seven types, in alphabetical order of their names
-abbrev pub all_types : List JsonType
-all_types = Array ∷ Boolean ∷ Integer ∷ Null ∷ Number ∷ Object ∷ String ∷ []
-
 -- the type of a name, if it is one of the seven
 abbrev pub type_named : List ℕ → Option JsonType
-type_named s = find (λ j. bytes_eq (type_name j) s) all_types
+type_named s = find (λ j. bytes_eq (type_name j) s) (Array ∷ Boolean ∷ Integer ∷ Null ∷ Number ∷ Object ∷ String ∷ [])
 
 -- the type of a tree, an integer's being `number`
 abbrev pub json_type : Tree → JsonType

@@ -4,7 +4,7 @@ ghost use Rattle.std.specs.Result.{result_ok};
 ghost use Rattle.jskw_value.specs.Serde.{value_tree};
 ghost use Rattle.jskw_value.specs.Tree.{is_lawful};
 ghost use Rattle.jskw_value.specs.Types.{no_types, insert, contains, has_type_of, json_type};
-ghost use Rattle.jskw_value.specs.Types.{type_name, type_named};
+ghost use Rattle.jskw_value.specs.Types.{type_named};
 
 use crate::json::{Json, JsonNumber, Node};
 use serde_json::Value;
@@ -29,34 +29,6 @@ pub enum JsonType {
     String,
 }
 
-impl JsonType {
-    /// The types, in alphabetical order of their names.
-    pub const ALL: [JsonType; 7] = [
-        JsonType::Array,
-        JsonType::Boolean,
-        JsonType::Integer,
-        JsonType::Null,
-        JsonType::Number,
-        JsonType::Object,
-        JsonType::String,
-    ];
-
-    /// Returns the name of the type in a schema, such as `array`.
-    pub fn as_str(self) -> &'static str
-        ensures { result.now ≡ type_name self }
-    {
-        match self {
-            JsonType::Array => "array",
-            JsonType::Boolean => "boolean",
-            JsonType::Integer => "integer",
-            JsonType::Null => "null",
-            JsonType::Number => "number",
-            JsonType::Object => "object",
-            JsonType::String => "string",
-        }
-    }
-}
-
 /// Parses the name of a type: `array`, `boolean`, `integer`, `null`, `number`, `object` or
 /// `string`. Any other text is an error.
 impl FromStr for JsonType {
@@ -65,12 +37,16 @@ impl FromStr for JsonType {
     ghost from_str_gives = { λ name result. result_ok result ≡ type_named name };
 
     fn from_str(name: &str) -> Result<JsonType, ()> {
-        for json_type in JsonType::ALL {
-            if json_type.as_str() == name {
-                return Ok(json_type);
-            }
+        match name {
+            "array" => Ok(JsonType::Array),
+            "boolean" => Ok(JsonType::Boolean),
+            "integer" => Ok(JsonType::Integer),
+            "null" => Ok(JsonType::Null),
+            "number" => Ok(JsonType::Number),
+            "object" => Ok(JsonType::Object),
+            "string" => Ok(JsonType::String),
+            _ => Err(()),
         }
-        Err(())
     }
 }
 

@@ -142,7 +142,7 @@ impl<T: ItemType, F: Json> Validate<F> for ItemsTypeValidator<T, F> {
 
     fn is_valid(&self, instance: &F::Node, _ctx: &mut ValidationContext) -> bool {
         let count = instance.item_count();
-        first_outside::<T, F>(0, count, instance) == count
+        first_other::<T, F>(0, count, instance) == count
     }
 
     fn report_errors<'i>(
@@ -153,14 +153,14 @@ impl<T: ItemType, F: Json> Validate<F> for ItemsTypeValidator<T, F> {
         report: &mut Report<'i, F>,
     ) -> Result<(), Stop> {
         let count = instance.item_count();
-        let mut index = first_outside::<T, F>(0, count, instance);
+        let mut index = first_other::<T, F>(0, count, instance);
         while index < count {
             location.push(index)?;
             let item = instance.item(index);
             let answer = self.validator.report_errors(item, location, ctx, report);
             location.pop();
             answer?;
-            index = first_outside::<T, F>(index + 1, count, instance);
+            index = first_other::<T, F>(index + 1, count, instance);
         }
         Ok(())
     }
@@ -187,7 +187,7 @@ impl<T: ItemType, F: Json> Validate<F> for ItemsTypeValidator<T, F> {
 // Returns the index of the first item from `from` on that is not of the type, or `count`, the number
 // of items, if there is none.
 #[inline(never)]
-fn first_outside<T: ItemType, F: Json>(from: usize, count: usize, instance: &F::Node) -> usize
+fn first_other<T: ItemType, F: Json>(from: usize, count: usize, instance: &F::Node) -> usize
     requires lawful { IsTrue (is_lawful (F.Node.tree instance.now)) }
     requires count { count ≡ length (items (F.Node.tree instance.now)) }
     requires from { from ≤ count }

@@ -1,6 +1,7 @@
 use Rattle.std.proofs.Common.{◌≡◌, ◌++◌, drop, false, filter, map}
-use Rattle.jskw_value.specs.Types.{all_types, contains, type_name}
+use Rattle.jskw_value.specs.Types.{contains, type_name}
 use Rattle.jskw_c.specs.Evaluated.{strings_text}
+use Rattle.jskw_c.specs.Expected.{all_types}
 use Rattle.jskw_c.proofs.expected.push_names.Given as goal
 
 -- what is written, with the names of the types that are left

@@ -1,17 +1,26 @@
-use Rattle.std.proofs.Common.{◌≡◌, ◌+◌, ◌∙◌, arith, rules, ap, sym, cond, drop, get_or, false, Some}
-use Rattle.std.specs.List.{find}
+use Rattle.std.proofs.Common.{◌≡◌, ℕ, List, Bool, true, false, refl, sym}
+use Rattle.std.proofs.lemmas.Slice.Eq.{bytes_eq-Decides}
 use Rattle.std.specs.Str.{bytes_eq}
-use Rattle.std.proofs.lemmas.List.{drop_more}
-use Rattle.jskw_value.specs.Types.{all_types, type_name}
-use Rattle.jskw_value.specs.declared.types.JsonType.TheVariants.{Array}
 use Rattle.jskw_value.proofs.types.JsonTypeFromStr.from_str.Goals as goal
 
-pub loop-json_type-preserved : goal.loop-json_type-preserved
-loop-json_type-preserved c =
-    let i = c.loop-json_type.json_type-index in
-    let j = get_or all_types i Array in
-    let other : bytes_eq (type_name j) c.args.name.now ≡ false =
-    search (rules, c.as_str.ensures, c.eq.ensures, c.if-eq.false) in
-    ap (λ b. cond b (Some j) (find (λ v. bytes_eq (type_name v) c.args.name.now) (drop (i + 1) all_types))) (sym other)
-    ∙ ap (find (λ v. bytes_eq (type_name v) c.args.name.now)) (sym (drop_more all_types i Array (omega arith)))
-    ∙ c.loop-json_type.invariant
+-- another name is not this one
+other : (name : List ℕ) (known : List ℕ) → (name ≡ known → ⊥) → bytes_eq known name ≡ false
+other name known h = go (bytes_eq known name) refl
+  where
+    go : (b : Bool) → bytes_eq known name ≡ b → bytes_eq known name ≡ false
+    go true e = absurd (h (sym ((bytes_eq-Decides known name).0 e)))
+    go false e = e
+
+pub returns-in_default : goal.returns-in_default
+returns-in_default c =
+    let n = c.args.name.now in
+    let d = c.in_default in
+    rw (
+      other n _ d.not-array,
+      other n _ d.not-boolean,
+      other n _ d.not-integer,
+      other n _ d.not-null,
+      other n _ d.not-number,
+      other n _ d.not-object,
+      other n _ d.not-string,
+    ) refl

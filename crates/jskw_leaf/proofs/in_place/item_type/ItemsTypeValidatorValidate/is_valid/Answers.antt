@@ -13,6 +13,6 @@ returns-clause-answer g c =
     let a = single_type g.T.TypeTest.json_type g.T.TypeTest.rule v.validator in
     let check = assertion_holds a.assertion in
     let ts = items (g.F.Node.Rooted.tree c.args.instance.now) in
-    let first = c.first_outside.ensures.first in
-    let index : c.first_outside.result ≡ leading check ts = omega (arith, first) in
+    let first = c.first_other.ensures.first in
+    let index : c.first_other.result ≡ leading check ts = omega (arith, first) in
     ap₂ nat_eq index c.item_count-count.ensures ∙ all_leading check ts ∙ sym (bare_all_hold v.location a ts)

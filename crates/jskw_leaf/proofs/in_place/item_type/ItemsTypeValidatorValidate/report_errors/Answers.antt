@@ -11,7 +11,7 @@ loop-index-init g c =
     let v = c.args.self.now in
     let tree = g.F.Node.Rooted.tree in
     let ts = items (tree c.args.instance.now) in
-    let first = c.first_outside-index in
+    let first = c.first_other-index in
     record {
       within = omega arith;
       last = omega arith;
@@ -45,7 +45,7 @@ loop-index-preserved g c =
     let v = c.args.self.now in
     let tree = g.F.Node.Rooted.tree in
     let at = entered l.index c.in_ok-push.ensures.pushed l.invariant.location in
-    let next = c.first_outside-index-in-loop-index in
+    let next = c.first_other-index-in-loop-index in
     record {
       within = omega arith;
       last = l.invariant.last;

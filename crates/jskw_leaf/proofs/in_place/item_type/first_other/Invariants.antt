@@ -4,7 +4,7 @@ use Rattle.jskw_report.specs.Holds.{assertion_holds}
 use Rattle.jskw_report.specs.Keyword.{type_is}
 use Rattle.jskw_report.specs.declared.error.TypeKind.TheVariants.{Single}
 use Rattle.jskw_number.specs.QuickSet.{leading}
-use Rattle.jskw_leaf.proofs.in_place.item_type.first_outside.Given as goal
+use Rattle.jskw_leaf.proofs.in_place.item_type.first_other.Given as goal
 
 abbrev pub invariant-loop-index : goal.invariant-loop-index
 invariant-loop-index g l =
