@@ -21,12 +21,14 @@ of_array f g h _ ds e = cc
 
 -- ---- `items`
 
+-- an array is a list of schemas
 pub items_of_array : (point : CompilePoint) (ms : Members) (d : Data) (ds : Items) → as_array d ≡ Some ds
     → keyword_reading keyword_name.Items point ms d
     ≡ asserts items_list (read_each ds point.setting (keyword_location point.location keyword_name.Items) 0)
 unfolding asserted
 items_of_array point ms = of_array (keyword_reading keyword_name.Items point ms) _ (λ es. refl)
 
+-- what is neither an array nor a schema says nothing
 pub items_silent : (point : CompilePoint) (ms : Members) (d : Data) → as_array d ≡ None → is_items_schema d ≡ false
     → keyword_reading keyword_name.Items point ms d ≡ None
 unfolding asserted
@@ -36,6 +38,7 @@ items_silent point ms (boolean false) e h = cc
 items_silent point ms (boolean true) e h = refl
 items_silent point ms _ e h = refl
 
+-- a schema is for the items from `items_start` on
 pub items_of_one : (point : CompilePoint) (ms : Members) (d : Data) → is_items_schema d ≡ true
     → keyword_reading keyword_name.Items point ms d ≡ asserts
     (λ sub. items_from (items_start point.setting ms) sub (is_bare point.setting ms d))
@@ -48,12 +51,14 @@ items_of_one point ms _ h = cc
 
 -- ---- `prefixItems`
 
+-- an array is a list of schemas
 pub prefix_of_array : (point : CompilePoint) (ms : Members) (d : Data) (ds : Items) → as_array d ≡ Some ds
     → keyword_reading keyword_name.PrefixItems point ms d
     ≡ asserts prefix_items (read_each ds point.setting (keyword_location point.location keyword_name.PrefixItems) 0)
 unfolding asserted
 prefix_of_array point ms = of_array (keyword_reading keyword_name.PrefixItems point ms) _ (λ es. refl)
 
+-- what is no array is refused
 pub prefix_refused : (point : CompilePoint) (ms : Members) (d : Data) → as_array d ≡ None
     → keyword_reading keyword_name.PrefixItems point ms d
     ≡ Some (wrong (of_type Array) (keyword_location point.location keyword_name.PrefixItems) d)
@@ -97,6 +102,7 @@ module _ (s : Setting) (q : Pointer) where
   of_schema (Some _) n d c e = cc
 
 module _ (point : CompilePoint) (ms : Members) (d : Data) where
+  -- beside no array of schemas it says nothing
   pub additional_absent : array_schema_count (get_member (name_of keyword_name.Items) ms) ≡ None
       → keyword_reading keyword_name.AdditionalItems point ms d ≡ None
   unfolding asserted
@@ -104,12 +110,14 @@ module _ (point : CompilePoint) (ms : Members) (d : Data) where
       absent point.setting (keyword_location point.location keyword_name.AdditionalItems)
       (get_member (name_of keyword_name.Items) ms) d e
 
+  -- `true` says nothing
   pub additional_true : as_bool d ≡ Some true → keyword_reading keyword_name.AdditionalItems point ms d ≡ None
   unfolding asserted
   additional_true e =
       of_true point.setting (keyword_location point.location keyword_name.AdditionalItems)
       (get_member (name_of keyword_name.Items) ms) d e
 
+  -- `false` limits the number of items
   pub additional_false : (n : ℕ) → array_schema_count (get_member (name_of keyword_name.Items) ms) ≡ Some n
       → as_bool d ≡ Some false
       → keyword_reading keyword_name.AdditionalItems point ms d
@@ -119,6 +127,7 @@ module _ (point : CompilePoint) (ms : Members) (d : Data) where
       of_false point.setting (keyword_location point.location keyword_name.AdditionalItems)
       (get_member (name_of keyword_name.Items) ms) n d c e
 
+  -- a schema is for the items behind the others
   pub additional_of_schema : (n : ℕ) → array_schema_count (get_member (name_of keyword_name.Items) ms) ≡ Some n
       → as_bool d ≡ None
       → keyword_reading keyword_name.AdditionalItems point ms d ≡ asserts (additional_items n)
@@ -130,12 +139,14 @@ module _ (point : CompilePoint) (ms : Members) (d : Data) where
 
   -- ---- `contains`
 
+  -- its value is a schema, beside the bounds
   pub contains_read : keyword_reading keyword_name.Contains point ms d
       ≡ Some (join_ok (λ b sub. contains sub b) (read_bounds point.setting point.location ms)
       (read d point.setting (keyword_location point.location keyword_name.Contains)))
   unfolding asserted
   contains_read = refl
 
+  -- where the bounds are read, it says what its schema says
   pub contains_of_schema : (b : Bounds) → read_bounds point.setting point.location ms ≡ Ok b
       → keyword_reading keyword_name.Contains point ms d ≡ asserts (λ sub. contains sub b)
       (read d point.setting (keyword_location point.location keyword_name.Contains))
@@ -146,9 +157,11 @@ module _ (point : CompilePoint) (ms : Members) (d : Data) where
 
 -- ---- booleans
 
+-- a boolean of `serde_json` is that boolean
 pub view-Bool : (b : Bool) → view (value.Bool b) ≡ boolean b
 view-Bool b = search (rules, the_lemmas)
 
+-- a boolean is a schema, whatever the setting
 pub read_boolean : (b : Bool) (s : Setting) (p : Pointer) → read (boolean b) s p ≡ Ok (boolean_schema p b)
 read_boolean true s p = refl
 read_boolean false s p = refl

@@ -77,7 +77,7 @@ module _ (s : Setting) (ms : Members) where
 
 -- ---- a keyword that is there
 
--- the value of a keyword that has one passes the test, and the keyword stands
+-- the value of a keyword that has one passes the test, and the keyword is active
 pub passed : (s : Setting) (ms : Members) (w : KeywordName) (test : Data → Bool) (d : Data)
     → has_keyword s ms w test ≡ true → get_member (name_of w) ms ≡ Some d
     → (test d ≡ true) × (is_active s w ≡ true)
@@ -93,7 +93,7 @@ is_there s ms w test h at =
     let lost : false ≡ true = sym (ap (λ o. option_map_or test o false) at) ∙ both.0 in
     cc
 
--- a bound that is there stands
+-- a bound that is there is active
 pub size_stands : (s : Setting) (ms : Members) (w : KeywordName) (d : Data) → takes_size s ms w ≡ true
     → get_member (name_of w) ms ≡ Some d → is_active s w ≡ true
 size_stands s ms w d h at =

@@ -27,7 +27,7 @@ const FEW: usize = 4;
 /// between them that have a fraction.
 #[derive(Clone, Copy, Debug)]
 pub struct QuickSet {
-    // for each type, at its place, whether values of the type are in the set; at that of numbers, if
+    // for each type, at its index, whether values of the type are in the set; at that of numbers, if
     // these are limited, whether the ends of the range alone decide which of them from 0 on are in it
     types: [bool; 6],
     // the numbers in the set are the integers of the range

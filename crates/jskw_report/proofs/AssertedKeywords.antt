@@ -8,7 +8,7 @@ use Rattle.jskw_report.specs.Read.{Asserts, ValueReadings, asserted, read_keywor
 use Rattle.jskw_report.specs.Setting.{Setting, is_active}
 use Rattle.jskw_report.specs.declared.keyword.KeywordName.{KeywordName}
 
--- a keyword that is read stands, and is asserted of its value
+-- a keyword that is read is active, and is asserted of its value
 pub asserted_if_read : (w : KeywordName) (s : Setting) (p : Pointer) (ms : Members) (part : ValueReadings) (k : Keyword)
     → read_keyword w s p ms (Some part) ≡ Some (Ok k) → asserted w s p ms part ≡ Some (Ok k)
 unfolding read_keyword

@@ -31,7 +31,7 @@ pub read_absent : (w : KeywordName) (s : Setting) (p : Pointer) (ms : Members) �
 unfolding read_keyword
 read_absent w s p ms e = ap (read_keyword w s p ms) (readings_named-get (name_of w) ms ∙ ap (option_map readings) e)
 
--- nor does one that doesn't stand
+-- nor does one that is not active
 pub read_not_standing : (w : KeywordName) (s : Setting) (p : Pointer) (ms : Members) (d : Data)
     → get_member (name_of w) ms ≡ Some d → is_active s w ≡ false
     → read_keyword w s p ms (readings_named (name_of w) ms) ≡ None
@@ -40,7 +40,7 @@ read_not_standing w s p ms d e h =
     ap (read_keyword w s p ms) (readings_named-get (name_of w) ms ∙ ap (option_map readings) e)
     ∙ ap (λ b. if b then asserted w s p ms (readings d) else None) h
 
--- one that stands asserts what is read of its value
+-- one that is active asserts what is read of its value
 pub read_standing : (w : KeywordName) (s : Setting) (p : Pointer) (ms : Members) (d : Data)
     → get_member (name_of w) ms ≡ Some d → is_active s w ≡ true
     → read_keyword w s p ms (readings_named (name_of w) ms) ≡ asserted w s p ms (readings d)

@@ -131,8 +131,7 @@ abbrev mutual
   units (keyword q k ks) t p = node_at q p (unit k t p) ∷ units ks t p
 
   -- the keyword's result, annotated for `items` by whether it was applied to any item (Core 10.3.1.2) and for
-  -- `contains`
-  -- by the indices that match (Core 10.3.1.3); a `contains` that fails tells its error alone
+  -- `contains` by the indices that match (Core 10.3.1.3); a `contains` that fails tells its error alone
   pub unit : Keyword → Tree → Pointer → Result
   unit (assertion q a) t p = of_errors (keyword_fail (assertion q a) t p)
   unit (contains s b) t p = if keyword_holds (contains s b) t

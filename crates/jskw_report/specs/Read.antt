@@ -245,7 +245,7 @@ asserted keyword_name.Contains s p ms readings = contains_keyword s p ms reading
 asserted w s p ms readings =
     asserted_by (rule_for w s ms readings.value) (keyword_location p (failing_keyword w s ms)) readings.value
 
--- what the keyword w asserts, of a value that may be absent; it asserts nothing then, nor where it does not stand
+-- what the keyword w asserts, of a value that may be absent; it asserts nothing then, nor where it is not active
 unfoldable pub read_keyword : KeywordName → Setting → Pointer → Members → Option ValueReadings → Asserts
 read_keyword w s p ms None = None
 read_keyword w s p ms (Some readings) = if is_active s w then asserted w s p ms readings else None

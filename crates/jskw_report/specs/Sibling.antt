@@ -68,7 +68,7 @@ abbrev pub is_only_type : Data → Bool
 is_only_type (object (member k d no_members)) = bytes_eq k (name_of keyword_name.TypeKeyword) && is_inlined_type d
 is_only_type _ = false
 
--- the schema d of `items` is checked in place: it is a `type` alone, which stands, and no array of schemas of
+-- the schema d of `items` is checked in place: it is a `type` alone, which is active, and no array of schemas of
 -- `prefixItems` comes before it
 abbrev pub is_bare : Setting → Members → Data → Bool
 is_bare s ms d =
@@ -86,11 +86,11 @@ is_items_schema d = is_false d
 abbrev pub is_size : Data → Bool
 is_size d = is_ok (size_value [] d)
 
--- the keyword is there and stands, and its value passes the test
+-- the keyword is there and active, and its value passes the test
 abbrev pub has_keyword : Setting → Members → KeywordName → (Data → Bool) → Bool
 has_keyword s ms w test = member_passes test (name_of w) ms && is_active s w
 
--- the keyword is absent, or stands and is a bound on a number of items
+-- the keyword is absent, or active and a bound on a number of items
 abbrev pub takes_size : Setting → Members → KeywordName → Bool
 takes_size s ms w = is_absent (name_of w) ms || has_keyword s ms w is_size
 

@@ -140,7 +140,7 @@ impl KeywordName {
         self.is_in(ctx.draft()) && ctx.has_vocabulary(self.vocabulary()) && !ctx.overrides(self)
     }
 
-    // The place of the keyword in `ALL`, counted from 0.
+    // The index of the keyword in `ALL`, counted from 0.
     pub(crate) fn index(self) -> usize
         ensures { result ≡ keyword_index self }
     {

@@ -128,7 +128,7 @@ module _ (s : Setting) (p : Pointer) (ms : Members) where
   part_there : (name : List ℕ) (d : Data) → get_member name ms ≡ Some d → parts name ≡ Some (readings d)
   part_there name d at = readings_named-get name ms ∙ ap (option_map readings) at
 
-  -- what is read stands
+  -- what is read is active
   read_stands : (w : KeywordName) (d : Data) → is_some (read_keyword w s p ms (Some (readings d))) ≡ true
       → is_active s w ≡ true
   unfolding read_keyword
@@ -186,7 +186,7 @@ module _ (s : Setting) (p : Pointer) (ms : Members) where
   exclusive_by w d at e t =
       ap (λ b. b && member_passes is_true (name_of w) ms) e ∙ ap (λ o. option_map_or is_true o false) at ∙ t
 
-  -- and does not stand itself
+  -- and is not active itself
   minimum_earlier : not (is_after_draft_4 s.draft) ≡ true → is_active s keyword_name.ExclusiveMinimum ≡ false
   minimum_earlier e =
       ap (λ b. b && has_vocabulary s Validation && not (is_overridden s (name_of keyword_name.ExclusiveMinimum)))

@@ -36,8 +36,7 @@ accepts_everything (Some w) s ms d = asks_for_nothing w s ms d
 accepts_everything None s ms d = false
 
 -- the member of this name and value, of an object at p with the members ms and the plain keywords ks, is an annotation
--- of the
--- draft, or accepts everything, or is asserted by exactly one of the keywords
+-- of the draft, or accepts everything, or is asserted by exactly one of the keywords
 abbrev pub IsCovered : Setting → Pointer → Members → Keywords → List ℕ → Data → Type 0
 IsCovered s p ms ks name d =
     IsTrue (is_annotation s.draft name) ⊎ IsTrue (accepts_everything (keyword_named name) s ms d)
@@ -57,8 +56,7 @@ rest_name additional = if additional then keyword_name.AdditionalItems else keyw
 
 abbrev mutual
   -- the plain schema covers the schema: all members of an object are covered, and those of each subschema that its
-  -- keywords
-  -- apply. A boolean has no members
+  -- keywords apply. A boolean has no members
   pub Covers : Schema → Setting → Data → Type 0
   Covers (schema_object p marks ks) s (object ms) = AreCovered s p ms ks × AllCover ks s ms
   Covers (false_schema q) s (object ms) = ⊥

@@ -33,8 +33,7 @@ is_in_place d name = is_one_of name (codes "allOf" ∷ codes "anyOf" ∷ codes "
     || (is_after_draft_6 d && is_one_of name (codes "if" ∷ codes "then" ∷ codes "else" ∷ []))
 
 -- keywords of members (Core 10.3.2, 10.2.2.4, 11; Validation 6.5.4), and `unevaluatedItems`. The meta-schemas of
--- 2019-09
--- and 2020-12 keep `dependencies` (Draft 7 Validation 6.5.7)
+-- 2019-09 and 2020-12 keep `dependencies` (Draft 7 Validation 6.5.7)
 abbrev pub is_of_members : Draft → List ℕ → Bool
 is_of_members d name =
     is_one_of name

@@ -21,7 +21,7 @@ reason_name Unknown = codes "unknown"
 reason_name Inactive = codes "inactive"
 reason_name Delegated = codes "delegated"
 
--- the keyword is there, and stands
+-- the keyword is there, and active
 abbrev pub has_active : Setting → Members → KeywordName → Bool
 has_active s ms w = has_keyword s ms w (λ d. true)
 
@@ -41,8 +41,7 @@ abbrev pub is_asserted : KeywordName → Setting → Pointer → Members → Dat
 is_asserted w s p ms d = is_some (read_keyword w s p ms (Some (readings d))) || (is_part_of_limit w s ms && is_true d)
 
 -- the keyword of this value accepts everything, by the standard: `uniqueItems` of `false` (Validation 6.4.3), `items`
--- and
--- `additionalItems` of `true` (Core 4.3.2), and a part of a limit that is `false` (Draft 4 Validation 5.1.2, 5.1.3)
+-- and `additionalItems` of `true` (Core 4.3.2), and a part of a limit that is `false` (Draft 4 Validation 5.1.2, 5.1.3)
 abbrev pub asks_for_nothing : KeywordName → Setting → Members → Data → Bool
 asks_for_nothing keyword_name.UniqueItems s ms d = is_active s keyword_name.UniqueItems && is_false d
 asks_for_nothing keyword_name.Items s ms d = is_active s keyword_name.Items && is_true d

@@ -21,8 +21,7 @@ listed q (Some r) below = record { location = q; reason = r } ∷ []
 listed q None below = below
 
 -- the member of the name k and the value d, among the members of an object at p, if it is unchecked; else those below
--- it,
--- where its keyword applies subschemas
+-- it, where its keyword applies subschemas
 abbrev pub unchecked_member : List ℕ → Data → Members → Setting → Pointer → List UncheckedMember → List UncheckedMember
 unchecked_member k d ms s p below =
     listed (member_location p k) (member_reason (keyword_named k) s p ms k d)

@@ -13,7 +13,7 @@ use super::{IntegerRange, QuickSet};
 use jskw_value::{JsonType, JsonTypeSet};
 
 impl QuickSet {
-    // Returns the set of all values of some types: those with a mark at their places.
+    // Returns the set of all values of some types: those with a mark at their indices.
     fn of_marks(types: [bool; 6]) -> QuickSet
         ensures types { result.types ≡ types }
         ensures unlimited { result.is_limited ≡ false }
@@ -170,8 +170,8 @@ fn in_both(types: &[bool; 6], others: &[bool; 6]) -> [bool; 6]
     ]
 }
 
-// Returns the place of a type in a set. The order is that of the variants of `serde_json::Value`, so
-// that a value's variant is its place.
+// Returns the index of a type in a set. The order is that of the variants of `serde_json::Value`, so
+// that a value's variant is its index.
 pub(super) fn type_index(json_type: JsonType) -> usize
     ensures value { result ≡ type_index json_type }
     ensures within { result < 6 }
