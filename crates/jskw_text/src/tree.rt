@@ -93,17 +93,30 @@ fn read_text(
     let mut cursor = Cursor::new(text);
     match read_quickly(&mut cursor, spare, wanted) {
         Ok(tree) => Ok(tree),
-        Err(Unread::Text) => read_slowly(alloc, text, kept),
+        Err(Unread::Text) => {
+            let given_up = given_up_at(&cursor, wanted);
+            read_slowly(alloc, text, given_up, kept)
+        }
         Err(Unread::Memory(e)) => Err(ReadFault::Memory(e)),
     }
 }
 
-// Reads the tree that a text denotes, or finds why it is refused.
+// Returns the offset at which a text was given up, if it is known: of one that was read whole.
+fn given_up_at(cursor: &Cursor<'_>, wanted: &[Level]) -> Option<usize> {
+    match wanted {
+        [Level::Whole, ..] => Some(cursor.offset()),
+        _ => None,
+    }
+}
+
+// Reads the tree that a text denotes, or finds why it is refused. It was given up at this offset, if that
+// is known.
 #[cold]
 #[inline(never)]
 fn read_slowly(
     alloc: Global,
     text: &str,
+    given_up: Option<usize>,
     kept: &mut Option<Box<Scratch>>,
 ) -> Result<DecimalTree, ReadFault>
     requires { IsTrue (is_utf8 text.now) }
@@ -116,7 +129,7 @@ fn read_slowly(
     }
     match read_all(alloc, text, scratch) {
         Ok(tree) => Ok(tree),
-        Err(stop) => Err(fault_of(alloc, text, stop)?),
+        Err(stop) => Err(fault_of(alloc, text, given_up, stop)?),
     }
 }
 
@@ -153,7 +166,12 @@ fn broken(text: &str) -> ReadFault
 // Returns the fault of a text that is JSON, for a stop.
 #[cold]
 #[inline(never)]
-fn fault_of(alloc: Global, text: &str, stop: Stop) -> Result<ReadFault, AllocError>
+fn fault_of(
+    alloc: Global,
+    text: &str,
+    given_up: Option<usize>,
+    stop: Stop,
+) -> Result<ReadFault, AllocError>
     requires utf8 { IsTrue (is_utf8 text.now) }
     requires json { IsSome (document text.now) }
     requires stop { IsStopOf text.now stop }
@@ -164,15 +182,19 @@ fn fault_of(alloc: Global, text: &str, stop: Stop) -> Result<ReadFault, AllocErr
         Stop::Broken => Ok(broken(text)),
         Stop::Inexact(steps) => {
             let location = location_of(alloc, &steps)?;
-            Ok(ReadFault::Inexact(location, place_in(text, given_up(alloc, text)?)))
+            let offset = match given_up {
+                Some(offset) => offset,
+                None => whole_given_up_at(alloc, text)?,
+            };
+            Ok(ReadFault::Inexact(location, place_in(text, offset)))
         }
     }
 }
 
-// Returns the offset at which a text is given up whose numbers are all wanted: if it is JSON, that of the
-// first that is not exact.
+// Returns the offset at which a text is given up that is read whole: if it is JSON, that of the first number
+// that is not exact.
 #[cold]
-fn given_up(alloc: Global, text: &str) -> Result<usize, AllocError>
+fn whole_given_up_at(alloc: Global, text: &str) -> Result<usize, AllocError>
     requires { IsTrue (is_utf8 text.now) }
 {
     let mut cursor = Cursor::new(text);
